@@ -1,0 +1,12 @@
+//! The access policy: which accesses to an attribute a connection may make, and the error of the
+//! Attribute Protocol (ATT) that each other one is answered with.
+#![tactic(auto)]
+
+pub mod error_code;
+mod guard;
+mod policy;
+mod standing;
+
+pub use guard::{Guard, Need, Properties};
+pub use policy::{Access, Rule, first_broken};
+pub use standing::{KeyFacts, Standing};
