@@ -1,0 +1,2 @@
+pub mod PduBuf
+pub mod Request

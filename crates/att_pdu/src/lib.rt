@@ -1,0 +1,10 @@
+//! The PDUs of the Attribute Protocol (ATT): which request octets ask for, and answers that never
+//! outgrow the ATT_MTU.
+#![tactic(auto)]
+
+pub mod opcode;
+mod pdu_buf;
+mod request;
+
+pub use pdu_buf::{MAX_MTU, MIN_MTU, PduBuf};
+pub use request::{PduFault, Request, answer_due, read_request};

@@ -1,0 +1,81 @@
+ghost use Rattle.std.specs.Prelude.{◌≡◌, ◌+◌, ◌≤◌, ◌↔◌, [], ◌++◌, length, IsTrue};
+ghost use Rattle.std.specs.Bool.{OnTrue, OnFalse};
+ghost use Rattle.arrayvec.specs.ArrayVec.{array_vec_len};
+
+use crate::opcode;
+use arrayvec::ArrayVec;
+
+/// The least ATT_MTU of an LE link, in octets: Core 5.0, Vol 3 Part G, 5.2.1.
+pub const MIN_MTU: u16 = 23;
+/// The largest ATT_MTU that this profile serves, in octets: a value of 512 octets in one PDU.
+pub const MAX_MTU: u16 = 517;
+
+/// A PDU that is being put together in a buffer of its caller's, and never outgrows an ATT_MTU of
+/// 23 to 517 octets.
+#[derive(Drop)]
+pub struct PduBuf<'a> {
+    octets: &'a mut ArrayVec<u8, 517>,
+    mtu: u16,
+    pub ghost least: { 23 ≤ mtu },
+    pub ghost most: { mtu ≤ 517 },
+    pub ghost within: { array_vec_len octets.now ≤ mtu },
+}
+
+impl<'a> PduBuf<'a> {
+    ghost use Rattle.att_pdu.specs.PduBuf.{contents, mtu_of, IsIn, IsSameBuffer, error_response};
+
+    /// An empty PDU in `octets`, whose content is dropped.
+    pub fn new(octets: &'a mut ArrayVec<u8, 517>, mtu: u16) -> PduBuf<'a>
+        requires least { 23 ≤ mtu }
+        requires most { mtu ≤ 517 }
+        ensures empty { contents result ≡ [] }
+        ensures mtu { mtu_of result ≡ mtu }
+        ensures in_octets { IsIn result octets.entry }
+    {
+        octets.clear();
+        PduBuf { octets, mtu }
+    }
+
+    /// Replaces the content by the Error Response to a request: Core 5.0, Vol 3 Part F, 3.4.1.1.
+    pub fn error(&mut self, request_opcode: u8, handle: u16, code: u8)
+        ensures contents { contents self.new ≡ error_response request_opcode handle code }
+        ensures same_buffer { IsSameBuffer self.old self.new }
+    {
+        let [low, high] = handle.to_le_bytes();
+        self.octets.clear();
+        self.value(&[opcode::ERROR_RESPONSE, request_opcode, low, high, code]);
+    }
+
+    /// Appends octets, an opcode and the octets of a format too, or answers `false` with nothing
+    /// changed where they do not fit.
+    pub fn value(&mut self, octets: &[u8]) -> bool
+        ensures fits { IsTrue result ↔ (length (contents self.old) + length octets.now ≤ mtu_of self.old) }
+        ensures appended { OnTrue result (contents self.new ≡ contents self.old ++ octets.now) }
+        ensures unchanged { OnFalse result (contents self.new ≡ contents self.old) }
+        ensures same_buffer { IsSameBuffer self.old self.new }
+    {
+        if octets.len() > usize::from(self.mtu) - self.octets.len() {
+            return false;
+        }
+        self.octets.try_extend_from_slice(octets).is_ok()
+    }
+}
+
+#[cfg(test)]
+mod tests {
+    use super::*;
+
+    #[test]
+    fn fills_to_the_mtu(rt: HostRuntime) {
+        let mut octets = ArrayVec::new();
+        let mut pdu = PduBuf::new(&mut octets, 23);
+        assert!(rt; pdu.value(&[0x0B]));
+        assert!(rt; pdu.value(&[0x41; 22]));
+        assert!(rt; !pdu.value(&[0x42]));
+        pdu.error(0x0A, 0x0102, 0x05);
+        assert_eq!(rt;
+            octets.as_slice(),
+            [0x01, 0x0A, 0x02, 0x01, 0x05].as_slice()
+        );
+    }
+}
