@@ -1,0 +1,89 @@
+-- What one Attribute PDU of one connection leads to.
+use Rattle.std.specs.Prelude.{ℕ, ◌-◌, Bool, true, false, nat_lt, if◌then◌else◌, List, [], ◌∷◌, length, take, Option, Some, None, Result, Ok, Err}
+use Rattle.std.specs.Option.{option_map, option_map_or}
+use Rattle.att_pdu.specs.declared.request.PduFault.{PduFault}
+use Rattle.att_pdu.specs.declared.request.PduFault.TheVariants.{Ignored, Invalid, Unsupported}
+use Rattle.att_pdu.specs.PduBuf.{error_response}
+use Rattle.att_pdu.specs.Request.{Asked, ReadRequest, WriteRequest, request_of}
+use Rattle.att_policy.specs.declared.guard.Guard.{Guard}
+use Rattle.att_policy.specs.declared.policy.Access.TheVariants.{Read, Write}
+use Rattle.att_policy.specs.declared.policy.Rule.{Rule}
+use Rattle.att_policy.specs.Policy.{first_broken_of}
+use Rattle.gatt_host.specs.declared.attr.Attr.{Attr}
+use Rattle.gatt_host.specs.declared.attr.Role.{Role}
+use Rattle.gatt_host.specs.declared.attr.Role.TheVariants.{Declaration, Value, Configuration, Descriptor}
+use Rattle.gatt_host.specs.ConfigRow.{bits_at}
+use Rattle.gatt_host.specs.Connection.{Connection}
+use Rattle.gatt_host.specs.Table.{Contents, attribute_at, value_at, room_at, with_part}
+
+-- the answer, if one is due; the values afterwards; and the handles that were written
+pub record Outcome : Type 0 where
+  pub answer : Option (List ℕ)
+  pub values : List (List ℕ)
+  pub touched : List ℕ
+
+-- nothing is answered, and nothing changes
+abbrev pub ignored : Contents → Outcome
+ignored table = record { answer = None; values = table.values; touched = [] }
+
+-- this is answered, and nothing changes
+abbrev pub answered : Contents → List ℕ → Outcome
+answered table pdu = record { answer = Some pdu; values = table.values; touched = [] }
+
+-- a request is refused with an error code, and nothing changes
+abbrev pub refused : Contents → ℕ → ℕ → ℕ → Outcome
+refused table opcode handle code = answered table (error_response opcode handle code)
+
+-- a request is refused by the first rule that it breaks, and else leads to this
+abbrev pub unless_broken : Contents → ℕ → ℕ → Option (Rule × ℕ) → Outcome → Outcome
+unless_broken table opcode handle (Some broken) permitted = refused table opcode handle broken.1
+unless_broken table opcode handle None permitted = permitted
+
+-- who may use the attribute at a handle
+abbrev pub guard_at : List Attr → ℕ → Option Guard
+guard_at attributes handle = option_map (λ (attr : Attr). attr.guard) (attribute_at attributes handle)
+
+abbrev pub is_configuration : Role → Bool
+is_configuration Declaration = false
+is_configuration Value = false
+is_configuration Configuration = true
+is_configuration Descriptor = false
+
+abbrev pub is_configuration_at : List Attr → ℕ → Bool
+is_configuration_at attributes handle = option_map_or (λ (attr : Attr). is_configuration attr.role) (attribute_at attributes handle) false
+
+-- the value that a client reads at a handle: its configurations are its own (Core 5.0, Vol 3 Part G, 3.3.3.3)
+abbrev pub value_for : Contents → List (ℕ × ℕ) → ℕ → List ℕ
+value_for table row handle =
+    if is_configuration_at table.attributes handle then bits_at row handle ∷ 0 ∷ []
+    else value_at table.values handle
+
+-- a Read Request: Core 5.0, Vol 3 Part F, 3.4.4.3
+abbrev pub read_outcome : Contents → List (ℕ × ℕ) → Connection → ℕ → Outcome
+read_outcome table row conn handle =
+    unless_broken table 0x0A handle (first_broken_of Read (guard_at table.attributes handle) conn.standing)
+    (answered table (0x0B ∷ take (conn.mtu - 1) (value_for table row handle)))
+
+-- a value is written whole, or refused where it is longer than there is room for
+abbrev pub stored : Contents → ℕ → List ℕ → Outcome
+stored table handle value =
+    if nat_lt (room_at table handle) (length value) then refused table 0x12 handle 0x0D
+    else record { answer = Some (0x13 ∷ []); values = with_part table handle 0 value; touched = handle ∷ [] }
+
+-- a Write Request: Core 5.0, Vol 3 Part F, 3.4.5.1. Client characteristic configurations are not written yet
+abbrev pub write_outcome : Contents → Connection → ℕ → List ℕ → Outcome
+write_outcome table conn handle value =
+    if is_configuration_at table.attributes handle then refused table 0x12 handle 0x03
+    else unless_broken table 0x12 handle (first_broken_of Write (guard_at table.attributes handle) conn.standing)
+    (stored table handle value)
+
+-- what a PDU that asks for this, or for nothing, leads to
+abbrev pub outcome : Contents → List (ℕ × ℕ) → Connection → Result Asked PduFault → Outcome
+outcome table row conn (Ok (ReadRequest handle)) = read_outcome table row conn handle
+outcome table row conn (Ok (WriteRequest handle value)) = write_outcome table conn handle value
+outcome table row conn (Err Ignored) = ignored table
+outcome table row conn (Err (Invalid opcode)) = refused table opcode 0 0x04
+outcome table row conn (Err (Unsupported opcode)) = refused table opcode 0 0x06
+
+unfoldable pub outcome_of : Contents → List (ℕ × ℕ) → Connection → List ℕ → Outcome
+outcome_of table row conn pdu = outcome table row conn (request_of pdu conn.mtu)

@@ -1,0 +1,27 @@
+-- The client characteristic configurations of one client, as a list of pairs of a handle and its
+-- bits: Core 5.0, Vol 3 Part G, 3.3.3.3.
+use Rattle.std.specs.Prelude.{ℕ, ◌<◌, ◌≤◌, Bool, ◌||◌, ◌==◌, nat_lt, if◌then◌else◌, List, [], ◌∷◌, length}
+use Rattle.std.specs.List.{list_any}
+
+-- the bits at a handle: 0 where the row has no entry
+abbrev pub bits_at : List (ℕ × ℕ) → ℕ → ℕ
+bits_at [] handle = 0
+bits_at (entry ∷ row) handle = if entry.0 == handle then entry.1 else bits_at row handle
+
+-- the row with these bits at a handle, in the place of its entry, or at the end where it had none
+abbrev pub with_bits : List (ℕ × ℕ) → ℕ → ℕ → List (ℕ × ℕ)
+with_bits [] handle bits = (handle, bits) ∷ []
+with_bits (entry ∷ row) handle bits =
+    if entry.0 == handle then (handle, bits) ∷ row else entry ∷ with_bits row handle bits
+
+-- whether the row has an entry at a handle
+abbrev pub has_entry : List (ℕ × ℕ) → ℕ → Bool
+has_entry row handle = list_any (λ entry. entry.0 == handle) row
+
+-- whether bits can be set at a handle: its entry is there, or there is room for one more
+abbrev pub has_room : List (ℕ × ℕ) → ℕ → Bool
+has_room row handle = has_entry row handle || nat_lt (length row) 64
+
+-- an entry is of a handle that is in use, and its bits are notify and indicate
+abbrev pub IsEntry : ℕ × ℕ → Type 0
+IsEntry entry = (0 < entry.0) × (entry.1 ≤ 3)

@@ -1,0 +1,10 @@
+-- A new connection.
+use Rattle.std.specs.Prelude.{false, None}
+use Rattle.gatt_host.specs.Connection.{Connection}
+
+-- the peer is unknown, the link is not encrypted, nobody is authorized, and the ATT_MTU is the least (Core 5.0, Vol 3 Part G, 5.2.1)
+abbrev pub new_connection : Connection
+new_connection = record {
+  standing = record { key = None; key_known = false; until = 0; now = 0 };
+  mtu = 23;
+}
