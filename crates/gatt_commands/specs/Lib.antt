@@ -1,0 +1,3 @@
+pub mod Att
+pub mod Fault
+pub mod Session

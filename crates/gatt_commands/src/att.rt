@@ -1,0 +1,50 @@
+ghost use Rattle.std.specs.Prelude.{◌≡◌, ℕ, OnOk, IfErr, IfSome, None};
+ghost use Rattle.std.specs.Io.KnownBytes.{Appends, Keeps};
+ghost use Rattle.gatt_commands.specs.Att.{report_of, PrintsFront, IsAttFault};
+
+use crate::fault::ShellFault;
+use crate::session::Session;
+use std::alloc::Global;
+use std::io::{ErrorKind, Read, Write};
+
+/// How often an input is read, at most.
+pub const READS: u64 = 1_000_000;
+/// How many octets of an input are read at a time, at most.
+pub const CHUNK: usize = 512;
+
+/// Reads ATT PDUs as lines of hexadecimal from one connection of an unknown, unencrypted peer to
+/// the table of the example door lock, and prints each answer as a line, `-` for none. Blank lines
+/// are skipped. It takes memory before the first read, and none after it.
+pub fn att_lines<R: Read, W: Write>(
+    alloc: Global,
+    reader: &mut R,
+    writer: &mut W,
+) -> Result<(), ShellFault>
+    // Where the input is known, all of it was answered, or what stands before the first bad line.
+    ensures ok { OnOk result (IfSome (R.remaining reader.old) (λ input.
+        ((report_of input).not_hex ≡ None) × Appends (W.contents writer.old) (W.contents writer.new) (report_of input).printed)) }
+    ensures not_hex { (number : ℕ) → result ≡ Err (ShellFault.NotHex number) → IfSome (R.remaining reader.old) (λ input.
+        ((report_of input).not_hex ≡ Some number) × Appends (W.contents writer.old) (W.contents writer.new) (report_of input).printed) }
+    // An input that cannot be read on leaves the front of that printed, and refused memory nothing.
+    ensures unreadable { result ≡ Err ShellFault.Unreadable → IfSome (R.remaining reader.old) (λ input.
+        PrintsFront (report_of input) (W.contents writer.old) (W.contents writer.new)) }
+    ensures memory { result ≡ Err ShellFault.Memory → Keeps (W.contents writer.old) (W.contents writer.new) }
+    ensures faults { IfErr result IsAttFault }
+{
+    let Ok(mut session) = Session::new(alloc) else {
+        return Err(ShellFault::Memory);
+    };
+    let mut chunk = [0; CHUNK];
+    for _read in 0..READS {
+        match reader.read(&mut chunk) {
+            Ok(0) => return session.finish(writer),
+            Ok(count) => session.take(&chunk[..count], writer)?,
+            Err(error) if error.kind() == ErrorKind::Interrupted => {}
+            Err(_) => return Err(ShellFault::Unreadable),
+        }
+    }
+    Err(ShellFault::Unreadable)
+}
+
+#[cfg(test)]
+mod tests;

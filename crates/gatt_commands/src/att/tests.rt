@@ -1,0 +1,164 @@
+use super::*;
+use arrayvec::ArrayVec;
+use std::io;
+use std::test::Fail;
+
+const INPUT: &[u8] = b"0a0300\n0a0000\n12030041\n0a03\n20\nd20300\n";
+
+const OUTPUT: &[u8] = b"0b4c6f636b\n010a000001\n0112030003\n010a000004\n0120000006\n-\n";
+
+/// Gives what a reader gives in pieces of at most `piece` octets, and fails once `reads` are done.
+#[derive(Drop)]
+struct Pieces<R> {
+    reader: R,
+    piece: usize,
+    reads: u64,
+    error: ErrorKind,
+}
+
+impl<R: Read> Read for Pieces<R> {
+    fn read(&mut self, buf: &mut [u8]) -> io::Result<usize> {
+        if self.reads == 0 {
+            self.reads = u64::MAX;
+            return Err(io::Error::from(self.error));
+        }
+        self.reads -= 1;
+        let end = self.piece.min(buf.len());
+        self.reader.read(&mut buf[..end])
+    }
+}
+
+fn in_pieces<R: Read>(reader: R, piece: usize) -> Pieces<R> {
+    Pieces {
+        reader,
+        piece,
+        reads: u64::MAX,
+        error: ErrorKind::Other,
+    }
+}
+
+/// Takes `room` octets, and then fails.
+#[derive(Drop)]
+struct Room {
+    room: usize,
+    taken: ArrayVec<u8, 80>,
+}
+
+impl Write for Room {
+    fn write(&mut self, buf: &[u8]) -> io::Result<usize> {
+        let count = buf
+            .len()
+            .min(self.room)
+            .min(self.taken.remaining_capacity());
+        if count == 0 {
+            return Err(io::Error::from(ErrorKind::BrokenPipe));
+        }
+        self.room -= count;
+        self.taken.try_extend_from_slice(&buf[..count]).unwrap();
+        Ok(count)
+    }
+
+    fn flush(&mut self) -> io::Result<()> {
+        Ok(())
+    }
+}
+
+#[test]
+fn answers_however_the_input_is_cut(rt: HostRuntime) -> Result<(), Fail> {
+    for piece in 1..40 {
+        let mut printed = Vec::new(rt.alloc());
+        let answered = att_lines(rt.alloc(), &mut in_pieces(INPUT, piece), &mut printed);
+        assert_eq!(rt; answered, Ok(()));
+        assert_eq!(rt; printed.as_slice(), OUTPUT);
+    }
+    Ok(())
+}
+
+#[test]
+fn ends_at_the_first_bad_line(rt: HostRuntime) -> Result<(), Fail> {
+    let cases: [(&[u8], &[u8], Result<(), ShellFault>); 8] = [
+        (b"", b"", Ok(())),
+        (b"\n\n", b"", Ok(())),
+        (b"0a0300", b"0b4c6f636b\n", Ok(())),
+        (b"0A0300\n", b"0b4c6f636b\n", Ok(())),
+        (b"0a0", b"", Err(ShellFault::NotHex(1))),
+        (
+            b"\n0a0300\n\n0a030g\n20\n",
+            b"0b4c6f636b\n",
+            Err(ShellFault::NotHex(4)),
+        ),
+        (b"0a0300\r\n", b"", Err(ShellFault::NotHex(1))),
+        (b"20\n 20\n", b"0120000006\n", Err(ShellFault::NotHex(2))),
+    ];
+    for (mut input, output, ended) in cases {
+        let mut printed = Vec::new(rt.alloc());
+        assert_eq!(rt; att_lines(rt.alloc(), &mut input, &mut printed), ended);
+        assert_eq!(rt; printed.as_slice(), output);
+    }
+    Ok(())
+}
+
+#[test]
+fn takes_lines_of_1040_digits(rt: HostRuntime) -> Result<(), Fail> {
+    let digits = [b'0'; 1041];
+    let mut printed = Vec::new(rt.alloc());
+    let mut longest = &digits[..1040];
+    assert_eq!(rt; att_lines(rt.alloc(), &mut longest, &mut printed), Ok(()));
+    assert_eq!(rt; printed.as_slice(), b"0100000006\n".as_slice());
+    let mut longer = digits.as_slice();
+    let ended = att_lines(rt.alloc(), &mut longer, &mut printed);
+    assert_eq!(rt; ended, Err(ShellFault::NotHex(1)));
+    Ok(())
+}
+
+#[test]
+fn tells_a_failed_read(rt: HostRuntime) -> Result<(), Fail> {
+    for reads in 0..39 {
+        let mut input = in_pieces(INPUT, 1);
+        input.reads = reads;
+        let mut printed = Vec::new(rt.alloc());
+        let ended = att_lines(rt.alloc(), &mut input, &mut printed);
+        assert_eq!(rt; ended, Err(ShellFault::Unreadable));
+        assert!(rt; OUTPUT.starts_with(printed.as_slice()));
+    }
+    Ok(())
+}
+
+#[test]
+fn reads_on_after_an_interruption(rt: HostRuntime) -> Result<(), Fail> {
+    for reads in 0..39 {
+        let mut input = in_pieces(INPUT, 1);
+        input.reads = reads;
+        input.error = ErrorKind::Interrupted;
+        let mut printed = Vec::new(rt.alloc());
+        assert_eq!(rt; att_lines(rt.alloc(), &mut input, &mut printed), Ok(()));
+        assert_eq!(rt; printed.as_slice(), OUTPUT);
+    }
+    Ok(())
+}
+
+#[test]
+fn gives_up_an_input_without_end(rt: HostRuntime) -> Result<(), Fail> {
+    let mut input = in_pieces(io::repeat(b'\n'), 1);
+    let mut printed = Vec::new(rt.alloc());
+    let ended = att_lines(rt.alloc(), &mut input, &mut printed);
+    assert_eq!(rt; ended, Err(ShellFault::Unreadable));
+    assert!(rt; printed.is_empty());
+    assert_eq!(rt; input.reads, u64::MAX - READS);
+    Ok(())
+}
+
+#[test]
+fn tells_a_failed_write(rt: HostRuntime) {
+    for room in 0..OUTPUT.len() {
+        let mut input = INPUT;
+        let mut output = Room {
+            room,
+            taken: ArrayVec::new(),
+        };
+        let ended = att_lines(rt.alloc(), &mut input, &mut output);
+        assert_eq!(rt; ended, Err(ShellFault::Unwritten));
+        assert!(rt; OUTPUT.starts_with(output.taken.as_slice()));
+        assert_eq!(rt; output.taken.len(), room);
+    }
+}

@@ -1,0 +1,142 @@
+ghost use Rattle.std.specs.Prelude.{◌≡◌, ◌≢◌, ℕ, ◌+◌, ◌^◌, ◌<◌, ◌≤◌, [], ◌∷◌, ◌++◌, length, Some, None, OnOk, IfErr, IfOk};
+ghost use Rattle.std.specs.Io.KnownBytes.{Appends};
+ghost use Rattle.hex.specs.Hex.{encode_lower};
+ghost use Rattle.gatt_commands.specs.Att.{pdu_of, door_server, nothing, ends_at};
+
+use crate::fault::ShellFault;
+use arrayvec::ArrayVec;
+use att_pdu::PduBuf;
+use gatt_host::{ConfigRow, Conn, Table, answer};
+use std::alloc::{AllocError, Global};
+use std::io::Write;
+
+/// One connection of an unknown peer to the table of the example door lock, and the line of its
+/// input that has begun.
+#[derive(Drop)]
+pub(crate) struct Session {
+    table: Table,
+    row: ConfigRow,
+    conn: Conn,
+    /// The octets of the line so far: the longest line has 1,040 digits.
+    line: ArrayVec<u8, 1040>,
+    /// The number of the line, from 1.
+    number: u64,
+}
+
+impl Session {
+    ghost use Rattle.gatt_commands.specs.Session.{server_of, AnswersLine, Passes, StopsAt, Ends, IsLineFault};
+
+    pub(crate) fn new(alloc: Global) -> Result<Session, AllocError>
+        ensures server { IfOk result (λ session. server_of session ≡ door_server) }
+        ensures line { IfOk result (λ session. session.line.items ≡ []) }
+        ensures number { IfOk result (λ session. session.number ≡ 1) }
+    {
+        Ok(Session {
+            table: Table::door(alloc)?,
+            row: ConfigRow::new(),
+            conn: Conn::new(alloc)?,
+            line: ArrayVec::new(),
+            number: 1,
+        })
+    }
+
+    /// Takes in octets of the input, and answers each line that they end.
+    pub(crate) fn take<W: Write>(&mut self, octets: &[u8], writer: &mut W) -> Result<(), ShellFault>
+        requires { self.old.number + length octets.now < 2 ^ 64 }
+        ensures passes { OnOk result (Passes self.old self.new octets.now (W.contents writer.old) (W.contents writer.new)) }
+        ensures stops { (number : ℕ) → result ≡ Err (ShellFault.NotHex number)
+            → StopsAt self.old octets.now number (W.contents writer.old) (W.contents writer.new) }
+        ensures faults { IfErr result IsLineFault }
+        ensures counts { OnOk result (self.new.number ≤ self.old.number + length octets.now) }
+    {
+        for &octet in octets {
+            self.take_octet(octet, writer)?;
+        }
+        Ok(())
+    }
+
+    fn take_octet<W: Write>(&mut self, octet: u8, writer: &mut W) -> Result<(), ShellFault>
+        requires { self.old.number + 1 < 2 ^ 64 }
+        ensures passes { OnOk result (Passes self.old self.new (octet ∷ []) (W.contents writer.old) (W.contents writer.new)) }
+        ensures stops { (number : ℕ) → result ≡ Err (ShellFault.NotHex number)
+            → StopsAt self.old (octet ∷ []) number (W.contents writer.old) (W.contents writer.new) }
+        ensures faults { IfErr result IsLineFault }
+        ensures counts { OnOk result (self.new.number ≤ self.old.number + 1) }
+    {
+        if octet != b'\n' {
+            return match self.line.try_push(octet) {
+                Ok(()) => Ok(()),
+                Err(_) => Err(ShellFault::NotHex(self.number)),
+            };
+        }
+        if !self.line.is_empty() {
+            self.answer_line(writer)?;
+        }
+        self.line.clear();
+        self.number += 1;
+        Ok(())
+    }
+
+    /// Answers the last line, where it has begun and its line feed is missing.
+    pub(crate) fn finish<W: Write>(&mut self, writer: &mut W) -> Result<(), ShellFault>
+        ensures ends { OnOk result (Ends self.old nothing (W.contents writer.old) (W.contents writer.new)) }
+        ensures stops { (number : ℕ) → result ≡ Err (ShellFault.NotHex number)
+            → Ends self.old (ends_at number) (W.contents writer.old) (W.contents writer.new) }
+        ensures faults { IfErr result IsLineFault }
+    {
+        if self.line.is_empty() {
+            return Ok(());
+        }
+        self.answer_line(writer)
+    }
+
+    /// Answers the line, which is not blank.
+    fn answer_line<W: Write>(&mut self, writer: &mut W) -> Result<(), ShellFault>
+        ensures answered { OnOk result (AnswersLine self.old self.new (W.contents writer.old) (W.contents writer.new)) }
+        ensures not_hex { (number : ℕ) → result ≡ Err (ShellFault.NotHex number)
+            → (pdu_of self.old.line.items ≡ None) × (number ≡ self.old.number) × Appends (W.contents writer.old) (W.contents writer.new) [] }
+        ensures faults { IfErr result IsLineFault }
+    {
+        let mut octets = [0; 520];
+        let pdu = &mut octets[..self.line.len() / 2];
+        if hex::decode_to_slice(self.line.as_slice(), pdu).is_err() {
+            return Err(ShellFault::NotHex(self.number));
+        }
+        let mut answer_octets = ArrayVec::new();
+        let mut out = PduBuf::new(&mut answer_octets, self.conn.mtu());
+        let answered = answer(
+            &mut self.table,
+            &mut self.row,
+            &mut self.conn,
+            pdu,
+            &mut out,
+        );
+        if answered.due {
+            print_answer(answer_octets.as_slice(), writer)
+        } else {
+            print(b"-\n", writer)
+        }
+    }
+}
+
+fn print_answer<W: Write>(answer: &[u8], writer: &mut W) -> Result<(), ShellFault>
+    requires { length answer.now ≤ 517 }
+    ensures ok { OnOk result (Appends (W.contents writer.old) (W.contents writer.new) (encode_lower answer.now ++ 10 ∷ [])) }
+    ensures faults { IfErr result (λ fault. fault ≡ ShellFault.Unwritten) }
+{
+    let mut text = [0; 2 * 517 + 1];
+    let end = 2 * answer.len();
+    hex::encode_to_slice(answer, &mut text[..end]).unwrap();
+    text[end] = b'\n';
+    print(&text[..=end], writer)
+}
+
+fn print<W: Write>(text: &[u8], writer: &mut W) -> Result<(), ShellFault>
+    ensures ok { OnOk result (Appends (W.contents writer.old) (W.contents writer.new) text.now) }
+    ensures faults { IfErr result (λ fault. fault ≡ ShellFault.Unwritten) }
+{
+    match writer.write_all(text) {
+        Ok(()) => Ok(()),
+        Err(_) => Err(ShellFault::Unwritten),
+    }
+}
