@@ -1,0 +1,38 @@
+//! The texts that `--help` and `--version` print.
+
+/// The name of the program.
+pub const PROGRAM: &str = "gatt_shell";
+
+/// The version of the program.
+pub const VERSION: &str = "0.1.0";
+
+/// What the program is.
+pub const ABOUT: &str = "\
+The host half of a Bluetooth Low Energy peripheral: an ATT and GATT server that is driven
+from the command line.";
+
+/// The exit statuses, below the help of the program and of each command.
+pub const STATUSES: &str = "\
+Exit status:
+   0  the work is done, or help or the version was asked for
+   1  a file is refused, or cannot be read or written
+   2  a fault in a run
+  64  the words of the command line are not understood (nothing is printed)";
+
+/// The name of the command `att`.
+pub const ATT: &str = "att";
+
+/// What `att` does, in a line.
+pub const ATT_ABOUT: &str = "Answer ATT PDUs, one line of hexadecimal each, from standard input";
+
+/// What `att` reads and prints.
+pub const ATT_DETAILS: &str = "\
+Answer ATT PDUs, one line of hexadecimal each, from standard input.
+
+Each line of input is one ATT PDU in hexadecimal. All come from one connection of an unknown,
+unencrypted peer to the built-in example table. Each line of output is the answer to one PDU,
+in hexadecimal, or `-` where none is due. Blank lines are skipped.
+
+Example: the line `0a0300`, a Read Request of the handle 3, is answered by `0b4c6f636b`.
+
+  printf '0a0300\\n' | gatt_shell att";

@@ -1,0 +1,105 @@
+//! The program `gatt_shell`: the words of the command line choose a command, and the library
+//! `gatt_commands` carries it out over standard input and standard output.
+#![tactic(auto)]
+
+mod help;
+mod words;
+
+ghost use Rattle.std.specs.Prelude.{◌≡◌, Ok, Err, true, false};
+ghost use Rattle.gatt_commands.specs.Fault.{status_of};
+
+use arrayvec::ArrayVec;
+use gatt_commands::ShellFault;
+use std::io::{ErrorKind, LineWriter, Write};
+use std::process::ExitCode;
+use std::rt::Env;
+use std::{env, io, str};
+use words::{Choice, Refusal};
+
+/// Prints the text of a fault on standard error. Where that cannot be written, nobody can be told.
+fn tell(rt: &impl Eprint, fault: &ShellFault) {
+    let mut text = ArrayVec::new();
+    gatt_commands::text(fault, &mut text);
+    let _ = rt.eprintln(str::from_utf8(text.as_slice()).unwrap_or(""));
+}
+
+/// The status of a command that has ended, of which a fault is told.
+fn exit_status(rt: &impl Eprint, ran: Result<(), ShellFault>) -> u8
+    ensures done { ran ≡ Ok tt → result ≡ 0 }
+    ensures fault { (fault : ShellFault) → ran ≡ Err fault → result ≡ status_of fault }
+{
+    match ran {
+        Ok(()) => 0,
+        Err(fault) => {
+            tell(rt, &fault);
+            gatt_commands::status(&fault)
+        }
+    }
+}
+
+/// The status of a command line that chooses no command, of which is told what it asks for.
+fn refusal_status(rt: &(impl Print + Eprint), refusal: &Refusal) -> u8
+    ensures misunderstood { refusal.now ≡ Refusal.Misunderstood → result ≡ 64 }
+    ensures memory { refusal.now ≡ Refusal.Memory → result ≡ 2 }
+{
+    match refusal {
+        Refusal::Shown(text) => {
+            if rt.print(text).is_err() {
+                return exit_status(rt, Err(ShellFault::Unwritten));
+            }
+        }
+        Refusal::Misunderstood => {}
+        Refusal::Memory => tell(rt, &ShellFault::Memory),
+    }
+    refusal.status()
+}
+
+/// How a command ended whose output was flushed afterwards: its own fault stands before one of the
+/// flush.
+fn outcome_of(ran: Result<(), ShellFault>, is_flushed: bool) -> Result<(), ShellFault>
+    ensures fault { (fault : ShellFault) → ran ≡ Err fault → result ≡ Err fault }
+    ensures unwritten { ran ≡ Ok tt → is_flushed ≡ false → result ≡ Err ShellFault.Unwritten }
+    ensures done { ran ≡ Ok tt → is_flushed ≡ true → result ≡ Ok tt }
+{
+    ran?;
+    if is_flushed {
+        Ok(())
+    } else {
+        Err(ShellFault::Unwritten)
+    }
+}
+
+/// Answers the PDUs of standard input on standard output, which is written out at each line feed
+/// and at the end.
+fn run_att(rt: &(impl Input + Print + AllocGlobal)) -> Result<(), ShellFault> {
+    let Ok(mut writer) = LineWriter::new(rt.alloc(), io::writer(rt)) else {
+        return Err(ShellFault::Memory);
+    };
+    let ran = gatt_commands::att_lines(rt.alloc(), &mut rt.reader(), &mut writer);
+    outcome_of(ran, writer.flush().is_ok())
+}
+
+/// The words of the command line. One that is no text is not understood.
+fn words_of(rt: &(impl Env + AllocGlobal)) -> Result<Vec<String>, Refusal> {
+    match env::args(rt) {
+        Ok(words) => words.collect(rt.alloc()).map_err(|_| Refusal::Memory),
+        Err(error) if error.kind() == ErrorKind::InvalidData => Err(Refusal::Misunderstood),
+        Err(_) => Err(Refusal::Memory),
+    }
+}
+
+fn choice_of_words(rt: &(impl Env + AllocGlobal)) -> Result<Choice, Refusal> {
+    words::chosen(rt.alloc(), words_of(rt)?.as_slice())
+}
+
+/// Does what the command line asks for, and returns the status of the program.
+fn run(rt: &(impl Env + Input + Print + Eprint + AllocGlobal)) -> u8 {
+    match choice_of_words(rt) {
+        Ok(Choice::Att) => exit_status(rt, run_att(rt)),
+        Err(refusal) => refusal_status(rt, &refusal),
+    }
+}
+
+fn main(rt: HostRuntime) -> ExitCode {
+    ExitCode::from(run(&rt))
+}
