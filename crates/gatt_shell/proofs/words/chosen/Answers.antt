@@ -2,7 +2,6 @@ use Rattle.std.proofs.Common.{rules, ◌≡◌, [], ◌∷◌, map, codes, optio
 use Rattle.clap.specs.Words.{HasKind, Kinds, app_of, is_simple, subcommand_name_of, subcommand_of, subcommand_rows_of, takes}
 use Rattle.gatt_shell.specs.CommandLine.{command_line}
 use Rattle.gatt_shell.specs.Refusal.{refusal_for}
-
 use Rattle.gatt_shell.proofs.CommandLines.{att_taken, att_named, none_faults, help_faults, version_faults, takes_behind, named_behind, missing_refused, help_shown, version_shown, name-rows, kinds_at, faulty}
 use Rattle.gatt_shell.proofs.words.chosen.Goals as goal
 
