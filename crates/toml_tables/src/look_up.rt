@@ -1,0 +1,92 @@
+ghost use Rattle.std.specs.Prelude.{◌≡◌, option_map, option_copied};
+ghost use Rattle.toml.specs.Data.{get_member};
+ghost use Rattle.toml.specs.View.{view, items_view, table_view};
+ghost use Rattle.toml_tables.specs.Reading.{text_at, boolean_at, flag_at, integer_at, array_at, items_at, table_at};
+
+use toml::{Table, Value};
+
+/// What the table has at the key, of whatever type.
+#[tactic(auto, using(toml::proofs::Views::table_get))]
+fn get<'a>(table: &'a Table, key: &str) -> Option<&'a Value>
+    ensures { option_map (λ value. view value.now) result ≡ get_member key.now (table_view table.now) }
+{
+    table.get(key)
+}
+
+/// The text at the key: `None` where there is no value, or one of another type.
+pub fn text<'a>(table: &'a Table, key: &str) -> Option<&'a str>
+    ensures { option_copied result ≡ text_at key.now (table_view table.now) }
+{
+    get(table, key)?.as_str()
+}
+
+/// The boolean at the key: `None` where there is no value, or one of another type.
+pub fn boolean(table: &Table, key: &str) -> Option<bool>
+    ensures { result ≡ boolean_at key.now (table_view table.now) }
+{
+    get(table, key)?.as_bool()
+}
+
+/// The boolean at the key, or `false` where there is none.
+pub fn flag(table: &Table, key: &str) -> bool
+    ensures { result ≡ flag_at key.now (table_view table.now) }
+{
+    boolean(table, key).unwrap_or(false)
+}
+
+/// The integer at the key: `None` where there is no value, or one of another type.
+pub fn integer(table: &Table, key: &str) -> Option<i64>
+    ensures { result ≡ integer_at key.now (table_view table.now) }
+{
+    get(table, key)?.as_integer()
+}
+
+/// The elements of the array at the key: `None` where there is no value, or one of another type.
+pub fn array<'a>(table: &'a Table, key: &str) -> Option<&'a [Value]>
+    ensures { option_map (λ items. items_view items.now) result ≡ array_at key.now (table_view table.now) }
+{
+    Some(get(table, key)?.as_array()?.as_slice())
+}
+
+/// The elements of the array at the key, none where there is no array.
+pub fn items<'a>(table: &'a Table, key: &str) -> &'a [Value]
+    ensures { items_view result.now ≡ items_at key.now (table_view table.now) }
+{
+    array(table, key).unwrap_or(&[])
+}
+
+/// The table at the key: `None` where there is no value, or one of another type.
+pub fn table<'a>(table: &'a Table, key: &str) -> Option<&'a Table>
+    ensures { option_map (λ t. table_view t.now) result ≡ table_at key.now (table_view table.now) }
+{
+    get(table, key)?.as_table()
+}
+
+#[cfg(test)]
+mod tests {
+    use super::*;
+    use std::test::Fail;
+
+    #[test]
+    fn each_type_once(rt: HostRuntime) -> Result<(), Fail> {
+        let document = toml::table_from_str(
+            rt.alloc(),
+            "name = \"ada\"\nold = true\nage = 36\nsizes = [1, 2]\n[home]\nstreet = \"a\"\n",
+        )?;
+        assert_eq!(rt; text(&document, "name"), Some("ada"));
+        assert_eq!(rt; boolean(&document, "old"), Some(true));
+        assert_eq!(rt; integer(&document, "age"), Some(36));
+        assert!(rt; flag(&document, "old"));
+        assert_eq!(rt; items(&document, "sizes").len(), 2);
+        assert_eq!(rt; array(&document, "sizes").map(|sizes| sizes.len()), Some(2));
+        let home = table(&document, "home").ok_or("home")?;
+        assert_eq!(rt; text(home, "street"), Some("a"));
+
+        assert_eq!(rt; text(&document, "age"), None);
+        assert_eq!(rt; boolean(&document, "young"), None);
+        assert!(rt; !flag(&document, "young"));
+        assert_eq!(rt; items(&document, "name").len(), 0);
+        assert!(rt; table(&document, "sizes").is_none());
+        Ok(())
+    }
+}

@@ -1,0 +1,157 @@
+ghost use Rattle.std.specs.Prelude.{◌≡◌};
+ghost use Rattle.std.specs.List.{list_all};
+ghost use Rattle.toml.specs.View.{view, table_view};
+ghost use Rattle.toml_tables.specs.Shape.{keys_view, is_text, is_integer, is_table, has_shape, is_listed, is_shaped};
+
+use toml::{Table, Value};
+
+/// A type of TOML, as far as a reader tells types apart.
+#[derive(Clone, Copy, Debug, PartialEq, Eq)]
+pub enum Shape {
+    /// A string.
+    Text,
+    /// A boolean.
+    Boolean,
+    /// An integer.
+    Integer,
+    /// A table.
+    Table,
+    /// An array of strings.
+    Texts,
+    /// An array of integers.
+    Integers,
+    /// An array of tables.
+    Tables,
+}
+
+/// A key that a table may have, and the type of its value.
+#[derive(Clone, Copy, Debug, PartialEq, Eq)]
+pub struct Key {
+    /// The key.
+    pub name: &'static str,
+    /// The type of its value.
+    pub shape: Shape,
+}
+
+/// Whether the table has no other keys than these, and at each a value of its type. Where a key is
+/// listed twice, the first one counts.
+pub fn is_shaped(table: &Table, keys: &[Key]) -> bool
+    ensures { result ≡ is_shaped (keys_view keys.now) (table_view table.now) }
+{
+    'members: for (name, value) in table.iter() {
+        if !is_listed(keys, name.as_str(), value) {
+            return false;
+        }
+    }
+    true
+}
+
+/// Whether the keys list this one, with the type of its value.
+#[tactic(auto, using(std::proofs::lemmas::Grind::common_steps, crate::proofs::Views::same_keys))]
+fn is_listed(keys: &[Key], name: &str, value: &Value) -> bool
+    ensures { result ≡ is_listed (keys_view keys.now) name.now (view value.now) }
+{
+    'keys: for key in keys {
+        if key.name == name {
+            return has_shape(value, key.shape);
+        }
+    }
+    false
+}
+
+#[tactic(auto, using(crate::proofs::Views::all_items_view))]
+fn has_shape(value: &Value, shape: Shape) -> bool
+    ensures { result ≡ has_shape shape (view value.now) }
+{
+    match shape {
+        Shape::Text => value.is_str(),
+        Shape::Boolean => value.is_bool(),
+        Shape::Integer => value.is_integer(),
+        Shape::Table => value.is_table(),
+        Shape::Texts => value.as_array().is_some_and(|items| are_texts(items)),
+        Shape::Integers => value.as_array().is_some_and(|items| are_integers(items)),
+        Shape::Tables => value.as_array().is_some_and(|items| are_tables(items)),
+    }
+}
+
+fn are_texts(items: &[Value]) -> bool
+    ensures { result ≡ list_all (λ item. is_text (view item)) items.now }
+{
+    items.iter().all(|item| item.is_str())
+}
+
+fn are_integers(items: &[Value]) -> bool
+    ensures { result ≡ list_all (λ item. is_integer (view item)) items.now }
+{
+    items.iter().all(|item| item.is_integer())
+}
+
+fn are_tables(items: &[Value]) -> bool
+    ensures { result ≡ list_all (λ item. is_table (view item)) items.now }
+{
+    items.iter().all(|item| item.is_table())
+}
+
+#[cfg(test)]
+mod tests {
+    use super::*;
+    use std::test::Fail;
+
+    const KEYS: [Key; 7] = [
+        Key {
+            name: "text",
+            shape: Shape::Text,
+        },
+        Key {
+            name: "boolean",
+            shape: Shape::Boolean,
+        },
+        Key {
+            name: "integer",
+            shape: Shape::Integer,
+        },
+        Key {
+            name: "table",
+            shape: Shape::Table,
+        },
+        Key {
+            name: "texts",
+            shape: Shape::Texts,
+        },
+        Key {
+            name: "integers",
+            shape: Shape::Integers,
+        },
+        Key {
+            name: "tables",
+            shape: Shape::Tables,
+        },
+    ];
+
+    #[test]
+    fn keys_and_types(rt: HostRuntime) -> Result<(), Fail> {
+        let cases = [
+            ("", true),
+            (
+                "text = \"a\"\nboolean = true\ninteger = 1\ntable = { other = 1 }",
+                true,
+            ),
+            (
+                "texts = [\"a\", \"b\"]\nintegers = []\ntables = [{}, {}]",
+                true,
+            ),
+            ("other = 1", false),
+            ("text = 1", false),
+            ("texts = \"a\"", false),
+            ("texts = [\"a\", 1]", false),
+            ("integers = [1, 1.0]", false),
+            ("tables = [{}, []]", false),
+            ("integer = 1\ntext = \"a\"\nother = false", false),
+        ];
+        for (document, shaped) in cases {
+            let table = toml::table_from_str(rt.alloc(), document)?;
+            assert_eq!(rt; is_shaped(&table, &KEYS), shaped, "{document}");
+        }
+        Ok(())
+    }
+}
