@@ -9,7 +9,7 @@ use Rattle.gatt_host.specs.Answer.{Outcome, outcome_of}
 use Rattle.gatt_host.specs.Conn.{new_connection}
 use Rattle.gatt_host.specs.Door.{door}
 use Rattle.gatt_host.specs.Connection.{Connection}
-use Rattle.gatt_host.specs.Table.{Contents}
+use Rattle.att_table.specs.Table.{Contents}
 
 -- the lines of an input without their line feeds; the last line may lack its own
 abbrev pub onto_first : ℕ → List (List ℕ) → List (List ℕ)

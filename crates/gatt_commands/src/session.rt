@@ -6,7 +6,8 @@ ghost use Rattle.gatt_commands.specs.Att.{pdu_of, door_server, nothing, ends_at}
 use crate::fault::ShellFault;
 use arrayvec::ArrayVec;
 use att_pdu::PduBuf;
-use gatt_host::{ConfigRow, Conn, Table, answer};
+use att_table::{ConfigRow, Table};
+use gatt_host::{Conn, answer, door_table};
 use std::alloc::{AllocError, Global};
 use std::io::Write;
 
@@ -32,7 +33,7 @@ impl Session {
         ensures number { IfOk result (λ session. session.number ≡ 1) }
     {
         Ok(Session {
-            table: Table::door(alloc)?,
+            table: door_table(alloc)?,
             row: ConfigRow::new(),
             conn: Conn::new(alloc)?,
             line: ArrayVec::new(),

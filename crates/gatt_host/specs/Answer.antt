@@ -9,12 +9,13 @@ use Rattle.att_policy.specs.declared.guard.Guard.{Guard}
 use Rattle.att_policy.specs.declared.policy.Access.TheVariants.{Read, Write}
 use Rattle.att_policy.specs.declared.policy.Rule.{Rule}
 use Rattle.att_policy.specs.Policy.{first_broken_of}
-use Rattle.gatt_host.specs.declared.attr.Attr.{Attr}
-use Rattle.gatt_host.specs.declared.attr.Role.{Role}
-use Rattle.gatt_host.specs.declared.attr.Role.TheVariants.{Declaration, Value, Configuration, Descriptor}
-use Rattle.gatt_host.specs.ConfigRow.{bits_at}
+use Rattle.att_table.specs.declared.attr.Attr.{Attr}
+use Rattle.att_table.specs.declared.attr.Role.{Role}
+use Rattle.att_table.specs.declared.attr.Role.TheVariants.{Declaration, Value, Configuration, Descriptor}
+use Rattle.att_table.specs.ConfigRow.{bits_at}
 use Rattle.gatt_host.specs.Connection.{Connection}
-use Rattle.gatt_host.specs.Table.{Contents, attribute_at, value_at, room_at, with_part}
+use Rattle.att_table.specs.Cell.{patched}
+use Rattle.att_table.specs.Table.{Contents, attribute_at, value_at, is_fixed_at, room_at, with_value}
 
 -- the answer, if one is due; the values afterwards; and the handles that were written
 pub record Outcome : Type 0 where
@@ -68,7 +69,7 @@ read_outcome table row conn handle =
 abbrev pub stored : Contents → ℕ → List ℕ → Outcome
 stored table handle value =
     if nat_lt (room_at table handle) (length value) then refused table 0x12 handle 0x0D
-    else record { answer = Some (0x13 ∷ []); values = with_part table handle 0 value; touched = handle ∷ [] }
+    else record { answer = Some (0x13 ∷ []); values = with_value table.values handle (patched (is_fixed_at table.attributes handle) (value_at table.values handle) 0 value); touched = handle ∷ [] }
 
 -- a Write Request: Core 5.0, Vol 3 Part F, 3.4.5.1. Client characteristic configurations are not written yet
 abbrev pub write_outcome : Contents → Connection → ℕ → List ℕ → Outcome

@@ -1,7 +1,7 @@
 -- The table of an example door lock.
 use Rattle.std.specs.Prelude.{map}
-use Rattle.gatt_host.specs.declared.door.TheConstants.{ATTRIBUTES, VALUES}
-use Rattle.gatt_host.specs.Table.{Contents}
+use Rattle.gatt_host.specs.declared.door.TheConstants.{DOOR}
+use Rattle.att_table.specs.Table.{Contents}
 
 unfoldable pub door : Contents
-door = record { attributes = ATTRIBUTES; values = map (λ value. value.now) VALUES }
+door = record { attributes = map (λ entry. entry.0) DOOR; values = map (λ entry. entry.1.now) DOOR }

@@ -1,6 +1,11 @@
 //! The table of an example door lock.
-use crate::attr::{Attr, Role};
+ghost use Rattle.std.specs.Prelude.{◌≡◌, map, IfOk, IsTrue};
+ghost use Rattle.gatt_host.specs.Door.{door};
+ghost use Rattle.gatt_host.specs.Entries.{all_fit};
+
 use att_policy::{Guard, Need, Properties};
+use att_table::{Attr, Role, Table};
+use std::alloc::{AllocError, Global};
 
 const PRIMARY_SERVICE: u128 = 0x0000_2800_0000_1000_8000_0080_5F9B_34FB;
 
@@ -79,152 +84,234 @@ const VALUE: Attr = Attr {
     guard: OPEN,
 };
 
-/// The attributes, in the order of their handles.
-pub(crate) const ATTRIBUTES: [Attr; 21] = [
-    Attr {
-        handle: 1,
-        ..SERVICE
-    },
-    Attr {
-        handle: 2,
-        ..DECLARATION
-    },
-    Attr {
-        handle: 3,
-        kind: DEVICE_NAME,
-        largest: 4,
-        ..VALUE
-    },
-    Attr {
-        handle: 4,
-        ..SERVICE
-    },
-    Attr {
-        handle: 5,
-        ..DECLARATION
-    },
-    Attr {
-        handle: 6,
-        kind: BATTERY_LEVEL,
-        fixed: true,
-        guard: Guard {
-            properties: Properties(0x12),
-            ..OPEN
+/// The attributes in the order of their handles, each with its value at first: a client
+/// characteristic configuration has none of its own.
+const DOOR: [(Attr, &[u8]); 21] = [
+    (
+        Attr {
+            handle: 1,
+            ..SERVICE
         },
-        ..VALUE
-    },
-    Attr {
-        handle: 7,
-        ..CONFIGURATION
-    },
-    Attr {
-        handle: 8,
-        ..SERVICE
-    },
-    Attr {
-        handle: 9,
-        ..DECLARATION
-    },
-    Attr {
-        handle: 10,
-        kind: LOCK_STATE,
-        fixed: true,
-        guard: Guard {
-            properties: Properties(0x1A),
-            read: ENCRYPTED,
-            write: AUTHENTICATED,
+        &[0x00, 0x18],
+    ),
+    (
+        Attr {
+            handle: 2,
+            ..DECLARATION
         },
-        ..VALUE
-    },
-    Attr {
-        handle: 11,
-        guard: Guard {
-            properties: Properties(0x0A),
-            read: Need::NONE,
-            write: ENCRYPTED,
+        &[0x02, 0x03, 0x00, 0x00, 0x2A],
+    ),
+    (
+        Attr {
+            handle: 3,
+            kind: DEVICE_NAME,
+            largest: 4,
+            ..VALUE
         },
-        ..CONFIGURATION
-    },
-    Attr {
-        handle: 12,
-        ..DECLARATION
-    },
-    Attr {
-        handle: 13,
-        kind: LOCK_CODE,
-        largest: 8,
-        guard: Guard {
-            properties: Properties(0x0A),
-            read: AUTHORIZED_LONG_KEY,
-            write: AUTHORIZED_LONG_KEY,
+        b"Lock",
+    ),
+    (
+        Attr {
+            handle: 4,
+            ..SERVICE
         },
-        ..VALUE
-    },
-    Attr {
-        handle: 14,
-        ..DECLARATION
-    },
-    Attr {
-        handle: 15,
-        ..VALUE
-    },
-    Attr {
-        handle: 16,
-        ..DECLARATION
-    },
-    Attr {
-        handle: 17,
-        guard: Guard {
-            read: ENCRYPTED,
-            ..OPEN
+        &[0x0F, 0x18],
+    ),
+    (
+        Attr {
+            handle: 5,
+            ..DECLARATION
         },
-        ..VALUE
-    },
-    Attr {
-        handle: 18,
-        ..DECLARATION
-    },
-    Attr {
-        handle: 19,
-        ..VALUE
-    },
-    Attr {
-        handle: 20,
-        ..DECLARATION
-    },
-    Attr {
-        handle: 21,
-        kind: MESSAGE,
-        largest: 512,
-        guard: Guard {
-            properties: Properties(0x0E),
-            ..OPEN
+        &[0x12, 0x06, 0x00, 0x19, 0x2A],
+    ),
+    (
+        Attr {
+            handle: 6,
+            kind: BATTERY_LEVEL,
+            fixed: true,
+            guard: Guard {
+                properties: Properties(0x12),
+                ..OPEN
+            },
+            ..VALUE
         },
-        ..VALUE
-    },
+        &[0x64],
+    ),
+    (
+        Attr {
+            handle: 7,
+            ..CONFIGURATION
+        },
+        &[],
+    ),
+    (
+        Attr {
+            handle: 8,
+            ..SERVICE
+        },
+        &[0xF0, 0xFF],
+    ),
+    (
+        Attr {
+            handle: 9,
+            ..DECLARATION
+        },
+        &[0x1A, 0x0A, 0x00, 0xF1, 0xFF],
+    ),
+    (
+        Attr {
+            handle: 10,
+            kind: LOCK_STATE,
+            fixed: true,
+            guard: Guard {
+                properties: Properties(0x1A),
+                read: ENCRYPTED,
+                write: AUTHENTICATED,
+            },
+            ..VALUE
+        },
+        &[0x00],
+    ),
+    (
+        Attr {
+            handle: 11,
+            guard: Guard {
+                properties: Properties(0x0A),
+                read: Need::NONE,
+                write: ENCRYPTED,
+            },
+            ..CONFIGURATION
+        },
+        &[],
+    ),
+    (
+        Attr {
+            handle: 12,
+            ..DECLARATION
+        },
+        &[0x0A, 0x0D, 0x00, 0xF2, 0xFF],
+    ),
+    (
+        Attr {
+            handle: 13,
+            kind: LOCK_CODE,
+            largest: 8,
+            guard: Guard {
+                properties: Properties(0x0A),
+                read: AUTHORIZED_LONG_KEY,
+                write: AUTHORIZED_LONG_KEY,
+            },
+            ..VALUE
+        },
+        b"1234",
+    ),
+    (
+        Attr {
+            handle: 14,
+            ..DECLARATION
+        },
+        &[0x02, 0x0F, 0x00, 0xF3, 0xFF],
+    ),
+    (
+        Attr {
+            handle: 15,
+            ..VALUE
+        },
+        &[0x01],
+    ),
+    (
+        Attr {
+            handle: 16,
+            ..DECLARATION
+        },
+        &[0x02, 0x11, 0x00, 0xF3, 0xFF],
+    ),
+    (
+        Attr {
+            handle: 17,
+            guard: Guard {
+                read: ENCRYPTED,
+                ..OPEN
+            },
+            ..VALUE
+        },
+        &[0x02],
+    ),
+    (
+        Attr {
+            handle: 18,
+            ..DECLARATION
+        },
+        &[0x02, 0x13, 0x00, 0xF3, 0xFF],
+    ),
+    (
+        Attr {
+            handle: 19,
+            ..VALUE
+        },
+        &[0x03],
+    ),
+    (
+        Attr {
+            handle: 20,
+            ..DECLARATION
+        },
+        &[0x0E, 0x15, 0x00, 0xF4, 0xFF],
+    ),
+    (
+        Attr {
+            handle: 21,
+            kind: MESSAGE,
+            largest: 512,
+            guard: Guard {
+                properties: Properties(0x0E),
+                ..OPEN
+            },
+            ..VALUE
+        },
+        &[],
+    ),
 ];
 
-/// Their values at first: a client characteristic configuration has none of its own.
-pub(crate) const VALUES: [&[u8]; 21] = [
-    &[0x00, 0x18],
-    &[0x02, 0x03, 0x00, 0x00, 0x2A],
-    b"Lock",
-    &[0x0F, 0x18],
-    &[0x12, 0x06, 0x00, 0x19, 0x2A],
-    &[0x64],
-    &[],
-    &[0xF0, 0xFF],
-    &[0x1A, 0x0A, 0x00, 0xF1, 0xFF],
-    &[0x00],
-    &[],
-    &[0x0A, 0x0D, 0x00, 0xF2, 0xFF],
-    b"1234",
-    &[0x02, 0x0F, 0x00, 0xF3, 0xFF],
-    &[0x01],
-    &[0x02, 0x11, 0x00, 0xF3, 0xFF],
-    &[0x02],
-    &[0x02, 0x13, 0x00, 0xF3, 0xFF],
-    &[0x03],
-    &[0x0E, 0x15, 0x00, 0xF4, 0xFF],
-    &[],
-];
+/// The table of an example door lock.
+#[tactic(auto, unfolding(crate::specs::Door::door))]
+pub fn door_table(alloc: Global) -> Result<Table, AllocError>
+    ensures { IfOk result (λ table. table ≡ door) }
+{
+    table_with(alloc, &DOOR)
+}
+
+/// A table with these attributes and their values.
+#[tactic(auto, using(crate::proofs::Entries::fitting))]
+fn table_with(alloc: Global, entries: &[(Attr, &[u8])]) -> Result<Table, AllocError>
+    requires { IsTrue (all_fit 0 entries.now) }
+    ensures attributes { IfOk result (λ table. table.attributes ≡ map (λ entry. entry.0) entries.now) }
+    ensures values { IfOk result (λ table. table.values ≡ map (λ entry. entry.1.now) entries.now) }
+{
+    let mut table = Table::new(alloc);
+    for &(attr, value) in entries {
+        table.push(attr, value)?;
+    }
+    Ok(table)
+}
+
+#[cfg(test)]
+mod tests {
+    use super::*;
+    use std::test::Fail;
+
+    #[test]
+    fn attributes_and_octets(rt: HostRuntime) -> Result<(), Fail> {
+        let table = door_table(rt.alloc())?;
+        assert_eq!(rt; table.octets(), 575);
+        assert_eq!(rt; table.in_range(0, u16::MAX).len(), 21);
+        assert_eq!(rt; table.in_range(20, 30).len(), 2);
+        assert!(rt; table.in_range(22, u16::MAX).is_empty());
+        assert!(rt; table.in_range(5, 4).is_empty());
+        let handles = [4, 5, 6];
+        for (attr, handle) in table.in_range(4, 6).iter().zip(handles) {
+            assert_eq!(rt; attr.handle, handle);
+        }
+        Ok(())
+    }
+}

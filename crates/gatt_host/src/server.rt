@@ -2,13 +2,11 @@ ghost use Rattle.std.specs.Prelude.{◌≡◌, true, [], is_some, unwrap_or};
 ghost use Rattle.att_pdu.specs.PduBuf.{contents, mtu_of, error_response, IsSameBuffer};
 ghost use Rattle.gatt_host.specs.Answer.{outcome_of, read_outcome, write_outcome};
 
-use crate::attr::Role;
-use crate::config_row::ConfigRow;
 use crate::conn::Conn;
-use crate::table::Table;
 use arrayvec::ArrayVec;
 use att_pdu::{PduBuf, PduFault, Request, opcode, read_request};
 use att_policy::{Access, error_code, first_broken};
+use att_table::{ConfigRow, Role, Table};
 
 /// What an Attribute PDU led to, beside the answer itself.
 #[derive(Debug, Drop)]
@@ -148,6 +146,7 @@ fn refuse(request_opcode: u8, handle: u16, code: u8, out: &mut PduBuf<'_>) -> An
 #[cfg(test)]
 mod tests {
     use super::*;
+    use crate::door::door_table;
     use std::test::Fail;
 
     /// PDUs of one connection and their answers, in order: an empty one where none is due.
@@ -175,7 +174,7 @@ mod tests {
 
     #[test]
     fn answers_of_the_door(rt: HostRuntime) -> Result<(), Fail> {
-        let mut table = Table::door(rt.alloc())?;
+        let mut table = door_table(rt.alloc())?;
         let mut row = ConfigRow::new();
         let mut conn = Conn::new(rt.alloc())?;
         for (pdu, wanted) in EXCHANGES {

@@ -1,0 +1,6 @@
+pub mod Contents
+pub mod InPlace
+pub mod Pushes
+pub mod Rows
+pub mod Slots
+pub mod Tables

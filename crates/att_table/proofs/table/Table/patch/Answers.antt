@@ -1,0 +1,27 @@
+use Rattle.std.proofs.Common.{◌≤◌, length, arith, ap}
+use Rattle.att_table.specs.Cell.{cell_at}
+use Rattle.att_table.specs.Table.{value_at}
+use Rattle.att_table.proofs.Tables.{fits_cell, kept-patched, patched_values, value_at-cell}
+use Rattle.att_table.proofs.table.Table.patch.Goals as goal
+
+pub patch_at-requires-clause-fits : goal.patch_at-requires-clause-fits
+patch_at-requires-clause-fits c =
+    rw c.from.ensures (fits_cell c.self.inside.attributes.items c.self.inside.values c.args.self.now c.args.handle _ c.self.invariant c.self.view_is c.requires.exists c.requires.fits)
+
+pub invariant_of-self : goal.invariant_of-self
+invariant_of-self c =
+    let in_value : c.from.result ≤ length (cell_at c.self.inside.values c.args.handle).octets =
+    omega (
+      arith,
+      c.requires.offset,
+      c.from.ensures,
+      ap (λ table. length (value_at table.values c.args.handle)) c.self.view_is,
+      ap length (value_at-cell c.self.inside.values c.args.handle),
+    ) in
+    let fits = fits_cell c.self.inside.attributes.items c.self.inside.values c.args.self.now c.args.handle _ c.self.invariant c.self.view_is c.requires.exists c.requires.fits in
+    rw c.patch_at.ensures (kept-patched _ _ _ _ _ _ c.self.invariant in_value (rw c.from.ensures fits))
+
+pub returns-clause-values : goal.returns-clause-values
+returns-clause-values c =
+    patched_values c.self.inside.values c.patch_at.new.self c.args.self.now c.is_fixed-fixed.result c.args.handle c.from.result c.args.offset c.args.part.now
+    (ap (λ table. table.values) c.self.view_is) c.patch_at.ensures c.is_fixed-fixed.ensures c.from.ensures

@@ -1,0 +1,18 @@
+use Rattle.std.proofs.Common.{ap, arith, false}
+use Rattle.att_table.proofs.Tables.{fits_cell, kept-patched, replaced_values}
+use Rattle.att_table.proofs.table.Table.set.Goals as goal
+
+pub patch_at-requires-clause-fits : goal.patch_at-requires-clause-fits
+patch_at-requires-clause-fits c =
+    let fits = fits_cell c.self.inside.attributes.items c.self.inside.values c.args.self.now c.args.handle _ c.self.invariant c.self.view_is c.requires.exists c.requires.fits in
+    omega arith
+
+pub invariant_of-self : goal.invariant_of-self
+invariant_of-self c =
+    let fits = fits_cell c.self.inside.attributes.items c.self.inside.values c.args.self.now c.args.handle _ c.self.invariant c.self.view_is c.requires.exists c.requires.fits in
+    rw c.patch_at.ensures (kept-patched _ _ false c.args.handle 0 c.args.octets.now c.self.invariant (omega arith) (omega arith))
+
+pub returns-clause-values : goal.returns-clause-values
+returns-clause-values c =
+    replaced_values c.self.inside.values c.patch_at.new.self c.args.self.now c.args.handle c.args.octets.now
+    (ap (λ table. table.values) c.self.view_is) c.patch_at.ensures

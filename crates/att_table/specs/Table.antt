@@ -1,0 +1,46 @@
+-- The attribute table: the attributes by their handles, and their values, which are all that changes.
+-- Core 5.0, Vol 3 Part F, 3.2
+use Rattle.std.specs.Prelude.{◌≡◌, ◌≤◌, All, ℕ, ◌-◌, ◌==◌, Bool, false, if◌then◌else◌, List, [], length, take, drop, map, slice_set, slice_index_or, slice_get, Option, None}
+use Rattle.std.specs.Option.{option_map_or}
+use Rattle.att_table.specs.declared.attr.Attr.{Attr}
+use Rattle.att_table.specs.Cell.{Cell}
+
+-- the attributes in the order of their handles, and the value of each
+pub record Contents : Type 0 where
+  pub attributes : List Attr
+  pub values : List (List ℕ)
+
+-- the attribute at a handle: handles count from 1
+abbrev pub attribute_at : List Attr → ℕ → Option Attr
+attribute_at attributes handle = if handle == 0 then None else slice_get attributes (handle - 1)
+
+-- the attributes whose handles are from the first to the last one: those up to the last, without those before the first
+abbrev pub attributes_in : List Attr → ℕ → ℕ → List Attr
+attributes_in attributes first last = drop (first - 1) (take last attributes)
+
+-- the value at a handle
+abbrev pub value_at : List (List ℕ) → ℕ → List ℕ
+value_at values handle = slice_index_or values (handle - 1) []
+
+-- the values after the one at a handle is replaced
+abbrev pub with_value : List (List ℕ) → ℕ → List ℕ → List (List ℕ)
+with_value values handle value = slice_set values (handle - 1) value
+
+-- whether the value at a handle keeps its length
+abbrev pub is_fixed_at : List Attr → ℕ → Bool
+is_fixed_at attributes handle = option_map_or (λ (attr : Attr). attr.fixed) (attribute_at attributes handle) false
+
+-- how many octets the value at a handle may have: a fixed value keeps its length
+abbrev pub room_at : Contents → ℕ → ℕ
+room_at table handle =
+    if is_fixed_at table.attributes handle then length (value_at table.values handle)
+    else option_map_or (λ (attr : Attr). attr.largest) (attribute_at table.attributes handle) 0
+
+-- the values that cells hold
+abbrev pub values_of : List Cell → List (List ℕ)
+values_of cells = map (λ (cell : Cell). cell.octets) cells
+
+-- each value has the room of its attribute's largest length, and keeps within it
+pub record IsKept (attributes : List Attr) (cells : List Cell) : Type 0 where
+  pub rooms : map (λ (attr : Attr). attr.largest) attributes ≡ map (λ (cell : Cell). cell.room) cells
+  pub within : All (λ (cell : Cell). length cell.octets ≤ cell.room) cells
