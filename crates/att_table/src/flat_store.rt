@@ -1,4 +1,4 @@
-ghost use Rattle.std.specs.Prelude.{◌≡◌, ◌+◌, ◌-◌, ◌≤◌, if◌then◌else◌, max, [], ◌∷◌, ◌++◌, length, take, drop, slice_set, slice_index, replicate, sum_by, vec_len, OnOk, OnErr};
+ghost use Rattle.std.specs.Prelude.{◌≡◌, ◌+◌, ◌-◌, ◌≤◌, if◌then◌else◌, max, [], ◌∷◌, ◌++◌, length, take, drop, replicate, sum_by, OnOk, OnErr};
 ghost use Rattle.att_table.specs.Cell.{Cell, IsUsed, cell_at, with_part};
 ghost use Rattle.att_table.specs.FlatStore.{cell_in};
 
@@ -9,7 +9,7 @@ use std::marker::Model;
 /// Where a value stands in the vector of all values.
 #[derive(Clone, Copy, Debug)]
 struct Place {
-    /// Its first octet.
+    /// Where its first octet stands.
     start: usize,
     /// How many octets it has.
     len: u16,
@@ -56,7 +56,6 @@ impl FlatStore {
     }
 
     /// How many octets all values together may have.
-    #[tactic(auto, using(crate::proofs::InPlace::sum_rooms))]
     pub fn octets(&self) -> usize
         ensures { result ≡ sum_by (λ (cell : Cell). cell.room) self.now }
     {
