@@ -1,6 +1,11 @@
 pub mod Contents
+pub mod Digits
+pub mod Faults
+pub mod Groups
 pub mod InPlace
+pub mod Parsed
 pub mod Pushes
 pub mod Rows
+pub mod Services
 pub mod Slots
 pub mod Tables

@@ -4,6 +4,7 @@ use Rattle.std.specs.Prelude.{◌≡◌, ◌≤◌, All, ℕ, ◌-◌, ◌==◌,
 use Rattle.std.specs.Option.{option_map_or}
 use Rattle.att_table.specs.declared.attr.Attr.{Attr}
 use Rattle.att_table.specs.Cell.{Cell}
+use Rattle.att_table.specs.Group.{group_ends_of}
 
 -- the attributes in the order of their handles, and the value of each
 pub record Contents : Type 0 where
@@ -44,3 +45,8 @@ values_of cells = map (λ (cell : Cell). cell.octets) cells
 pub record IsKept (attributes : List Attr) (cells : List Cell) : Type 0 where
   pub rooms : map (λ (attr : Attr). attr.largest) attributes ≡ map (λ (cell : Cell). cell.room) cells
   pub within : All (λ (cell : Cell). length cell.octets ≤ cell.room) cells
+
+-- and the ends of the groups are those of the attributes
+pub record IsWhole (attributes : List Attr) (cells : List Cell) (group_ends : List ℕ) : Type 0 where
+  pub kept : IsKept attributes cells
+  pub ends : group_ends ≡ group_ends_of attributes

@@ -3,10 +3,26 @@
 
 mod attr;
 mod change;
+mod characteristic;
 mod config_row;
+mod descriptor;
+mod draft;
+pub mod examples;
+mod field;
 mod flat_store;
+mod group;
+mod include;
+mod keys;
+mod kind;
+mod needs;
+mod part;
+mod placed;
 mod plain_store;
+mod service;
 mod table;
+mod table_builder;
+mod table_fault;
+mod table_file;
 mod value_store;
 
 pub use attr::{Attr, Role};
@@ -15,4 +31,6 @@ pub use config_row::ConfigRow;
 pub use flat_store::FlatStore;
 pub use plain_store::PlainStore;
 pub use table::Table;
+pub use table_builder::TableBuilder;
+pub use table_fault::{Name, TableFault};
 pub use value_store::ValueStore;

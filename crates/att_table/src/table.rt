@@ -2,11 +2,11 @@ ghost use Rattle.std.specs.Prelude.{◌≡◌, ◌+◌, ◌≤◌, ◌∷◌, �
 ghost use Rattle.std.specs.Option.{option_copied};
 ghost use Rattle.att_table.specs.declared.attr.Attr.{Attr};
 ghost use Rattle.att_table.specs.Cell.{patched};
-ghost use Rattle.att_table.specs.Table.{Contents, attribute_at, attributes_in, value_at, is_fixed_at, room_at, with_value, values_of, IsKept};
+ghost use Rattle.att_table.specs.Group.{group_ends_of, group_end_at};
+ghost use Rattle.att_table.specs.Table.{Contents, attribute_at, attributes_in, value_at, is_fixed_at, room_at, with_value, values_of, IsKept, IsWhole};
 
 use crate::attr::Attr;
 use crate::flat_store::FlatStore;
-use std::alloc::{AllocError, Global};
 use std::marker::Model;
 
 /// The attributes that a server has, by handles from 1 without gaps, and their values.
@@ -14,6 +14,7 @@ use std::marker::Model;
 pub struct Table {
     attributes: Vec<Attr>,
     values: FlatStore,
+    group_ends: Vec<u16>,
 }
 
 impl Model for Table {
@@ -21,35 +22,29 @@ impl Model for Table {
 
     ghost view = { λ table. record { attributes = table.attributes.items; values = values_of table.values } };
 
-    ghost invariant = { λ table. IsKept table.attributes.items table.values };
+    ghost invariant = { λ table. IsWhole table.attributes.items table.values table.group_ends.items };
 }
 
 impl Table {
-    /// A table with no attributes.
-    pub fn new(alloc: Global) -> Self
-        ensures attributes { result.attributes ≡ [] }
-        ensures values { result.values ≡ [] }
+    /// A table of these attributes, with their values and the ends of their groups.
+    pub fn from_parts(attributes: Vec<Attr>, values: FlatStore, group_ends: Vec<u16>) -> Self
+        requires kept { IsKept attributes.items values }
+        requires ends { group_ends.items ≡ group_ends_of attributes.items }
+        ensures attributes { result.attributes ≡ attributes.items }
+        ensures values { result.values ≡ values_of values }
     {
         Table {
-            attributes: Vec::new(alloc),
-            values: FlatStore::new(alloc),
+            attributes,
+            values,
+            group_ends,
         }
     }
 
-    /// Adds an attribute at the next handle, with its value. Where memory is refused, the table
-    /// stays as it was.
-    pub fn push(&mut self, attr: Attr, value: &[u8]) -> Result<(), AllocError>
-        requires handle { attr.handle ≡ length self.old.attributes + 1 }
-        requires fits { length value.now ≤ attr.largest }
-        requires largest { attr.largest ≤ 512 }
-        ensures attributes { OnOk result (self.new.attributes ≡ self.old.attributes ++ attr ∷ []) }
-        ensures values { OnOk result (self.new.values ≡ self.old.values ++ value.now ∷ []) }
-        ensures err { OnErr result (self.new ≡ self.old) }
+    /// How many attributes the table has.
+    pub fn len(&self) -> usize
+        ensures { result ≡ length self.now.attributes }
     {
-        self.attributes.reserve(1)?;
-        self.values.push(attr.largest, value)?;
-        self.attributes.push_reserved(attr);
-        Ok(())
+        self.attributes.len()
     }
 
     /// The attribute at a handle, if there is one.
@@ -76,6 +71,16 @@ impl Table {
         ensures { result.now ≡ value_at self.now.values handle }
     {
         self.values.value_at(handle)
+    }
+
+    /// The last handle of the group that the attribute at a handle begins: of a service up to the
+    /// next service, of a characteristic up to the next characteristic or service, and both up to
+    /// the table's end. Where it begins none, its own handle.
+    pub fn group_end(&self, handle: u16) -> u16
+        requires { IsSome (attribute_at self.now.attributes handle) }
+        ensures { result ≡ group_end_at self.now.attributes handle }
+    {
+        self.group_ends[usize::from(handle) - 1]
     }
 
     /// How many octets the value of the attribute at a handle may have: a fixed value keeps its

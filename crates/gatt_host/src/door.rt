@@ -4,7 +4,7 @@ ghost use Rattle.gatt_host.specs.Door.{door};
 ghost use Rattle.gatt_host.specs.Entries.{all_fit};
 
 use att_policy::{Guard, Need, Properties};
-use att_table::{Attr, Role, Table};
+use att_table::{Attr, Role, Table, TableBuilder};
 use std::alloc::{AllocError, Global};
 
 const PRIMARY_SERVICE: u128 = 0x0000_2800_0000_1000_8000_0080_5F9B_34FB;
@@ -288,11 +288,11 @@ fn table_with(alloc: Global, entries: &[(Attr, &[u8])]) -> Result<Table, AllocEr
     ensures attributes { IfOk result (λ table. table.attributes ≡ map (λ entry. entry.0) entries.now) }
     ensures values { IfOk result (λ table. table.values ≡ map (λ entry. entry.1.now) entries.now) }
 {
-    let mut table = Table::new(alloc);
+    let mut table = TableBuilder::new(alloc);
     for &(attr, value) in entries {
         table.push(attr, value)?;
     }
-    Ok(table)
+    table.finish(alloc)
 }
 
 #[cfg(test)]

@@ -5,4 +5,4 @@ use Rattle.att_table.proofs.table.Table.octets.Goals as goal
 
 pub returns : goal.returns
 returns c =
-    c.octets.ensures ∙ octets-kept _ _ c.self.invariant ∙ ap (λ table. sum_by (λ attr. attr.largest) table.attributes) c.self.view_is
+    c.octets.ensures ∙ octets-kept _ _ c.self.invariant.kept ∙ ap (λ table. sum_by (λ attr. attr.largest) table.attributes) c.self.view_is

@@ -6,7 +6,7 @@ use Rattle.att_table.proofs.table.Table.patch.Goals as goal
 
 pub patch_at-requires-clause-fits : goal.patch_at-requires-clause-fits
 patch_at-requires-clause-fits c =
-    rw c.from.ensures (fits_cell c.self.inside.attributes.items c.self.inside.values c.args.self.now c.args.handle _ c.self.invariant c.self.view_is c.requires.exists c.requires.fits)
+    rw c.from.ensures (fits_cell c.self.inside.attributes.items c.self.inside.values c.args.self.now c.args.handle _ c.self.invariant.kept c.self.view_is c.requires.exists c.requires.fits)
 
 pub invariant_of-self : goal.invariant_of-self
 invariant_of-self c =
@@ -18,8 +18,11 @@ invariant_of-self c =
       ap (λ table. length (value_at table.values c.args.handle)) c.self.view_is,
       ap length (value_at-cell c.self.inside.values c.args.handle),
     ) in
-    let fits = fits_cell c.self.inside.attributes.items c.self.inside.values c.args.self.now c.args.handle _ c.self.invariant c.self.view_is c.requires.exists c.requires.fits in
-    rw c.patch_at.ensures (kept-patched _ _ _ _ _ _ c.self.invariant in_value (rw c.from.ensures fits))
+    let fits = fits_cell c.self.inside.attributes.items c.self.inside.values c.args.self.now c.args.handle _ c.self.invariant.kept c.self.view_is c.requires.exists c.requires.fits in
+    record {
+      kept = rw c.patch_at.ensures (kept-patched _ _ _ _ _ _ c.self.invariant.kept in_value (rw c.from.ensures fits));
+      ends = c.self.invariant.ends;
+    }
 
 pub returns-clause-values : goal.returns-clause-values
 returns-clause-values c =

@@ -4,13 +4,16 @@ use Rattle.att_table.proofs.table.Table.set.Goals as goal
 
 pub patch_at-requires-clause-fits : goal.patch_at-requires-clause-fits
 patch_at-requires-clause-fits c =
-    let fits = fits_cell c.self.inside.attributes.items c.self.inside.values c.args.self.now c.args.handle _ c.self.invariant c.self.view_is c.requires.exists c.requires.fits in
+    let fits = fits_cell c.self.inside.attributes.items c.self.inside.values c.args.self.now c.args.handle _ c.self.invariant.kept c.self.view_is c.requires.exists c.requires.fits in
     omega arith
 
 pub invariant_of-self : goal.invariant_of-self
 invariant_of-self c =
-    let fits = fits_cell c.self.inside.attributes.items c.self.inside.values c.args.self.now c.args.handle _ c.self.invariant c.self.view_is c.requires.exists c.requires.fits in
-    rw c.patch_at.ensures (kept-patched _ _ false c.args.handle 0 c.args.octets.now c.self.invariant (omega arith) (omega arith))
+    let fits = fits_cell c.self.inside.attributes.items c.self.inside.values c.args.self.now c.args.handle _ c.self.invariant.kept c.self.view_is c.requires.exists c.requires.fits in
+    record {
+      kept = rw c.patch_at.ensures (kept-patched _ _ false c.args.handle 0 c.args.octets.now c.self.invariant.kept (omega arith) (omega arith));
+      ends = c.self.invariant.ends;
+    }
 
 pub returns-clause-values : goal.returns-clause-values
 returns-clause-values c =

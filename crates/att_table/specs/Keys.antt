@@ -1,0 +1,26 @@
+-- The keys that each table of a table file may have, and the TOML type of each: this profile's own.
+use Rattle.std.specs.Prelude.{[], ◌∷◌, codes}
+use Rattle.toml_tables.specs.Shape.{Keys}
+use Rattle.toml_tables.specs.declared.shape.Shape.TheVariants.{Text, Boolean, Integer, Table, Texts, Integers, Tables}
+
+abbrev pub root_keys : Keys
+root_keys = (codes "service", Tables) ∷ []
+
+abbrev pub service_keys : Keys
+service_keys =
+    (codes "uuid", Text) ∷ (codes "secondary", Boolean) ∷ (codes "include", Integers) ∷ (codes "characteristic", Tables) ∷ []
+
+-- a descriptor's, and with two more a characteristic's
+abbrev pub descriptor_keys : Keys
+descriptor_keys =
+    (codes "uuid", Text) ∷ (codes "properties", Texts) ∷ (codes "value", Text) ∷ (codes "max", Integer)
+    ∷ (codes "fixed", Boolean) ∷ (codes "read", Table) ∷ (codes "write", Table) ∷ []
+
+abbrev pub characteristic_keys : Keys
+characteristic_keys = (codes "config", Table) ∷ (codes "descriptor", Tables) ∷ descriptor_keys
+
+-- those of a table of needs
+abbrev pub need_keys : Keys
+need_keys =
+    (codes "encrypted", Boolean) ∷ (codes "authenticated", Boolean) ∷ (codes "authorized", Boolean)
+    ∷ (codes "secure", Boolean) ∷ (codes "key_size", Integer) ∷ []

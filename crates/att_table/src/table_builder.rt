@@ -1,0 +1,85 @@
+//! A table that grows by one attribute at a time, until it is whole.
+
+ghost use Rattle.std.specs.Prelude.{◌≡◌, ◌+◌, ◌≤◌, ◌∷◌, ◌++◌, [], length, IfOk, IsSome, OnOk, OnErr};
+ghost use Rattle.att_table.specs.Table.{Contents, attribute_at, value_at, values_of, IsKept};
+
+use crate::attr::Attr;
+use crate::flat_store::FlatStore;
+use crate::group;
+use crate::table::Table;
+use std::alloc::{AllocError, Global};
+use std::marker::Model;
+
+/// The attributes that a table is to have, by handles from 1 without gaps, and their values.
+#[derive(Drop)]
+pub struct TableBuilder {
+    attributes: Vec<Attr>,
+    values: FlatStore,
+}
+
+impl Model for TableBuilder {
+    ghost Value = { Contents };
+
+    ghost view = { λ table. record { attributes = table.attributes.items; values = values_of table.values } };
+
+    ghost invariant = { λ table. IsKept table.attributes.items table.values };
+}
+
+impl TableBuilder {
+    /// A builder with no attributes.
+    pub fn new(alloc: Global) -> Self
+        ensures attributes { result.attributes ≡ [] }
+        ensures values { result.values ≡ [] }
+    {
+        TableBuilder {
+            attributes: Vec::new(alloc),
+            values: FlatStore::new(alloc),
+        }
+    }
+
+    /// Adds an attribute at the next handle, with its value. Where memory is refused, the builder
+    /// stays as it was.
+    pub fn push(&mut self, attr: Attr, value: &[u8]) -> Result<(), AllocError>
+        requires handle { attr.handle ≡ length self.old.attributes + 1 }
+        requires fits { length value.now ≤ attr.largest }
+        requires largest { attr.largest ≤ 512 }
+        ensures attributes { OnOk result (self.new.attributes ≡ self.old.attributes ++ attr ∷ []) }
+        ensures values { OnOk result (self.new.values ≡ self.old.values ++ value.now ∷ []) }
+        ensures err { OnErr result (self.new ≡ self.old) }
+    {
+        self.attributes.reserve(1)?;
+        self.values.push(attr.largest, value)?;
+        self.attributes.push_reserved(attr);
+        Ok(())
+    }
+
+    /// How many attributes the builder has.
+    pub fn len(&self) -> usize
+        ensures { result ≡ length self.now.attributes }
+    {
+        self.attributes.len()
+    }
+
+    /// The attributes so far, in the order of their handles.
+    pub fn attributes(&self) -> &[Attr]
+        ensures { result.now ≡ self.now.attributes }
+    {
+        &self.attributes
+    }
+
+    /// The value of the attribute at a handle.
+    pub fn value(&self, handle: u16) -> &[u8]
+        requires { IsSome (attribute_at self.now.attributes handle) }
+        ensures { result.now ≡ value_at self.now.values handle }
+    {
+        self.values.value_at(handle)
+    }
+
+    /// The table of these attributes, with the ends of their groups.
+    pub fn finish(self, alloc: Global) -> Result<Table, AllocError>
+        ensures { IfOk result (λ table. table ≡ self) }
+    {
+        let group_ends = group::group_ends(alloc, &self.attributes)?;
+        Ok(Table::from_parts(self.attributes, self.values, group_ends))
+    }
+}

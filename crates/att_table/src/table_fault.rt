@@ -1,0 +1,77 @@
+ghost use Rattle.std.specs.Prelude.{◌≡◌};
+ghost use Rattle.att_table.specs.declared.table_fault.TableFault.TheVariants.{OutOfMemory};
+ghost use Rattle.att_table.specs.TableFault.{number_of};
+
+use std::alloc::AllocError;
+
+/// A key of a table file that has to be there.
+#[derive(Clone, Copy, Debug, PartialEq, Eq)]
+pub enum Name {
+    /// The array of services.
+    Service,
+    /// The type of a service, a characteristic or a descriptor.
+    Uuid,
+    /// The properties of a characteristic or a descriptor.
+    Properties,
+    /// The value of a characteristic or a descriptor.
+    Value,
+}
+
+/// Why a table file is refused: the first fault of the file, read from its beginning.
+#[derive(Clone, Copy, Debug, PartialEq, Eq)]
+pub enum TableFault {
+    /// The text is not TOML.
+    NotToml,
+    /// A key that has to be there is not.
+    Missing(Name),
+    /// A text is no UUID, or the UUID of a declaration or a client characteristic configuration
+    /// where one of a value is wanted.
+    BadUuid,
+    /// A value is not an even number of hexadecimal digits.
+    BadHex,
+    /// A value has more than 512 octets, or its largest length is below its length or above 512.
+    TooLong,
+    /// A need has a key size that is not from 7 to 16, a key that is unknown, or one of another type.
+    BadSecurity,
+    /// A property is unknown or not allowed there, or a client characteristic configuration has
+    /// nothing to configure.
+    BadProperty,
+    /// There are more than 1,024 attributes, more than 64 client characteristic configurations, or
+    /// values whose largest lengths are more than 65,536 octets together.
+    TooMany,
+    /// An included service does not stand before the service that includes it.
+    BadInclude,
+    /// Memory was refused.
+    OutOfMemory,
+    /// A key is unknown, or its value is of another TOML type than its own.
+    Shape,
+}
+
+impl TableFault {
+    /// The number by which the fault is told, from 1.
+    pub fn number(self) -> u8
+        ensures { result ≡ number_of self }
+    {
+        match self {
+            TableFault::NotToml => 1,
+            TableFault::Missing(_) => 2,
+            TableFault::BadUuid => 3,
+            TableFault::BadHex => 4,
+            TableFault::TooLong => 5,
+            TableFault::BadSecurity => 6,
+            TableFault::BadProperty => 7,
+            TableFault::TooMany => 8,
+            TableFault::BadInclude => 9,
+            TableFault::OutOfMemory => 10,
+            TableFault::Shape => 11,
+        }
+    }
+}
+
+impl From<AllocError> for TableFault {
+    ghost from_gives = { λ _ fault. fault ≡ OutOfMemory };
+
+    fn from(_refused: AllocError) -> Self {
+        TableFault::OutOfMemory
+    }
+}
