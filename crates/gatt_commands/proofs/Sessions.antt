@@ -8,6 +8,7 @@ use Rattle.std.proofs.lemmas.Grind.{common_steps}
 use Rattle.std.proofs.lemmas.List.{append-nil}
 use Rattle.gatt_commands.specs.declared.session.Session.{Session}
 use Rattle.gatt_commands.specs.Att.{Server, Report, lines_of, onto_first, report, line_report, after, ends_at, nothing, pdu_of, printed_answer, answer_from, server_after, door_server, report_of, PrintsFront}
+use Rattle.gatt_commands.proofs.Inputs.{consumes-append, consumes-kept, consumes-nothing}
 use Rattle.gatt_commands.specs.Session.{onto, server_of, report_from, Passes, StopsAt, Ends, AnswersLine}
 
 -- a `?` passes on the fault that it was given
@@ -186,23 +187,6 @@ end_refused old number held holds begun refused is appended = record {
       ∙ line_report-not_hex (server_of old) old.number old.line.items (λ next. nothing) begun refused
       ∙ ap ends_at (sym is);
 }
-
--- what is read twice is read at once
-consumes-append : (before mid left : Option (List ℕ)) (xs ys : List ℕ) → Consumes before mid xs → Consumes mid left ys → Consumes before left (xs ++ ys)
-consumes-append None mid left xs ys a b = tt
-consumes-append (Some h) None left xs ys a b = absurd a
-consumes-append (Some h) (Some m) None xs ys a b = absurd b
-consumes-append (Some h) (Some m) (Some n) xs ys a b = a ∙ ap (λ (more : List ℕ). xs ++ more) b ∙ sym (append_assoc xs ys n)
-
-consumes-kept : (before mid left : Option (List ℕ)) (xs : List ℕ) → Consumes before mid xs → Keeps mid left → Consumes before left xs
-consumes-kept None mid left xs a b = tt
-consumes-kept (Some h) None left xs a b = absurd a
-consumes-kept (Some h) (Some m) None xs a b = absurd b
-consumes-kept (Some h) (Some m) (Some n) xs a b = a ∙ ap (λ (more : List ℕ). xs ++ more) (sym b)
-
-consumes-nothing : (before : Option (List ℕ)) → Consumes before before []
-consumes-nothing None = tt
-consumes-nothing (Some h) = refl
 
 -- a session that has read nothing yet
 pub record IsStart (session : Session) : Type 0 where

@@ -1,15 +1,17 @@
 -- What is printed for the lines of an input, where each is an Attribute PDU of one connection.
-use Rattle.std.specs.Prelude.{◌≡◌, ℕ, ◌+◌, ◌==◌, nat_lt, if◌then◌else◌, List, [], ◌∷◌, ◌++◌, length, Option, Some, None}
+use Rattle.std.specs.Prelude.{◌≡◌, ℕ, ◌+◌, ◌==◌, nat_lt, if◌then◌else◌, List, [], ◌∷◌, ◌++◌, length, Option, Some, None, Result}
 use Rattle.std.specs.Io.KnownBytes.{Appends}
-use Rattle.std.specs.Result.{result_ok}
+use Rattle.std.specs.Result.{result_ok, result_unwrap_or}
 use Rattle.hex.specs.Hex.{decode_of, encode_lower}
 use Rattle.gatt_commands.specs.declared.fault.ShellFault.{ShellFault}
-use Rattle.gatt_commands.specs.declared.fault.ShellFault.TheVariants.{NotHex, Unreadable, Unwritten, Memory}
+use Rattle.gatt_commands.specs.declared.fault.ShellFault.TheVariants.{Table, NotHex, Unreadable, Unwritten, Memory}
 use Rattle.gatt_host.specs.Answer.{Outcome, outcome_of}
 use Rattle.gatt_host.specs.Conn.{new_connection}
-use Rattle.gatt_host.specs.Door.{door}
 use Rattle.gatt_host.specs.Connection.{Connection}
+use Rattle.att_table.specs.declared.examples.TheConstants.{DOOR}
+use Rattle.att_table.specs.declared.table_fault.TableFault.{TableFault}
 use Rattle.att_table.specs.Table.{Contents}
+use Rattle.att_table.specs.TableFile.{table_read, no_attributes}
 
 -- the lines of an input without their line feeds; the last line may lack its own
 abbrev pub onto_first : ℕ → List (List ℕ) → List (List ℕ)
@@ -74,7 +76,14 @@ abbrev pub report : Server → ℕ → List (List ℕ) → Report
 report server number [] = nothing
 report server number (line ∷ lines) = line_report server number line (λ next. report next (number + 1) lines)
 
--- the example door lock, and a connection that has done nothing yet
+-- the table of the example door lock, which its table file gives
+abbrev pub door_read : Result Contents TableFault
+door_read = table_read DOOR.now
+
+unfoldable pub door : Contents
+door = result_unwrap_or door_read no_attributes
+
+-- that table, and a connection that has done nothing yet
 abbrev pub door_server : Server
 door_server = record { table = door; row = []; conn = new_connection }
 
@@ -91,6 +100,7 @@ pub record PrintsFront (report : Report) (held holds : Option (List ℕ)) : Type
 
 -- what may end the command before the end of its input
 abbrev pub IsAttFault : ShellFault → Type 0
+IsAttFault (Table _) = Unit {0}
 IsAttFault Memory = Unit {0}
 IsAttFault Unreadable = Unit {0}
 IsAttFault Unwritten = Unit {0}

@@ -1,3 +1,6 @@
 pub mod Att
+pub mod Check
 pub mod Fault
+pub mod Input
 pub mod Session
+pub mod TableFile

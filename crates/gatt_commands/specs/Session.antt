@@ -2,9 +2,16 @@
 use Rattle.std.specs.Prelude.{◌≡◌, ℕ, List, [], ◌∷◌, ◌++◌, Option, Some}
 use Rattle.std.specs.Io.KnownBytes.{Appends}
 use Rattle.gatt_commands.specs.declared.fault.ShellFault.{ShellFault}
-use Rattle.gatt_commands.specs.declared.fault.ShellFault.TheVariants.{NotHex, Unwritten}
+use Rattle.gatt_commands.specs.declared.fault.ShellFault.TheVariants.{Table, NotHex, Unwritten, Memory}
 use Rattle.gatt_commands.specs.declared.session.Session.{Session}
-use Rattle.gatt_commands.specs.Att.{Server, Report, lines_of, report, after, ends_at, pdu_of, printed_answer, answer_from, server_after}
+use Rattle.gatt_commands.specs.TableFile.{IsRefusedAs}
+use Rattle.gatt_commands.specs.Att.{Server, door_read, Report, lines_of, report, after, ends_at, pdu_of, printed_answer, answer_from, server_after}
+
+-- what may come before the first line
+abbrev pub IsStartFault : ShellFault → Type 0
+IsStartFault (Table number) = IsRefusedAs number door_read
+IsStartFault Memory = Unit {0}
+IsStartFault _ = ⊥
 
 -- a line that has begun goes in front of what follows
 abbrev pub onto : List ℕ → List (List ℕ) → List (List ℕ)

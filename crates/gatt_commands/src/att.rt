@@ -1,16 +1,13 @@
 ghost use Rattle.std.specs.Prelude.{◌≡◌, ℕ, OnOk, IfErr, IfSome, None};
 ghost use Rattle.std.specs.Io.KnownBytes.{Appends, Keeps};
-ghost use Rattle.gatt_commands.specs.Att.{report_of, PrintsFront, IsAttFault};
+ghost use Rattle.gatt_commands.specs.Att.{door_read, report_of, PrintsFront, IsAttFault};
+ghost use Rattle.gatt_commands.specs.TableFile.{IsRefusedAs};
 
 use crate::fault::ShellFault;
+use crate::input::{CHUNK, READS};
 use crate::session::Session;
 use std::alloc::Global;
 use std::io::{ErrorKind, Read, Write};
-
-/// How often an input is read, at most.
-pub const READS: u64 = 1_000_000;
-/// How many octets of an input are read at a time, at most.
-pub const CHUNK: usize = 512;
 
 /// Reads ATT PDUs as lines of hexadecimal from one connection of an unknown, unencrypted peer to
 /// the table of the example door lock, and prints each answer as a line, `-` for none. Blank lines
@@ -29,11 +26,10 @@ pub fn att_lines<R: Read, W: Write>(
     ensures unreadable { result ≡ Err ShellFault.Unreadable → IfSome (R.remaining reader.old) (λ input.
         PrintsFront (report_of input) (W.contents writer.old) (W.contents writer.new)) }
     ensures memory { result ≡ Err ShellFault.Memory → Keeps (W.contents writer.old) (W.contents writer.new) }
+    ensures table { (number : ℕ) → result ≡ Err (ShellFault.Table number) → IsRefusedAs number door_read }
     ensures faults { IfErr result IsAttFault }
 {
-    let Ok(mut session) = Session::new(alloc) else {
-        return Err(ShellFault::Memory);
-    };
+    let mut session = Session::new(alloc)?;
     let mut chunk = [0; CHUNK];
     for _read in 0..READS {
         match reader.read(&mut chunk) {

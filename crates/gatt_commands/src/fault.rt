@@ -87,7 +87,7 @@ pub fn status(fault: &ShellFault) -> u8
 }
 
 /// Appends a text and a number, which has at most 20 digits.
-fn push_numbered(out: &mut ArrayVec<u8, 40>, before: &str, number: u64)
+pub(crate) fn push_numbered(out: &mut ArrayVec<u8, 40>, before: &str, number: u64)
     requires { array_vec_len out.old + length before.now + 20 ≤ 40 }
     ensures items { out.new.items ≡ out.old.items ++ before.now ++ decimal number }
     ensures len { array_vec_len out.new ≤ array_vec_len out.old + length before.now + 20 }

@@ -2,8 +2,14 @@
 #![tactic(auto)]
 
 mod att;
+mod check;
 mod fault;
+mod input;
+mod output;
 mod session;
+mod table_file;
 
-pub use att::{CHUNK, READS, att_lines};
+pub use att::att_lines;
+pub use check::check_files;
 pub use fault::{ShellFault, status, text};
+pub use input::{CHUNK, READS};

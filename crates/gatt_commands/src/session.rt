@@ -1,14 +1,17 @@
 ghost use Rattle.std.specs.Prelude.{◌≡◌, ◌≢◌, ℕ, ◌+◌, ◌^◌, ◌<◌, ◌≤◌, [], ◌∷◌, ◌++◌, length, Some, None, OnOk, IfErr, IfOk};
 ghost use Rattle.std.specs.Io.KnownBytes.{Appends};
 ghost use Rattle.hex.specs.Hex.{encode_lower};
-ghost use Rattle.gatt_commands.specs.Att.{pdu_of, door_server, nothing, ends_at};
+ghost use Rattle.gatt_commands.specs.Att.{pdu_of, door, door_server, nothing, ends_at};
+ghost use Rattle.gatt_commands.specs.Session.{IsStartFault};
 
 use crate::fault::ShellFault;
+use crate::output::print;
 use arrayvec::ArrayVec;
 use att_pdu::PduBuf;
-use att_table::{ConfigRow, Table};
-use gatt_host::{Conn, answer, door_table};
-use std::alloc::{AllocError, Global};
+use att_table::examples::DOOR;
+use att_table::{ConfigRow, Table, TableFault};
+use gatt_host::{Conn, answer};
+use std::alloc::Global;
 use std::io::Write;
 
 /// One connection of an unknown peer to the table of the example door lock, and the line of its
@@ -25,17 +28,22 @@ pub(crate) struct Session {
 }
 
 impl Session {
-    ghost use Rattle.gatt_commands.specs.Session.{server_of, AnswersLine, Passes, StopsAt, Ends, IsLineFault};
+    ghost use Rattle.gatt_commands.specs.Session.{server_of, IsStartFault, AnswersLine, Passes, StopsAt, Ends, IsLineFault};
 
-    pub(crate) fn new(alloc: Global) -> Result<Session, AllocError>
+    pub(crate) fn new(alloc: Global) -> Result<Session, ShellFault>
         ensures server { IfOk result (λ session. server_of session ≡ door_server) }
         ensures line { IfOk result (λ session. session.line.items ≡ []) }
         ensures number { IfOk result (λ session. session.number ≡ 1) }
+        ensures refused { IfErr result IsStartFault }
     {
+        let table = door_table(alloc)?;
+        let Ok(conn) = Conn::new(alloc) else {
+            return Err(ShellFault::Memory);
+        };
         Ok(Session {
-            table: door_table(alloc)?,
+            table,
             row: ConfigRow::new(),
-            conn: Conn::new(alloc)?,
+            conn,
             line: ArrayVec::new(),
             number: 1,
         })
@@ -120,6 +128,19 @@ impl Session {
     }
 }
 
+/// The table of the example door lock.
+#[tactic(auto, unfolding(crate::specs::Att::door))]
+fn door_table(alloc: Global) -> Result<Table, ShellFault>
+    ensures door { IfOk result (λ table. table ≡ door) }
+    ensures refused { IfErr result IsStartFault }
+{
+    match Table::read(alloc, DOOR) {
+        Ok(table) => Ok(table),
+        Err(TableFault::OutOfMemory) => Err(ShellFault::Memory),
+        Err(fault) => Err(ShellFault::Table(fault.number())),
+    }
+}
+
 fn print_answer<W: Write>(answer: &[u8], writer: &mut W) -> Result<(), ShellFault>
     requires { length answer.now ≤ 517 }
     ensures ok { OnOk result (Appends (W.contents writer.old) (W.contents writer.new) (encode_lower answer.now ++ 10 ∷ [])) }
@@ -130,14 +151,4 @@ fn print_answer<W: Write>(answer: &[u8], writer: &mut W) -> Result<(), ShellFaul
     hex::encode_to_slice(answer, &mut text[..end]).unwrap();
     text[end] = b'\n';
     print(&text[..=end], writer)
-}
-
-fn print<W: Write>(text: &[u8], writer: &mut W) -> Result<(), ShellFault>
-    ensures ok { OnOk result (Appends (W.contents writer.old) (W.contents writer.new) text.now) }
-    ensures faults { IfErr result (λ fault. fault ≡ ShellFault.Unwritten) }
-{
-    match writer.write_all(text) {
-        Ok(()) => Ok(()),
-        Err(_) => Err(ShellFault::Unwritten),
-    }
 }

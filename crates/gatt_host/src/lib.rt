@@ -2,9 +2,7 @@
 #![tactic(auto)]
 
 mod conn;
-mod door;
 mod server;
 
 pub use conn::Conn;
-pub use door::door_table;
 pub use server::{Answered, answer};

@@ -146,7 +146,7 @@ fn refuse(request_opcode: u8, handle: u16, code: u8, out: &mut PduBuf<'_>) -> An
 #[cfg(test)]
 mod tests {
     use super::*;
-    use crate::door::door_table;
+    use att_table::examples::DOOR;
     use std::test::Fail;
 
     /// PDUs of one connection and their answers, in order: an empty one where none is due.
@@ -174,7 +174,7 @@ mod tests {
 
     #[test]
     fn answers_of_the_door(rt: HostRuntime) -> Result<(), Fail> {
-        let mut table = door_table(rt.alloc())?;
+        let mut table = Table::read(rt.alloc(), DOOR).expect(&rt, "the door");
         let mut row = ConfigRow::new();
         let mut conn = Conn::new(rt.alloc())?;
         for (pdu, wanted) in EXCHANGES {

@@ -1,12 +1,21 @@
 -- The command line that the program takes, as clap's specification reads one.
-use Rattle.std.specs.Prelude.{ℕ, List, [], codes, true}
-use Rattle.clap.specs.Words.{App, Shape, new_app, with_subcommand}
+use Rattle.std.specs.Prelude.{ℕ, List, [], codes, true, Some}
+use Rattle.clap.specs.Words.{App, Rule, Shape, Text, new_app, new_rule, with_rule, with_subcommand}
+use Rattle.clap.specs.declared.builder.action.ArgAction.TheVariants.{Set}
 use Rattle.gatt_shell.specs.declared.words.Choice.{Choice}
-use Rattle.gatt_shell.specs.declared.words.Choice.TheVariants.{Att}
+use Rattle.gatt_shell.specs.declared.words.Choice.TheVariants.{Att, Check}
 
 -- the command `att`, which has no argument
 abbrev pub att_shape : Shape
 att_shape = (new_app (codes "att")).top
+
+-- an argument that is a path and has to be there
+abbrev pub file_rule : Text → Rule
+file_rule name = record (new_rule name) { required = true; action = Some Set }
+
+-- the command `check`, of a table file and a key file
+abbrev pub check_shape : Shape
+check_shape = (with_rule (with_rule (new_app (codes "check")) (file_rule (codes "TABLE"))) (file_rule (codes "KEYS"))).top
 
 -- the program, which has a version
 abbrev pub program_shape : Shape
@@ -17,8 +26,9 @@ program_shape = record (new_app (codes "gatt_shell")).top {
 
 -- the program, of which a command has to be named
 abbrev pub command_line : App
-command_line = with_subcommand (record { top = program_shape; subs = [] }) att_shape
+command_line = with_subcommand (with_subcommand (record { top = program_shape; subs = [] }) att_shape) check_shape
 
 -- the name that chooses a command
 abbrev pub name_of : Choice → List ℕ
 name_of Att = codes "att"
+name_of (Check table) = codes "check"

@@ -36,3 +36,31 @@ in hexadecimal, or `-` where none is due. Blank lines are skipped.
 Example: the line `0a0300`, a Read Request of the handle 3, is answered by `0b4c6f636b`.
 
   printf '0a0300\\n' | gatt_shell att";
+
+/// The name of the command `check`.
+pub const CHECK: &str = "check";
+
+/// What `check` does, in a line.
+pub const CHECK_ABOUT: &str = "Judge a table file, and say how many attributes it gives";
+
+/// What `check` reads and prints.
+pub const CHECK_DETAILS: &str = "\
+Judge a table file, and say how many attributes it gives.
+
+A table file is TOML that describes services, characteristics and descriptors; docs/FORMATS.md
+has its keys and faults. Where it is refused, its first fault is told by its number on standard
+error. The key file is not opened yet.
+
+  gatt_shell check examples/door.toml examples/keys.toml";
+
+/// The argument of the table file.
+pub const TABLE: &str = "TABLE";
+
+/// What the table file is.
+pub const TABLE_ABOUT: &str = "The table file: the attributes, their values and who may use them";
+
+/// The argument of the key file.
+pub const KEYS: &str = "KEYS";
+
+/// What the key file is.
+pub const KEYS_ABOUT: &str = "The key file: the long-term keys of known peers";

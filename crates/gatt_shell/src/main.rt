@@ -10,6 +10,7 @@ ghost use Rattle.gatt_commands.specs.Fault.{status_of};
 
 use arrayvec::ArrayVec;
 use gatt_commands::ShellFault;
+use std::fs::{File, Files};
 use std::io::{ErrorKind, LineWriter, Write};
 use std::process::ExitCode;
 use std::rt::Env;
@@ -79,6 +80,14 @@ fn run_att(rt: &(impl Input + Print + AllocGlobal)) -> Result<(), ShellFault> {
     outcome_of(ran, writer.flush().is_ok())
 }
 
+/// Judges a table file, and prints how many attributes it gives.
+fn run_check(rt: &(impl Files + Print + AllocGlobal), table: &str) -> Result<(), ShellFault> {
+    let Ok(mut table) = File::open(rt, table) else {
+        return Err(ShellFault::Unreadable);
+    };
+    gatt_commands::check_files(rt.alloc(), &mut table, &mut io::writer(rt))
+}
+
 /// The words of the command line. One that is no text is not understood.
 fn words_of(rt: &(impl Env + AllocGlobal)) -> Result<Vec<String>, Refusal> {
     match env::args(rt) {
@@ -88,14 +97,19 @@ fn words_of(rt: &(impl Env + AllocGlobal)) -> Result<Vec<String>, Refusal> {
     }
 }
 
-fn choice_of_words(rt: &(impl Env + AllocGlobal)) -> Result<Choice, Refusal> {
-    words::chosen(rt.alloc(), words_of(rt)?.as_slice())
+/// Does what the words of the command line ask for, and returns the status of the program.
+fn run_words(rt: &(impl Files + Input + Print + Eprint + AllocGlobal), words: &[String]) -> u8 {
+    match words::chosen(rt.alloc(), words) {
+        Ok(Choice::Att) => exit_status(rt, run_att(rt)),
+        Ok(Choice::Check { table }) => exit_status(rt, run_check(rt, table)),
+        Err(refusal) => refusal_status(rt, &refusal),
+    }
 }
 
 /// Does what the command line asks for, and returns the status of the program.
-fn run(rt: &(impl Env + Input + Print + Eprint + AllocGlobal)) -> u8 {
-    match choice_of_words(rt) {
-        Ok(Choice::Att) => exit_status(rt, run_att(rt)),
+fn run(rt: &(impl Env + Files + Input + Print + Eprint + AllocGlobal)) -> u8 {
+    match words_of(rt) {
+        Ok(words) => run_words(rt, words.as_slice()),
         Err(refusal) => refusal_status(rt, &refusal),
     }
 }

@@ -4,19 +4,25 @@ ghost use Rattle.std.specs.Prelude.{IfSome, IfOk, IfErr, IsErrAnd, MatchResult, 
 ghost use Rattle.clap.specs.Words.{IsAmong, app_of, fault_of, kind_of, shape_of};
 ghost use Rattle.clap.specs.declared.builder.Command.TheViews.{out-Command};
 ghost use Rattle.clap.specs.Words.{subcommand_name_of, subcommand_of};
-ghost use Rattle.gatt_shell.specs.CommandLine.{att_shape, command_line, name_of};
+ghost use Rattle.clap.specs.Words.{rule_of, IsPlainArg};
+ghost use Rattle.gatt_shell.specs.CommandLine.{att_shape, file_rule, check_shape, command_line, name_of};
 ghost use Rattle.gatt_shell.specs.Refusal.{ShowsUnlessMemory, refusal_for};
 
 use crate::help;
 use clap::error::ErrorKind;
-use clap::{ArgMatches, Command, Error};
+use clap::{Arg, ArgAction, ArgMatches, Command, Error};
 use std::alloc::{AllocError, Global};
 
 /// The command that the words choose.
 #[derive(Clone, Copy, Debug, PartialEq, Eq)]
-pub enum Choice {
+pub enum Choice<'a> {
     /// Answers ATT PDUs from standard input.
     Att,
+    /// Judges files, which are named by their paths.
+    Check {
+        /// The table file.
+        table: &'a str,
+    },
 }
 
 /// Why the words choose no command.
@@ -45,27 +51,28 @@ impl Refusal {
     }
 }
 
-/// The command of this name.
-fn choice_of(name: &str) -> Option<Choice>
-    ensures named { IfSome result (λ choice. name_of choice ≡ name.now) }
-    ensures att { name.now ≡ codes "att" → result ≡ Some Choice.Att }
-{
-    match name {
-        help::ATT => Some(Choice::Att),
-        _ => None,
-    }
-}
-
 /// The command that a parse has met.
-fn choice_in(matches: &ArgMatches<'_>) -> Result<Choice, Refusal>
+fn choice_in<'a>(matches: &ArgMatches<'a>) -> Result<Choice<'a>, Refusal>
     ensures named { IfOk result (λ choice. subcommand_name_of matches.now ≡ Some (name_of choice)) }
     ensures att { subcommand_name_of matches.now ≡ Some (codes "att") → result ≡ Ok Choice.Att }
     ensures err { IfErr result (λ refusal. refusal ≡ Refusal.Misunderstood) }
 {
-    let Some(name) = matches.subcommand_name() else {
+    let Some((name, arguments)) = matches.subcommand() else {
         return Err(Refusal::Misunderstood);
     };
-    choice_of(name).ok_or(Refusal::Misunderstood)
+    match name {
+        help::ATT => Ok(Choice::Att),
+        help::CHECK => checking(arguments).ok_or(Refusal::Misunderstood),
+        _ => Err(Refusal::Misunderstood),
+    }
+}
+
+/// The choice of `check`, with its files.
+fn checking<'a>(arguments: &ArgMatches<'a>) -> Option<Choice<'a>>
+    ensures { IfSome result (λ choice. name_of choice ≡ codes "check") }
+{
+    let table = arguments.get_str(help::TABLE)?;
+    Some(Choice::Check { table })
 }
 
 /// What is told where the parser refuses the words: its text only where help or the version was
@@ -91,6 +98,31 @@ fn att_command<'a>(alloc: Global) -> Command<'a>
         .after_help(help::STATUSES)
 }
 
+/// An argument that is a path and has to be there.
+fn file_argument<'a>(alloc: Global, name: &'a str, about: &'a str) -> Arg<'a>
+    ensures rule { rule_of result ≡ file_rule name.entry.now }
+    ensures plain { IsPlainArg result }
+    ensures local { result.global ≡ false }
+{
+    Arg::new(alloc, name)
+        .help(about)
+        .required(true)
+        .action(ArgAction::Set)
+}
+
+/// The command `check`.
+fn check_command<'a>(alloc: Global) -> Result<Command<'a>, AllocError>
+    ensures shape { IfOk result (λ command. shape_of command ≡ check_shape) }
+    ensures local { IfOk result (λ command. (out-Command command).has_globals ≡ false) }
+{
+    Command::new(alloc, help::CHECK)
+        .about(help::CHECK_ABOUT)
+        .long_about(help::CHECK_DETAILS)
+        .after_help(help::STATUSES)
+        .arg(file_argument(alloc, help::TABLE, help::TABLE_ABOUT))?
+        .arg(file_argument(alloc, help::KEYS, help::KEYS_ABOUT))
+}
+
 /// The command line that the program takes.
 fn command<'a>(alloc: Global) -> Result<Command<'a>, AllocError>
     ensures { IfOk result (λ command. app_of command ≡ command_line) }
@@ -101,12 +133,13 @@ fn command<'a>(alloc: Global) -> Result<Command<'a>, AllocError>
         .about(help::ABOUT)
         .after_help(help::STATUSES)
         .subcommand_required(true)
-        .subcommand(att_command(alloc))
+        .subcommand(att_command(alloc))?
+        .subcommand(check_command(alloc)?)
 }
 
 /// The command that the words of the command line choose, of which the first is the program's
 /// own name.
-pub fn chosen(alloc: Global, words: &[String]) -> Result<Choice, Refusal>
+pub fn chosen<'a>(alloc: Global, words: &'a [String]) -> Result<Choice<'a>, Refusal>
     // What is chosen is the command that the words name, and they have no fault.
     ensures named { IfOk result (λ choice.
         option_map (λ named. named.0) (subcommand_of command_line (map string_bytes words.now))

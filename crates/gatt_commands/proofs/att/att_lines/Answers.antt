@@ -2,7 +2,7 @@ use Rattle.std.proofs.Common.{◌<◌, length, refl, arith}
 use Rattle.std.proofs.lemmas.Result.{on_ok_weaker}
 use Rattle.gatt_commands.proofs.Sessions.{same_fault, has_read_none, has_read_more, has_read_nothing, has_read_kept, answers_input, refuses_input, prints_front}
 use Rattle.gatt_commands.proofs.att.att_lines.Goals as goal
-use Rattle.gatt_commands.proofs.att.att_lines.Goals.{in-Ok-read+in_ok-take-in-Ok-read, in-Err}
+use Rattle.gatt_commands.proofs.att.att_lines.Goals.{in-Ok+in_ok-take-in-Ok, in-Err}
 
 pub returns-in-Ok-eq0-clause-ok : goal.returns-in-Ok-eq0-clause-ok
 returns-in-Ok-eq0-clause-ok g c =
@@ -20,34 +20,34 @@ returns-in-Ok-eq0-clause-not_hex g c number h =
     let room : 0 < length c.read.new.buf = omega arith in
     answers_input _ _ _ _ _ _ _ _ c.loop-read.invariant.start so_far (read.1 c.in-Ok-eq0.field-0-test room) (c.finish.ensures.stops number h) refl
 
-pub returns-in_err-take-in-Ok-read-clause-not_hex : goal.returns-in_err-take-in-Ok-read-clause-not_hex
-returns-in_err-take-in-Ok-read-clause-not_hex g c number h =
-    let said = same_fault c.take.result c.from_residual.result _ number c.in_err-take-in-Ok-read.was c.from_residual.ensures.1 h in
-    let read = rw c.in-Ok-read.is at c.read.ensures.bytes in
+pub returns-in_err-take-in-Ok-clause-not_hex : goal.returns-in_err-take-in-Ok-clause-not_hex
+returns-in_err-take-in-Ok-clause-not_hex g c number h =
+    let said = same_fault c.take.result c.from_residual-in_err-take-in-Ok.result _ number c.in_err-take-in-Ok.was c.from_residual-in_err-take-in-Ok.ensures.1 h in
+    let read = rw c.in-Ok.is at c.read.ensures.bytes in
     refuses_input _ _ _ _ _ _ _ _ _ _ c.loop-read.invariant.start c.loop-read.invariant.so_far read.0 (c.take.ensures.stops number said)
 
 pub loop-read-init : goal.loop-read-init
 loop-read-init g c = record {
-  start = record { server = c.in-Ok.ensures.server; line = c.in-Ok.ensures.line; number = c.in-Ok.ensures.number };
+  start = record { server = c.in_ok-session.ensures.server; line = c.in_ok-session.ensures.line; number = c.in_ok-session.ensures.number };
   so_far = has_read_none _ _ _;
-  counts = omega (arith, c.in-Ok.ensures.number);
+  counts = omega (arith, c.in_ok-session.ensures.number);
 }
 
 pub loop-read-preserved : goal.loop-read-preserved
 loop-read-preserved g c = record {
   start = c.loop-read.invariant.start;
   so_far = elim c.match-read.branch [
-    | in-Ok-read+in_ok-take-in-Ok-read w ↦
-        let read = rw w.in-Ok-read.is at c.read.ensures.bytes in
-        rw (w.session-is, w.writer-is) (has_read_more _ _ _ _ _ _ _ _ _ _ c.loop-read.invariant.so_far read.0 w.in_ok-take-in-Ok-read.ensures.passes)
+    | in-Ok+in_ok-take-in-Ok w ↦
+        let read = rw w.in-Ok.is at c.read.ensures.bytes in
+        rw (w.session-is, w.writer-is) (has_read_more _ _ _ _ _ _ _ _ _ _ c.loop-read.invariant.so_far read.0 w.in_ok-take-in-Ok.ensures.passes)
     | in-Err w ↦
         let kept = rw w.in-Err.is at c.read.ensures.bytes in
         rw (w.session-is, w.writer-is) (has_read_kept _ _ _ _ _ _ _ c.loop-read.invariant.so_far kept)
   ];
   counts = elim c.match-read.branch [
-    | in-Ok-read+in_ok-take-in-Ok-read w ↦
-        let read = rw w.in-Ok-read.is at c.read.ensures.bound in
-        let counts = w.in_ok-take-in-Ok-read.ensures.counts in
+    | in-Ok+in_ok-take-in-Ok w ↦
+        let read = rw w.in-Ok.is at c.read.ensures.bound in
+        let counts = w.in_ok-take-in-Ok.ensures.counts in
         rw w.session-is (omega arith)
     | in-Err w ↦ rw w.session-is (omega arith)
   ];

@@ -1,0 +1,26 @@
+-- Table files, as octets.
+use Rattle.std.specs.Prelude.{◌≡◌, ℕ, if◌then◌else◌, List, Result, Ok, Err}
+use Rattle.std.specs.Str.{is_utf8}
+use Rattle.att_table.specs.declared.table_fault.TableFault.{TableFault}
+use Rattle.att_table.specs.declared.table_fault.TableFault.TheVariants.{NotToml}
+use Rattle.att_table.specs.Table.{Contents}
+use Rattle.att_table.specs.TableFault.{number_of}
+use Rattle.att_table.specs.TableFile.{table_read}
+use Rattle.gatt_commands.specs.declared.fault.ShellFault.{ShellFault}
+use Rattle.gatt_commands.specs.declared.fault.ShellFault.TheVariants.{Table, Unreadable, Memory}
+
+-- the table that a file gives, or its first fault: one that is not UTF-8 is not TOML
+unfoldable pub table_in : List ℕ → Result Contents TableFault
+table_in octets = if is_utf8 octets then table_read octets else Err NotToml
+
+-- a table was refused for the fault of this number
+abbrev pub IsRefusedAs : ℕ → Result Contents TableFault → Type 0
+IsRefusedAs number (Ok table) = ⊥
+IsRefusedAs number (Err fault) = number ≡ number_of fault
+
+-- what may end the reading of a table file
+abbrev pub IsTableFileFault : ShellFault → Type 0
+IsTableFileFault (Table number) = Unit {0}
+IsTableFileFault Unreadable = Unit {0}
+IsTableFileFault Memory = Unit {0}
+IsTableFileFault _ = ⊥

@@ -1,0 +1,35 @@
+//! Inputs that are read to their ends.
+
+ghost use Rattle.std.specs.Prelude.{◌≡◌, IfErr, IfOk, IfSome};
+ghost use Rattle.gatt_commands.specs.Input.{IsInputFault};
+
+use crate::fault::ShellFault;
+use std::alloc::Global;
+use std::io::{ErrorKind, Read};
+
+/// How often an input is read, at most.
+pub const READS: u64 = 1_000_000;
+/// How many octets of an input are read at a time, at most.
+pub const CHUNK: usize = 512;
+
+/// All octets of an input.
+pub(crate) fn read_all<R: Read>(alloc: Global, reader: &mut R) -> Result<Vec<u8>, ShellFault>
+    ensures all { IfOk result (λ octets. IfSome (R.remaining reader.old) (λ input. octets.items ≡ input)) }
+    ensures faults { IfErr result IsInputFault }
+{
+    let mut octets = Vec::new(alloc);
+    let mut chunk = [0; CHUNK];
+    for _read in 0..READS {
+        match reader.read(&mut chunk) {
+            Ok(0) => return Ok(octets),
+            Ok(count) => {
+                if octets.extend_from_slice(&chunk[..count]).is_err() {
+                    return Err(ShellFault::Memory);
+                }
+            }
+            Err(error) if error.kind() == ErrorKind::Interrupted => {}
+            Err(_) => return Err(ShellFault::Unreadable),
+        }
+    }
+    Err(ShellFault::Unreadable)
+}
