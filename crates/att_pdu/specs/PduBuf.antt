@@ -1,8 +1,9 @@
 -- What a contract sees of a PDU in a buffer, and the error answer.
-use Rattle.std.specs.Prelude.{◌≡◌, ℕ, ◌/◌, ◌%◌, List, [], ◌∷◌}
+use Rattle.std.specs.Prelude.{◌≡◌, ℕ, List, [], ◌∷◌, ◌++◌}
 use Rattle.std.specs.Borrow.{MutBor}
 use Rattle.arrayvec.specs.ArrayVec.{ArrayVec}
 use Rattle.att_pdu.specs.declared.pdu_buf.PduBuf.{PduBuf}
+use Rattle.att_pdu.specs.Octets.{two_octets}
 
 -- the octets so far
 abbrev pub contents : PduBuf → List ℕ
@@ -23,4 +24,4 @@ pub record IsSameBuffer (old new : PduBuf) : Type 0 where
 
 -- the Error Response to a request, by its opcode, the handle at fault and the error code: Core 5.0, Vol 3 Part F, 3.4.1.1
 abbrev pub error_response : ℕ → ℕ → ℕ → List ℕ
-error_response opcode handle code = 0x01 ∷ opcode ∷ (handle % 256) ∷ (handle / 256) ∷ code ∷ []
+error_response opcode handle code = 0x01 ∷ opcode ∷ two_octets handle ++ code ∷ []

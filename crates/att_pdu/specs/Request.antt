@@ -1,64 +1,80 @@
--- The grammar of the requests: what octets ask for, and what is wrong with those that ask for nothing.
-use Rattle.std.specs.Prelude.{ℕ, ◌+◌, ◌*◌, ◌/◌, ◌%◌, ◌^◌, ◌<◌, Bool, true, false, ◌==◌, nat_le, if◌then◌else◌, List, [], ◌∷◌, ◌++◌, length, Option, Some, None, Result, Ok, Err}
-use Rattle.std.specs.Int.RustNames.{bit_and}
+-- What requests ask for, and the octets that ask for it.
+use Rattle.std.specs.Prelude.{ℕ, ◌^◌, ◌<◌, ◌≤◌, List, [], ◌∷◌, ◌++◌, length, map, All}
+use Rattle.std.specs.Int.{w16, from_le_bytes}
+use Rattle.std.specs.List.{flat_map}
+use Rattle.att_pdu.specs.declared.kind.Kind.{Kind}
+use Rattle.att_pdu.specs.declared.request.ExecuteFlags.{ExecuteFlags}
+use Rattle.att_pdu.specs.declared.request.ExecuteFlags.TheVariants as flags
 use Rattle.att_pdu.specs.declared.request.Request.{Request}
-use Rattle.att_pdu.specs.declared.request.Request.TheVariants.{Read, Write}
-use Rattle.att_pdu.specs.declared.request.PduFault.{PduFault}
-use Rattle.att_pdu.specs.declared.request.PduFault.TheVariants.{Ignored, Invalid, Unsupported}
+use Rattle.att_pdu.specs.declared.request.Request.TheVariants.{ExchangeMtu, FindInformation, FindByTypeValue, ReadByType, Read, ReadBlob, ReadMultiple, ReadByGroupType, Write, PrepareWrite, ExecuteWrite, Confirmation, WriteCommand}
+use Rattle.att_pdu.specs.Kind.{kind_octets, HasKindOctets}
+use Rattle.att_pdu.specs.Octets.{two_octets}
 
 -- what a request asks for
 pub data Asked : Type 0 where
+  ExchangeMtuRequest : (client_rx_mtu : ℕ) → Asked
+  FindInformationRequest : (first last : ℕ) → Asked
+  FindByTypeValueRequest : (first last kind : ℕ) (value : List ℕ) → Asked
+  ReadByTypeRequest : (first last : ℕ) (kind : Kind) → Asked
   ReadRequest : (handle : ℕ) → Asked
+  ReadBlobRequest : (handle offset : ℕ) → Asked
+  ReadMultipleRequest : (handles : List ℕ) → Asked
+  ReadByGroupTypeRequest : (first last : ℕ) (kind : Kind) → Asked
   WriteRequest : (handle : ℕ) (value : List ℕ) → Asked
+  PrepareWriteRequest : (handle offset : ℕ) (part : List ℕ) → Asked
+  ExecuteWriteRequest : (flags : ExecuteFlags) → Asked
+  ConfirmationPdu : Asked
+  WriteCommandPdu : (handle : ℕ) (value : List ℕ) → Asked
 
 -- what a request that borrows its parts asks for
 abbrev pub asked : Request → Asked
+asked (ExchangeMtu client_rx_mtu) = ExchangeMtuRequest client_rx_mtu
+asked (FindInformation first last) = FindInformationRequest first last
+asked (FindByTypeValue first last kind value) = FindByTypeValueRequest first last kind value.now
+asked (ReadByType first last kind) = ReadByTypeRequest first last kind
 asked (Read handle) = ReadRequest handle
+asked (ReadBlob handle offset) = ReadBlobRequest handle offset
+asked (ReadMultiple handles) = ReadMultipleRequest (map (from_le_bytes w16) handles.now)
+asked (ReadByGroupType first last kind) = ReadByGroupTypeRequest first last kind
 asked (Write handle value) = WriteRequest handle value.now
+asked (PrepareWrite handle offset part) = PrepareWriteRequest handle offset part.now
+asked (ExecuteWrite flags) = ExecuteWriteRequest flags
+asked Confirmation = ConfirmationPdu
+asked (WriteCommand handle value) = WriteCommandPdu handle value.now
 
--- a number of 16 bits as it is sent, the lower octet first
-abbrev pub two_octets : ℕ → List ℕ
-two_octets n = (n % 256) ∷ (n / 256) ∷ []
+-- the flags of an Execute Write Request: Core 5.0, Vol 3 Part F, 3.4.6.3
+abbrev pub flags_octet : ExecuteFlags → ℕ
+flags_octet flags.Cancel = 0x00
+flags_octet flags.Write = 0x01
 
--- the octets of a request: Core 5.0, Vol 3 Part F, 3.4.4.3 and 3.4.5.1
+-- the octets of a request: Core 5.0, Vol 3 Part F, 3.4
 abbrev pub spelled : Asked → List ℕ
+spelled (ExchangeMtuRequest client_rx_mtu) = 0x02 ∷ two_octets client_rx_mtu
+spelled (FindInformationRequest first last) = 0x04 ∷ two_octets first ++ two_octets last
+spelled (FindByTypeValueRequest first last kind value) = 0x06 ∷ two_octets first ++ two_octets last ++ two_octets kind ++ value
+spelled (ReadByTypeRequest first last kind) = 0x08 ∷ two_octets first ++ two_octets last ++ kind_octets kind
 spelled (ReadRequest handle) = 0x0A ∷ two_octets handle
+spelled (ReadBlobRequest handle offset) = 0x0C ∷ two_octets handle ++ two_octets offset
+spelled (ReadMultipleRequest handles) = 0x0E ∷ flat_map two_octets handles
+spelled (ReadByGroupTypeRequest first last kind) = 0x10 ∷ two_octets first ++ two_octets last ++ kind_octets kind
 spelled (WriteRequest handle value) = 0x12 ∷ two_octets handle ++ value
+spelled (PrepareWriteRequest handle offset part) = 0x16 ∷ two_octets handle ++ two_octets offset ++ part
+spelled (ExecuteWriteRequest flags) = 0x18 ∷ flags_octet flags ∷ []
+spelled ConfirmationPdu = 0x1E ∷ []
+spelled (WriteCommandPdu handle value) = 0x52 ∷ two_octets handle ++ value
 
--- a handle has 16 bits
+-- handles, offsets and MTUs have 16 bits; a Read Multiple Request has two or more handles
 abbrev pub HasOctetFields : Asked → Type 0
+HasOctetFields (ExchangeMtuRequest client_rx_mtu) = client_rx_mtu < 2 ^ 16
+HasOctetFields (FindInformationRequest first last) = (first < 2 ^ 16) × (last < 2 ^ 16)
+HasOctetFields (FindByTypeValueRequest first last kind value) = (first < 2 ^ 16) × (last < 2 ^ 16) × (kind < 2 ^ 16)
+HasOctetFields (ReadByTypeRequest first last kind) = (first < 2 ^ 16) × (last < 2 ^ 16) × HasKindOctets kind
 HasOctetFields (ReadRequest handle) = handle < 2 ^ 16
+HasOctetFields (ReadBlobRequest handle offset) = (handle < 2 ^ 16) × (offset < 2 ^ 16)
+HasOctetFields (ReadMultipleRequest handles) = All (λ handle. handle < 2 ^ 16) handles × (2 ≤ length handles)
+HasOctetFields (ReadByGroupTypeRequest first last kind) = (first < 2 ^ 16) × (last < 2 ^ 16) × HasKindOctets kind
 HasOctetFields (WriteRequest handle value) = handle < 2 ^ 16
-
--- the forms of the parameters after an opcode
-abbrev pub read_form : List ℕ → Option Asked
-read_form (low ∷ high ∷ []) = Some (ReadRequest (low + 256 * high))
-read_form _ = None
-
-abbrev pub write_form : List ℕ → Option Asked
-write_form (low ∷ high ∷ value) = Some (WriteRequest (low + 256 * high) value)
-write_form _ = None
-
--- a form that is kept within the ATT_MTU, or else an invalid PDU
-abbrev pub valid_within : ℕ → List ℕ → ℕ → Option Asked → Result Asked PduFault
-valid_within opcode pdu mtu None = Err (Invalid opcode)
-valid_within opcode pdu mtu (Some request) = if nat_le (length pdu) mtu then Ok request else Err (Invalid opcode)
-
--- an unknown opcode: commands have bit 6 set (Core 5.0, Vol 3 Part F, 3.3.1 and 3.3.2)
-abbrev pub unknown : ℕ → Result Asked PduFault
-unknown opcode = if bit_and opcode 0x40 == 0 then Err (Unsupported opcode) else Err Ignored
-
--- what a PDU asks for at an ATT_MTU, or the first fault that applies
-abbrev pub request_of : List ℕ → ℕ → Result Asked PduFault
-request_of [] mtu = Err Ignored
-request_of (opcode ∷ parameters) mtu =
-    if opcode == 0x0A then valid_within opcode (opcode ∷ parameters) mtu (read_form parameters)
-    else if opcode == 0x12 then valid_within opcode (opcode ∷ parameters) mtu (write_form parameters)
-    else unknown opcode
-
--- whether an answer follows
-abbrev pub is_due : Result Asked PduFault → Bool
-is_due (Ok request) = true
-is_due (Err Ignored) = false
-is_due (Err (Invalid opcode)) = true
-is_due (Err (Unsupported opcode)) = true
+HasOctetFields (PrepareWriteRequest handle offset part) = (handle < 2 ^ 16) × (offset < 2 ^ 16)
+HasOctetFields (ExecuteWriteRequest flags) = Unit {0}
+HasOctetFields ConfirmationPdu = Unit {0}
+HasOctetFields (WriteCommandPdu handle value) = handle < 2 ^ 16

@@ -2,9 +2,14 @@
 //! outgrow the ATT_MTU.
 #![tactic(auto)]
 
+mod form;
+mod grammar;
+mod kind;
 pub mod opcode;
 mod pdu_buf;
 mod request;
 
+pub use grammar::{PduFault, answer_due, read_request};
+pub use kind::Kind;
 pub use pdu_buf::{MAX_MTU, MIN_MTU, PduBuf};
-pub use request::{PduFault, Request, answer_due, read_request};
+pub use request::{ExecuteFlags, Request};

@@ -22,6 +22,7 @@ pub struct PduBuf<'a> {
 }
 
 impl<'a> PduBuf<'a> {
+    ghost use Rattle.att_pdu.specs.Octets.{two_octets};
     ghost use Rattle.att_pdu.specs.PduBuf.{contents, mtu_of, IsIn, IsSameBuffer, error_response};
 
     /// An empty PDU in `octets`, whose content is dropped.
@@ -54,10 +55,74 @@ impl<'a> PduBuf<'a> {
         ensures unchanged { OnFalse result (contents self.new ≡ contents self.old) }
         ensures same_buffer { IsSameBuffer self.old self.new }
     {
-        if octets.len() > usize::from(self.mtu) - self.octets.len() {
+        if !self.has_room(octets.len()) {
             return false;
         }
-        self.octets.try_extend_from_slice(octets).is_ok()
+        self.append(octets);
+        true
+    }
+
+    /// Appends a handle and octets, an attribute's type or its value, or answers `false` with
+    /// nothing changed where they do not fit: an entry of the responses of Core 5.0, Vol 3 Part F,
+    /// 3.4.3.2 and 3.4.4.2, or with the last handle of a group that of 3.4.3.4.
+    pub fn pair(&mut self, handle: u16, octets: &[u8]) -> bool
+        ensures fits { IsTrue result ↔ (length (contents self.old) + 2 + length octets.now ≤ mtu_of self.old) }
+        ensures appended { OnTrue result (contents self.new ≡ contents self.old ++ two_octets handle ++ octets.now) }
+        ensures unchanged { OnFalse result (contents self.new ≡ contents self.old) }
+        ensures same_buffer { IsSameBuffer self.old self.new }
+    {
+        if !self.has_room(2 + octets.len()) {
+            return false;
+        }
+        self.append(&handle.to_le_bytes());
+        self.append(octets);
+        true
+    }
+
+    /// Appends the first and the last handle of a group and its value, or answers `false` with
+    /// nothing changed where they do not fit: an entry of the response of Core 5.0, Vol 3 Part F,
+    /// 3.4.4.10.
+    pub fn group(&mut self, first: u16, last: u16, octets: &[u8]) -> bool
+        ensures fits { IsTrue result ↔ (length (contents self.old) + 4 + length octets.now ≤ mtu_of self.old) }
+        ensures appended { OnTrue result (contents self.new ≡ contents self.old ++ two_octets first ++ two_octets last ++ octets.now) }
+        ensures unchanged { OnFalse result (contents self.new ≡ contents self.old) }
+        ensures same_buffer { IsSameBuffer self.old self.new }
+    {
+        if !self.has_room(4 + octets.len()) {
+            return false;
+        }
+        self.append(&first.to_le_bytes());
+        self.append(&last.to_le_bytes());
+        self.append(octets);
+        true
+    }
+
+    /// Appends a handle, an offset and a part of a value, or answers `false` with nothing changed
+    /// where they do not fit: the response of Core 5.0, Vol 3 Part F, 3.4.6.2.
+    pub fn part(&mut self, handle: u16, offset: u16, octets: &[u8]) -> bool
+        ensures fits { IsTrue result ↔ (length (contents self.old) + 4 + length octets.now ≤ mtu_of self.old) }
+        ensures appended { OnTrue result (contents self.new ≡ contents self.old ++ two_octets handle ++ two_octets offset ++ octets.now) }
+        ensures unchanged { OnFalse result (contents self.new ≡ contents self.old) }
+        ensures same_buffer { IsSameBuffer self.old self.new }
+    {
+        // The offset is spelled as a handle is.
+        self.group(handle, offset, octets)
+    }
+
+    /// Whether this many octets more are within the ATT_MTU.
+    fn has_room(&self, count: usize) -> bool
+        ensures { IsTrue result ↔ (length (contents self.now) + count ≤ mtu_of self.now) }
+    {
+        count <= usize::from(self.mtu) - self.octets.len()
+    }
+
+    /// Appends octets for which there is room, so the `unwrap` is proved and tests nothing.
+    fn append(&mut self, octets: &[u8])
+        requires { length (contents self.old) + length octets.now ≤ mtu_of self.old }
+        ensures appended { contents self.new ≡ contents self.old ++ octets.now }
+        ensures same_buffer { IsSameBuffer self.old self.new }
+    {
+        self.octets.try_extend_from_slice(octets).unwrap();
     }
 }
 
@@ -76,6 +141,26 @@ mod tests {
         assert_eq!(rt;
             octets.as_slice(),
             [0x01, 0x0A, 0x02, 0x01, 0x05].as_slice()
+        );
+    }
+
+    #[test]
+    fn appends_whole_entries(rt: HostRuntime) {
+        let mut octets = ArrayVec::new();
+        let mut pdu = PduBuf::new(&mut octets, 23);
+        assert!(rt; pdu.value(&[0x11, 0x06]));
+        assert!(rt; pdu.group(1, 0x0203, &[0x00, 0x18]));
+        assert!(rt; pdu.pair(0x0405, &[0x41]));
+        assert!(rt; pdu.part(0x15, 0x0100, b"ab"));
+        // 17 octets stand, and 6 are left.
+        assert!(rt; !pdu.pair(7, b"abcde"));
+        assert!(rt; !pdu.group(7, 8, b"abc"));
+        assert!(rt; !pdu.part(7, 8, b"abc"));
+        assert!(rt; pdu.pair(0x16, b"cdef"));
+        assert!(rt; !pdu.pair(0x16, &[]));
+        assert_eq!(rt;
+            octets.as_slice(),
+            b"\x11\x06\x01\x00\x03\x02\x00\x18\x05\x04\x41\x15\x00\x00\x01ab\x16\x00cdef".as_slice()
         );
     }
 }

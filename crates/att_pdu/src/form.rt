@@ -1,0 +1,222 @@
+//! The forms of the parameters behind each opcode.
+ghost use Rattle.std.specs.Prelude.{◌≡◌, ◌∷◌, IfSome};
+ghost use Rattle.std.specs.Option.{option_map};
+ghost use Rattle.att_pdu.specs.Request.{asked, spelled};
+ghost use Rattle.att_pdu.specs.Form.{form_of, exchange_mtu_form, find_information_form, find_by_type_value_form, read_by_type_form, read_form, read_blob_form, read_multiple_form, read_by_group_type_form, write_form, prepare_write_form, execute_write_form, confirmation_form, write_command_form};
+
+use crate::kind::Kind;
+use crate::opcode;
+use crate::request::{ExecuteFlags, Request};
+
+/// The request that parameters spell behind an opcode, however long they are.
+pub(crate) fn request(opcode: u8, parameters: &[u8]) -> Option<Request<'_>>
+    ensures form { option_map asked result ≡ form_of opcode parameters.now }
+    ensures spelled { IfSome result (λ request. spelled (asked request) ≡ opcode ∷ parameters.now) }
+{
+    match opcode {
+        opcode::EXCHANGE_MTU_REQUEST => exchange_mtu(parameters),
+        opcode::FIND_INFORMATION_REQUEST => find_information(parameters),
+        opcode::FIND_BY_TYPE_VALUE_REQUEST => find_by_type_value(parameters),
+        opcode::READ_BY_TYPE_REQUEST => read_by_type(parameters),
+        opcode::READ_REQUEST => read(parameters),
+        opcode::READ_BLOB_REQUEST => read_blob(parameters),
+        opcode::READ_MULTIPLE_REQUEST => read_multiple(parameters),
+        opcode::READ_BY_GROUP_TYPE_REQUEST => read_by_group_type(parameters),
+        opcode::WRITE_REQUEST => write(parameters),
+        opcode::PREPARE_WRITE_REQUEST => prepare_write(parameters),
+        opcode::EXECUTE_WRITE_REQUEST => execute_write(parameters),
+        opcode::HANDLE_VALUE_CONFIRMATION => confirmation(parameters),
+        opcode::WRITE_COMMAND => write_command(parameters),
+        _ => None,
+    }
+}
+
+/// Core 5.0, Vol 3 Part F, 3.4.2.1.
+fn exchange_mtu(parameters: &[u8]) -> Option<Request<'_>>
+    ensures form { option_map asked result ≡ exchange_mtu_form parameters.now }
+    ensures spelled { IfSome result (λ request. spelled (asked request) ≡ 0x02 ∷ parameters.now) }
+{
+    match parameters {
+        [low, high] => Some(Request::ExchangeMtu {
+            client_rx_mtu: u16::from_le_bytes([*low, *high]),
+        }),
+        _ => None,
+    }
+}
+
+/// Core 5.0, Vol 3 Part F, 3.4.3.1.
+fn find_information(parameters: &[u8]) -> Option<Request<'_>>
+    ensures form { option_map asked result ≡ find_information_form parameters.now }
+    ensures spelled { IfSome result (λ request. spelled (asked request) ≡ 0x04 ∷ parameters.now) }
+{
+    match parameters {
+        [first_low, first_high, last_low, last_high] => Some(Request::FindInformation {
+            first: u16::from_le_bytes([*first_low, *first_high]),
+            last: u16::from_le_bytes([*last_low, *last_high]),
+        }),
+        _ => None,
+    }
+}
+
+/// Core 5.0, Vol 3 Part F, 3.4.3.3.
+fn find_by_type_value(parameters: &[u8]) -> Option<Request<'_>>
+    ensures form { option_map asked result ≡ find_by_type_value_form parameters.now }
+    ensures spelled { IfSome result (λ request. spelled (asked request) ≡ 0x06 ∷ parameters.now) }
+{
+    match parameters {
+        [
+            first_low,
+            first_high,
+            last_low,
+            last_high,
+            kind_low,
+            kind_high,
+            value @ ..,
+        ] => Some(Request::FindByTypeValue {
+            first: u16::from_le_bytes([*first_low, *first_high]),
+            last: u16::from_le_bytes([*last_low, *last_high]),
+            kind: u16::from_le_bytes([*kind_low, *kind_high]),
+            value,
+        }),
+        _ => None,
+    }
+}
+
+/// Core 5.0, Vol 3 Part F, 3.4.4.1.
+fn read_by_type(parameters: &[u8]) -> Option<Request<'_>>
+    ensures form { option_map asked result ≡ read_by_type_form parameters.now }
+    ensures spelled { IfSome result (λ request. spelled (asked request) ≡ 0x08 ∷ parameters.now) }
+{
+    match parameters {
+        [first_low, first_high, last_low, last_high, kind @ ..] => Some(Request::ReadByType {
+            first: u16::from_le_bytes([*first_low, *first_high]),
+            last: u16::from_le_bytes([*last_low, *last_high]),
+            kind: Kind::read(kind)?,
+        }),
+        _ => None,
+    }
+}
+
+/// Core 5.0, Vol 3 Part F, 3.4.4.3.
+fn read(parameters: &[u8]) -> Option<Request<'_>>
+    ensures form { option_map asked result ≡ read_form parameters.now }
+    ensures spelled { IfSome result (λ request. spelled (asked request) ≡ 0x0A ∷ parameters.now) }
+{
+    match parameters {
+        [low, high] => Some(Request::Read {
+            handle: u16::from_le_bytes([*low, *high]),
+        }),
+        _ => None,
+    }
+}
+
+/// Core 5.0, Vol 3 Part F, 3.4.4.5.
+fn read_blob(parameters: &[u8]) -> Option<Request<'_>>
+    ensures form { option_map asked result ≡ read_blob_form parameters.now }
+    ensures spelled { IfSome result (λ request. spelled (asked request) ≡ 0x0C ∷ parameters.now) }
+{
+    match parameters {
+        [low, high, offset_low, offset_high] => Some(Request::ReadBlob {
+            handle: u16::from_le_bytes([*low, *high]),
+            offset: u16::from_le_bytes([*offset_low, *offset_high]),
+        }),
+        _ => None,
+    }
+}
+
+/// Core 5.0, Vol 3 Part F, 3.4.4.7.
+#[tactic(auto, using(crate::proofs::Handles::handles_in_pairs, crate::proofs::Handles::handles_spelled))]
+fn read_multiple(parameters: &[u8]) -> Option<Request<'_>>
+    ensures form { option_map asked result ≡ read_multiple_form parameters.now }
+    ensures spelled { IfSome result (λ request. spelled (asked request) ≡ 0x0E ∷ parameters.now) }
+{
+    match parameters.as_chunks::<2>() {
+        (handles, []) if handles.len() >= 2 => Some(Request::ReadMultiple { handles }),
+        _ => None,
+    }
+}
+
+/// Core 5.0, Vol 3 Part F, 3.4.4.9.
+fn read_by_group_type(parameters: &[u8]) -> Option<Request<'_>>
+    ensures form { option_map asked result ≡ read_by_group_type_form parameters.now }
+    ensures spelled { IfSome result (λ request. spelled (asked request) ≡ 0x10 ∷ parameters.now) }
+{
+    match parameters {
+        [first_low, first_high, last_low, last_high, kind @ ..] => Some(Request::ReadByGroupType {
+            first: u16::from_le_bytes([*first_low, *first_high]),
+            last: u16::from_le_bytes([*last_low, *last_high]),
+            kind: Kind::read(kind)?,
+        }),
+        _ => None,
+    }
+}
+
+/// Core 5.0, Vol 3 Part F, 3.4.5.1.
+fn write(parameters: &[u8]) -> Option<Request<'_>>
+    ensures form { option_map asked result ≡ write_form parameters.now }
+    ensures spelled { IfSome result (λ request. spelled (asked request) ≡ 0x12 ∷ parameters.now) }
+{
+    match parameters {
+        [low, high, value @ ..] => Some(Request::Write {
+            handle: u16::from_le_bytes([*low, *high]),
+            value,
+        }),
+        _ => None,
+    }
+}
+
+/// Core 5.0, Vol 3 Part F, 3.4.6.1.
+fn prepare_write(parameters: &[u8]) -> Option<Request<'_>>
+    ensures form { option_map asked result ≡ prepare_write_form parameters.now }
+    ensures spelled { IfSome result (λ request. spelled (asked request) ≡ 0x16 ∷ parameters.now) }
+{
+    match parameters {
+        [low, high, offset_low, offset_high, part @ ..] => Some(Request::PrepareWrite {
+            handle: u16::from_le_bytes([*low, *high]),
+            offset: u16::from_le_bytes([*offset_low, *offset_high]),
+            part,
+        }),
+        _ => None,
+    }
+}
+
+/// Core 5.0, Vol 3 Part F, 3.4.6.3.
+fn execute_write(parameters: &[u8]) -> Option<Request<'_>>
+    ensures form { option_map asked result ≡ execute_write_form parameters.now }
+    ensures spelled { IfSome result (λ request. spelled (asked request) ≡ 0x18 ∷ parameters.now) }
+{
+    match parameters {
+        [0x00] => Some(Request::ExecuteWrite {
+            flags: ExecuteFlags::Cancel,
+        }),
+        [0x01] => Some(Request::ExecuteWrite {
+            flags: ExecuteFlags::Write,
+        }),
+        _ => None,
+    }
+}
+
+/// Core 5.0, Vol 3 Part F, 3.4.7.3.
+fn confirmation(parameters: &[u8]) -> Option<Request<'_>>
+    ensures form { option_map asked result ≡ confirmation_form parameters.now }
+    ensures spelled { IfSome result (λ request. spelled (asked request) ≡ 0x1E ∷ parameters.now) }
+{
+    match parameters {
+        [] => Some(Request::Confirmation),
+        _ => None,
+    }
+}
+
+/// Core 5.0, Vol 3 Part F, 3.4.5.3.
+fn write_command(parameters: &[u8]) -> Option<Request<'_>>
+    ensures form { option_map asked result ≡ write_command_form parameters.now }
+    ensures spelled { IfSome result (λ request. spelled (asked request) ≡ 0x52 ∷ parameters.now) }
+{
+    match parameters {
+        [low, high, value @ ..] => Some(Request::WriteCommand {
+            handle: u16::from_le_bytes([*low, *high]),
+            value,
+        }),
+        _ => None,
+    }
+}

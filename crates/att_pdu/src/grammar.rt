@@ -1,0 +1,91 @@
+ghost use Rattle.std.specs.Prelude.{◌≡◌, ◌≤◌, length, IfOk};
+ghost use Rattle.std.specs.Result.{result_map_both};
+ghost use Rattle.att_pdu.specs.Request.{Asked, asked, spelled, HasOctetFields};
+ghost use Rattle.att_pdu.specs.Grammar.{request_of, fault_of, is_due};
+
+use crate::request::Request;
+use crate::{form, opcode};
+
+/// Why octets are no request that can be served.
+#[derive(Clone, Copy, Debug, PartialEq, Eq)]
+pub enum PduFault {
+    /// It is passed over, with no answer: an empty PDU, what only a server sends, an unknown
+    /// command, and a confirmation or a Write Command that is malformed or longer than the
+    /// ATT_MTU.
+    Ignored,
+    /// The opcode is that of a request and the form is not its own, or the PDU is longer than the
+    /// ATT_MTU: answered by the error Invalid PDU.
+    Invalid(u8),
+    /// The opcode is unknown: answered by the error Request Not Supported, whatever its length.
+    Unsupported(u8),
+}
+
+/// Reads the request that a PDU spells, where the connection's ATT_MTU is `mtu` octets. Handles of
+/// a Read Multiple Request and parts of a value are borrowed from the PDU.
+pub fn read_request(pdu: &[u8], mtu: u16) -> Result<Request<'_>, PduFault>
+    ensures exact { result_map_both asked (λ fault. fault) result ≡ request_of pdu.now mtu }
+    ensures spelled { IfOk result (λ request. spelled (asked request) ≡ pdu.now) }
+    ensures within_mtu { IfOk result (λ _. length pdu.now ≤ mtu) }
+    // Nothing in the grammar is refused.
+    ensures accepted { (request : Asked) → HasOctetFields request → spelled request ≡ pdu.now → length pdu.now ≤ mtu
+        → request_of pdu.now mtu ≡ Ok request }
+{
+    let [opcode, parameters @ ..] = pdu else {
+        return Err(PduFault::Ignored);
+    };
+    match form::request(*opcode, parameters) {
+        Some(request) if pdu.len() <= usize::from(mtu) => Ok(request),
+        _ => Err(fault(*opcode)),
+    }
+}
+
+/// What is wrong with a PDU that begins with this opcode and asks for nothing.
+fn fault(opcode: u8) -> PduFault
+    ensures { result ≡ fault_of opcode }
+{
+    match opcode {
+        opcode::EXCHANGE_MTU_REQUEST
+        | opcode::FIND_INFORMATION_REQUEST
+        | opcode::FIND_BY_TYPE_VALUE_REQUEST
+        | opcode::READ_BY_TYPE_REQUEST
+        | opcode::READ_REQUEST
+        | opcode::READ_BLOB_REQUEST
+        | opcode::READ_MULTIPLE_REQUEST
+        | opcode::READ_BY_GROUP_TYPE_REQUEST
+        | opcode::WRITE_REQUEST
+        | opcode::PREPARE_WRITE_REQUEST
+        | opcode::EXECUTE_WRITE_REQUEST => PduFault::Invalid(opcode),
+        opcode::ERROR_RESPONSE
+        | opcode::EXCHANGE_MTU_RESPONSE
+        | opcode::FIND_INFORMATION_RESPONSE
+        | opcode::FIND_BY_TYPE_VALUE_RESPONSE
+        | opcode::READ_BY_TYPE_RESPONSE
+        | opcode::READ_RESPONSE
+        | opcode::READ_BLOB_RESPONSE
+        | opcode::READ_MULTIPLE_RESPONSE
+        | opcode::READ_BY_GROUP_TYPE_RESPONSE
+        | opcode::WRITE_RESPONSE
+        | opcode::PREPARE_WRITE_RESPONSE
+        | opcode::EXECUTE_WRITE_RESPONSE
+        | opcode::HANDLE_VALUE_NOTIFICATION
+        | opcode::HANDLE_VALUE_INDICATION
+        | opcode::HANDLE_VALUE_CONFIRMATION => PduFault::Ignored,
+        command if command & opcode::COMMAND_FLAG != 0 => PduFault::Ignored,
+        unknown => PduFault::Unsupported(unknown),
+    }
+}
+
+/// Whether a PDU is answered, where the connection's ATT_MTU is `mtu` octets.
+pub fn answer_due(pdu: &[u8], mtu: u16) -> bool
+    ensures { result ≡ is_due (request_of pdu.now mtu) }
+{
+    match read_request(pdu, mtu) {
+        Ok(Request::Confirmation | Request::WriteCommand { .. }) => false,
+        Ok(_) => true,
+        Err(PduFault::Ignored) => false,
+        Err(PduFault::Invalid(_) | PduFault::Unsupported(_)) => true,
+    }
+}
+
+#[cfg(test)]
+mod tests;

@@ -1,0 +1,236 @@
+use super::*;
+use crate::kind::Kind;
+use crate::request::ExecuteFlags;
+
+/// A type of 128 bits, in a request of 21 octets.
+const LONG: [u8; 21] = [
+    0x08, 0x01, 0x00, 0xFF, 0xFF, 0xEF, 0xCD, 0xAB, 0x89, 0x67, 0x45, 0x23, 0x01, 0xF0, 0xDE, 0xBC,
+    0x9A, 0x78, 0x56, 0x34, 0x12,
+];
+
+#[test]
+fn requests(rt: HostRuntime) {
+    let cases = [
+        (
+            b"\x02\xF7\x00".as_slice(),
+            Request::ExchangeMtu { client_rx_mtu: 247 },
+        ),
+        (b"\x02\x00\x01", Request::ExchangeMtu { client_rx_mtu: 256 }),
+        (
+            b"\x04\x01\x00\xFF\xFF",
+            Request::FindInformation {
+                first: 1,
+                last: 0xFFFF,
+            },
+        ),
+        // Whether a range holds anything is not judged here.
+        (
+            b"\x04\x03\x00\x02\x00",
+            Request::FindInformation { first: 3, last: 2 },
+        ),
+        (
+            b"\x06\x01\x00\xFF\xFF\x00\x28\x0F\x18",
+            Request::FindByTypeValue {
+                first: 1,
+                last: 0xFFFF,
+                kind: 0x2800,
+                value: &[0x0F, 0x18],
+            },
+        ),
+        (
+            b"\x06\x01\x00\xFF\xFF\x00\x28",
+            Request::FindByTypeValue {
+                first: 1,
+                last: 0xFFFF,
+                kind: 0x2800,
+                value: &[],
+            },
+        ),
+        (
+            b"\x08\x01\x00\xFF\xFF\xF3\xFF",
+            Request::ReadByType {
+                first: 1,
+                last: 0xFFFF,
+                kind: Kind::Short(0xFFF3),
+            },
+        ),
+        (
+            &LONG,
+            Request::ReadByType {
+                first: 1,
+                last: 0xFFFF,
+                kind: Kind::Long(0x12345678_9ABC_DEF0_0123_456789ABCDEF),
+            },
+        ),
+        (b"\x0A\x03\x01", Request::Read { handle: 0x0103 }),
+        (
+            b"\x0C\x03\x00\x04\x00",
+            Request::ReadBlob {
+                handle: 3,
+                offset: 4,
+            },
+        ),
+        (
+            b"\x0E\x03\x00\x06\x01",
+            Request::ReadMultiple {
+                handles: &[[3, 0], [6, 1]],
+            },
+        ),
+        (
+            b"\x10\x01\x00\xFF\xFF\x00\x28",
+            Request::ReadByGroupType {
+                first: 1,
+                last: 0xFFFF,
+                kind: Kind::Short(0x2800),
+            },
+        ),
+        (
+            b"\x12\x03\x01A",
+            Request::Write {
+                handle: 0x0103,
+                value: b"A",
+            },
+        ),
+        (
+            b"\x12\x03\x00",
+            Request::Write {
+                handle: 3,
+                value: &[],
+            },
+        ),
+        (
+            &[0x12; 23],
+            Request::Write {
+                handle: 0x1212,
+                value: &[0x12; 20],
+            },
+        ),
+        (
+            b"\x16\x15\x00\x00\x01a",
+            Request::PrepareWrite {
+                handle: 21,
+                offset: 256,
+                part: b"a",
+            },
+        ),
+        (
+            b"\x18\x00",
+            Request::ExecuteWrite {
+                flags: ExecuteFlags::Cancel,
+            },
+        ),
+        (
+            b"\x18\x01",
+            Request::ExecuteWrite {
+                flags: ExecuteFlags::Write,
+            },
+        ),
+    ];
+    for (pdu, request) in cases {
+        assert!(rt; read_request(pdu, 23) == Ok(request), "{pdu:?}");
+        assert!(rt; answer_due(pdu, 23), "{pdu:?}");
+    }
+}
+
+#[test]
+fn confirmations_and_commands(rt: HostRuntime) {
+    let cases = [
+        (b"\x1E".as_slice(), Ok(Request::Confirmation)),
+        (b"\x1E\x00", Err(PduFault::Ignored)),
+        (
+            b"\x52\x15\x00A",
+            Ok(Request::WriteCommand {
+                handle: 21,
+                value: b"A",
+            }),
+        ),
+        (
+            &[0x52; 23],
+            Ok(Request::WriteCommand {
+                handle: 0x5252,
+                value: &[0x52; 20],
+            }),
+        ),
+        (&[0x52; 24], Err(PduFault::Ignored)),
+        (b"\x52\x15", Err(PduFault::Ignored)),
+        (b"\xD2\x03\x00", Err(PduFault::Ignored)),
+        (b"\x40", Err(PduFault::Ignored)),
+        (b"", Err(PduFault::Ignored)),
+    ];
+    for (pdu, request) in cases {
+        assert!(rt; read_request(pdu, 23) == request, "{pdu:?}");
+        assert!(rt; !answer_due(pdu, 23), "{pdu:?}");
+    }
+}
+
+#[test]
+fn what_a_server_sends_is_ignored(rt: HostRuntime) {
+    for opcode in [
+        0x01, 0x03, 0x05, 0x07, 0x09, 0x0B, 0x0D, 0x0F, 0x11, 0x13, 0x17, 0x19, 0x1B, 0x1D,
+    ] {
+        for pdu in [[opcode].as_slice(), &[opcode; 24]] {
+            assert!(rt; read_request(pdu, 23) == Err(PduFault::Ignored), "{pdu:?}");
+            assert!(rt; !answer_due(pdu, 23), "{pdu:?}");
+        }
+    }
+}
+
+#[test]
+fn invalid_and_unsupported(rt: HostRuntime) {
+    let invalid = [
+        b"\x02\xF7".as_slice(),
+        b"\x02\xF7\x00\x00",
+        b"\x04\x01\x00\xFF",
+        b"\x04\x01\x00\xFF\xFF\x00",
+        b"\x06\x01\x00\xFF\xFF\x00",
+        b"\x08\x01\x00\xFF\xFF",
+        b"\x08\x01\x00\xFF\xFF\xF3",
+        b"\x08\x01\x00\xFF\xFF\xF3\xFF\x00",
+        &[0x08; 20],
+        &[0x08; 22],
+        b"\x0A\x03",
+        b"\x0A\x03\x00\x00",
+        b"\x0C\x03\x00\x04",
+        b"\x0C\x03\x00\x04\x00\x00",
+        b"\x0E",
+        b"\x0E\x03\x00",
+        b"\x0E\x03\x00\x06",
+        b"\x0E\x03\x00\x06\x00\x07",
+        b"\x10\x01\x00\xFF\xFF\x00",
+        b"\x12\x03",
+        &[0x12; 24],
+        b"\x16\x15\x00\x00",
+        &[0x16; 24],
+        b"\x18",
+        b"\x18\x02",
+        b"\x18\x01\x00",
+    ];
+    for pdu in invalid {
+        let opcode = pdu.first().copied().unwrap_or(0);
+        assert!(rt;
+            read_request(pdu, 23) == Err(PduFault::Invalid(opcode)),
+            "{pdu:?}"
+        );
+        assert!(rt; answer_due(pdu, 23), "{pdu:?}");
+    }
+    for opcode in [
+        0x00, 0x14, 0x15, 0x1A, 0x1C, 0x1F, 0x20, 0x3F, 0x80, 0x92, 0xBF,
+    ] {
+        for pdu in [[opcode].as_slice(), &[opcode; 24]] {
+            assert!(rt;
+                read_request(pdu, 23) == Err(PduFault::Unsupported(opcode)),
+                "{pdu:?}"
+            );
+            assert!(rt; answer_due(pdu, 23), "{pdu:?}");
+        }
+    }
+}
+
+#[test]
+fn numbers_of_types(rt: HostRuntime) {
+    assert_eq!(rt;
+        Kind::Short(0x2803).number(),
+        0x0000_2803_0000_1000_8000_0080_5F9B_34FB
+    );
+    assert_eq!(rt; Kind::Long(0xFFF1).number(), 0xFFF1);
+}

@@ -1,0 +1,40 @@
+ghost use Rattle.std.specs.Prelude.{◌≡◌, IfSome};
+ghost use Rattle.att_pdu.specs.Kind.{number_of, kind_form, kind_octets};
+
+/// The Bluetooth Base UUID, to which a type of 16 bits is added at bit 96.
+const BASE_UUID: u128 = 0x0000_0000_0000_1000_8000_0080_5F9B_34FB;
+
+/// An attribute type as a request spells it, by a UUID of 16 or of 128 bits: Core 5.0, Vol 3
+/// Part F, 3.2.1.
+#[derive(Clone, Copy, Debug, PartialEq, Eq)]
+pub enum Kind {
+    Short(u16),
+    Long(u128),
+}
+
+impl Kind {
+    /// The number of 128 bits by which types are compared, however they were spelled: Core 5.0,
+    /// Vol 3 Part B, 2.5.1.
+    pub fn number(self) -> u128
+        ensures { result ≡ number_of self }
+    {
+        match self {
+            Kind::Short(short) => u128::from(short) * (1 << 96) + BASE_UUID,
+            Kind::Long(long) => long,
+        }
+    }
+
+    /// The type that 2 or 16 octets spell, the lowest octet first.
+    pub(crate) fn read(octets: &[u8]) -> Option<Kind>
+        ensures form { result ≡ kind_form octets.now }
+        ensures spelled { IfSome result (λ kind. kind_octets kind ≡ octets.now) }
+    {
+        match octets {
+            [low, high] => Some(Kind::Short(u16::from_le_bytes([*low, *high]))),
+            _ => match <[u8; 16]>::try_from(octets) {
+                Ok(octets) => Some(Kind::Long(u128::from_le_bytes(octets))),
+                Err(_) => None,
+            },
+        }
+    }
+}
