@@ -43,7 +43,8 @@ answer_from server pdu = outcome_of server.table server.row server.conn pdu
 
 abbrev pub server_after : Server → List ℕ → Server
 server_after server pdu =
-    record server { table = record server.table { values = (answer_from server pdu).values } }
+    let outcome = answer_from server pdu in
+    record server { table = record server.table { values = outcome.values }; conn = outcome.conn }
 
 -- what is printed in all, and the number of the first line that is not hexadecimal, with which the printing ends
 pub record Report : Type 0 where

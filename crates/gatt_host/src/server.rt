@@ -1,6 +1,8 @@
-ghost use Rattle.std.specs.Prelude.{◌≡◌, true, [], is_some, unwrap_or};
+ghost use Rattle.std.specs.Prelude.{◌≡◌, true, false, [], ◌∷◌, is_some, unwrap_or, ◌↔◌, IsTrue};
+ghost use Rattle.att_pdu.specs.Octets.{two_octets};
 ghost use Rattle.att_pdu.specs.PduBuf.{contents, mtu_of, error_response, IsSameBuffer};
 ghost use Rattle.gatt_host.specs.Answer.{outcome_of, read_outcome, write_outcome};
+ghost use Rattle.gatt_host.specs.Connection.{after_exchange};
 
 use crate::conn::Conn;
 use arrayvec::ArrayVec;
@@ -13,6 +15,8 @@ use att_table::{ConfigRow, Role, Table};
 pub struct Answered {
     /// There is an answer.
     pub due: bool,
+    /// The PDU confirms an indication.
+    pub confirmed: bool,
     /// The handles that were written, each once, in the order of their first writes.
     pub touched: ArrayVec<u16, 32>,
 }
@@ -20,7 +24,7 @@ pub struct Answered {
 /// Serves one Attribute PDU of one connection: puts the answer into `out`, and makes the change
 /// that it asks for, where the policy permits it. `row` is what the connection's client has
 /// configured.
-#[tactic(auto, unfolding(crate::specs::Answer::outcome_of))]
+#[tactic(auto, unfolding(crate::specs::Answer::outcome_of), using(crate::proofs::Outcomes::write_keeps_conn))]
 pub fn answer(
     table: &mut Table,
     row: &mut ConfigRow,
@@ -35,24 +39,74 @@ pub fn answer(
     ensures due { result.due ≡ is_some (outcome_of table.old row.old conn.old pdu.now).answer }
     ensures touched { result.touched.items ≡ (outcome_of table.old row.old conn.old pdu.now).touched }
     ensures values { table.new.values ≡ (outcome_of table.old row.old conn.old pdu.now).values }
+    ensures conn { conn.new ≡ (outcome_of table.old row.old conn.old pdu.now).conn }
+    ensures confirmed { IsTrue result.confirmed ↔ (pdu.now ≡ 0x1E ∷ []) }
 
     // What stays.
     ensures attributes { table.new.attributes ≡ table.old.attributes }
     ensures row { row.new ≡ row.old }
-    ensures conn { conn.new ≡ conn.old }
     ensures same_buffer { IsSameBuffer out.old out.new }
 {
     match read_request(pdu, conn.mtu()) {
+        Ok(Request::ExchangeMtu { client_rx_mtu }) => exchange_mtu(conn, client_rx_mtu, out),
+        Ok(Request::FindInformation { .. }) => unserved(opcode::FIND_INFORMATION_REQUEST, out),
+        Ok(Request::FindByTypeValue { .. }) => unserved(opcode::FIND_BY_TYPE_VALUE_REQUEST, out),
+        Ok(Request::ReadByType { .. }) => unserved(opcode::READ_BY_TYPE_REQUEST, out),
         Ok(Request::Read { handle }) => read(table, row, conn, handle, out),
+        Ok(Request::ReadBlob { .. }) => unserved(opcode::READ_BLOB_REQUEST, out),
+        Ok(Request::ReadMultiple { .. }) => unserved(opcode::READ_MULTIPLE_REQUEST, out),
+        Ok(Request::ReadByGroupType { .. }) => unserved(opcode::READ_BY_GROUP_TYPE_REQUEST, out),
         Ok(Request::Write { handle, value }) => write(table, conn, handle, value, out),
-        Err(PduFault::Ignored) => Answered {
-            due: false,
-            touched: ArrayVec::new(),
-        },
+        Ok(Request::PrepareWrite { .. }) => unserved(opcode::PREPARE_WRITE_REQUEST, out),
+        Ok(Request::ExecuteWrite { .. }) => unserved(opcode::EXECUTE_WRITE_REQUEST, out),
+        Ok(Request::Confirmation) => ignore(true),
+        Ok(Request::WriteCommand { .. }) | Err(PduFault::Ignored) => ignore(false),
         Err(PduFault::Invalid(opcode)) => refuse(opcode, 0, error_code::INVALID_PDU, out),
-        Err(PduFault::Unsupported(opcode)) => {
-            refuse(opcode, 0, error_code::REQUEST_NOT_SUPPORTED, out)
-        }
+        Err(PduFault::Unsupported(opcode)) => unserved(opcode, out),
+    }
+}
+
+/// Answers nothing.
+fn ignore(confirmed: bool) -> Answered
+    ensures due { result.due ≡ false }
+    ensures confirmed { result.confirmed ≡ confirmed }
+    ensures touched { result.touched.items ≡ [] }
+{
+    Answered {
+        due: false,
+        confirmed,
+        touched: ArrayVec::new(),
+    }
+}
+
+/// Answers a request that is not served.
+fn unserved(request_opcode: u8, out: &mut PduBuf<'_>) -> Answered
+    ensures answer { contents out.new ≡ error_response request_opcode 0 0x06 }
+    ensures due { result.due ≡ true }
+    ensures confirmed { result.confirmed ≡ false }
+    ensures touched { result.touched.items ≡ [] }
+    ensures same_buffer { IsSameBuffer out.old out.new }
+{
+    refuse(request_opcode, 0, error_code::REQUEST_NOT_SUPPORTED, out)
+}
+
+/// Serves an Exchange MTU Request: Core 5.0, Vol 3 Part F, 3.4.2.
+fn exchange_mtu(conn: &mut Conn, client_rx_mtu: u16, out: &mut PduBuf<'_>) -> Answered
+    requires empty { contents out.old ≡ [] }
+    ensures answer { contents out.new ≡ 0x03 ∷ two_octets conn.old.rx_mtu }
+    ensures due { result.due ≡ true }
+    ensures confirmed { result.confirmed ≡ false }
+    ensures touched { result.touched.items ≡ [] }
+    ensures conn { conn.new ≡ after_exchange conn.old client_rx_mtu }
+    ensures same_buffer { IsSameBuffer out.old out.new }
+{
+    let [low, high] = conn.rx_mtu().to_le_bytes();
+    out.value(&[opcode::EXCHANGE_MTU_RESPONSE, low, high]);
+    conn.exchange(client_rx_mtu);
+    Answered {
+        due: true,
+        confirmed: false,
+        touched: ArrayVec::new(),
     }
 }
 
@@ -62,6 +116,7 @@ fn read(table: &Table, row: &ConfigRow, conn: &Conn, handle: u16, out: &mut PduB
     requires mtu { mtu_of out.old ≡ conn.now.mtu }
     ensures answer { Some (contents out.new) ≡ (read_outcome table.now row.now conn.now handle).answer }
     ensures due { result.due ≡ true }
+    ensures confirmed { result.confirmed ≡ false }
     ensures touched { result.touched.items ≡ [] }
     ensures same_buffer { IsSameBuffer out.old out.new }
 {
@@ -80,6 +135,7 @@ fn read(table: &Table, row: &ConfigRow, conn: &Conn, handle: u16, out: &mut PduB
     out.value(&value[..value.len().min(room)]);
     Answered {
         due: true,
+        confirmed: false,
         touched: ArrayVec::new(),
     }
 }
@@ -96,6 +152,7 @@ fn write(
     requires mtu { mtu_of out.old ≡ conn.now.mtu }
     ensures answer { Some (contents out.new) ≡ (write_outcome table.old conn.now handle value.now).answer }
     ensures due { result.due ≡ true }
+    ensures confirmed { result.confirmed ≡ false }
     ensures touched { result.touched.items ≡ (write_outcome table.old conn.now handle value.now).touched }
     ensures values { table.new.values ≡ (write_outcome table.old conn.now handle value.now).values }
     ensures attributes { table.new.attributes ≡ table.old.attributes }
@@ -126,66 +183,28 @@ fn write(
     out.value(&[opcode::WRITE_RESPONSE]);
     let mut touched = ArrayVec::new();
     touched.push(handle);
-    Answered { due: true, touched }
+    Answered {
+        due: true,
+        confirmed: false,
+        touched,
+    }
 }
 
 /// Answers a request by an error.
 fn refuse(request_opcode: u8, handle: u16, code: u8, out: &mut PduBuf<'_>) -> Answered
     ensures answer { contents out.new ≡ error_response request_opcode handle code }
     ensures due { result.due ≡ true }
+    ensures confirmed { result.confirmed ≡ false }
     ensures touched { result.touched.items ≡ [] }
     ensures same_buffer { IsSameBuffer out.old out.new }
 {
     out.error(request_opcode, handle, code);
     Answered {
         due: true,
+        confirmed: false,
         touched: ArrayVec::new(),
     }
 }
 
 #[cfg(test)]
-mod tests {
-    use super::*;
-    use att_table::examples::DOOR;
-    use std::test::Fail;
-
-    /// PDUs of one connection and their answers, in order: an empty one where none is due.
-    const EXCHANGES: [(&[u8], &[u8]); 16] = [
-        (&[0x0A, 0x03, 0x00], b"\x0BLock"),
-        (&[0x0A, 0x00, 0x00], &[0x01, 0x0A, 0x00, 0x00, 0x01]),
-        (&[0x12, 0x03, 0x00, 0x41], &[0x01, 0x12, 0x03, 0x00, 0x03]),
-        (&[0x0A, 0x03], &[0x01, 0x0A, 0x00, 0x00, 0x04]),
-        (&[0x20], &[0x01, 0x20, 0x00, 0x00, 0x06]),
-        (&[0xD2, 0x03, 0x00], &[]),
-        (&[], &[]),
-        (&[0x0A, 0x0A, 0x00], &[0x01, 0x0A, 0x0A, 0x00, 0x05]),
-        (&[0x0A, 0x0D, 0x00], &[0x01, 0x0A, 0x0D, 0x00, 0x05]),
-        (&[0x0A, 0x07, 0x00], &[0x0B, 0x00, 0x00]),
-        (
-            &[0x12, 0x07, 0x00, 0x01, 0x00],
-            &[0x01, 0x12, 0x07, 0x00, 0x03],
-        ),
-        (&[0x12, 0x15, 0x00, 0x41, 0x42], &[0x13]),
-        (&[0x0A, 0x15, 0x00], &[0x0B, 0x41, 0x42]),
-        (&[0x12, 0x15, 0x00], &[0x13]),
-        (&[0x0A, 0x15, 0x00], &[0x0B]),
-        (&[0x0A, 0x16, 0x00], &[0x01, 0x0A, 0x16, 0x00, 0x01]),
-    ];
-
-    #[test]
-    fn answers_of_the_door(rt: HostRuntime) -> Result<(), Fail> {
-        let mut table = Table::read(rt.alloc(), DOOR).expect(&rt, "the door");
-        let mut row = ConfigRow::new();
-        let mut conn = Conn::new(rt.alloc())?;
-        for (pdu, wanted) in EXCHANGES {
-            let mut octets = ArrayVec::new();
-            let mut out = PduBuf::new(&mut octets, conn.mtu());
-            let answered = answer(&mut table, &mut row, &mut conn, pdu, &mut out);
-            assert_eq!(rt; octets.as_slice(), wanted, "{pdu:?}");
-            assert_eq!(rt; answered.due, !wanted.is_empty(), "{pdu:?}");
-            let is_write = wanted == b"\x13".as_slice();
-            assert_eq!(rt; answered.touched.len(), usize::from(is_write), "{pdu:?}");
-        }
-        Ok(())
-    }
-}
+mod tests;
