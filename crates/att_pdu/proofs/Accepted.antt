@@ -11,6 +11,7 @@ use Rattle.att_pdu.proofs.LongKind.{long_read}
 use Rattle.att_pdu.specs.Octets.{two_octets}
 use Rattle.att_pdu.specs.Kind.{kind_octets, kind_form, HasKindOctets}
 use Rattle.att_pdu.specs.Request.{Asked, ExchangeMtuRequest, FindInformationRequest, FindByTypeValueRequest, ReadByTypeRequest, ReadRequest, ReadBlobRequest, ReadMultipleRequest, ReadByGroupTypeRequest, WriteRequest, PrepareWriteRequest, ExecuteWriteRequest, ConfirmationPdu, WriteCommandPdu, spelled, HasOctetFields}
+use Rattle.att_pdu.specs.Form.{form_of}
 use Rattle.att_pdu.specs.Grammar.{request_of}
 
 kind_read : (kind : Kind) → HasKindOctets kind → kind_form (kind_octets kind) ≡ Some kind
@@ -18,6 +19,7 @@ kind_read (Short short) fits = ap (λ n. Some (Short n)) (omega arith)
 kind_read (Long long) fits = ap (λ n. Some (Long n)) (long_read long fits)
 
 pub accepted : (request : Asked) (mtu : ℕ) → HasOctetFields request → length (spelled request) ≤ mtu → request_of (spelled request) mtu ≡ Ok request
+unfolding form_of
 accepted (ExchangeMtuRequest client_rx_mtu) mtu fields fits = grind (arith, common_steps)
 accepted (FindInformationRequest first last) mtu fields fits = grind (arith, common_steps)
 accepted (FindByTypeValueRequest first last kind value) mtu fields fits = grind (arith, common_steps)

@@ -75,7 +75,7 @@ write_command_form (low ∷ high ∷ value) = Some (WriteCommandPdu (from_two lo
 write_command_form _ = None
 
 -- the request that parameters spell behind an opcode
-abbrev pub form_of : ℕ → List ℕ → Option Asked
+unfoldable pub form_of : ℕ → List ℕ → Option Asked
 form_of opcode parameters =
     if opcode == 0x02 then exchange_mtu_form parameters
     else if opcode == 0x04 then find_information_form parameters

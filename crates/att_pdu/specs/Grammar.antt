@@ -24,7 +24,7 @@ abbrev pub is_command : ℕ → Bool
 is_command opcode = not (bit_and opcode 0x40 == 0)
 
 -- what is wrong with a PDU that begins with an opcode and asks for nothing: Core 5.0, Vol 3 Part F, 3.3
-abbrev pub fault_of : ℕ → PduFault
+unfoldable pub fault_of : ℕ → PduFault
 fault_of opcode =
     if is_request opcode then Invalid opcode
     else if is_no_request opcode then Ignored

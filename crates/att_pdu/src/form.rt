@@ -9,6 +9,7 @@ use crate::opcode;
 use crate::request::{ExecuteFlags, Request};
 
 /// The request that parameters spell behind an opcode, however long they are.
+#[tactic(auto, unfolding(crate::specs::Form::form_of))]
 pub(crate) fn request(opcode: u8, parameters: &[u8]) -> Option<Request<'_>>
     ensures form { option_map asked result ≡ form_of opcode parameters.now }
     ensures spelled { IfSome result (λ request. spelled (asked request) ≡ opcode ∷ parameters.now) }

@@ -40,6 +40,7 @@ pub fn read_request(pdu: &[u8], mtu: u16) -> Result<Request<'_>, PduFault>
 }
 
 /// What is wrong with a PDU that begins with this opcode and asks for nothing.
+#[tactic(auto, unfolding(crate::specs::Grammar::fault_of))]
 fn fault(opcode: u8) -> PduFault
     ensures { result ≡ fault_of opcode }
 {

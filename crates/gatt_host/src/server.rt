@@ -24,7 +24,7 @@ pub struct Answered {
 /// Serves one Attribute PDU of one connection: puts the answer into `out`, and makes the change
 /// that it asks for, where the policy permits it. `row` is what the connection's client has
 /// configured.
-#[tactic(auto, unfolding(crate::specs::Answer::outcome_of), using(crate::proofs::Outcomes::write_keeps_conn))]
+#[tactic(auto, unfolding(crate::specs::Answer::outcome_of, att_pdu::specs::Form::form_of), using(crate::proofs::Outcomes::write_keeps_conn))]
 pub fn answer(
     table: &mut Table,
     row: &mut ConfigRow,
