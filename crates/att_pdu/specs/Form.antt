@@ -32,11 +32,12 @@ abbrev pub read_blob_form : List ℕ → Option Asked
 read_blob_form (low ∷ high ∷ offset_low ∷ offset_high ∷ []) = Some (ReadBlobRequest (from_two low high) (from_two offset_low offset_high))
 read_blob_form _ = None
 
--- two or more handles
+-- handles, two octets each
 abbrev pub handles_of : List ℕ → List ℕ
 handles_of (low ∷ high ∷ rest) = (from_two low high) ∷ handles_of rest
 handles_of _ = []
 
+-- two or more of them, and no odd octet
 abbrev pub read_multiple_form : List ℕ → Option Asked
 read_multiple_form parameters =
     if (length parameters % 2 == 0) && nat_le 4 (length parameters) then Some (ReadMultipleRequest (handles_of parameters))
