@@ -1,0 +1,3 @@
+pub mod Frame
+pub mod Pairing
+pub mod SignallingCommand

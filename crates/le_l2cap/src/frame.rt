@@ -1,0 +1,71 @@
+ghost use Rattle.std.specs.Prelude.{◌≡◌, IfOk};
+ghost use Rattle.std.specs.Result.{result_map_both};
+ghost use Rattle.le_l2cap.specs.Frame.{BasicFrame, contents, spelled, frame_of, HasLengthAndChannel};
+
+/// A basic information frame: Core 5.0, Vol 3 Part A, 3.1.
+#[derive(Clone, Copy, Debug, PartialEq, Eq)]
+pub struct Frame<'a> {
+    /// The channel that it is sent on, one of `channel` or any other.
+    pub cid: u16,
+    /// What it carries, of at most 65,535 octets.
+    pub payload: &'a [u8],
+}
+
+/// Octets that are no frame: fewer than the 4 of its header, or another number of octets after
+/// the header than the header states.
+#[derive(Clone, Copy, Debug, PartialEq, Eq)]
+pub struct Skip;
+
+/// Reads a whole frame: the length of the payload and the channel, each of 2 octets, and the
+/// payload, which is borrowed.
+pub fn read_frame(octets: &[u8]) -> Result<Frame<'_>, Skip>
+    ensures exact { result_map_both contents (λ skip. skip) result ≡ frame_of octets.now }
+    ensures spelled { IfOk result (λ frame. spelled (contents frame) ≡ octets.now) }
+    // Nothing that is spelled so is skipped.
+    ensures accepted { (frame : BasicFrame) → HasLengthAndChannel frame → spelled frame ≡ octets.now
+        → frame_of octets.now ≡ Ok frame }
+{
+    let [length_low, length_high, cid_low, cid_high, payload @ ..] = octets else {
+        return Err(Skip);
+    };
+    if payload.len() != usize::from(u16::from_le_bytes([*length_low, *length_high])) {
+        return Err(Skip);
+    }
+    Ok(Frame {
+        cid: u16::from_le_bytes([*cid_low, *cid_high]),
+        payload,
+    })
+}
+
+#[cfg(test)]
+mod tests {
+    use super::*;
+    use crate::channel;
+
+    #[test]
+    fn frames_and_skips(rt: HostRuntime) {
+        let cases = [
+            (
+                [0x03, 0x00, 0x04, 0x00, 0x0A, 0x03, 0x00].as_slice(),
+                Ok(Frame {
+                    cid: channel::ATT,
+                    payload: &[0x0A, 0x03, 0x00],
+                }),
+            ),
+            (
+                &[0x00, 0x00, 0x05, 0x01],
+                Ok(Frame {
+                    cid: 0x0105,
+                    payload: &[],
+                }),
+            ),
+            (&[0x00, 0x00, 0x04], Err(Skip)),
+            (&[], Err(Skip)),
+            (&[0x02, 0x00, 0x04, 0x00, 0x0A], Err(Skip)),
+            (&[0x00, 0x00, 0x04, 0x00, 0x0A], Err(Skip)),
+        ];
+        for (octets, frame) in cases {
+            assert!(rt; read_frame(octets) == frame, "{octets:?}");
+        }
+    }
+}

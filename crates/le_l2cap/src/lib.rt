@@ -1,0 +1,12 @@
+//! The Logical Link Control and Adaptation Protocol (L2CAP) of an LE link: basic frames, and what
+//! is answered on the channels of LE signalling and of the Security Manager.
+#![tactic(auto)]
+
+pub mod channel;
+mod frame;
+mod pairing;
+mod signalling_command;
+
+pub use frame::{Frame, Skip, read_frame};
+pub use pairing::security;
+pub use signalling_command::{Reject, signalling};

@@ -1,0 +1,32 @@
+ghost use Rattle.std.specs.Prelude.{◌≡◌};
+ghost use Rattle.le_l2cap.specs.Pairing.{answer_of};
+
+/// Pairing Request: Core 5.0, Vol 3 Part H, 3.3.
+const PAIRING_REQUEST: u8 = 0x01;
+/// Pairing Failed with the reason Pairing Not Supported: Core 5.0, Vol 3 Part H, 3.5.5.
+const PAIRING_NOT_SUPPORTED: [u8; 2] = [0x05, 0x05];
+
+/// The answer that is due to a payload of the channel of the Security Manager: Pairing Failed to
+/// a Pairing Request, and `None` where the payload is ignored.
+pub fn security(payload: &[u8]) -> Option<[u8; 2]>
+    ensures { result ≡ answer_of payload.now }
+{
+    match payload {
+        [PAIRING_REQUEST, ..] => Some(PAIRING_NOT_SUPPORTED),
+        _ => None,
+    }
+}
+
+#[cfg(test)]
+mod tests {
+    use super::*;
+
+    #[test]
+    fn pairing_is_not_supported(rt: HostRuntime) {
+        let request = [0x01, 0x03, 0x00, 0x01, 0x10, 0x00, 0x00];
+        assert_eq!(rt; security(&request), Some([0x05, 0x05]));
+        assert_eq!(rt; security(&[0x01]), Some([0x05, 0x05]));
+        assert_eq!(rt; security(&[0x0B, 0x01]), None);
+        assert_eq!(rt; security(&[]), None);
+    }
+}

@@ -1,0 +1,102 @@
+ghost use Rattle.std.specs.Prelude.{◌≡◌, IfSome, false};
+ghost use Rattle.std.specs.Option.{option_map};
+ghost use Rattle.le_l2cap.specs.SignallingCommand.{Command, spelled, is_ignored_code, rejected_identifier, command_reject, IsRejected, HasOctetFields};
+
+/// The codes of the signalling commands that are named here: Core 5.0, Vol 3 Part A, 4.
+const COMMAND_REJECT: u8 = 0x01;
+
+const DISCONNECTION_RESPONSE: u8 = 0x07;
+
+const CONNECTION_PARAMETER_UPDATE_RESPONSE: u8 = 0x13;
+
+const LE_CREDIT_BASED_CONNECTION_RESPONSE: u8 = 0x15;
+
+const LE_FLOW_CONTROL_CREDIT: u8 = 0x16;
+
+/// The answer to a command that this end does not understand.
+#[derive(Clone, Copy, Debug, PartialEq, Eq)]
+pub struct Reject {
+    /// The identifier of the command.
+    pub id: u8,
+}
+
+impl Reject {
+    /// The payload of the answer: a Command Reject whose reason is Command Not Understood. Core
+    /// 5.0, Vol 3 Part A, 4.1.
+    pub fn octets(self) -> [u8; 6]
+        ensures { result ≡ command_reject self.id }
+    {
+        [COMMAND_REJECT, self.id, 0x02, 0x00, 0x00, 0x00]
+    }
+}
+
+/// The answer that is due to a payload of the channel of LE signalling, or `None` where the
+/// payload is ignored: it is not one whole command, its identifier is 0, or it answers a command
+/// that was never sent.
+pub fn signalling(payload: &[u8]) -> Option<Reject>
+    ensures exact { option_map (λ reject. reject.id) result ≡ rejected_identifier payload.now }
+    ensures rejected { IfSome result (λ reject. IsRejected payload.now reject.id) }
+    // No other command is left without an answer.
+    ensures answered { (command : Command) → HasOctetFields command → spelled command ≡ payload.now
+        → is_ignored_code command.code ≡ false → rejected_identifier payload.now ≡ Some command.identifier }
+{
+    let [code, id, length_low, length_high, data @ ..] = payload else {
+        return None;
+    };
+    let length = u16::from_le_bytes([*length_low, *length_high]);
+    if data.len() != usize::from(length) || *id == 0 || is_ignored(*code) {
+        return None;
+    }
+    Some(Reject { id: *id })
+}
+
+/// Whether a command is no request, so that nothing is due to it.
+fn is_ignored(code: u8) -> bool
+    ensures { result ≡ is_ignored_code code }
+{
+    matches!(
+        code,
+        COMMAND_REJECT
+            | DISCONNECTION_RESPONSE
+            | CONNECTION_PARAMETER_UPDATE_RESPONSE
+            | LE_CREDIT_BASED_CONNECTION_RESPONSE
+            | LE_FLOW_CONTROL_CREDIT
+    )
+}
+
+#[cfg(test)]
+mod tests {
+    use super::*;
+
+    #[test]
+    fn rejects_an_update_request(rt: HostRuntime) {
+        let request = [
+            0x12, 0x09, 0x08, 0x00, 0x18, 0x00, 0x28, 0x00, 0x00, 0x00, 0x48, 0x00,
+        ];
+        assert_eq!(rt;
+            signalling(&request).map(|reject| reject.octets()),
+            Some([0x01, 0x09, 0x02, 0x00, 0x00, 0x00])
+        );
+    }
+
+    #[test]
+    fn rejects_and_ignores(rt: HostRuntime) {
+        let cases = [
+            ([0x06, 0x01, 0x00, 0x00].as_slice(), Some(Reject { id: 1 })),
+            (&[0x0D, 0xFF, 0x01, 0x00, 0x07], Some(Reject { id: 0xFF })),
+            (&[0x01, 0x01, 0x00, 0x00], None),
+            (&[0x07, 0x01, 0x00, 0x00], None),
+            (&[0x13, 0x01, 0x00, 0x00], None),
+            (&[0x15, 0x01, 0x00, 0x00], None),
+            (&[0x16, 0x01, 0x00, 0x00], None),
+            (&[0x12, 0x00, 0x00, 0x00], None),
+            (&[0x12, 0x01, 0x01, 0x00], None),
+            (&[0x12, 0x01, 0x00, 0x00, 0x07], None),
+            (&[0x12, 0x01, 0x00], None),
+            (&[], None),
+        ];
+        for (payload, answer) in cases {
+            assert_eq!(rt; signalling(payload), answer, "{payload:?}");
+        }
+    }
+}
