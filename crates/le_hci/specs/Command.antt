@@ -1,0 +1,88 @@
+-- The commands that a host sends, and the octets of each: Core 5.0, Vol 2 Part E, 5.4.1 and 7.
+use Rattle.std.specs.Prelude.{ℕ, ◌+◌, ◌-◌, ◌*◌, List, [], ◌∷◌, ◌++◌, length, replicate}
+use Rattle.std.specs.Int.{to_le_bytes, w64}
+use Rattle.le_hci.specs.declared.command.Command.{Command}
+use Rattle.le_hci.specs.declared.command.Command.TheVariants as variant
+use Rattle.le_hci.specs.Octets.{two_octets}
+
+-- what a command asks for, without where its data lie
+pub data Commanded : Type 0 where
+  Reset : Commanded
+  SetEventMask : (mask : ℕ) → Commanded
+  ReadBufferSize : Commanded
+  Disconnect : (handle reason : ℕ) → Commanded
+  LeSetEventMask : (mask : ℕ) → Commanded
+  LeReadBufferSize : Commanded
+  LeSetRandomAddress : (address : List ℕ) → Commanded
+  LeSetAdvertisingParameters : (own_address_type : ℕ) → Commanded
+  LeSetAdvertisingData : (advertising : List ℕ) → Commanded
+  LeSetAdvertiseEnable : Commanded
+  LeLongTermKeyRequestReply : (handle : ℕ) (key : List ℕ) → Commanded
+  LeLongTermKeyRequestNegativeReply : (handle : ℕ) → Commanded
+
+abbrev pub commanded : Command → Commanded
+commanded variant.Reset = Reset
+commanded (variant.SetEventMask mask) = SetEventMask mask
+commanded variant.ReadBufferSize = ReadBufferSize
+commanded (variant.Disconnect handle reason) = Disconnect handle reason
+commanded (variant.LeSetEventMask mask) = LeSetEventMask mask
+commanded variant.LeReadBufferSize = LeReadBufferSize
+commanded (variant.LeSetRandomAddress address) = LeSetRandomAddress address
+commanded (variant.LeSetAdvertisingParameters own_address_type) = LeSetAdvertisingParameters own_address_type
+commanded (variant.LeSetAdvertisingData advertising) = LeSetAdvertisingData advertising.now.items
+commanded variant.LeSetAdvertiseEnable = LeSetAdvertiseEnable
+commanded (variant.LeLongTermKeyRequestReply handle key) = LeLongTermKeyRequestReply handle key
+commanded (variant.LeLongTermKeyRequestNegativeReply handle) = LeLongTermKeyRequestNegativeReply handle
+
+-- an opcode: the group (OGF) in the upper 6 bits, and the command in it (OCF) in the lower 10
+abbrev pub opcode : ℕ → ℕ → ℕ
+opcode group command = 1024 * group + command
+
+abbrev pub opcode_of : Commanded → ℕ
+opcode_of Reset = opcode 0x03 0x0003
+opcode_of (SetEventMask mask) = opcode 0x03 0x0001
+opcode_of ReadBufferSize = opcode 0x04 0x0005
+opcode_of (Disconnect handle reason) = opcode 0x01 0x0006
+opcode_of (LeSetEventMask mask) = opcode 0x08 0x0001
+opcode_of LeReadBufferSize = opcode 0x08 0x0002
+opcode_of (LeSetRandomAddress address) = opcode 0x08 0x0005
+opcode_of (LeSetAdvertisingParameters own_address_type) = opcode 0x08 0x0006
+opcode_of (LeSetAdvertisingData advertising) = opcode 0x08 0x0008
+opcode_of LeSetAdvertiseEnable = opcode 0x08 0x000A
+opcode_of (LeLongTermKeyRequestReply handle key) = opcode 0x08 0x001A
+opcode_of (LeLongTermKeyRequestNegativeReply handle) = opcode 0x08 0x001B
+
+-- both intervals 100 milliseconds, connectable and scannable undirected, the own address type, no peer (its
+-- address type and address), all three channels, and no filter: 7.8.5
+abbrev pub advertising_parameters : ℕ → List ℕ
+advertising_parameters own_address_type =
+    two_octets 160 ++ two_octets 160 ++ 0x00 ∷ own_address_type ∷ 0x00 ∷ replicate 6 0x00 ++ 0x07 ∷ 0x00 ∷ []
+
+-- a length, and the data filled up to 31 octets: 7.8.7
+abbrev pub advertising_data : List ℕ → List ℕ
+advertising_data advertising = length advertising ∷ advertising ++ replicate (31 - length advertising) 0x00
+
+-- a handle and a key: 7.8.25
+abbrev pub key_reply : ℕ → List ℕ → List ℕ
+key_reply handle key = two_octets handle ++ key
+
+abbrev pub parameters_of : Commanded → List ℕ
+parameters_of Reset = []
+parameters_of (SetEventMask mask) = to_le_bytes w64 mask
+parameters_of ReadBufferSize = []
+parameters_of (Disconnect handle reason) = two_octets handle ++ reason ∷ []
+parameters_of (LeSetEventMask mask) = to_le_bytes w64 mask
+parameters_of LeReadBufferSize = []
+parameters_of (LeSetRandomAddress address) = address
+parameters_of (LeSetAdvertisingParameters own_address_type) = advertising_parameters own_address_type
+parameters_of (LeSetAdvertisingData advertising) = advertising_data advertising
+parameters_of LeSetAdvertiseEnable = 0x01 ∷ []
+parameters_of (LeLongTermKeyRequestReply handle key) = key_reply handle key
+parameters_of (LeLongTermKeyRequestNegativeReply handle) = two_octets handle
+
+-- a command packet: the opcode, the length of the parameters, and the parameters
+abbrev pub packet : ℕ → List ℕ → List ℕ
+packet code parameters = two_octets code ++ length parameters ∷ parameters
+
+abbrev pub packet_of : Commanded → List ℕ
+packet_of command = packet (opcode_of command) (parameters_of command)

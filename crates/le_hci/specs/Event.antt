@@ -1,0 +1,127 @@
+-- The events that a controller reports, and the octets that they are read from: Core 5.0, Vol 2 Part E, 5.4.4 and 7.7.
+use Rattle.std.specs.Prelude.{ℕ, zero, suc, ◌%◌, ◌==◌, if◌then◌else◌, List, [], ◌∷◌, length, map, Option, Some, None, Result, Ok, Err}
+use Rattle.std.specs.Option.{option_map}
+use Rattle.le_hci.specs.declared.peer.Peer.{Peer}
+use Rattle.le_hci.specs.declared.event.CompletedPackets.{CompletedPackets}
+use Rattle.le_hci.specs.declared.event.BadEvent.{BadEvent}
+use Rattle.le_hci.specs.declared.event.Event.{Event}
+use Rattle.le_hci.specs.declared.event.Event.TheVariants as variant
+use Rattle.le_hci.specs.Octets.{number_of}
+
+-- what an event reports, without where its octets lie
+pub data Reported : Type 0 where
+  DisconnectionComplete : (status handle reason : ℕ) → Reported
+  EncryptionChange : (status handle enabled : ℕ) → Reported
+  CommandComplete : (allowed opcode : ℕ) (parameters : List ℕ) → Reported
+  CommandStatus : (status allowed opcode : ℕ) → Reported
+  HardwareError : (code : ℕ) → Reported
+  NumberOfCompletedPackets : (entries : List CompletedPackets) → Reported
+  EncryptionKeyRefreshComplete : (status handle : ℕ) → Reported
+  ConnectionComplete : (status handle role : ℕ) (peer : Peer) (interval latency timeout clock_accuracy : ℕ) → Reported
+  LongTermKeyRequest : (handle : ℕ) (random_number : List ℕ) (diversifier : ℕ) → Reported
+  Other : Reported
+
+-- the handle of two octets, whose upper four bits are ignored: this profile's own
+abbrev pub handle_of : ℕ → ℕ → ℕ
+handle_of low high = number_of low high % 4096
+
+-- an entry of Number Of Completed Packets: 7.7.19
+abbrev pub completed_packets_of : List ℕ → CompletedPackets
+completed_packets_of (handle_low ∷ handle_high ∷ packets_low ∷ packets_high ∷ []) =
+    record { handle = handle_of handle_low handle_high; packets = number_of packets_low packets_high }
+completed_packets_of _ = record { handle = 0; packets = 0 }
+
+abbrev pub reported : Event → Reported
+reported (variant.DisconnectionComplete status handle reason) = DisconnectionComplete status handle reason
+reported (variant.EncryptionChange status handle enabled) = EncryptionChange status handle enabled
+reported (variant.CommandComplete allowed opcode parameters) = CommandComplete allowed opcode parameters.now
+reported (variant.CommandStatus status allowed opcode) = CommandStatus status allowed opcode
+reported (variant.HardwareError code) = HardwareError code
+reported (variant.NumberOfCompletedPackets entries) = NumberOfCompletedPackets (map completed_packets_of entries.now)
+reported (variant.EncryptionKeyRefreshComplete status handle) = EncryptionKeyRefreshComplete status handle
+reported (variant.ConnectionComplete status handle role peer interval latency timeout clock_accuracy) =
+    ConnectionComplete status handle role peer interval latency timeout clock_accuracy
+reported (variant.LongTermKeyRequest handle random_number diversifier) = LongTermKeyRequest handle random_number diversifier
+reported variant.Other = Other
+
+-- The forms of the parameters, each none where there are fewer octets than fields; octets after the fields are ignored.
+abbrev pub disconnection_complete : List ℕ → Option Reported
+disconnection_complete (status ∷ low ∷ high ∷ reason ∷ _) = Some (DisconnectionComplete status (handle_of low high) reason)
+disconnection_complete _ = None
+
+abbrev pub encryption_change : List ℕ → Option Reported
+encryption_change (status ∷ low ∷ high ∷ enabled ∷ _) = Some (EncryptionChange status (handle_of low high) enabled)
+encryption_change _ = None
+
+abbrev pub command_complete : List ℕ → Option Reported
+command_complete (allowed ∷ low ∷ high ∷ parameters) = Some (CommandComplete allowed (number_of low high) parameters)
+command_complete _ = None
+
+abbrev pub command_status : List ℕ → Option Reported
+command_status (status ∷ allowed ∷ low ∷ high ∷ _) = Some (CommandStatus status allowed (number_of low high))
+command_status _ = None
+
+abbrev pub hardware_error : List ℕ → Option Reported
+hardware_error (code ∷ _) = Some (HardwareError code)
+hardware_error _ = None
+
+-- as many entries as are counted
+abbrev pub completed_entries : ℕ → List ℕ → Option (List CompletedPackets)
+completed_entries zero _ = Some []
+completed_entries (suc n) (handle_low ∷ handle_high ∷ packets_low ∷ packets_high ∷ rest) =
+    option_map (λ entries. completed_packets_of (handle_low ∷ handle_high ∷ packets_low ∷ packets_high ∷ []) ∷ entries)
+    (completed_entries n rest)
+completed_entries (suc n) _ = None
+
+abbrev pub number_of_completed_packets : List ℕ → Option Reported
+number_of_completed_packets (count ∷ rest) = option_map NumberOfCompletedPackets (completed_entries count rest)
+number_of_completed_packets _ = None
+
+abbrev pub encryption_key_refresh_complete : List ℕ → Option Reported
+encryption_key_refresh_complete (status ∷ low ∷ high ∷ _) = Some (EncryptionKeyRefreshComplete status (handle_of low high))
+encryption_key_refresh_complete _ = None
+
+abbrev pub connection_complete : List ℕ → Option Reported
+connection_complete (status ∷ low ∷ high ∷ role ∷ kind ∷ a ∷ b ∷ c ∷ d ∷ e ∷ f ∷ i ∷ j ∷ k ∷ l ∷ m ∷ n ∷ clock_accuracy ∷ _) =
+    Some (ConnectionComplete status (handle_of low high) role
+    (record { kind = kind; address = a ∷ b ∷ c ∷ d ∷ e ∷ f ∷ [] })
+    (number_of i j) (number_of k l) (number_of m n) clock_accuracy)
+connection_complete _ = None
+
+abbrev pub long_term_key_request : List ℕ → Option Reported
+long_term_key_request (low ∷ high ∷ a ∷ b ∷ c ∷ d ∷ e ∷ f ∷ g ∷ h ∷ i ∷ j ∷ _) =
+    Some (LongTermKeyRequest (handle_of low high) (a ∷ b ∷ c ∷ d ∷ e ∷ f ∷ g ∷ h ∷ []) (number_of i j))
+long_term_key_request _ = None
+
+-- what the code of an event, or of a subevent, leads to; others are taken whatever their parameters
+abbrev pub subevent_form : ℕ → List ℕ → Option Reported
+subevent_form code parameters =
+    if code == 0x01 then connection_complete parameters
+    else if code == 0x05 then long_term_key_request parameters
+    else Some Other
+
+abbrev pub le_meta_form : List ℕ → Option Reported
+le_meta_form (code ∷ parameters) = subevent_form code parameters
+le_meta_form [] = None
+
+abbrev pub form_of : ℕ → List ℕ → Option Reported
+form_of code parameters =
+    if code == 0x05 then disconnection_complete parameters
+    else if code == 0x08 then encryption_change parameters
+    else if code == 0x0E then command_complete parameters
+    else if code == 0x0F then command_status parameters
+    else if code == 0x10 then hardware_error parameters
+    else if code == 0x13 then number_of_completed_packets parameters
+    else if code == 0x30 then encryption_key_refresh_complete parameters
+    else if code == 0x3E then le_meta_form parameters
+    else Some Other
+
+-- what is read from an event packet, or the code of a bad event
+abbrev pub read_or_bad : ℕ → Option Reported → Result Reported BadEvent
+read_or_bad code None = Err (record { 0 = code })
+read_or_bad code (Some event) = Ok event
+
+abbrev pub event_of : List ℕ → Result Reported BadEvent
+event_of [] = Err (record { 0 = 0 })
+event_of (code ∷ []) = Err (record { 0 = code })
+event_of (code ∷ stated ∷ parameters) = read_or_bad code (if length parameters == stated then form_of code parameters else None)

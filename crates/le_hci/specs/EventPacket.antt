@@ -1,0 +1,78 @@
+-- The octets that a controller sends for an event: Core 5.0, Vol 2 Part E, 5.4.4 and 7.7.
+use Rattle.std.specs.Prelude.{◌≡◌, ◌≢◌, ℕ, ◌%◌, List, [], ◌∷◌, ◌++◌, length, map, ⊤}
+use Rattle.std.specs.List.{flat_map}
+use Rattle.le_hci.specs.declared.event.CompletedPackets.{CompletedPackets}
+use Rattle.le_hci.specs.Event.{Reported, DisconnectionComplete, EncryptionChange, CommandComplete, CommandStatus, HardwareError, NumberOfCompletedPackets, EncryptionKeyRefreshComplete, ConnectionComplete, LongTermKeyRequest, Other}
+use Rattle.le_hci.specs.Octets.{two_octets}
+
+-- an event packet: its code, the length of its parameters, and the parameters
+abbrev pub packet : ℕ → List ℕ → List ℕ
+packet code parameters = code ∷ length parameters ∷ parameters
+
+-- the code of an event; the last two are subevents of LE Meta. Of other events nothing is said
+abbrev pub code_of : Reported → ℕ
+code_of (DisconnectionComplete status handle reason) = 0x05
+code_of (EncryptionChange status handle enabled) = 0x08
+code_of (CommandComplete allowed opcode parameters) = 0x0E
+code_of (CommandStatus status allowed opcode) = 0x0F
+code_of (HardwareError code) = 0x10
+code_of (NumberOfCompletedPackets entries) = 0x13
+code_of (EncryptionKeyRefreshComplete status handle) = 0x30
+code_of (ConnectionComplete status handle role peer interval latency timeout clock_accuracy) = 0x3E
+code_of (LongTermKeyRequest handle random_number diversifier) = 0x3E
+code_of Other = 0x00
+
+abbrev pub entry_fields : CompletedPackets → List ℕ
+entry_fields entry = two_octets entry.handle ++ two_octets entry.packets
+
+-- the fields of an event, in their order
+abbrev pub fields_of : Reported → List ℕ
+fields_of (DisconnectionComplete status handle reason) = status ∷ two_octets handle ++ reason ∷ []
+fields_of (EncryptionChange status handle enabled) = status ∷ two_octets handle ++ enabled ∷ []
+fields_of (CommandComplete allowed opcode parameters) = allowed ∷ two_octets opcode ++ parameters
+fields_of (CommandStatus status allowed opcode) = status ∷ allowed ∷ two_octets opcode
+fields_of (HardwareError code) = code ∷ []
+fields_of (NumberOfCompletedPackets entries) = length entries ∷ flat_map entry_fields entries
+fields_of (EncryptionKeyRefreshComplete status handle) = status ∷ two_octets handle
+fields_of (ConnectionComplete status handle role peer interval latency timeout clock_accuracy) =
+    0x01 ∷ status ∷ two_octets handle ++ role ∷ peer.kind ∷ peer.address
+    ++ two_octets interval ++ two_octets latency ++ two_octets timeout ++ clock_accuracy ∷ []
+fields_of (LongTermKeyRequest handle random_number diversifier) = 0x05 ∷ two_octets handle ++ random_number ++ two_octets diversifier
+fields_of Other = []
+
+-- what has such fields, with these extra octets after them: addresses have 6 octets and random numbers 8, return
+-- parameters take all octets, and of other events nothing is said
+abbrev pub HasFields : Reported → List ℕ → Type 0
+HasFields (CommandComplete allowed opcode parameters) extra = extra ≡ []
+HasFields (ConnectionComplete status handle role peer interval latency timeout clock_accuracy) extra = length peer.address ≡ 6
+HasFields (LongTermKeyRequest handle random_number diversifier) extra = length random_number ≡ 8
+HasFields Other extra = ⊥
+HasFields _ extra = ⊤
+
+-- an event without the upper four bits of its handle fields, which are ignored
+abbrev pub entry_told : CompletedPackets → CompletedPackets
+entry_told entry = record { handle = entry.handle % 4096; packets = entry.packets }
+
+abbrev pub told : Reported → Reported
+told (DisconnectionComplete status handle reason) = DisconnectionComplete status (handle % 4096) reason
+told (EncryptionChange status handle enabled) = EncryptionChange status (handle % 4096) enabled
+told (CommandComplete allowed opcode parameters) = CommandComplete allowed opcode parameters
+told (CommandStatus status allowed opcode) = CommandStatus status allowed opcode
+told (HardwareError code) = HardwareError code
+told (NumberOfCompletedPackets entries) = NumberOfCompletedPackets (map entry_told entries)
+told (EncryptionKeyRefreshComplete status handle) = EncryptionKeyRefreshComplete status (handle % 4096)
+told (ConnectionComplete status handle role peer interval latency timeout clock_accuracy) =
+    ConnectionComplete status (handle % 4096) role peer interval latency timeout clock_accuracy
+told (LongTermKeyRequest handle random_number diversifier) = LongTermKeyRequest (handle % 4096) random_number diversifier
+told Other = Other
+
+-- the octets are those of an event, and of extra octets after its fields; without the ignored bits it is this event
+pub record IsSentAs (event : Reported) (octets : List ℕ) : Type 0 where
+  pub sent : Reported
+  pub extra : List ℕ
+  pub spelled : octets ≡ packet (code_of sent) (fields_of sent ++ extra)
+  pub same : told sent ≡ event
+
+-- and so is each event that is read, but for the other ones
+abbrev pub IsRead : Reported → List ℕ → Type 0
+IsRead event octets = event ≢ Other → IsSentAs event octets

@@ -1,0 +1,89 @@
+-- Initialisation: the command that each state awaits, and the state that follows. The order is this profile's own.
+use Rattle.std.specs.Prelude.{ℕ, ◌+◌, ◌^◌, ◌==◌, if◌then◌else◌, List, [], ◌∷◌, Option, Some, None, Result, Ok, Err}
+use Rattle.std.specs.Option.{option_map_or}
+use Rattle.arrayvec.specs.ArrayVec.{ArrayVec}
+use Rattle.le_hci.specs.declared.buffers.Buffers.{Buffers}
+use Rattle.le_hci.specs.declared.init.Settings.{Settings}
+use Rattle.le_hci.specs.declared.init.Init.{Init}
+use Rattle.le_hci.specs.declared.init.Init.TheVariants.{Resetting, Masking, LeMasking, Sizing, SharedSizing, Addressing, Describing, Filling, Enabling, Ready}
+use Rattle.le_hci.specs.declared.init.InitFault.{InitFault}
+use Rattle.le_hci.specs.declared.init.InitFault.TheVariants.{Refused, Short}
+use Rattle.le_hci.specs.Buffers.{le_buffers_of, shared_buffers_of}
+use Rattle.le_hci.specs.Command.{Commanded, Reset, SetEventMask, ReadBufferSize, LeSetEventMask, LeReadBufferSize, LeSetRandomAddress, LeSetAdvertisingParameters, LeSetAdvertisingData, LeSetAdvertiseEnable, opcode_of}
+
+-- the default mask, with Encryption Key Refresh Complete (bit 47) and LE Meta (bit 61): Core 5.0, Vol 2 Part E, 7.3.1
+abbrev pub event_mask : ℕ
+event_mask = 0x00001FFFFFFFFFFF + 2 ^ 47 + 2 ^ 61
+
+-- the default mask of the subevents of LE Meta: 7.8.1
+abbrev pub le_event_mask : ℕ
+le_event_mask = 0x1F
+
+-- the command that a state awaits
+abbrev pub awaited : Init → Option Commanded
+awaited (Resetting settings) = Some Reset
+awaited (Masking settings) = Some (SetEventMask event_mask)
+awaited (LeMasking settings) = Some (LeSetEventMask le_event_mask)
+awaited (Sizing settings) = Some LeReadBufferSize
+awaited (SharedSizing settings) = Some ReadBufferSize
+awaited (Addressing address advertising buffers) = Some (LeSetRandomAddress address)
+awaited (Describing own_address_type advertising buffers) = Some (LeSetAdvertisingParameters own_address_type)
+awaited (Filling advertising buffers) = Some (LeSetAdvertisingData advertising.items)
+awaited (Enabling buffers) = Some LeSetAdvertiseEnable
+awaited (Ready length packets) = None
+
+-- its opcode, 0 where none is awaited
+abbrev pub opcode_awaited : Init → ℕ
+opcode_awaited state = option_map_or opcode_of (awaited state) 0
+
+-- the first state
+abbrev pub first_state : Option (List ℕ) → ArrayVec ℕ → Init
+first_state address advertising = Resetting (record { address = address; advertising = advertising })
+
+-- the state once the buffers are told: a random address (type 1) is set first, and the public one (type 0) is there
+abbrev pub addressed_from : Option (List ℕ) → ArrayVec ℕ → Buffers → Init
+addressed_from None advertising buffers = Describing 0x00 advertising buffers
+addressed_from (Some address) advertising buffers = Addressing address advertising buffers
+
+abbrev pub with_buffers : Settings → Buffers → Init
+with_buffers settings buffers = addressed_from settings.address settings.advertising buffers
+
+abbrev pub after_sizing : Settings → Result (Option Buffers) InitFault → Result Init InitFault
+after_sizing settings (Err fault) = Err fault
+after_sizing settings (Ok None) = Ok (SharedSizing settings)
+after_sizing settings (Ok (Some buffers)) = Ok (with_buffers settings buffers)
+
+abbrev pub after_shared_sizing : Settings → Result Buffers InitFault → Result Init InitFault
+after_shared_sizing settings (Err fault) = Err fault
+after_shared_sizing settings (Ok buffers) = Ok (with_buffers settings buffers)
+
+-- the state after a command that was successful, by the values that it returned after its status
+abbrev pub next : Init → List ℕ → Result Init InitFault
+next (Resetting settings) returned = Ok (Masking settings)
+next (Masking settings) returned = Ok (LeMasking settings)
+next (LeMasking settings) returned = Ok (Sizing settings)
+next (Sizing settings) returned = after_sizing settings (le_buffers_of returned)
+next (SharedSizing settings) returned = after_shared_sizing settings (shared_buffers_of returned)
+next (Addressing address advertising buffers) returned = Ok (Describing 0x01 advertising buffers)
+next (Describing own_address_type advertising buffers) returned = Ok (Filling advertising buffers)
+next (Filling advertising buffers) returned = Ok (Enabling buffers)
+next (Enabling buffers) returned = Ok (Ready buffers.length buffers.packets)
+next (Ready length packets) returned = Ok (Ready length packets)
+
+-- what the command with this opcode returned after its status, which has to be 0
+abbrev pub values_of : ℕ → List ℕ → Result (List ℕ) InitFault
+values_of opcode [] = Err Short
+values_of opcode (status ∷ values) = if status == 0 then Ok values else Err (Refused opcode status)
+
+abbrev pub next_by : Init → Result (List ℕ) InitFault → Result Init InitFault
+next_by state (Ok values) = next state values
+next_by state (Err fault) = Err fault
+
+-- a fault hands the state back
+abbrev pub handed_back : Init → Result Init InitFault → Result Init (InitFault × Init)
+handed_back state (Ok following) = Ok following
+handed_back state (Err fault) = Err (fault, state)
+
+-- what the return parameters of the awaited command lead to
+abbrev pub outcome_of : Init → List ℕ → Result Init (InitFault × Init)
+outcome_of state returned = handed_back state (next_by state (values_of (opcode_awaited state) returned))

@@ -1,0 +1,85 @@
+ghost use Rattle.std.specs.Prelude.{◌≡◌};
+ghost use Rattle.le_hci.specs.Command.{commanded, opcode_of};
+
+use crate::opcode;
+use arrayvec::ArrayVec;
+
+/// The events that this host listens to, a bit for each: the default 0x00001FFFFFFFFFFF with the
+/// bits 47, Encryption Key Refresh Complete, and 61, LE Meta. Core 5.0, Vol 2 Part E, 7.3.1.
+pub const EVENT_MASK: u64 = 0x2000_9FFF_FFFF_FFFF;
+/// The subevents of LE Meta that this host listens to, a bit for each: the default, which has
+/// Connection Complete and Long Term Key Request. Core 5.0, Vol 2 Part E, 7.8.1.
+pub const LE_EVENT_MASK: u64 = 0x0000_0000_0000_001F;
+
+/// What a host asks of its controller: Core 5.0, Vol 2 Part E, 7.
+#[derive(Clone, Copy, Debug, PartialEq, Eq)]
+pub enum Command<'a> {
+    /// Start over: 7.3.2.
+    Reset,
+    /// Report these events: 7.3.1.
+    SetEventMask {
+        mask: u64,
+    },
+    /// Tell the buffers for ACL packets of any transport: 7.4.5.
+    ReadBufferSize,
+    /// End a connection: 7.1.6.
+    Disconnect {
+        handle: u16,
+        reason: u8,
+    },
+    /// Report these subevents of LE Meta: 7.8.1.
+    LeSetEventMask {
+        mask: u64,
+    },
+    /// Tell the buffers for ACL packets of LE connections: 7.8.2.
+    LeReadBufferSize,
+    /// Take this random address, its octets as on the wire: 7.8.4.
+    LeSetRandomAddress {
+        address: [u8; 6],
+    },
+    /// Advertise to any device on all three channels, so that it may connect, every 100
+    /// milliseconds, from the address of this type: 7.8.5.
+    LeSetAdvertisingParameters {
+        /// 0 public, 1 random.
+        own_address_type: u8,
+    },
+    /// Advertise with these data: 7.8.7.
+    LeSetAdvertisingData {
+        advertising: &'a ArrayVec<u8, 31>,
+    },
+    /// Begin to advertise: 7.8.9.
+    LeSetAdvertiseEnable,
+    /// Encrypt a connection by this key, the octets as on the wire: 7.8.25.
+    LeLongTermKeyRequestReply {
+        handle: u16,
+        key: [u8; 16],
+    },
+    /// There is no such key: 7.8.26.
+    LeLongTermKeyRequestNegativeReply {
+        handle: u16,
+    },
+}
+
+impl Command<'_> {
+    /// The opcode, by which Command Complete and Command Status name the command.
+    pub fn opcode(&self) -> u16
+        ensures { result ≡ opcode_of (commanded self.now) }
+    {
+        match self {
+            Command::Reset => opcode::RESET,
+            Command::SetEventMask { .. } => opcode::SET_EVENT_MASK,
+            Command::ReadBufferSize => opcode::READ_BUFFER_SIZE,
+            Command::Disconnect { .. } => opcode::DISCONNECT,
+            Command::LeSetEventMask { .. } => opcode::LE_SET_EVENT_MASK,
+            Command::LeReadBufferSize => opcode::LE_READ_BUFFER_SIZE,
+            Command::LeSetRandomAddress { .. } => opcode::LE_SET_RANDOM_ADDRESS,
+            Command::LeSetAdvertisingParameters { .. } => opcode::LE_SET_ADVERTISING_PARAMETERS,
+            Command::LeSetAdvertisingData { .. } => opcode::LE_SET_ADVERTISING_DATA,
+            Command::LeSetAdvertiseEnable => opcode::LE_SET_ADVERTISE_ENABLE,
+            Command::LeLongTermKeyRequestReply { .. } => opcode::LE_LONG_TERM_KEY_REQUEST_REPLY,
+            Command::LeLongTermKeyRequestNegativeReply { .. } => {
+                opcode::LE_LONG_TERM_KEY_REQUEST_NEGATIVE_REPLY
+            }
+        }
+    }
+}

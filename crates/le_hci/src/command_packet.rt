@@ -1,0 +1,167 @@
+ghost use Rattle.std.specs.Prelude.{◌≡◌, ◌+◌, ◌≤◌, [], ◌∷◌, ◌++◌, ◌-◌, length, replicate};
+ghost use Rattle.arrayvec.specs.ArrayVec.{array_vec_len};
+ghost use Rattle.le_hci.specs.Command.{commanded, packet_of, packet, advertising_data, key_reply, advertising_parameters};
+ghost use Rattle.le_hci.specs.Octets.{two_octets};
+
+use crate::command::Command;
+use arrayvec::ArrayVec;
+
+/// Replaces the content of `out` by a command packet, from its opcode on: Core 5.0, Vol 2 Part E,
+/// 5.4.1.
+pub fn write_command(command: &Command<'_>, out: &mut ArrayVec<u8, 260>)
+    ensures { out.new.items ≡ packet_of (commanded command.now) }
+{
+    let opcode = command.opcode();
+    match command {
+        Command::Reset | Command::ReadBufferSize | Command::LeReadBufferSize => {
+            write_packet(opcode, &[], out);
+        }
+        Command::SetEventMask { mask } | Command::LeSetEventMask { mask } => {
+            write_packet(opcode, &mask.to_le_bytes(), out);
+        }
+        Command::Disconnect { handle, reason } => {
+            let [low, high] = handle.to_le_bytes();
+            write_packet(opcode, &[low, high, *reason], out);
+        }
+        Command::LeSetRandomAddress { address } => write_packet(opcode, address, out),
+        Command::LeSetAdvertisingParameters { own_address_type } => {
+            write_advertising_parameters(opcode, *own_address_type, out);
+        }
+        Command::LeSetAdvertisingData { advertising } => {
+            write_advertising_data(opcode, advertising, out);
+        }
+        Command::LeSetAdvertiseEnable => write_packet(opcode, &[ENABLE], out),
+        Command::LeLongTermKeyRequestReply { handle, key } => {
+            write_key_reply(opcode, *handle, key, out);
+        }
+        Command::LeLongTermKeyRequestNegativeReply { handle } => {
+            write_packet(opcode, &handle.to_le_bytes(), out);
+        }
+    }
+}
+
+/// Enabled, as the parameter of LE Set Advertise Enable: Core 5.0, Vol 2 Part E, 7.8.9.
+const ENABLE: u8 = 0x01;
+/// The number of octets that advertising data are filled up to: Core 5.0, Vol 2 Part E, 7.8.7.
+const ADVERTISING_DATA: usize = 31;
+
+fn write_packet(opcode: u16, parameters: &[u8], out: &mut ArrayVec<u8, 260>)
+    requires { length parameters.now ≤ 255 }
+    ensures { out.new.items ≡ packet opcode parameters.now }
+{
+    write_header(opcode, parameters.len() as u8, out);
+    append(parameters, out);
+}
+
+/// Replaces the content by the header of a packet: the opcode and the length of its parameters.
+fn write_header(opcode: u16, length: u8, out: &mut ArrayVec<u8, 260>)
+    ensures { out.new.items ≡ two_octets opcode ++ length ∷ [] }
+{
+    let [low, high] = opcode.to_le_bytes();
+    out.clear();
+    append(&[low, high, length], out);
+}
+
+fn append(octets: &[u8], out: &mut ArrayVec<u8, 260>)
+    requires { array_vec_len out.old + length octets.now ≤ 260 }
+    ensures { out.new.items ≡ out.old.items ++ octets.now }
+{
+    let _ = out.try_extend_from_slice(octets);
+}
+
+fn write_advertising_parameters(opcode: u16, own_address_type: u8, out: &mut ArrayVec<u8, 260>)
+    ensures { out.new.items ≡ packet opcode (advertising_parameters own_address_type) }
+{
+    let parameters = [
+        0xA0,
+        0x00, // the least interval, in units of 0.625 milliseconds
+        0xA0,
+        0x00, // the largest interval
+        0x00, // connectable and scannable undirected advertising
+        own_address_type,
+        0x00,
+        0x00,
+        0x00,
+        0x00,
+        0x00,
+        0x00,
+        0x00, // no peer
+        0x07, // all three channels
+        0x00, // any device may scan and connect
+    ];
+    write_packet(opcode, &parameters, out);
+}
+
+fn write_advertising_data(opcode: u16, advertising: &ArrayVec<u8, 31>, out: &mut ArrayVec<u8, 260>)
+    ensures { out.new.items ≡ packet opcode (advertising_data advertising.now.items) }
+{
+    let octets = advertising.as_slice();
+    write_header(opcode, 32, out);
+    append(&[octets.len() as u8], out);
+    append(octets, out);
+    fill_up(octets.len(), out);
+}
+
+/// Appends the octets 00 that so many octets of advertising data are filled up with.
+fn fill_up(length: usize, out: &mut ArrayVec<u8, 260>)
+    requires shorter { length ≤ 31 }
+    requires room { array_vec_len out.old + 31 ≤ 260 + length }
+    ensures { out.new.items ≡ out.old.items ++ replicate (31 - length) 0x00 }
+{
+    append(&[0x00; ADVERTISING_DATA][length..], out);
+}
+
+fn write_key_reply(opcode: u16, handle: u16, key: &[u8; 16], out: &mut ArrayVec<u8, 260>)
+    ensures { out.new.items ≡ packet opcode (key_reply handle key.now) }
+{
+    write_header(opcode, 18, out);
+    append(&handle.to_le_bytes(), out);
+    append(key, out);
+}
+
+#[cfg(test)]
+mod tests {
+    use super::*;
+
+    #[test]
+    fn commands_of_a_connection(rt: HostRuntime) {
+        let mut octets = ArrayVec::new();
+        write_command(
+            &Command::LeLongTermKeyRequestReply {
+                handle: 0x0040,
+                key: [
+                    0x00, 0x11, 0x22, 0x33, 0x44, 0x55, 0x66, 0x77, 0x88, 0x99, 0xAA, 0xBB, 0xCC,
+                    0xDD, 0xEE, 0xFF,
+                ],
+            },
+            &mut octets,
+        );
+        assert_eq!(rt;
+            octets.as_slice(),
+            [
+                0x1A, 0x20, 0x12, 0x40, 0x00, 0x00, 0x11, 0x22, 0x33, 0x44, 0x55, 0x66, 0x77, 0x88,
+                0x99, 0xAA, 0xBB, 0xCC, 0xDD, 0xEE, 0xFF,
+            ]
+            .as_slice()
+        );
+        write_command(
+            &Command::LeLongTermKeyRequestNegativeReply { handle: 0x0040 },
+            &mut octets,
+        );
+        assert_eq!(rt;
+            octets.as_slice(),
+            [0x1B, 0x20, 0x02, 0x40, 0x00].as_slice()
+        );
+        write_command(
+            &Command::Disconnect {
+                handle: 0x0040,
+                reason: 0x13,
+            },
+            &mut octets,
+        );
+        assert_eq!(rt;
+            octets.as_slice(),
+            [0x06, 0x04, 0x03, 0x40, 0x00, 0x13].as_slice()
+        );
+    }
+}

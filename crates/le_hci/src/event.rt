@@ -1,0 +1,128 @@
+ghost use Rattle.std.specs.Prelude.{◌≡◌, ℕ, List, ◌++◌, IfOk};
+ghost use Rattle.std.specs.Result.{result_map_both};
+ghost use Rattle.le_hci.specs.Event.{Reported, reported, event_of, completed_packets_of};
+ghost use Rattle.le_hci.specs.EventPacket.{packet, code_of, fields_of, HasFields, told, IsRead};
+
+use crate::event_form;
+use crate::peer::Peer;
+
+/// What a controller reports: Core 5.0, Vol 2 Part E, 7.7. A handle is that of a connection, below
+/// 4,096, and a status of 0 is success.
+#[derive(Clone, Copy, Debug, PartialEq, Eq)]
+pub enum Event<'a> {
+    /// A connection has ended: 7.7.5.
+    DisconnectionComplete {
+        status: u8,
+        handle: u16,
+        reason: u8,
+    },
+    /// Encryption was turned on, or off where `enabled` is 0: 7.7.8.
+    EncryptionChange {
+        status: u8,
+        handle: u16,
+        enabled: u8,
+    },
+    /// A command is complete, and `allowed` more commands may be sent: 7.7.14.
+    CommandComplete {
+        allowed: u8,
+        opcode: u16,
+        /// The return parameters, which most commands begin with a status.
+        parameters: &'a [u8],
+    },
+    /// A command is under way or refused, and `allowed` more commands may be sent: 7.7.15.
+    CommandStatus {
+        status: u8,
+        allowed: u8,
+        opcode: u16,
+    },
+    /// The controller failed: 7.7.16.
+    HardwareError {
+        code: u8,
+    },
+    /// Packets that the controller has sent or dropped: 7.7.19.
+    NumberOfCompletedPackets {
+        /// An entry for each connection, which `CompletedPackets::read` reads.
+        entries: &'a [[u8; 4]],
+    },
+    /// The key of an encrypted connection was changed: 7.7.39.
+    EncryptionKeyRefreshComplete {
+        status: u8,
+        handle: u16,
+    },
+    /// A connection was made: 7.7.65.1.
+    ConnectionComplete {
+        status: u8,
+        handle: u16,
+        /// 0 central, 1 peripheral.
+        role: u8,
+        peer: Peer,
+        /// In units of 1.25 milliseconds.
+        interval: u16,
+        /// In connection events.
+        latency: u16,
+        /// In units of 10 milliseconds.
+        timeout: u16,
+        clock_accuracy: u8,
+    },
+    /// A peer wants to encrypt a connection, with the key of this number and diversifier: 7.7.65.5.
+    LongTermKeyRequest {
+        handle: u16,
+        /// The octets as on the wire.
+        random_number: [u8; 8],
+        diversifier: u16,
+    },
+    /// Any other event, or subevent of LE Meta.
+    Other,
+}
+
+/// The code of an event that has fewer octets than its fields, or another number of octets than
+/// its length octet says; 0 of no octets at all.
+#[derive(Clone, Copy, Debug, PartialEq, Eq)]
+pub struct BadEvent(pub u8);
+
+/// Reads an event packet, from its event code on: Core 5.0, Vol 2 Part E, 5.4.4. The upper four
+/// bits of a handle field are ignored, and so are octets after the fields. What has no fixed size
+/// is borrowed from the packet.
+pub fn read_event(octets: &[u8]) -> Result<Event<'_>, BadEvent>
+    ensures exact { result_map_both reported (λ bad. bad) result ≡ event_of octets.now }
+    ensures sent { IfOk result (λ event. IsRead (reported event) octets.now) }
+    // Nothing that is sent so is a bad event.
+    ensures accepted { (sent : Reported) (extra : List ℕ) → HasFields sent extra
+        → packet (code_of sent) (fields_of sent ++ extra) ≡ octets.now → event_of octets.now ≡ Ok (told sent) }
+{
+    let [code, rest @ ..] = octets else {
+        return Err(BadEvent(0));
+    };
+    let [length, parameters @ ..] = rest else {
+        return Err(BadEvent(*code));
+    };
+    if parameters.len() != usize::from(*length) {
+        return Err(BadEvent(*code));
+    }
+    event_form::read(*code, parameters).ok_or(BadEvent(*code))
+}
+
+/// How many packets of one connection were completed.
+#[derive(Clone, Copy, Debug, PartialEq, Eq)]
+pub struct CompletedPackets {
+    /// The handle of the connection, below 4,096.
+    pub handle: u16,
+    /// The number of packets since the last report.
+    pub packets: u16,
+}
+
+impl CompletedPackets {
+    /// Reads an entry of Number Of Completed Packets: Core 5.0, Vol 2 Part E, 7.7.19.
+    pub fn read(entry: &[u8; 4]) -> CompletedPackets
+        ensures { result ≡ completed_packets_of entry.now }
+    {
+        let [handle_low, handle_high, packets_low, packets_high] = *entry;
+        CompletedPackets {
+            handle: event_form::handle(handle_low, handle_high),
+            packets: u16::from_le_bytes([packets_low, packets_high]),
+        }
+    }
+}
+
+#[cfg(test)]
+mod tests;

@@ -1,0 +1,195 @@
+//! The forms of the parameters of events: Core 5.0, Vol 2 Part E, 7.7. Each function answers `None`
+//! where there are fewer octets than fields.
+
+ghost use Rattle.std.specs.Prelude.{◌≡◌, map};
+ghost use Rattle.std.specs.Option.{option_map};
+ghost use Rattle.le_hci.specs.Event.{reported, handle_of, completed_packets_of, completed_entries, form_of, le_meta_form, disconnection_complete, encryption_change, command_complete, command_status, hardware_error, number_of_completed_packets, encryption_key_refresh_complete, connection_complete, long_term_key_request};
+
+use crate::event::Event;
+use crate::event_code;
+use crate::peer::Peer;
+
+/// The bits of a handle field that are the handle.
+const HANDLE: u16 = 0x0FFF;
+
+/// The event with this code and these parameters.
+pub fn read(code: u8, parameters: &[u8]) -> Option<Event<'_>>
+    ensures { option_map reported result ≡ form_of code parameters.now }
+{
+    match code {
+        event_code::DISCONNECTION_COMPLETE => read_disconnection_complete(parameters),
+        event_code::ENCRYPTION_CHANGE => read_encryption_change(parameters),
+        event_code::COMMAND_COMPLETE => read_command_complete(parameters),
+        event_code::COMMAND_STATUS => read_command_status(parameters),
+        event_code::HARDWARE_ERROR => read_hardware_error(parameters),
+        event_code::NUMBER_OF_COMPLETED_PACKETS => read_number_of_completed_packets(parameters),
+        event_code::ENCRYPTION_KEY_REFRESH_COMPLETE => {
+            read_encryption_key_refresh_complete(parameters)
+        }
+        event_code::LE_META => read_le_meta(parameters),
+        _ => Some(Event::Other),
+    }
+}
+
+fn read_le_meta(parameters: &[u8]) -> Option<Event<'_>>
+    ensures { option_map reported result ≡ le_meta_form parameters.now }
+{
+    let [subevent, parameters @ ..] = parameters else {
+        return None;
+    };
+    match *subevent {
+        event_code::LE_CONNECTION_COMPLETE => read_connection_complete(parameters),
+        event_code::LE_LONG_TERM_KEY_REQUEST => read_long_term_key_request(parameters),
+        _ => Some(Event::Other),
+    }
+}
+
+/// A handle field, whose upper four bits are ignored.
+pub fn handle(low: u8, high: u8) -> u16
+    ensures { result ≡ handle_of low high }
+{
+    u16::from_le_bytes([low, high]) & HANDLE
+}
+
+fn read_disconnection_complete(parameters: &[u8]) -> Option<Event<'_>>
+    ensures { option_map reported result ≡ disconnection_complete parameters.now }
+{
+    match parameters {
+        [status, low, high, reason, ..] => Some(Event::DisconnectionComplete {
+            status: *status,
+            handle: handle(*low, *high),
+            reason: *reason,
+        }),
+        _ => None,
+    }
+}
+
+fn read_encryption_change(parameters: &[u8]) -> Option<Event<'_>>
+    ensures { option_map reported result ≡ encryption_change parameters.now }
+{
+    match parameters {
+        [status, low, high, enabled, ..] => Some(Event::EncryptionChange {
+            status: *status,
+            handle: handle(*low, *high),
+            enabled: *enabled,
+        }),
+        _ => None,
+    }
+}
+
+fn read_command_complete(parameters: &[u8]) -> Option<Event<'_>>
+    ensures { option_map reported result ≡ command_complete parameters.now }
+{
+    match parameters {
+        [allowed, low, high, parameters @ ..] => Some(Event::CommandComplete {
+            allowed: *allowed,
+            opcode: u16::from_le_bytes([*low, *high]),
+            parameters,
+        }),
+        _ => None,
+    }
+}
+
+fn read_command_status(parameters: &[u8]) -> Option<Event<'_>>
+    ensures { option_map reported result ≡ command_status parameters.now }
+{
+    match parameters {
+        [status, allowed, low, high, ..] => Some(Event::CommandStatus {
+            status: *status,
+            allowed: *allowed,
+            opcode: u16::from_le_bytes([*low, *high]),
+        }),
+        _ => None,
+    }
+}
+
+fn read_hardware_error(parameters: &[u8]) -> Option<Event<'_>>
+    ensures { option_map reported result ≡ hardware_error parameters.now }
+{
+    match parameters {
+        [code, ..] => Some(Event::HardwareError { code: *code }),
+        _ => None,
+    }
+}
+
+fn read_number_of_completed_packets(parameters: &[u8]) -> Option<Event<'_>>
+    ensures { option_map reported result ≡ number_of_completed_packets parameters.now }
+{
+    let [count, octets @ ..] = parameters else {
+        return None;
+    };
+    let entries = entries(*count, octets)?;
+    Some(Event::NumberOfCompletedPackets { entries })
+}
+
+/// As many entries as are counted.
+fn entries(count: u8, octets: &[u8]) -> Option<&[[u8; 4]]>
+    ensures { option_map (λ entries. map completed_packets_of entries.now) result ≡ completed_entries count octets.now }
+{
+    let (entries, _) = octets.as_chunks::<4>();
+    entries.get(..usize::from(count))
+}
+
+fn read_encryption_key_refresh_complete(parameters: &[u8]) -> Option<Event<'_>>
+    ensures { option_map reported result ≡ encryption_key_refresh_complete parameters.now }
+{
+    match parameters {
+        [status, low, high, ..] => Some(Event::EncryptionKeyRefreshComplete {
+            status: *status,
+            handle: handle(*low, *high),
+        }),
+        _ => None,
+    }
+}
+
+fn read_connection_complete(parameters: &[u8]) -> Option<Event<'_>>
+    ensures { option_map reported result ≡ connection_complete parameters.now }
+{
+    let [status, low, high, role, kind, rest @ ..] = parameters else {
+        return None;
+    };
+    let (address, rest) = rest.split_first_chunk::<6>()?;
+    let [
+        interval_low,
+        interval_high,
+        latency_low,
+        latency_high,
+        rest @ ..,
+    ] = rest
+    else {
+        return None;
+    };
+    let [timeout_low, timeout_high, clock_accuracy, ..] = rest else {
+        return None;
+    };
+    Some(Event::ConnectionComplete {
+        status: *status,
+        handle: handle(*low, *high),
+        role: *role,
+        peer: Peer {
+            kind: *kind,
+            address: *address,
+        },
+        interval: u16::from_le_bytes([*interval_low, *interval_high]),
+        latency: u16::from_le_bytes([*latency_low, *latency_high]),
+        timeout: u16::from_le_bytes([*timeout_low, *timeout_high]),
+        clock_accuracy: *clock_accuracy,
+    })
+}
+
+fn read_long_term_key_request(parameters: &[u8]) -> Option<Event<'_>>
+    ensures { option_map reported result ≡ long_term_key_request parameters.now }
+{
+    let [low, high, rest @ ..] = parameters else {
+        return None;
+    };
+    let (random_number, rest) = rest.split_first_chunk::<8>()?;
+    let [diversifier_low, diversifier_high, ..] = rest else {
+        return None;
+    };
+    Some(Event::LongTermKeyRequest {
+        handle: handle(*low, *high),
+        random_number: *random_number,
+        diversifier: u16::from_le_bytes([*diversifier_low, *diversifier_high]),
+    })
+}

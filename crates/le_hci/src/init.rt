@@ -1,0 +1,225 @@
+ghost use Rattle.std.specs.Prelude.{◌≡◌, ◌≢◌, List, ℕ, ◌∷◌, drop, IsSome, IfErr};
+ghost use Rattle.std.specs.Option.{option_map};
+ghost use Rattle.std.specs.Result.{result_map_both};
+ghost use Rattle.arrayvec.specs.ArrayVec.{ArrayVec};
+ghost use Rattle.le_hci.specs.Command.{commanded};
+ghost use Rattle.le_hci.specs.InitOrder.{commands_sent, commands_in_order, tell_shared, IsPrefixOf};
+ghost use Rattle.le_hci.specs.Init.{awaited, opcode_awaited, outcome_of, values_of, handed_back, next, with_buffers, first_state};
+
+use crate::buffers::{Buffers, le_buffers, shared_buffers};
+use crate::command::{Command, EVENT_MASK, LE_EVENT_MASK};
+use crate::peer::{PUBLIC_ADDRESS, RANDOM_ADDRESS};
+use arrayvec::ArrayVec;
+
+/// What a host wants of its controller.
+#[derive(Debug, Drop)]
+pub struct Settings {
+    /// The random address to advertise from, its octets as on the wire, or `None` for the public
+    /// one.
+    pub address: Option<[u8; 6]>,
+    /// The advertising data.
+    pub advertising: ArrayVec<u8, 31>,
+}
+
+/// How far a controller is initialised. Each state but `Ready` awaits the completion of one
+/// command, and keeps what the later ones need.
+#[derive(Debug, Drop)]
+pub enum Init {
+    /// Awaits Reset.
+    Resetting(Settings),
+    /// Awaits Set Event Mask.
+    Masking(Settings),
+    /// Awaits LE Set Event Mask.
+    LeMasking(Settings),
+    /// Awaits LE Read Buffer Size.
+    Sizing(Settings),
+    /// Awaits Read Buffer Size: there are no buffers for LE connections alone.
+    SharedSizing(Settings),
+    /// Awaits LE Set Random Address.
+    Addressing {
+        address: [u8; 6],
+        advertising: ArrayVec<u8, 31>,
+        buffers: Buffers,
+    },
+    /// Awaits LE Set Advertising Parameters.
+    Describing {
+        /// 0 public, 1 random.
+        own_address_type: u8,
+        advertising: ArrayVec<u8, 31>,
+        buffers: Buffers,
+    },
+    /// Awaits LE Set Advertising Data.
+    Filling {
+        advertising: ArrayVec<u8, 31>,
+        buffers: Buffers,
+    },
+    /// Awaits LE Set Advertise Enable.
+    Enabling {
+        buffers: Buffers,
+    },
+    /// The controller advertises and may be connected to. It has told that it takes `packets` ACL
+    /// packets at a time, each of at most `length` octets of data.
+    Ready {
+        length: u16,
+        packets: u16,
+    },
+}
+
+/// Why a command did not bring the initialisation further.
+#[derive(Clone, Copy, Debug, PartialEq, Eq)]
+pub enum InitFault {
+    /// The command with this opcode was refused with this status, which is not 0.
+    Refused(u16, u8),
+    /// The buffers are too few or too short: there have to be buffers of at least 27 octets.
+    BadBuffers,
+    /// The return parameters lack their status, or have the status 0 and fewer octets than the
+    /// command returns.
+    Short,
+}
+
+/// The status of a command that was successful: Core 5.0, Vol 2 Part D, 1.3.
+const SUCCESS: u8 = 0x00;
+
+impl Init {
+    /// The first state, for a random address or the public one, and for advertising data.
+    pub fn new(address: Option<[u8; 6]>, advertising: ArrayVec<u8, 31>) -> Init
+        ensures exact { result ≡ first_state address advertising }
+        ensures in_order { (answers : List (List ℕ))
+            → IsPrefixOf (commands_sent answers result) (commands_in_order address advertising.items (tell_shared (drop 3 answers))) }
+    {
+        Init::Resetting(Settings {
+            address,
+            advertising,
+        })
+    }
+
+    /// The command that is awaited, or `None` where the controller is ready. It is to be sent once
+    /// in each state.
+    pub fn command(&self) -> Option<Command<'_>>
+        ensures { option_map commanded result ≡ awaited self.now }
+    {
+        match self {
+            Init::Resetting(_) => Some(Command::Reset),
+            Init::Masking(_) => Some(Command::SetEventMask { mask: EVENT_MASK }),
+            Init::LeMasking(_) => Some(Command::LeSetEventMask {
+                mask: LE_EVENT_MASK,
+            }),
+            Init::Sizing(_) => Some(Command::LeReadBufferSize),
+            Init::SharedSizing(_) => Some(Command::ReadBufferSize),
+            Init::Addressing { address, .. } => {
+                Some(Command::LeSetRandomAddress { address: *address })
+            }
+            Init::Describing {
+                own_address_type,
+                ..
+            } => Some(Command::LeSetAdvertisingParameters {
+                own_address_type: *own_address_type,
+            }),
+            Init::Filling { advertising, .. } => Some(Command::LeSetAdvertisingData {
+                advertising,
+            }),
+            Init::Enabling { .. } => Some(Command::LeSetAdvertiseEnable),
+            Init::Ready { .. } => None,
+        }
+    }
+
+    /// Takes the return parameters of the awaited command, from its Command Complete, or the
+    /// nonzero status of its Command Status as one octet. Gives the next state, or hands this one
+    /// back with what is wrong. Octets after the return parameters are ignored.
+    pub fn complete(self, parameters: &[u8]) -> Result<Init, (InitFault, Init)>
+        requires awaiting { IsSome (awaited self) }
+        ensures exact { result ≡ outcome_of self parameters.now }
+        ensures handed_back { IfErr result (λ e. e.1 ≡ self) }
+        ensures refused { (status : ℕ) (returned : List ℕ) → parameters.now ≡ status ∷ returned → status ≢ 0
+            → result ≡ Err (InitFault.Refused (opcode_awaited self) status, self) }
+    {
+        let Some(command) = self.command() else {
+            unreachable!()
+        };
+        match values(command.opcode(), parameters) {
+            Ok(values) => self.advance(values),
+            Err(fault) => Err((fault, self)),
+        }
+    }
+
+    /// Goes on after a successful command, which returned these values after its status.
+    fn advance(self, values: &[u8]) -> Result<Init, (InitFault, Init)>
+        requires awaiting { IsSome (awaited self) }
+        ensures { result ≡ handed_back self (next self values.now) }
+    {
+        match self {
+            Init::Resetting(settings) => Ok(Init::Masking(settings)),
+            Init::Masking(settings) => Ok(Init::LeMasking(settings)),
+            Init::LeMasking(settings) => Ok(Init::Sizing(settings)),
+            Init::Sizing(settings) => match le_buffers(values) {
+                Ok(Some(buffers)) => Ok(settings.with_buffers(buffers)),
+                Ok(None) => Ok(Init::SharedSizing(settings)),
+                Err(fault) => Err((fault, Init::Sizing(settings))),
+            },
+            Init::SharedSizing(settings) => match shared_buffers(values) {
+                Ok(buffers) => Ok(settings.with_buffers(buffers)),
+                Err(fault) => Err((fault, Init::SharedSizing(settings))),
+            },
+            Init::Addressing {
+                address: _,
+                advertising,
+                buffers,
+            } => Ok(Init::Describing {
+                own_address_type: RANDOM_ADDRESS,
+                advertising,
+                buffers,
+            }),
+            Init::Describing {
+                own_address_type: _,
+                advertising,
+                buffers,
+            } => Ok(Init::Filling {
+                advertising,
+                buffers,
+            }),
+            Init::Filling {
+                advertising: _,
+                buffers,
+            } => Ok(Init::Enabling { buffers }),
+            Init::Enabling { buffers } => Ok(Init::Ready {
+                length: buffers.length,
+                packets: buffers.packets,
+            }),
+            Init::Ready { .. } => unreachable!(),
+        }
+    }
+}
+
+/// What a command returned after its status, where it was successful.
+fn values(opcode: u16, parameters: &[u8]) -> Result<&[u8], InitFault>
+    ensures { result_map_both (λ values. values.now) (λ fault. fault) result ≡ values_of opcode parameters.now }
+{
+    match parameters {
+        [] => Err(InitFault::Short),
+        [SUCCESS, values @ ..] => Ok(values),
+        [status, ..] => Err(InitFault::Refused(opcode, *status)),
+    }
+}
+
+impl Settings {
+    /// The state once the buffers are told: a random address comes before all that uses it.
+    fn with_buffers(self, buffers: Buffers) -> Init
+        ensures { result ≡ with_buffers self buffers }
+    {
+        match self.address {
+            Some(address) => Init::Addressing {
+                address,
+                advertising: self.advertising,
+                buffers,
+            },
+            None => Init::Describing {
+                own_address_type: PUBLIC_ADDRESS,
+                advertising: self.advertising,
+                buffers,
+            },
+        }
+    }
+}
+
+#[cfg(test)]
+mod tests;

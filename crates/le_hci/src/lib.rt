@@ -1,0 +1,20 @@
+//! The Host Controller Interface (HCI) of an LE peripheral: the events that it reads, the commands
+//! that it sends, and the order of the commands that make a controller ready.
+#![tactic(auto)]
+
+mod buffers;
+mod command;
+mod command_packet;
+mod event;
+pub mod event_code;
+mod event_form;
+mod init;
+pub mod opcode;
+mod peer;
+
+pub use buffers::Buffers;
+pub use command::{Command, EVENT_MASK, LE_EVENT_MASK};
+pub use command_packet::write_command;
+pub use event::{BadEvent, CompletedPackets, Event, read_event};
+pub use init::{Init, InitFault, Settings};
+pub use peer::{PUBLIC_ADDRESS, Peer, RANDOM_ADDRESS};
