@@ -1,0 +1,6 @@
+pub mod Dividing
+pub mod Feeding
+pub mod Firsts
+pub mod Laws
+pub mod Progressing
+pub mod SoFar

@@ -1,0 +1,54 @@
+-- What a deframer holds between two pieces of a stream.
+use Rattle.std.specs.Prelude.{◌≡◌, ℕ, List, [], ◌∷◌, ◌++◌, Option, None}
+use Rattle.std.specs.List.{flat_map}
+use Rattle.std.specs.Option.{option_to_list}
+use Rattle.le_h4.specs.Packet.{Packet, Spells}
+use Rattle.le_h4.specs.Division.{Division, before, division_past}
+
+-- how many octets of a long ACL packet are still to be passed over, the octets so far of the packet that is
+-- unfinished, and the packet that the last piece ended
+pub record Deframing : Type 0 where
+  pub skipping : ℕ
+  pub gathered : List ℕ
+  pub marked : Option Packet
+
+-- nothing is held
+abbrev pub at_start : Deframing
+at_start = record { skipping = 0; gathered = []; marked = None }
+
+-- an indicator was met that no packet has
+abbrev pub desynced : ℕ → Deframing
+desynced indicator = record { skipping = 0; gathered = indicator ∷ []; marked = None }
+
+-- what is still to come divides so, where these octets follow
+abbrev pub still : Deframing → List ℕ → Division
+still deframing rest = division_past deframing.skipping (deframing.gathered ++ rest)
+
+-- the packet that was marked, if there is one
+abbrev pub marks : Deframing → List Packet
+marks deframing = option_to_list deframing.marked
+
+-- octets end with those of this packet
+pub record EndsWith (octets : List ℕ) (packet : Packet) : Type 0 where
+  pub earlier : List ℕ
+  pub spelling : List ℕ
+  pub parts : octets ≡ earlier ++ spelling
+  pub spelled : Spells spelling packet
+
+-- a call: the octets that it took, and the packet that it marked, if there is one
+pub record Call : Type 0 where
+  pub taken : List ℕ
+  pub packets : List Packet
+
+-- these calls, one after another, lead from one state to another
+abbrev pub Feeds : Deframing → List Call → Deframing → Type 0
+Feeds old [] new = new ≡ old
+Feeds old (call ∷ calls) new =
+    (mid : Deframing) × ((rest : List ℕ) → still old (call.taken ++ rest) ≡ before call.packets (still mid rest)) × Feeds mid calls new
+
+-- the octets and the packets of calls
+abbrev pub octets_of : List Call → List ℕ
+octets_of calls = flat_map (λ call. call.taken) calls
+
+abbrev pub packets_of : List Call → List Packet
+packets_of calls = flat_map (λ call. call.packets) calls

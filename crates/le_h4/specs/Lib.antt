@@ -1,0 +1,8 @@
+pub mod Deframer
+pub mod Division
+pub mod Gathering
+pub mod Held
+pub mod Packet
+pub mod Progress
+pub mod Stream
+pub mod Streams

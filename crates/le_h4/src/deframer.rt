@@ -1,0 +1,176 @@
+ghost use Rattle.std.specs.Prelude.{◌≡◌, ℕ, ◌+◌, ◌-◌, ◌<◌, ◌≤◌, ◌↔◌, [], ◌++◌, length, take, drop, List, Some, None, IsTrue, IsSome, IsNone, IfOk, IfErr, IfSome, OnOk};
+ghost use Rattle.arrayvec.specs.ArrayVec.{array_vec_len};
+ghost use Rattle.le_h4.specs.Packet.{seen, first_of};
+ghost use Rattle.le_h4.specs.Division.{unfinished, lost, before, division_past};
+ghost use Rattle.le_h4.specs.Deframer.{at_start, desynced, still, marks, EndsWith};
+ghost use Rattle.le_h4.specs.Progress.{Fits, packet_in};
+ghost use Rattle.le_h4.specs.Gathering.{Gathers};
+ghost use Rattle.le_h4.specs.Held.{unmarked};
+
+use crate::packet::{PacketRef, read_packet};
+use crate::progress::{MAX_ACL_DATA, Progress, progress_at};
+use arrayvec::ArrayVec;
+use std::marker::Model;
+
+/// The most octets of a packet that is kept: those of an ACL packet.
+const LARGEST: usize = 5 + MAX_ACL_DATA;
+
+/// How far a piece of the stream was taken.
+#[derive(Clone, Copy, Debug, PartialEq, Eq)]
+pub struct Fed {
+    /// How many octets of the piece were taken.
+    pub used: usize,
+    /// Whether they end a packet, which is then marked.
+    pub packet: bool,
+}
+
+/// Why a stream cannot be divided any further.
+#[derive(Clone, Copy, Debug, PartialEq, Eq)]
+pub enum H4Fault {
+    /// In the place of an indicator stands an octet that no packet has.
+    Desync(u8),
+}
+
+/// Finds the packets of a stream that comes in pieces. It keeps one packet, of at most 1,029 octets.
+#[derive(Drop)]
+pub struct Deframer {
+    /// The packet that is marked, or else the octets so far of the next one.
+    gathered: ArrayVec<u8, 1029>,
+    /// Whether what is gathered is a packet that is marked.
+    marked: bool,
+    /// How many octets of a long ACL packet are still to be passed over.
+    skipping: usize,
+}
+
+impl Model for Deframer {
+    ghost use Rattle.le_h4.specs.Deframer.{Deframing};
+
+    ghost Value = { Deframing };
+
+    ghost use Rattle.le_h4.specs.Held.{deframing_of, IsHeld};
+
+    ghost view = { λ d. deframing_of d.skipping d.gathered.items d.marked };
+
+    ghost invariant = { λ d. IsHeld d.skipping d.gathered.items d.marked };
+}
+
+impl Deframer {
+    /// A deframer at the start of a stream.
+    pub fn new() -> Self
+        ensures { result ≡ at_start }
+    {
+        Deframer {
+            gathered: ArrayVec::new(),
+            marked: false,
+            skipping: 0,
+        }
+    }
+
+    /// Takes in octets of the stream up to the end of a packet, which is then marked, or all of them.
+    /// An ACL packet of more than 1,024 octets of data is passed over. After `Desync` every call
+    /// answers it again and changes nothing.
+    pub fn feed(&mut self, octets: &[u8]) -> Result<Fed, H4Fault>
+        // Whatever follows the octets that were taken, the packet that is marked comes first.
+        ensures divided { IfOk result (λ fed. (rest : List ℕ) → still self.old (take fed.used octets.now ++ rest)
+            ≡ before (marks self.new) (still self.new rest)) }
+        ensures marked { IfOk result (λ fed. IsTrue fed.packet ↔ IsSome self.new.marked) }
+        ensures spelled { IfOk result (λ fed. IfSome self.new.marked (EndsWith (self.old.gathered ++ take fed.used octets.now))) }
+        ensures used { IfOk result (λ fed. fed.used ≤ length octets.now) }
+        ensures used_some { IfOk result (λ fed. IsSome self.new.marked → 0 < fed.used) }
+        ensures used_all { IfOk result (λ fed. IsNone self.new.marked → fed.used ≡ length octets.now) }
+        // No whole packet is held back.
+        ensures unfinished { OnOk result (still self.new [] ≡ unfinished) }
+        ensures desync { (indicator : ℕ) → (result ≡ Err (H4Fault.Desync indicator)) ↔ (still self.old octets.now ≡ lost indicator) }
+        ensures desynced { (indicator : ℕ) → result ≡ Err (H4Fault.Desync indicator) → self.new ≡ desynced indicator }
+    {
+        forget(&mut self.gathered, self.marked);
+        match gather(&mut self.gathered, &mut self.skipping, octets) {
+            Ok(fed) => {
+                self.marked = fed.packet;
+                Ok(fed)
+            }
+            Err(fault) => {
+                self.marked = false;
+                Err(fault)
+            }
+        }
+    }
+
+    /// The packet that the last call of `feed` marked.
+    pub fn packet(&self) -> PacketRef<'_>
+        requires { IsSome self.now.marked }
+        ensures { self.now.marked ≡ Some (seen result) }
+    {
+        read_packet(self.gathered.as_slice())
+    }
+}
+
+/// Forgets what is gathered where it is a packet that is marked.
+fn forget(gathered: &mut ArrayVec<u8, 1029>, marked: bool)
+    ensures { gathered.new.items ≡ unmarked marked gathered.old.items }
+{
+    if marked {
+        gathered.clear();
+    }
+}
+
+/// Gathers octets to the end of a packet that is kept, or all of them.
+fn gather(
+    gathered: &mut ArrayVec<u8, 1029>,
+    skipping: &mut usize,
+    octets: &[u8],
+) -> Result<Fed, H4Fault>
+    requires fits { Fits gathered.old.items }
+    requires unfinished { packet_in (first_of gathered.old.items) ≡ None }
+    requires passes { 0 < skipping.old → gathered.old.items ≡ [] }
+    ensures gathers { Gathers skipping.old gathered.old.items octets.now result skipping.new gathered.new.items }
+{
+    let mut rest = octets;
+    'packets: loop {
+        rest = skip(skipping, rest);
+        match progress_at(gathered.as_slice()) {
+            Progress::Whole => {
+                return Ok(Fed {
+                    used: octets.len() - rest.len(),
+                    packet: true,
+                });
+            }
+            Progress::Desync(indicator) => return Err(H4Fault::Desync(indicator)),
+            Progress::Long(missing) => {
+                gathered.clear();
+                *skipping = missing;
+            }
+            Progress::Lacks(_) if rest.is_empty() => {
+                return Ok(Fed {
+                    used: octets.len(),
+                    packet: false,
+                });
+            }
+            Progress::Lacks(missing) => rest = fill(gathered, missing, rest),
+        }
+    }
+}
+
+/// Passes over octets, as many as there are of those that are left to skip, and answers what follows.
+fn skip<'a>(skipping: &mut usize, octets: &'a [u8]) -> &'a [u8]
+    ensures left { skipping.new ≡ skipping.old - length octets.now }
+    ensures rest { result.now ≡ drop skipping.old octets.now }
+{
+    let count = octets.len().min(*skipping);
+    *skipping -= count;
+    &octets[count..]
+}
+
+/// Gathers octets, as many as there are of those that are missing, and answers what follows.
+fn fill<'a>(gathered: &mut ArrayVec<u8, 1029>, missing: usize, octets: &'a [u8]) -> &'a [u8]
+    requires { array_vec_len gathered.old + missing ≤ 1029 }
+    ensures gathered { gathered.new.items ≡ gathered.old.items ++ take missing octets.now }
+    ensures rest { result.now ≡ drop missing octets.now }
+{
+    let (now, later) = octets.split_at(missing.min(octets.len()));
+    let _ = gathered.try_extend_from_slice(now);
+    later
+}
+
+#[cfg(test)]
+mod tests;

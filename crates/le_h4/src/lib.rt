@@ -1,0 +1,15 @@
+//! The UART transport of HCI (H4): the packets of a stream from the controller, and ACL packets and
+//! commands to it. (Core 5.0, Vol 4 Part A)
+#![tactic(auto)]
+
+mod deframer;
+pub mod indicator;
+mod packet;
+mod progress;
+mod stream;
+mod write;
+
+pub use deframer::{Deframer, Fed, H4Fault};
+pub use packet::PacketRef;
+pub use stream::{ArraySink, Failed, Reader, Sink, SliceSource, Source, Writer};
+pub use write::{write_acl, write_command};

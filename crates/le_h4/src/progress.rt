@@ -1,0 +1,70 @@
+ghost use Rattle.std.specs.Prelude.{◌≡◌, ◌-◌, ◌≤◌, length};
+ghost use Rattle.le_h4.specs.Progress.{progress_of, data_progress, short_progress, LacksAtMost};
+
+use crate::indicator;
+
+/// The most octets of data of an ACL packet that is kept.
+pub(crate) const MAX_ACL_DATA: usize = 1_024;
+
+/// How far the octets of a packet have come.
+#[derive(Clone, Copy, Debug, PartialEq, Eq)]
+pub(crate) enum Progress {
+    /// At least so many more belong to it.
+    Lacks(usize),
+    /// They are all there.
+    Whole,
+    /// So many more belong to it, and it is too long to be kept.
+    Long(usize),
+    /// No packet has this indicator.
+    Desync(u8),
+}
+
+/// How far a packet has come of which these octets are there, from its indicator on.
+pub(crate) fn progress_at(octets: &[u8]) -> Progress
+    requires { length octets.now ≤ 1029 }
+    ensures exact { result ≡ progress_of octets.now }
+    ensures fits { LacksAtMost (1029 - length octets.now) result }
+{
+    let [indicator, rest @ ..] = octets else {
+        return Progress::Lacks(1);
+    };
+    match *indicator {
+        indicator::ACL => match rest {
+            [_, _, low, high, data @ ..] => {
+                with_data(usize::from(u16::from_le_bytes([*low, *high])), data.len())
+            }
+            header => Progress::Lacks(4 - header.len()),
+        },
+        indicator::SCO => match rest {
+            [_, _, size, data @ ..] => with_short_data(usize::from(*size), data.len()),
+            header => Progress::Lacks(3 - header.len()),
+        },
+        indicator::EVENT => match rest {
+            [_, size, parameters @ ..] => with_short_data(usize::from(*size), parameters.len()),
+            header => Progress::Lacks(2 - header.len()),
+        },
+        other => Progress::Desync(other),
+    }
+}
+
+/// How far a packet has come whose header states `size` octets of data, of which `count` are there.
+fn with_data(size: usize, count: usize) -> Progress
+    ensures { result ≡ data_progress size count }
+{
+    if size <= count || size <= MAX_ACL_DATA {
+        with_short_data(size, count)
+    } else {
+        Progress::Long(size - count)
+    }
+}
+
+/// The same of data that is not too long.
+fn with_short_data(size: usize, count: usize) -> Progress
+    ensures { result ≡ short_progress size count }
+{
+    if size <= count {
+        Progress::Whole
+    } else {
+        Progress::Lacks(size - count)
+    }
+}

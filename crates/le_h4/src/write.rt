@@ -1,0 +1,65 @@
+ghost use Rattle.std.specs.Prelude.{◌≡◌, ◌+◌, ◌*◌, ◌^◌, ◌<◌, ◌≤◌, [], ◌∷◌, ◌++◌, length};
+ghost use Rattle.le_h4.specs.Packet.{two_octets};
+
+use crate::indicator;
+use arrayvec::ArrayVec;
+
+/// Writes an ACL packet in place of what `out` holds: a connection handle of 12 bits, the packet
+/// boundary flag, and at most 255 octets of data. Its broadcast flag is 0. (Core 5.0, Vol 2 Part E,
+/// 5.4.2)
+pub fn write_acl(handle: u16, pb: u8, octets: &[u8], out: &mut ArrayVec<u8, 260>)
+    requires handle { handle < 2 ^ 12 }
+    requires pb { pb ≤ 3 }
+    requires octets { length octets.now ≤ 255 }
+    ensures { out.new.items ≡ 0x02 ∷ two_octets (handle + 2 ^ 12 * pb) ++ two_octets (length octets.now) ++ octets.now }
+{
+    let [low, high] = (handle | u16::from(pb) << 12).to_le_bytes();
+    let [size_low, size_high] = (octets.len() as u16).to_le_bytes();
+    replace(
+        out,
+        &[indicator::ACL, low, high, size_low, size_high],
+        octets,
+    );
+}
+
+/// Writes a command in place of what `out` holds: its indicator, and its at most 259 octets from the
+/// opcode on. (Core 5.0, Vol 2 Part E, 5.4.1)
+pub fn write_command(octets: &[u8], out: &mut ArrayVec<u8, 260>)
+    requires { length octets.now ≤ 259 }
+    ensures { out.new.items ≡ 0x01 ∷ octets.now }
+{
+    replace(out, &[indicator::COMMAND], octets);
+}
+
+/// Replaces what `out` holds by a header and what follows it.
+fn replace(out: &mut ArrayVec<u8, 260>, header: &[u8], octets: &[u8])
+    requires { length header.now + length octets.now ≤ 260 }
+    ensures { out.new.items ≡ header.now ++ octets.now }
+{
+    out.clear();
+    let _ = out.try_extend_from_slice(header);
+    let _ = out.try_extend_from_slice(octets);
+}
+
+#[cfg(test)]
+mod tests {
+    use super::*;
+
+    #[test]
+    fn packets_to_the_controller(rt: HostRuntime) {
+        let mut out = ArrayVec::new();
+        write_command(&[0x03, 0x0C, 0x00], &mut out);
+        assert_eq!(rt; out.as_slice(), [0x01, 0x03, 0x0C, 0x00].as_slice());
+        let frame = [0x05, 0x00, 0x04, 0x00, 0x0B, 0x4C, 0x6F, 0x63, 0x6B];
+        write_acl(0x0040, 0, &frame, &mut out);
+        assert_eq!(rt;
+            out.as_slice(),
+            [
+                0x02, 0x40, 0x00, 0x09, 0x00, 0x05, 0x00, 0x04, 0x00, 0x0B, 0x4C, 0x6F, 0x63, 0x6B
+            ]
+            .as_slice()
+        );
+        write_acl(0x0EFF, 1, &[], &mut out);
+        assert_eq!(rt; out.as_slice(), [0x02, 0xFF, 0x1E, 0x00, 0x00].as_slice());
+    }
+}
