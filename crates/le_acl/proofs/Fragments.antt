@@ -1,0 +1,122 @@
+-- A queue of PDUs gives its fragments one by one.
+use Rattle.std.proofs.Common.{◌≡◌, ℕ, zero, suc, ◌+◌, ◌-◌, ◌<◌, ◌≤◌, List, [], ◌∷◌, length, take, drop, map, refl, sym, ap, ◌∙◌, subst, arith}
+use Rattle.std.specs.Prelude.{Some, slice_get}
+use Rattle.std.proofs.lemmas.List.{drop-drop, length-drop, drop_all}
+use Rattle.le_acl.specs.Outgoing.{Fragment, continuation, pieces_within, pieces, frame_of, flagged, fragments_of, flag_at, without_next, acl_octets, Gives}
+use Rattle.le_acl.specs.Sending.{fragments_from, queue_of, IsWithin}
+
+-- what fits behind a header of four octets
+pub take_header : (size a b c d : ℕ) (xs : List ℕ) → 4 ≤ size → a ∷ b ∷ c ∷ d ∷ take (size - 4) xs ≡ take size (a ∷ b ∷ c ∷ d ∷ xs)
+take_header size a b c d xs h =
+    let e : suc (suc (suc (suc (size - 4)))) ≡ size = omega arith in
+    ap (λ (n : ℕ). take n (a ∷ b ∷ c ∷ d ∷ xs)) e
+
+pub drop_header : (gone a b c d : ℕ) (xs : List ℕ) → 4 ≤ gone → drop (gone - 4) xs ≡ drop gone (a ∷ b ∷ c ∷ d ∷ xs)
+drop_header gone a b c d xs h =
+    let e : suc (suc (suc (suc (gone - 4)))) ≡ gone = omega arith in
+    ap (λ (n : ℕ). drop n (a ∷ b ∷ c ∷ d ∷ xs)) e
+
+pub flag_later : (gone : ℕ) → 0 < gone → flag_at gone ≡ 1
+flag_later zero h = absurd (omega arith)
+flag_later (suc gone) h = refl
+
+-- any count that is large enough gives the same pieces
+within_enough : (n m size : ℕ) (octets : List ℕ) → 0 < size → length octets ≤ n → length octets ≤ m → pieces_within n size octets ≡ pieces_within m size octets
+within_enough zero zero size octets some h k = refl
+within_enough zero (suc m) size [] some h k = refl
+within_enough zero (suc m) size (x ∷ xs) some h k = absurd (omega arith)
+within_enough (suc n) zero size [] some h k = refl
+within_enough (suc n) zero size (x ∷ xs) some h k = absurd (omega arith)
+within_enough (suc n) (suc m) size [] some h k = refl
+within_enough (suc n) (suc m) size (x ∷ xs) some h k =
+    let left : length (drop size (x ∷ xs)) ≤ length xs = omega (arith, length-drop size (x ∷ xs)) in
+    ap (λ (others : List (List ℕ)). take size (x ∷ xs) ∷ others) (within_enough n m size (drop size (x ∷ xs)) some (omega arith) (omega arith))
+
+pub pieces-next : (size : ℕ) (octets : List ℕ) → 0 < size → 0 < length octets → pieces size octets ≡ take size octets ∷ pieces size (drop size octets)
+unfolding pieces
+pieces-next size [] some h = absurd (omega arith)
+pieces-next size (x ∷ xs) some h =
+    let left : length (drop size (x ∷ xs)) ≤ length xs = omega (arith, length-drop size (x ∷ xs)) in
+    ap (λ (others : List (List ℕ)). take size (x ∷ xs) ∷ others)
+    (within_enough (length xs) (length (drop size (x ∷ xs))) size (drop size (x ∷ xs)) some left (omega arith))
+
+pieces-none : (size : ℕ) → pieces size [] ≡ []
+unfolding pieces
+pieces-none size = refl
+
+-- the fragments after a first one
+others_of : ℕ → ℕ → List ℕ → List Fragment
+others_of size gone frame = map continuation (pieces size (drop gone frame))
+
+fragments-next : (size gone : ℕ) (frame : List ℕ) → 0 < size → gone < length frame
+    → fragments_from size gone frame ≡ record { flag = flag_at gone; octets = take size (drop gone frame) } ∷ others_of size (gone + size) frame
+unfolding others_of
+fragments-next size zero frame some h =
+    let e : size ≡ 0 + size = omega arith in
+    ap flagged (pieces-next size frame some h)
+    ∙ ap (λ (n : ℕ). (let first : Fragment = record { flag = 0; octets = take size frame } in first) ∷ map continuation (pieces size (drop n frame))) e
+fragments-next size (suc gone) frame some h =
+    ap (map continuation) (pieces-next size (drop (suc gone) frame) some (omega (arith, length-drop (suc gone) frame)))
+    ∙ ap (λ (xs : List ℕ). continuation (take size (drop (suc gone) frame)) ∷ map continuation (pieces size xs)) (drop-drop size (suc gone) frame)
+
+others-none : (size gone : ℕ) (frame : List ℕ) → length frame ≤ gone → others_of size gone frame ≡ []
+unfolding others_of
+others-none size gone frame h = ap (λ (xs : List ℕ). map continuation (pieces size xs)) (drop_all gone frame h) ∙ ap (map continuation) (pieces-none size)
+
+others-from : (size gone : ℕ) (frame : List ℕ) → 0 < gone → others_of size gone frame ≡ fragments_from size gone frame
+unfolding others_of
+others-from size zero frame h = absurd (omega arith)
+others-from size (suc gone) frame h = refl
+
+without-next-more : (first : Fragment) (others : List Fragment) (pdus : List (List Fragment)) (second : Fragment) (rest : List Fragment)
+    → others ≡ second ∷ rest → without_next ((first ∷ others) ∷ pdus) ≡ others ∷ pdus
+without-next-more first others pdus second rest is =
+    ap (λ (xs : List Fragment). without_next ((first ∷ xs) ∷ pdus)) is ∙ ap (λ (xs : List Fragment). xs ∷ pdus) (sym is)
+
+queue-anew : (size : ℕ) (pdus : List (ℕ × List ℕ)) → queue_of size 0 pdus ≡ map (λ other. fragments_of size (frame_of other)) pdus
+queue-anew size [] = refl
+queue-anew size (pdu ∷ pdus) = refl
+
+first_and_rest : (pdus : List (ℕ × List ℕ)) (pdu : ℕ × List ℕ) → slice_get pdus 0 ≡ Some pdu → pdus ≡ pdu ∷ drop 1 pdus
+first_and_rest [] pdu is = cc
+first_and_rest (first ∷ pdus) pdu is = ap (λ (p : ℕ × List ℕ). p ∷ pdus) (cc is)
+
+module _ (size gone : ℕ) (pdus : List (ℕ × List ℕ)) (pdu : ℕ × List ℕ) (front : slice_get pdus 0 ≡ Some pdu) (some : 0 < size) (left : gone < length (frame_of pdu)) where
+  first : Fragment
+  first = record { flag = flag_at gone; octets = take size (drop gone (frame_of pdu)) }
+
+  later : List (List Fragment)
+  later = map (λ other. fragments_of size (frame_of other)) (drop 1 pdus)
+
+  queue-is : queue_of size gone pdus ≡ (first ∷ others_of size (gone + size) (frame_of pdu)) ∷ later
+  unfolding first later
+  queue-is = ap (queue_of size gone) (first_and_rest pdus pdu front) ∙ ap (λ (xs : List Fragment). xs ∷ later) (fragments-next size gone (frame_of pdu) some left)
+
+  pub gives_first : (handle : ℕ) (octets : List ℕ) → octets ≡ acl_octets handle (flag_at gone) (take size (drop gone (frame_of pdu))) → Gives (queue_of size gone pdus) handle octets
+  unfolding first
+  gives_first handle octets is = let P : List (List Fragment) → Type 0 = λ queue. Gives queue handle octets in subst P (sym queue-is) is
+
+  pub queue-last : length (frame_of pdu) ≤ gone + size → queue_of size 0 (drop 1 pdus) ≡ without_next (queue_of size gone pdus)
+  unfolding later
+  queue-last ended =
+      queue-anew size (drop 1 pdus)
+      ∙ sym (ap without_next (queue-is ∙ ap (λ (others : List Fragment). (first ∷ others) ∷ later) (others-none size (gone + size) (frame_of pdu) ended)))
+
+  pub queue-more : gone + size < length (frame_of pdu) → queue_of size (gone + size) pdus ≡ without_next (queue_of size gone pdus)
+  unfolding later
+  queue-more more =
+      let from = others-from size (gone + size) (frame_of pdu) (omega arith) in
+      let next = fragments-next size (gone + size) (frame_of pdu) some more in
+      ap (queue_of size (gone + size)) (first_and_rest pdus pdu front)
+      ∙ ap (λ (xs : List Fragment). xs ∷ later) (sym from)
+      ∙ sym (without-next-more first (others_of size (gone + size) (frame_of pdu)) later _ _ (from ∙ next))
+      ∙ sym (ap without_next queue-is)
+
+-- some of the first frame is left
+pub not_all_gone : (size gone : ℕ) (pdus : List (ℕ × List ℕ)) (pdu : ℕ × List ℕ) → slice_get pdus 0 ≡ Some pdu → IsWithin size gone pdus
+    → gone < length (frame_of pdu)
+not_all_gone size gone [] pdu is within = cc
+not_all_gone size gone (first ∷ pdus) pdu is within =
+    let same : first ≡ pdu = cc is in
+    let P : ℕ × List ℕ → Type 0 = λ p. gone < length (frame_of p) in
+    subst P same (omega (arith, within.0))

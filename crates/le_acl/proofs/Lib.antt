@@ -1,0 +1,4 @@
+pub mod Fragments
+pub mod Frames
+pub mod Rings
+pub mod Shares

@@ -1,0 +1,9 @@
+pub mod Acts
+pub mod Frame
+pub mod Outgoing
+pub mod PayloadLends
+pub mod Pdus
+pub mod PdusLends
+pub mod Reassembler
+pub mod SenderLends
+pub mod Sending

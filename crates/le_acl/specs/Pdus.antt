@@ -1,0 +1,33 @@
+-- PDUs in a ring of slots.
+use Rattle.std.specs.Prelude.{◌≡◌, ℕ, ◌+◌, ◌%◌, ◌<◌, ◌≤◌, List, [], ◌++◌, length, take, drop, map, get_or}
+use Rattle.std.specs.List.{zip}
+use Rattle.arrayvec.specs.ArrayVec.{ArrayVec}
+
+-- the PDUs by channel and payload, and what stands in the room for the next
+pub record Queued : Type 0 where
+  pub pdus : List (ℕ × List ℕ)
+  pub room : List ℕ
+
+-- an empty payload
+abbrev pub empty : ArrayVec ℕ
+empty = record { items = [] }
+
+-- the octets of a payload
+abbrev pub octets_of : ArrayVec ℕ → List ℕ
+octets_of payload = payload.items
+
+-- count slots from first on, around the end
+abbrev pub window : {X : Type 0} → ℕ → ℕ → List X → List X
+window first count slots = take count (drop first slots ++ take first slots)
+
+abbrev pub queued_of : ℕ → ℕ → List ℕ → List (ArrayVec ℕ) → Queued
+queued_of first count channels payloads = record {
+  pdus = zip (window first count channels) (map octets_of (window first count payloads));
+  room = (get_or payloads ((first + count) % 16) empty).items;
+}
+
+pub record IsRing (first count : ℕ) (channels : List ℕ) (payloads : List (ArrayVec ℕ)) : Type 0 where
+  pub first_below : first < 16
+  pub count_within : count ≤ 16
+  pub channels_length : length channels ≡ 16
+  pub payloads_length : length payloads ≡ 16

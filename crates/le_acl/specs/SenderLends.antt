@@ -1,0 +1,13 @@
+-- What a sender ends as, where its room for a PDU is lent.
+use Rattle.std.specs.Prelude.{ℕ, Result, Some}
+use Rattle.std.specs.Borrow.{LendsIfOk, MutBor, Fml, u8, usize, unit}
+use Rattle.arrayvec.specs.ArrayVec.{ArrayVec}
+use Rattle.arrayvec.specs.contracts.array_vec.ArrayVec.{the_row as array_vec_row}
+use Rattle.le_acl.specs.declared.sender.Full.{Full}
+use Rattle.le_acl.specs.contracts.sender.Sender.{the_row}
+use Rattle.le_acl.specs.Outgoing.{Outgoing}
+
+-- the room holds what is last written through the result, and nothing else changes; nothing at all where none is lent
+abbrev pub LendsRoom : MutBor Outgoing → Result (MutBor (ArrayVec ℕ)) Full → Fml
+LendsRoom sender result =
+    LendsIfOk the_row (array_vec_row u8 usize unit) sender result (λ written. record sender.now { room = Some written.items }) sender.now

@@ -1,0 +1,133 @@
+ghost use Rattle.std.specs.Prelude.{◌≡◌, ◌+◌, ◌<◌, ◌≤◌, ◌↔◌, [], ◌∷◌, ◌++◌, drop, length, vec_len, slice_get, IfOk, IfSome, Some, IsNone, IsTrue};
+ghost use Rattle.std.specs.Borrow.{sem};
+ghost use Rattle.le_acl.specs.Pdus.{empty};
+
+use arrayvec::ArrayVec;
+use std::alloc::{AllocError, Global};
+use std::marker::Model;
+
+/// How many PDUs are queued at most.
+pub(crate) const MAX_PDUS: usize = 16;
+
+/// The payloads of PDUs, each at its place.
+#[derive(Drop)]
+struct Payloads {
+    items: Vec<ArrayVec<u8, 517>>,
+}
+
+impl Payloads {
+    ghost use Rattle.le_acl.specs.PayloadLends.{LendsPayload};
+
+    fn at_mut(&mut self, index: usize) -> &mut ArrayVec<u8, 517>
+        requires { index < vec_len self.old.items }
+        ensures* writes_back { sem 𝓛 (LendsPayload self.entry index result) }
+    {
+        &mut self.items[index]
+    }
+}
+
+/// PDUs in the order in which they were queued, and room for one more. None is moved.
+#[derive(Drop)]
+pub(crate) struct Pdus {
+    payloads: Payloads,
+    channels: [u16; 16],
+    first: usize,
+    count: usize,
+}
+
+impl Model for Pdus {
+    ghost use Rattle.std.specs.Prelude.{List, ◌<◌, ◌≤◌, ◌≡◌, length};
+    ghost use Rattle.le_acl.specs.Pdus.{Queued};
+
+    ghost Value = { Queued };
+
+    ghost use Rattle.le_acl.specs.Pdus.{queued_of, IsRing};
+
+    ghost view = { λ p. queued_of p.first p.count p.channels p.payloads.items.items };
+
+    ghost invariant = { λ p. IsRing p.first p.count p.channels p.payloads.items.items };
+}
+
+impl Pdus {
+    ghost use Rattle.le_acl.specs.PdusLends.{LendsRoom};
+
+    /// No PDUs, with room for 16.
+    pub(crate) fn new(alloc: Global) -> Result<Pdus, AllocError>
+        ensures { IfOk result (λ pdus. pdus.pdus ≡ []) }
+    {
+        Ok(Pdus {
+            payloads: Payloads {
+                items: empty_payloads(alloc)?,
+            },
+            channels: [0; 16],
+            first: 0,
+            count: 0,
+        })
+    }
+
+    /// How many PDUs there are.
+    pub(crate) fn len(&self) -> usize
+        ensures count { result ≡ length self.now.pdus }
+        ensures within { result ≤ 16 }
+    {
+        self.count
+    }
+
+    /// The payload of the next PDU.
+    pub(crate) fn room(&mut self) -> &mut ArrayVec<u8, 517>
+        requires { length self.old.pdus < 16 }
+        ensures* writes_back { sem 𝓛 (LendsRoom self.entry result) }
+    {
+        self.payloads.at_mut((self.first + self.count) % MAX_PDUS)
+    }
+
+    /// Queues what stands in the room.
+    pub(crate) fn push(&mut self, channel: u16)
+        requires { length self.old.pdus < 16 }
+        ensures { self.new.pdus ≡ self.old.pdus ++ (channel, self.old.room) ∷ [] }
+    {
+        self.channels[(self.first + self.count) % MAX_PDUS] = channel;
+        self.count += 1;
+    }
+
+    /// The channel and the payload of the first PDU.
+    pub(crate) fn front(&self) -> Option<(u16, &[u8])>
+        ensures none { IsNone result ↔ (self.now.pdus ≡ []) }
+        ensures front { IfSome result (λ pdu. slice_get self.now.pdus 0 ≡ Some (pdu.0, pdu.1.now)) }
+        ensures fits { IfSome result (λ pdu. length pdu.1.now ≤ 517) }
+    {
+        if self.count == 0 {
+            return None;
+        }
+        Some((
+            self.channels[self.first],
+            self.payloads.items[self.first].as_slice(),
+        ))
+    }
+
+    /// Drops the first PDU.
+    pub(crate) fn pop(&mut self)
+        requires { 0 < length self.old.pdus }
+        ensures pdus { self.new.pdus ≡ drop 1 self.old.pdus }
+        ensures room { self.new.room ≡ self.old.room }
+    {
+        self.first = (self.first + 1) % MAX_PDUS;
+        self.count -= 1;
+    }
+
+    /// Drops all PDUs.
+    pub(crate) fn clear(&mut self)
+        ensures { self.new.pdus ≡ [] }
+    {
+        self.count = 0;
+    }
+}
+
+/// 16 payloads with nothing in them.
+fn empty_payloads(alloc: Global) -> Result<Vec<ArrayVec<u8, 517>>, AllocError>
+    ensures { IfOk result (λ payloads. vec_len payloads ≡ 16) }
+{
+    let mut payloads = Vec::new(alloc);
+    payloads.resize_with(MAX_PDUS, || ArrayVec::new())?;
+    Ok(payloads)
+}

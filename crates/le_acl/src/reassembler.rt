@@ -1,0 +1,171 @@
+ghost use Rattle.std.specs.Prelude.{◌≡◌, ◌≤◌, ◌↔◌, ◌++◌, length, Some, IsSome};
+ghost use Rattle.le_acl.specs.Reassembler.{nothing, assembled_of, continued, assembly_of};
+
+use arrayvec::ArrayVec;
+use std::cmp::Ordering;
+use std::marker::Model;
+
+/// What a fragment leads to.
+#[derive(Clone, Copy, Debug, PartialEq, Eq)]
+pub enum Piece {
+    /// No frame is whole.
+    Nothing,
+    /// A frame is whole.
+    Frame,
+}
+
+/// What is held of a frame.
+#[derive(Clone, Copy, Debug, PartialEq, Eq)]
+enum State {
+    /// Nothing.
+    Idle,
+    /// Less than its header states.
+    Unfinished,
+    /// All of it.
+    Whole,
+}
+
+/// Puts the L2CAP frames of one connection together from ACL fragments: each has a header of 4
+/// octets, whose first 2 state the length of its payload, and at most 521 octets in all. (Core 5.0,
+/// Vol 3 Part A, 3.1)
+#[derive(Drop)]
+pub struct Reassembler {
+    octets: ArrayVec<u8, 521>,
+    state: State,
+}
+
+impl Model for Reassembler {
+    ghost use Rattle.le_acl.specs.Reassembler.{Assembly};
+
+    ghost Value = { Assembly };
+
+    ghost use Rattle.le_acl.specs.Reassembler.{assembly_of};
+
+    ghost view = { λ r. assembly_of r.state r.octets.items };
+}
+
+impl Reassembler {
+    /// A reassembler that holds nothing.
+    pub fn new() -> Self
+        ensures { result ≡ nothing }
+    {
+        Reassembler {
+            octets: ArrayVec::new(),
+            state: State::Idle,
+        }
+    }
+
+    /// Takes in a fragment that begins a frame. A frame that is unfinished is dropped.
+    pub fn start(&mut self, octets: &[u8]) -> Piece
+        ensures after { self.new ≡ assembled_of octets.now }
+        ensures frame { (result ≡ Piece.Frame) ↔ IsSome self.new.frame }
+    {
+        self.octets.clear();
+        self.state = join(&mut self.octets, octets);
+        self.piece()
+    }
+
+    /// Takes in a fragment that continues a frame. It is dropped where none is unfinished.
+    pub fn more(&mut self, octets: &[u8]) -> Piece
+        ensures after { self.new ≡ continued self.old octets.now }
+        ensures frame { (result ≡ Piece.Frame) ↔ IsSome self.new.frame }
+    {
+        self.state = match self.state {
+            State::Unfinished => join(&mut self.octets, octets),
+            State::Idle | State::Whole => State::Idle,
+        };
+        self.piece()
+    }
+
+    /// The frame that the newest fragment made whole.
+    pub fn frame(&self) -> &[u8]
+        requires { IsSome self.now.frame }
+        ensures { self.now.frame ≡ Some result.now }
+    {
+        self.octets.as_slice()
+    }
+
+    fn piece(&self) -> Piece
+        ensures { (result ≡ Piece.Frame) ↔ IsSome self.now.frame }
+    {
+        match self.state {
+            State::Whole => Piece::Frame,
+            State::Idle | State::Unfinished => Piece::Nothing,
+        }
+    }
+}
+
+/// Joins a fragment to the octets so far, which are less than a frame.
+fn join(octets: &mut ArrayVec<u8, 521>, fragment: &[u8]) -> State
+    ensures { assembly_of result octets.new.items ≡ assembled_of (octets.old.items ++ fragment.now) }
+{
+    if octets.try_extend_from_slice(fragment).is_err() {
+        return State::Idle;
+    }
+    state_of(octets.as_slice())
+}
+
+/// What octets of at most 521 are of a frame.
+fn state_of(octets: &[u8]) -> State
+    requires { length octets.now ≤ 521 }
+    ensures { assembly_of result octets.now ≡ assembled_of octets.now }
+{
+    let [low, high, _, _, payload @ ..] = octets else {
+        return State::Unfinished;
+    };
+    let size = usize::from(u16::from_le_bytes([*low, *high]));
+    match payload.len().cmp(&size) {
+        Ordering::Less => State::Unfinished,
+        Ordering::Equal => State::Whole,
+        Ordering::Greater => State::Idle,
+    }
+}
+
+#[cfg(test)]
+mod tests {
+    use super::*;
+
+    #[test]
+    fn a_read_in_three_fragments(rt: HostRuntime) {
+        let mut reassembler = Reassembler::new();
+        assert_eq!(rt; reassembler.more(&[0x00]), Piece::Nothing);
+        assert_eq!(rt; reassembler.start(&[0x03]), Piece::Nothing);
+        assert_eq!(rt; reassembler.more(&[0x00, 0x04, 0x00]), Piece::Nothing);
+        assert_eq!(rt; reassembler.more(&[0x0A, 0x03, 0x00]), Piece::Frame);
+        assert_eq!(rt;
+            reassembler.frame(),
+            [0x03, 0x00, 0x04, 0x00, 0x0A, 0x03, 0x00].as_slice()
+        );
+        assert_eq!(rt; reassembler.more(&[0x00]), Piece::Nothing);
+    }
+
+    #[test]
+    fn a_new_beginning(rt: HostRuntime) {
+        let mut reassembler = Reassembler::new();
+        assert_eq!(rt; reassembler.start(&[0x03]), Piece::Nothing);
+        assert_eq!(rt; reassembler.more(&[0x00, 0x04, 0x00]), Piece::Nothing);
+        assert_eq!(rt; reassembler.start(&[0x03]), Piece::Nothing);
+        assert_eq!(rt; reassembler.more(&[0x00, 0x04, 0x00]), Piece::Nothing);
+        assert_eq!(rt; reassembler.more(&[0x0A, 0x03, 0x00]), Piece::Frame);
+    }
+
+    #[test]
+    fn largest_frame(rt: HostRuntime) {
+        let mut reassembler = Reassembler::new();
+        assert_eq!(rt;
+            reassembler.start(&[0x05, 0x02, 0x04, 0x00]),
+            Piece::Nothing
+        );
+        assert_eq!(rt; reassembler.more(&[0x0B; 517]), Piece::Frame);
+        assert_eq!(rt; reassembler.frame().len(), 521);
+        assert_eq!(rt;
+            reassembler.start(&[0x06, 0x02, 0x04, 0x00]),
+            Piece::Nothing
+        );
+        assert_eq!(rt; reassembler.more(&[0x0B; 518]), Piece::Nothing);
+        assert_eq!(rt;
+            reassembler.start(&[0x01, 0x00, 0x04, 0x00, 0x0B, 0x0B]),
+            Piece::Nothing
+        );
+    }
+}

@@ -1,0 +1,210 @@
+ghost use Rattle.std.specs.Prelude.{◌≡◌, ℕ, List, ◌+◌, ◌-◌, ◌*◌, ◌^◌, ◌<◌, ◌≤◌, ◌↔◌, [], ◌∷◌, ◌++◌, length, take, drop, Some, None, IsSome, IsOk, IfOk};
+ghost use Rattle.std.specs.Bool.{OnTrue, OnFalse};
+ghost use Rattle.std.specs.Borrow.{sem};
+ghost use Rattle.le_acl.specs.Outgoing.{none_queued, with_pdu, next_of, may_give, after_next, frame_of, acl_octets, Gives, flag_at};
+ghost use Rattle.le_h4.specs.Packet.{two_octets};
+
+use crate::pdus::{MAX_PDUS, Pdus};
+use arrayvec::ArrayVec;
+use le_h4::write_acl;
+use std::alloc::{AllocError, Global};
+use std::marker::Model;
+
+/// As many PDUs are queued as there is room for.
+#[derive(Clone, Copy, Debug, PartialEq, Eq)]
+pub struct Full;
+
+/// The octets of a frame's header: Core 5.0, Vol 3 Part A, 3.1.
+const HEADER: usize = 4;
+/// The packet boundary flags of the fragments of a frame: Core 5.0, Vol 2 Part E, 5.4.2.
+const FIRST_FRAGMENT: u8 = 0b00;
+
+const CONTINUATION: u8 = 0b01;
+
+/// Queues the PDUs that go out on one connection, at most 16 of at most 517 octets, and gives them as
+/// ACL packets, of which only a share may be outstanding. (Core 5.0, Vol 2 Part E, 4.1.1)
+#[derive(Drop)]
+pub struct Sender {
+    pdus: Pdus,
+    /// How many octets of the first frame were given.
+    gone: usize,
+    outstanding: u16,
+    share: u16,
+    /// The most octets of a packet's data.
+    acl_len: usize,
+    /// Whether the room is lent.
+    lent: bool,
+}
+
+impl Model for Sender {
+    ghost use Rattle.le_acl.specs.Outgoing.{Outgoing};
+
+    ghost Value = { Outgoing };
+
+    ghost use Rattle.le_acl.specs.Sending.{outgoing_of, IsSending};
+
+    ghost view = { λ s. outgoing_of s.pdus s.gone s.outstanding s.share s.acl_len s.lent };
+
+    ghost invariant = { λ s. IsSending s.pdus s.gone s.acl_len s.lent };
+}
+
+impl Sender {
+    ghost use Rattle.le_acl.specs.SenderLends.{LendsRoom};
+
+    /// A sender that queues nothing yet. Of its packets, with at most `acl_len` octets of data, at
+    /// most `share` may be outstanding.
+    pub fn new(alloc: Global, share: u16, acl_len: u16) -> Result<Sender, AllocError>
+        requires share { 0 < share }
+        requires acl_len_least { 27 ≤ acl_len }
+        requires acl_len_most { acl_len ≤ 251 }
+        ensures { IfOk result (λ sender. sender ≡ none_queued share acl_len) }
+    {
+        Ok(Sender {
+            pdus: Pdus::new(alloc)?,
+            gone: 0,
+            outstanding: 0,
+            share,
+            acl_len: usize::from(acl_len),
+            lent: false,
+        })
+    }
+
+    /// Lends an empty buffer for the payload of the next PDU.
+    pub fn room(&mut self) -> Result<&mut ArrayVec<u8, 517>, Full>
+        ensures* writes_back { sem 𝓛 (LendsRoom self.entry result) }
+        ensures full { IsOk result ↔ (length self.old.queue < 16) }
+        ensures empty { IfOk result (λ room. room.now.items ≡ []) }
+    {
+        if self.backlog() == MAX_PDUS {
+            return Err(Full);
+        }
+        self.lent = true;
+        let room = self.pdus.room();
+        room.clear();
+        Ok(room)
+    }
+
+    /// Queues what was put into the room, as a PDU on a channel.
+    pub fn push(&mut self, cid: u16)
+        requires { IsSome self.old.room }
+        ensures { (payload : List ℕ) → self.old.room ≡ Some payload → self.new ≡ with_pdu self.old cid payload }
+    {
+        self.pdus.push(cid);
+        self.lent = false;
+    }
+
+    /// Writes the first packet not yet given in place of what `out` holds. There is none, and nothing
+    /// changes, where no PDU is queued or as many packets are outstanding as may be.
+    pub fn next(&mut self, handle: u16, out: &mut ArrayVec<u8, 260>) -> bool
+        requires { handle < 2 ^ 12 }
+        ensures gives { result ≡ may_give self.old }
+        ensures given { OnTrue result (Gives self.old.queue handle out.new.items) }
+        ensures after { OnTrue result (self.new ≡ after_next self.old) }
+        ensures unchanged { OnFalse result (self.new ≡ self.old) }
+        ensures out_unchanged { OnFalse result (out.new.items ≡ out.old.items) }
+    {
+        if self.outstanding >= self.share {
+            return false;
+        }
+        let Some((channel, payload)) = self.pdus.front() else {
+            return false;
+        };
+        let length = HEADER + payload.len();
+        write_fragment(handle, channel, payload, self.gone, self.acl_len, out);
+        self.outstanding += 1;
+        self.gone += self.acl_len;
+        if self.gone >= length {
+            self.pdus.pop();
+            self.gone = 0;
+        }
+        true
+    }
+
+    /// Counts packets as completed, at most those that are outstanding.
+    pub fn completed(&mut self, count: u16)
+        ensures { self.new ≡ record self.old { outstanding = self.old.outstanding - count } }
+    {
+        self.outstanding = self.outstanding.saturating_sub(count);
+    }
+
+    /// Drops the PDUs. Packets stay outstanding.
+    pub fn flush(&mut self)
+        ensures { self.new ≡ record self.old { queue = []; room = None } }
+    {
+        self.pdus.clear();
+        self.gone = 0;
+        self.lent = false;
+    }
+
+    /// How many PDUs have a packet not yet given.
+    pub fn backlog(&self) -> usize
+        ensures count { result ≡ length self.now.queue }
+        ensures within { result ≤ 16 }
+    {
+        self.pdus.len()
+    }
+
+    /// Drops the PDUs, counts no packet as outstanding, and takes another share and size.
+    pub fn reset(&mut self, share: u16, acl_len: u16)
+        requires share { 0 < share }
+        requires acl_len_least { 27 ≤ acl_len }
+        requires acl_len_most { acl_len ≤ 251 }
+        ensures { self.new ≡ none_queued share acl_len }
+    {
+        self.flush();
+        self.outstanding = 0;
+        self.share = share;
+        self.acl_len = usize::from(acl_len);
+    }
+}
+
+/// Writes the fragment of a PDU's frame that begins with the octet `gone`.
+fn write_fragment(
+    handle: u16,
+    channel: u16,
+    payload: &[u8],
+    gone: usize,
+    acl_len: usize,
+    out: &mut ArrayVec<u8, 260>,
+)
+    requires handle { handle < 2 ^ 12 }
+    requires payload { length payload.now ≤ 517 }
+    requires gone { 0 < gone → 4 ≤ gone }
+    requires least { 4 ≤ acl_len }
+    requires most { acl_len ≤ 251 }
+    ensures { out.new.items ≡ acl_octets handle (flag_at gone) (take acl_len (drop gone (frame_of (channel, payload.now)))) }
+{
+    if gone == 0 {
+        let first = first_fragment(channel, payload, acl_len);
+        write_acl(handle, FIRST_FRAGMENT, first.as_slice(), out);
+    } else {
+        let fragment = part(payload, gone - HEADER, acl_len);
+        write_acl(handle, CONTINUATION, fragment, out);
+    }
+}
+
+/// The header of a PDU's frame, and as much of its payload as fits behind it.
+fn first_fragment(channel: u16, payload: &[u8], acl_len: usize) -> ArrayVec<u8, 251>
+    requires payload { length payload.now ≤ 517 }
+    requires least { 4 ≤ acl_len }
+    requires most { acl_len ≤ 251 }
+    ensures { result.items ≡ two_octets (length payload.now) ++ two_octets channel ++ take (acl_len - 4) payload.now }
+{
+    let [size_low, size_high] = (payload.len() as u16).to_le_bytes();
+    let [low, high] = channel.to_le_bytes();
+    let mut first = ArrayVec::new();
+    let _ = first.try_extend_from_slice(&[size_low, size_high, low, high]);
+    let _ = first.try_extend_from_slice(&payload[..payload.len().min(acl_len - HEADER)]);
+    first
+}
+
+/// As many octets from `start` on as there are, and at most `count`.
+fn part(octets: &[u8], start: usize, count: usize) -> &[u8]
+    ensures { result.now ≡ take count (drop start octets.now) }
+{
+    let rest = &octets[start.min(octets.len())..];
+    &rest[..count.min(rest.len())]
+}
+
+#[cfg(test)]
+mod tests;
