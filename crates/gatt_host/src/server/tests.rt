@@ -72,7 +72,7 @@ fn exchange(
 
 #[test]
 fn exchanges_of_the_mtu(rt: HostRuntime) -> Result<(), Fail> {
-    let mut table = Table::new(rt.alloc());
+    let mut table = Table::read(rt.alloc(), DOOR).expect(&rt, "the door");
     let mut conn = Conn::new(rt.alloc())?;
     assert_eq!(rt; conn.mtu(), 23);
     let of_247: [(&[u8], &[u8], u16); 3] = [
