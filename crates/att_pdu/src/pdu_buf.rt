@@ -1,4 +1,4 @@
-ghost use Rattle.std.specs.Prelude.{◌≡◌, ◌+◌, ◌≤◌, ◌↔◌, [], ◌++◌, length, IsTrue};
+ghost use Rattle.std.specs.Prelude.{◌≡◌, ◌+◌, ◌-◌, ◌≤◌, ◌↔◌, [], ◌++◌, length, IsTrue, take};
 ghost use Rattle.std.specs.Bool.{OnTrue, OnFalse};
 ghost use Rattle.arrayvec.specs.ArrayVec.{array_vec_len};
 
@@ -60,6 +60,16 @@ impl<'a> PduBuf<'a> {
         }
         self.append(octets);
         true
+    }
+
+    /// Appends as much of a value, from its front, as fits: a value that is read is cut to the
+    /// ATT_MTU (Core 5.0, Vol 3 Part F, 3.4.4.4).
+    pub fn front(&mut self, octets: &[u8])
+        ensures appended { contents self.new ≡ contents self.old ++ take (mtu_of self.old - length (contents self.old)) octets.now }
+        ensures same_buffer { IsSameBuffer self.old self.new }
+    {
+        let room = usize::from(self.mtu) - self.octets.len();
+        self.append(&octets[..octets.len().min(room)]);
     }
 
     /// Appends a handle and octets, an attribute's type or its value, or answers `false` with
