@@ -3,6 +3,7 @@ pub mod Digits
 pub mod Faults
 pub mod Groups
 pub mod InPlace
+pub mod OfType
 pub mod Parsed
 pub mod Pushes
 pub mod Rows

@@ -75,6 +75,7 @@ pub kept-patched : (attributes : List Attr) (cells : List Cell) (keep : Bool) (h
     → IsKept attributes cells → offset ≤ length (cell_at cells handle).octets → offset + length part ≤ (cell_at cells handle).room
     → IsKept attributes (with_part cells keep handle offset part)
 kept-patched attributes cells keep handle offset part kept in_value fits = record {
+  numbered = kept.numbered;
   rooms = kept.rooms ∙ sym (map-set_same (λ (cell : Cell). cell.room) cells (handle - 1) (patched_cell keep (cell_at cells handle) offset part) no_cell refl);
   within = All-set (λ (cell : Cell). length cell.octets ≤ cell.room) cells (handle - 1) (patched_cell keep (cell_at cells handle) offset part)
       (length-patched keep (cell_at cells handle).octets offset part (cell_at cells handle).room in_value fits (cell-within attributes cells handle kept)) kept.within;

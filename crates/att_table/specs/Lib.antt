@@ -8,9 +8,11 @@ pub mod FlatStore
 pub mod Group
 pub mod Keys
 pub mod Kind
+pub mod KindIndex
 pub mod Limits
 pub mod Memory
 pub mod Needs
+pub mod OfType
 pub mod Placed
 pub mod PlainStore
 pub mod Service

@@ -1,10 +1,11 @@
 -- The attribute table: the attributes by their handles, and their values, which are all that changes.
 -- Core 5.0, Vol 3 Part F, 3.2
-use Rattle.std.specs.Prelude.{◌≡◌, ◌≤◌, All, ℕ, ◌-◌, ◌==◌, Bool, false, if◌then◌else◌, List, [], length, take, drop, map, slice_set, slice_index_or, slice_get, Option, None}
+use Rattle.std.specs.Prelude.{◌≡◌, ◌≤◌, All, ℕ, ◌+◌, ◌-◌, ◌==◌, Bool, false, if◌then◌else◌, List, [], ◌∷◌, length, take, drop, map, slice_set, slice_index_or, slice_get, Option, None}
 use Rattle.std.specs.Option.{option_map_or}
 use Rattle.att_table.specs.declared.attr.Attr.{Attr}
 use Rattle.att_table.specs.Cell.{Cell}
 use Rattle.att_table.specs.Group.{group_ends_of}
+use Rattle.att_table.specs.KindIndex.{by_kind}
 
 -- the attributes in the order of their handles, and the value of each
 pub record Contents : Type 0 where
@@ -37,16 +38,36 @@ room_at table handle =
     if is_fixed_at table.attributes handle then length (value_at table.values handle)
     else option_map_or (λ (attr : Attr). attr.largest) (attribute_at table.attributes handle) 0
 
+-- the type at a handle
+abbrev pub kind_at : List Attr → ℕ → ℕ
+kind_at attributes handle = option_map_or (λ (attr : Attr). attr.kind) (attribute_at attributes handle) 0
+
+-- all handles, by the types of their attributes, and those of one type ascending
+abbrev pub handles_by_kind : List Attr → List ℕ
+handles_by_kind attributes = by_kind (kind_at attributes) (map (λ (attr : Attr). attr.handle) attributes)
+
 -- the values that cells hold
 abbrev pub values_of : List Cell → List (List ℕ)
 values_of cells = map (λ (cell : Cell). cell.octets) cells
 
+-- the handles count from the first one without gaps
+abbrev pub HaveHandlesFrom : ℕ → List Attr → Type 0
+HaveHandlesFrom first [] = Unit
+HaveHandlesFrom first (attr ∷ rest) = (attr.handle ≡ first) × HaveHandlesFrom (first + 1) rest
+
+-- the handles count from 1, of at most 1,024 attributes
+pub record IsNumbered (attributes : List Attr) : Type 0 where
+  pub handles : HaveHandlesFrom 1 attributes
+  pub most : length attributes ≤ 1024
+
 -- each value has the room of its attribute's largest length, and keeps within it
 pub record IsKept (attributes : List Attr) (cells : List Cell) : Type 0 where
+  pub numbered : IsNumbered attributes
   pub rooms : map (λ (attr : Attr). attr.largest) attributes ≡ map (λ (cell : Cell). cell.room) cells
   pub within : All (λ (cell : Cell). length cell.octets ≤ cell.room) cells
 
--- and the ends of the groups are those of the attributes
-pub record IsWhole (attributes : List Attr) (cells : List Cell) (group_ends : List ℕ) : Type 0 where
+-- and the ends of the groups, and the handles by type, are those of the attributes
+pub record IsWhole (attributes : List Attr) (cells : List Cell) (group_ends by_type : List ℕ) : Type 0 where
   pub kept : IsKept attributes cells
   pub ends : group_ends ≡ group_ends_of attributes
+  pub types : by_type ≡ handles_by_kind attributes

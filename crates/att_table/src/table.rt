@@ -3,10 +3,13 @@ ghost use Rattle.std.specs.Option.{option_copied};
 ghost use Rattle.att_table.specs.declared.attr.Attr.{Attr};
 ghost use Rattle.att_table.specs.Cell.{patched};
 ghost use Rattle.att_table.specs.Group.{group_ends_of, group_end_at};
-ghost use Rattle.att_table.specs.Table.{Contents, attribute_at, attributes_in, value_at, is_fixed_at, room_at, with_value, values_of, IsKept, IsWhole};
+ghost use Rattle.att_table.specs.OfType.{handles_of_type};
+ghost use Rattle.att_table.specs.Table.{Contents, attribute_at, attributes_in, value_at, is_fixed_at, room_at, with_value, values_of, handles_by_kind, IsKept, IsWhole};
 
 use crate::attr::Attr;
 use crate::flat_store::FlatStore;
+use crate::kind_index;
+use crate::kind_index::Steps;
 use std::marker::Model;
 
 /// The attributes that a server has, by handles from 1 without gaps, and their values.
@@ -15,6 +18,7 @@ pub struct Table {
     attributes: Vec<Attr>,
     values: FlatStore,
     group_ends: Vec<u16>,
+    by_type: Vec<u16>,
 }
 
 impl Model for Table {
@@ -22,14 +26,21 @@ impl Model for Table {
 
     ghost view = { λ table. record { attributes = table.attributes.items; values = values_of table.values } };
 
-    ghost invariant = { λ table. IsWhole table.attributes.items table.values table.group_ends.items };
+    ghost invariant = { λ table. IsWhole table.attributes.items table.values table.group_ends.items table.by_type.items };
 }
 
 impl Table {
-    /// A table of these attributes, with their values and the ends of their groups.
-    pub fn from_parts(attributes: Vec<Attr>, values: FlatStore, group_ends: Vec<u16>) -> Self
+    /// A table of these attributes, with their values, the ends of their groups, and their handles
+    /// by type.
+    pub fn from_parts(
+        attributes: Vec<Attr>,
+        values: FlatStore,
+        group_ends: Vec<u16>,
+        by_type: Vec<u16>,
+    ) -> Self
         requires kept { IsKept attributes.items values }
         requires ends { group_ends.items ≡ group_ends_of attributes.items }
+        requires types { by_type.items ≡ handles_by_kind attributes.items }
         ensures attributes { result.attributes ≡ attributes.items }
         ensures values { result.values ≡ values_of values }
     {
@@ -37,6 +48,7 @@ impl Table {
             attributes,
             values,
             group_ends,
+            by_type,
         }
     }
 
@@ -81,6 +93,15 @@ impl Table {
         ensures { result ≡ group_end_at self.now.attributes handle }
     {
         self.group_ends[usize::from(handle) - 1]
+    }
+
+    /// The handles of the attributes of a type, from `first` to `last`, ascending. It takes at most
+    /// 22 comparisons, which are counted in `steps`.
+    pub fn of_type<S: Steps>(&self, kind: u128, first: u16, last: u16, steps: &mut S) -> &[u16]
+        ensures handles { result.now ≡ handles_of_type self.now.attributes kind first last }
+        ensures steps { S.count steps.new ≤ S.count steps.old + 22 }
+    {
+        kind_index::of_type(&self.by_type, &self.attributes, kind, first, last, steps)
     }
 
     /// How many octets the value of the attribute at a handle may have: a fixed value keeps its

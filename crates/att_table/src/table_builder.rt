@@ -1,12 +1,12 @@
 //! A table that grows by one attribute at a time, until it is whole.
 
-ghost use Rattle.std.specs.Prelude.{◌≡◌, ◌+◌, ◌≤◌, ◌∷◌, ◌++◌, [], length, IfOk, IsSome, OnOk, OnErr};
+ghost use Rattle.std.specs.Prelude.{◌≡◌, ◌+◌, ◌<◌, ◌≤◌, ◌∷◌, ◌++◌, [], length, IfOk, IsSome, OnOk, OnErr};
 ghost use Rattle.att_table.specs.Table.{Contents, attribute_at, value_at, values_of, IsKept};
 
 use crate::attr::Attr;
 use crate::flat_store::FlatStore;
-use crate::group;
 use crate::table::Table;
+use crate::{group, kind_index};
 use std::alloc::{AllocError, Global};
 use std::marker::Model;
 
@@ -37,9 +37,10 @@ impl TableBuilder {
         }
     }
 
-    /// Adds an attribute at the next handle, with its value. Where memory is refused, the builder
-    /// stays as it was.
+    /// Adds an attribute at the next handle, with its value, up to 1,024 of them. Where memory is
+    /// refused, the builder stays as it was.
     pub fn push(&mut self, attr: Attr, value: &[u8]) -> Result<(), AllocError>
+        requires room { length self.old.attributes < 1024 }
         requires handle { attr.handle ≡ length self.old.attributes + 1 }
         requires fits { length value.now ≤ attr.largest }
         requires largest { attr.largest ≤ 512 }
@@ -75,11 +76,12 @@ impl TableBuilder {
         self.values.value_at(handle)
     }
 
-    /// The table of these attributes, with the ends of their groups.
+    /// The table of these attributes, with the ends of their groups and their handles by type.
     pub fn finish(self, alloc: Global) -> Result<Table, AllocError>
         ensures { IfOk result (λ table. table ≡ self) }
     {
         let group_ends = group::group_ends(alloc, &self.attributes)?;
-        Ok(Table::from_parts(self.attributes, self.values, group_ends))
+        let by_type = kind_index::by_type(alloc, &self.attributes)?;
+        Ok(Table::from_parts(self.attributes, self.values, group_ends, by_type))
     }
 }

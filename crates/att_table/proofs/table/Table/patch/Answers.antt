@@ -22,6 +22,7 @@ invariant_of-self c =
     record {
       kept = rw c.patch_at.ensures (kept-patched _ _ _ _ _ _ c.self.invariant.kept in_value (rw c.from.ensures fits));
       ends = c.self.invariant.ends;
+      types = c.self.invariant.types;
     }
 
 pub returns-clause-values : goal.returns-clause-values

@@ -13,6 +13,7 @@ invariant_of-self c =
     record {
       kept = rw c.patch_at.ensures (kept-patched _ _ false c.args.handle 0 c.args.octets.now c.self.invariant.kept (omega arith) (omega arith));
       ends = c.self.invariant.ends;
+      types = c.self.invariant.types;
     }
 
 pub returns-clause-values : goal.returns-clause-values

@@ -1,0 +1,463 @@
+-- How the handles of one type are found among those of all by type.
+use Rattle.std.proofs.Common.{◌≡◌, ℕ, zero, suc, ◌+◌, ◌-◌, ◌/◌, ◌<◌, ◌≤◌, Bool, true, false, ◌==◌, ◌&&◌, not, cond, if◌then◌else◌, List, [], ◌∷◌, ◌++◌, length, map, take, drop, get_or, refl, sym, ap, subst, ◌∙◌, inl, inr, ◌⊎◌, arith, length-append, length-drop}
+use Rattle.std.proofs.Math.Seq.{drop-nil}
+use Rattle.std.proofs.lemmas.Bool.{cases_lt}
+use Rattle.std.proofs.lemmas.List.{length-map, drop_more}
+use Rattle.std.proofs.lemmas.Bool.Decides.{nat_tests}
+use Rattle.std.specs.Prelude.{nat_lt, nat_le, slice_get}
+use Rattle.std.specs.List.{filter, prefix_len, insert}
+use Rattle.std.specs.Option.{option_map_or}
+use Rattle.att_table.specs.declared.attr.Attr.{Attr}
+use Rattle.att_table.specs.KindIndex.{put, by_kind, is_before, place_from, comes_before, AllAfter, IsOrdered, AllAbove, IsIndex}
+use Rattle.att_table.specs.OfType.{handles_of_type}
+use Rattle.att_table.specs.Table.{kind_at, handles_by_kind, HaveHandlesFrom, IsNumbered}
+
+abbrev pub AllFail : (ℕ → Bool) → List ℕ → Type 0
+AllFail test [] = Unit
+AllFail test (x ∷ xs) = (test x ≡ false) × AllFail test xs
+
+-- the order on numbers
+before_later : (kx x ky y k h : ℕ) → is_before kx x k h ≡ false → is_before kx x ky y ≡ true → is_before ky y k h ≡ false
+before_later kx x ky y k h fails passes = grind (arith, nat_tests)
+
+before_more : (kx x ky y kz z : ℕ) → nat_lt kx kz ≡ false → z < y → is_before kx x ky y ≡ true → z < x → is_before kz z ky y ≡ true
+before_more kx x ky y kz z fails above passes first = grind (arith, nat_tests)
+
+before_above : (kx x kz z : ℕ) → nat_lt kx kz ≡ false → z < x → is_before kz z kx x ≡ true
+before_above kx x kz z fails above = grind (arith, nat_tests)
+
+before_kind : (kx x kz z : ℕ) → nat_lt kx kz ≡ true → is_before kx x kz z ≡ true
+before_kind kx x kz z passes = grind (arith, nat_tests)
+
+-- what a handle is put into stays in order
+after_put : (kind : ℕ → ℕ) (x h : ℕ) (ys : List ℕ) → comes_before kind x h ≡ true → AllAfter kind x ys → AllAfter kind x (put kind h ys)
+after_put kind x h [] first after = (first, tt)
+after_put kind x h (y ∷ ys) first after = elim (nat_lt (kind y) (kind h)) as
+    (λ below. AllAfter kind x (if below then y ∷ put kind h ys else h ∷ y ∷ ys)) [
+      | true ↦ (after.0, after_put kind x h ys first after.1)
+      | false ↦ (first, after)
+    ]
+
+after_more : (kind : ℕ → ℕ) (x h last : ℕ) (ys : List ℕ) → nat_lt (kind x) (kind h) ≡ false → h < x → AllAfter kind x ys → AllAbove h last ys → AllAfter kind h ys
+after_more kind x h last [] fails first after above = tt
+after_more kind x h last (y ∷ ys) fails first after above =
+    (before_more (kind x) x (kind y) y (kind h) h fails above.0 after.0 first, after_more kind x h last ys fails first after.1 above.2)
+
+ordered_put : (kind : ℕ → ℕ) (h last : ℕ) (xs : List ℕ) → AllAbove h last xs → IsOrdered kind xs → IsOrdered kind (put kind h xs)
+ordered_put kind h last [] above ordered = (tt, tt)
+ordered_put kind h last (x ∷ xs) above ordered =
+    let goal : (below : Bool) → nat_lt (kind x) (kind h) ≡ below → IsOrdered kind (if below then x ∷ put kind h xs else h ∷ x ∷ xs) =
+    λ below. elim below as (λ b. nat_lt (kind x) (kind h) ≡ b → IsOrdered kind (if b then x ∷ put kind h xs else h ∷ x ∷ xs)) [
+      | true ↦ λ passes. (after_put kind x h xs (before_kind (kind x) x (kind h) h passes) ordered.0, ordered_put kind h last xs above.2 ordered.1)
+      | false ↦ λ fails. ((before_above (kind x) x (kind h) h fails above.0, after_more kind x h last xs fails above.0 ordered.0 above.2), ordered)
+    ] in
+    goal (nat_lt (kind x) (kind h)) refl
+
+above_put : (kind : ℕ → ℕ) (low h last : ℕ) (xs : List ℕ) → low < h → h ≤ last → AllAbove low last xs → AllAbove low last (put kind h xs)
+above_put kind low h last [] first most above = (first, most, tt)
+above_put kind low h last (x ∷ xs) first most above = elim (nat_lt (kind x) (kind h)) as
+    (λ below. AllAbove low last (if below then x ∷ put kind h xs else h ∷ x ∷ xs)) [
+      | true ↦ (above.0, above.1, above_put kind low h last xs first most above.2)
+      | false ↦ (first, most, above)
+    ]
+
+length_put : (kind : ℕ → ℕ) (h : ℕ) (xs : List ℕ) → length (put kind h xs) ≡ suc (length xs)
+length_put kind h [] = refl
+length_put kind h (x ∷ xs) = elim (nat_lt (kind x) (kind h)) as
+    (λ below. length (if below then x ∷ put kind h xs else h ∷ x ∷ xs) ≡ suc (length (x ∷ xs))) [
+      | true ↦ ap suc (length_put kind h xs)
+      | false ↦ refl
+    ]
+
+pub length_by_kind : (kind : ℕ → ℕ) (xs : List ℕ) → length (by_kind kind xs) ≡ length xs
+length_by_kind kind [] = refl
+length_by_kind kind (x ∷ xs) = length_put kind x (by_kind kind xs) ∙ ap suc (length_by_kind kind xs)
+
+-- a handle is put where its type begins
+prefix_cons : (test : ℕ → Bool) (x : ℕ) (xs : List ℕ) → prefix_len test (x ∷ xs) ≡ cond (test x) (suc (prefix_len test xs)) 0
+prefix_cons test x xs =
+    let one : 1 + prefix_len test xs ≡ suc (prefix_len test xs) = omega arith in
+    ap (λ n. cond (test x) n 0) one
+
+before_zero : (kx x kz : ℕ) → is_before kx x kz 0 ≡ nat_lt kx kz
+before_zero kx x kz = grind (arith, nat_tests)
+
+pub put_inserts : (kind : ℕ → ℕ) (h : ℕ) (xs : List ℕ) → insert xs (place_from kind xs (kind h) 0) h ≡ put kind h xs
+put_inserts kind h [] = refl
+put_inserts kind h (x ∷ xs) =
+    let count = place_from kind xs (kind h) 0 in
+    ap (λ n. insert (x ∷ xs) n h)
+    (prefix_cons (λ handle. is_before (kind handle) handle (kind h) 0) x xs ∙ ap (λ b. cond b (suc count) 0) (before_zero (kind x) x (kind h)))
+    ∙ elim (nat_lt (kind x) (kind h)) as (λ below. insert (x ∷ xs) (cond below (suc count) 0) h ≡ (if below then x ∷ put kind h xs else h ∷ x ∷ xs)) [
+      | true ↦ ap (λ l. x ∷ l) (put_inserts kind h xs)
+      | false ↦ refl
+    ]
+
+-- those of one type stay as they were
+filter_put : (kind : ℕ → ℕ) (k h : ℕ) (test : ℕ → Bool) (xs : List ℕ) → ((x : ℕ) → test x ≡ true → kind x ≡ k)
+    → filter test (put kind h xs) ≡ filter test (h ∷ xs)
+filter_put kind k h test [] of_kind = refl
+filter_put kind k h test (x ∷ xs) of_kind =
+    grind (arith, nat_tests, filter_put kind k h test xs of_kind, of_kind x, of_kind h)
+
+filter_by_kind : (kind : ℕ → ℕ) (k : ℕ) (test : ℕ → Bool) (xs : List ℕ) → ((x : ℕ) → test x ≡ true → kind x ≡ k)
+    → filter test (by_kind kind xs) ≡ filter test xs
+filter_by_kind kind k test [] of_kind = refl
+filter_by_kind kind k test (x ∷ xs) of_kind =
+    filter_put kind k x test (by_kind kind xs) of_kind
+    ∙ ap (λ l. cond (test x) (x ∷ l) l) (filter_by_kind kind k test xs of_kind)
+
+-- where a search by halves may look
+later_fail : (kind : ℕ → ℕ) (x k h : ℕ) (xs : List ℕ) → is_before (kind x) x k h ≡ false → AllAfter kind x xs
+    → AllFail (λ y. is_before (kind y) y k h) xs
+later_fail kind x k h [] fails after = tt
+later_fail kind x k h (y ∷ ys) fails after = (before_later (kind x) x (kind y) y k h fails after.0, later_fail kind x k h ys fails after.1)
+
+abbrev pub IsClosed : (ℕ → Bool) → List ℕ → Type 0
+IsClosed test [] = Unit
+IsClosed test (x ∷ xs) = (test x ≡ false → AllFail test xs) × IsClosed test xs
+
+pub closed : (kind : ℕ → ℕ) (k h : ℕ) (xs : List ℕ) → IsOrdered kind xs → IsClosed (λ y. is_before (kind y) y k h) xs
+closed kind k h [] ordered = tt
+closed kind k h (x ∷ xs) ordered = (λ fails. later_fail kind x k h xs fails ordered.0, closed kind k h xs ordered.1)
+
+fail_at : (test : ℕ → Bool) (xs : List ℕ) (i d : ℕ) → AllFail test xs → i < length xs → test (get_or xs i d) ≡ false
+fail_at test [] i d fail within = absurd (omega arith)
+fail_at test (x ∷ xs) zero d fail within = fail.0
+fail_at test (x ∷ xs) (suc i) d fail within = fail_at test xs i d fail.1 (omega arith)
+
+pub place_below : (test : ℕ → Bool) (xs : List ℕ) (i d : ℕ) → IsClosed test xs → i < length xs → test (get_or xs i d) ≡ true → i < prefix_len test xs
+place_below test [] i d parts within passes = absurd (omega arith)
+place_below test (x ∷ xs) zero d parts within passes = rw passes (omega arith)
+place_below test (x ∷ xs) (suc i) d parts within passes =
+    let goal : (b : Bool) → test x ≡ b → suc i < cond b (1 + prefix_len test xs) 0 =
+    λ b. elim b as (λ b. test x ≡ b → suc i < cond b (1 + prefix_len test xs) 0) [
+      | true ↦ λ here. let rest = place_below test xs i d parts.1 (omega arith) passes in omega (arith, rest)
+      | false ↦ λ fails. let never = fail_at test xs i d (parts.0 fails) (omega arith) in absurd (cc)
+    ] in
+    goal (test x) refl
+
+pub place_at : (test : ℕ → Bool) (xs : List ℕ) (i d : ℕ) → i < length xs → test (get_or xs i d) ≡ false → prefix_len test xs ≤ i
+place_at test [] i d within fails = absurd (omega arith)
+place_at test (x ∷ xs) zero d within fails = rw fails (omega arith)
+place_at test (x ∷ xs) (suc i) d within fails =
+    let rest = place_at test xs i d (omega arith) fails in
+    elim (test x) as (λ b. cond b (1 + prefix_len test xs) 0 ≤ suc i) [
+      | true ↦ omega (arith, rest)
+      | false ↦ omega arith
+    ]
+
+pub place_within : (test : ℕ → Bool) (xs : List ℕ) → prefix_len test xs ≤ length xs
+place_within test [] = omega arith
+place_within test (x ∷ xs) =
+    let rest = place_within test xs in
+    elim (test x) as (λ b. cond b (1 + prefix_len test xs) 0 ≤ length (x ∷ xs)) [
+      | true ↦ omega (arith, rest)
+      | false ↦ omega arith
+    ]
+
+-- what stands between two places
+abbrev pub is_between : (ℕ → Bool) → (ℕ → Bool) → ℕ → Bool
+is_between from to x = not (from x) && to x
+
+filter_none : (from to : ℕ → Bool) (xs : List ℕ) → AllFail to xs → filter (is_between from to) xs ≡ []
+filter_none from to [] fail = refl
+filter_none from to (x ∷ xs) fail = grind (arith, nat_tests, fail.0, filter_none from to xs fail.1)
+
+none_before : (from : ℕ → Bool) (xs : List ℕ) → AllFail from xs → prefix_len from xs ≡ 0
+none_before from [] fail = refl
+none_before from (x ∷ xs) fail = rw fail.0 refl
+
+pub between : (from to : ℕ → Bool) (xs : List ℕ) → IsClosed from xs → IsClosed to xs
+    → drop (prefix_len from xs) (take (prefix_len to xs) xs) ≡ filter (is_between from to) xs
+between from to [] from_parts to_parts = refl
+between from to (x ∷ xs) from_parts to_parts =
+    let rest : drop (prefix_len from xs) (take (prefix_len to xs) xs) ≡ filter (is_between from to) xs = between from to xs from_parts.1 to_parts.1 in
+    let goal : (a b : Bool) → from x ≡ a → to x ≡ b
+    → drop (cond a (suc (prefix_len from xs)) 0) (take (cond b (suc (prefix_len to xs)) 0) (x ∷ xs))
+    ≡ cond (not a && b) (x ∷ filter (is_between from to) xs) (filter (is_between from to) xs) =
+    λ a b. elim a as (λ a. from x ≡ a → to x ≡ b
+    → drop (cond a (suc (prefix_len from xs)) 0) (take (cond b (suc (prefix_len to xs)) 0) (x ∷ xs))
+    ≡ cond (not a && b) (x ∷ filter (is_between from to) xs) (filter (is_between from to) xs)) [
+      | true ↦ elim b as (λ b. from x ≡ true → to x ≡ b
+          → drop (suc (prefix_len from xs)) (take (cond b (suc (prefix_len to xs)) 0) (x ∷ xs)) ≡ filter (is_between from to) xs) [
+            | true ↦ λ passed kept. rest
+            | false ↦ λ passed out. sym (filter_none from to xs (to_parts.0 out))
+          ]
+      | false ↦ elim b as (λ b. from x ≡ false → to x ≡ b
+          → take (cond b (suc (prefix_len to xs)) 0) (x ∷ xs) ≡ cond b (x ∷ filter (is_between from to) xs) (filter (is_between from to) xs)) [
+            | true ↦ λ begun kept. ap (λ l. x ∷ l) (ap (λ n. drop n (take (prefix_len to xs) xs)) (sym (none_before from xs (from_parts.0 begun))) ∙ rest)
+            | false ↦ λ begun out. sym (filter_none from to xs (to_parts.0 out))
+          ]
+    ] in
+    ap (λ n. drop n (take (prefix_len to (x ∷ xs)) (x ∷ xs))) (prefix_cons from x xs)
+    ∙ ap (λ n. drop (cond (from x) (suc (prefix_len from xs)) 0) (take n (x ∷ xs))) (prefix_cons to x xs)
+    ∙ goal (from x) (to x) refl refl
+
+-- the handles of a type in a range
+abbrev pub is_of : (ℕ → ℕ) → ℕ → ℕ → ℕ → ℕ → Bool
+is_of kind k first last x = (kind x == k) && (nat_le first x && nat_le x last)
+
+is_of_between : (kx k first last x : ℕ) → not (is_before kx x k first) && is_before kx x k (last + 1) ≡ (kx == k) && (nat_le first x && nat_le x last)
+is_of_between kx k first last x = grind (arith, nat_tests)
+
+filter_same : (p q : ℕ → Bool) (xs : List ℕ) → ((x : ℕ) → p x ≡ q x) → filter p xs ≡ filter q xs
+filter_same p q [] same = refl
+filter_same p q (x ∷ xs) same = rw (same x) (ap (λ l. cond (q x) (x ∷ l) l) (filter_same p q xs same))
+
+is_of_kind : (kx k first last x : ℕ) → (kx == k) && (nat_le first x && nat_le x last) ≡ true → kx ≡ k
+is_of_kind kx k first last x passes = grind (arith, nat_tests)
+
+abbrev pub AllKinds : (ℕ → ℕ) → List Attr → Type 0
+AllKinds kind [] = Unit
+AllKinds kind (attr ∷ rest) = (kind attr.handle ≡ attr.kind) × AllKinds kind rest
+
+abbrev pub handles_of : List Attr → List ℕ
+handles_of attributes = map (λ (attr : Attr). attr.handle) attributes
+
+abbrev pub of_kind : ℕ → List Attr → List ℕ
+of_kind k attributes = handles_of (filter (λ (attr : Attr). attr.kind == k) attributes)
+
+test_out : (kx k first last x : ℕ) → (x < first) ⊎ (last < x) → (kx == k) && (nat_le first x && nat_le x last) ≡ false
+test_out kx k first last x (inl below) = grind (arith, nat_tests)
+test_out kx k first last x (inr above) = grind (arith, nat_tests)
+
+test_in : (kx k first last x : ℕ) → first ≤ x → x ≤ last → (kx == k) && (nat_le first x && nat_le x last) ≡ (kx == k)
+test_in kx k first last x low high = grind (arith, nat_tests)
+
+take-nothing : (n : ℕ) → take {A = Attr} n [] ≡ []
+take-nothing zero = refl
+take-nothing (suc n) = refl
+
+range : (kind : ℕ → ℕ) (attributes : List Attr) (h k first last : ℕ) → HaveHandlesFrom (h + 1) attributes → AllKinds kind attributes
+    → filter (is_of kind k first last) (handles_of attributes) ≡ of_kind k (drop (first - 1 - h) (take (last - h) attributes))
+range kind [] h k first last handles kinds =
+    ap (of_kind k) (sym (ap (drop (first - 1 - h)) (take-nothing (last - h)) ∙ drop-nil (first - 1 - h)))
+range kind (attr ∷ rest) h k first last handles kinds =
+    let later = range kind rest (h + 1) k first last handles.1 kinds.1 in
+    elim (cases_lt h last) [
+      | inr past ↦
+          let none : last - h ≡ 0 = omega arith in
+          let none_later : last - (h + 1) ≡ 0 = omega arith in
+          let out = test_out (kind attr.handle) k first last attr.handle (inr (omega (arith, handles.0))) in
+          rw (out, none) (later ∙ rw none_later (ap (of_kind k) (drop-nil (first - 1 - (h + 1)) ∙ sym (drop-nil (first - 1 - h)))))
+      | inl within ↦
+          let left : last - h ≡ suc (last - (h + 1)) = omega arith in
+          elim (cases_lt (h + 1) first) [
+            | inl before ↦
+                let skip : first - 1 - h ≡ suc (first - 1 - (h + 1)) = omega arith in
+                let out = test_out (kind attr.handle) k first last attr.handle (inl (omega (arith, handles.0))) in
+                rw (out, left, skip) later
+            | inr begun ↦
+                let no_skip : first - 1 - h ≡ 0 = omega arith in
+                let none_later : first - 1 - (h + 1) ≡ 0 = omega arith in
+                let in_range = test_in (kind attr.handle) k first last attr.handle (omega (arith, handles.0)) (omega (arith, handles.0)) in
+                let tail : filter (is_of kind k first last) (handles_of rest) ≡ of_kind k (take (last - (h + 1)) rest) = later ∙ ap (λ n. of_kind k (drop n (take (last - (h + 1)) rest))) none_later in
+                rw (in_range, kinds.0, left, no_skip, tail)
+                (elim (attr.kind == k) as (λ b. cond b (attr.handle ∷ of_kind k (take (last - (h + 1)) rest)) (of_kind k (take (last - (h + 1)) rest))
+                ≡ handles_of (cond b (attr ∷ filter (λ (a : Attr). a.kind == k) (take (last - (h + 1)) rest)) (filter (λ (a : Attr). a.kind == k) (take (last - (h + 1)) rest)))) [
+                  | true ↦ refl
+                  | false ↦ refl
+                ])
+          ]
+    ]
+
+-- each handle has the type of its attribute
+all_kinds : (kind : ℕ → ℕ) (attributes : List Attr) (h : ℕ) → HaveHandlesFrom (h + 1) attributes
+    → ((i : ℕ) → kind (h + 1 + i) ≡ option_map_or (λ (attr : Attr). attr.kind) (slice_get attributes i) 0) → AllKinds kind attributes
+all_kinds kind [] h handles read = tt
+all_kinds kind (attr ∷ rest) h handles read =
+    let at : attr.handle ≡ h + 1 + 0 = omega (arith, handles.0) in
+    let step : (i : ℕ) → h + 1 + 1 + i ≡ h + 1 + suc i = λ i. omega arith in
+    (ap kind at ∙ read 0, all_kinds kind rest (h + 1) handles.1 (λ i. ap kind (step i) ∙ read (suc i)))
+
+kind_read : (attributes : List Attr) (i : ℕ) → kind_at attributes (0 + 1 + i) ≡ option_map_or (λ (attr : Attr). attr.kind) (slice_get attributes i) 0
+kind_read attributes i =
+    let place : 0 + 1 + i - 1 ≡ i = omega arith in
+    let test : (0 + 1 + i == 0) ≡ false = grind (arith, nat_tests) in
+    rw (test, place) refl
+
+-- the index is one of these attributes
+above_less : (low more last : ℕ) (xs : List ℕ) → low ≤ more → AllAbove more last xs → AllAbove low last xs
+above_less low more last [] le above = tt
+above_less low more last (x ∷ xs) le above = (omega (arith, above.0), above.1, above_less low more last xs le above.2)
+
+ordered_from : (kind : ℕ → ℕ) (attributes : List Attr) (h last : ℕ) → HaveHandlesFrom (h + 1) attributes → h + length attributes ≤ last
+    → AllAbove h last (by_kind kind (handles_of attributes)) × IsOrdered kind (by_kind kind (handles_of attributes))
+ordered_from kind [] h last handles most = (tt, tt)
+ordered_from kind (attr ∷ rest) h last handles most =
+    let later = ordered_from kind rest (h + 1) last handles.1 (omega arith) in
+    let index = by_kind kind (handles_of rest) in
+    let above : AllAbove attr.handle last index = subst (λ n. AllAbove n last index) (sym handles.0) later.0 in (
+      above_put kind h attr.handle last index (omega (arith, handles.0)) (omega (arith, handles.0)) (above_less h (h + 1) last index (omega arith) later.0),
+      ordered_put kind attr.handle last index above later.1,
+    )
+
+handles_drop : (attributes : List Attr) (h place : ℕ) → HaveHandlesFrom (h + 1) attributes → HaveHandlesFrom (h + place + 1) (drop place attributes)
+handles_drop attributes h zero handles = subst (λ n. HaveHandlesFrom n attributes) (omega arith) handles
+handles_drop [] h (suc place) handles = tt
+handles_drop (attr ∷ rest) h (suc place) handles =
+    subst (λ n. HaveHandlesFrom n (drop place rest)) (omega arith) (handles_drop rest (h + 1) place handles.1)
+
+pub index_from : (attributes : List Attr) (place : ℕ) → IsNumbered attributes → place ≤ length attributes
+    → IsIndex (kind_at attributes) (length attributes) (by_kind (kind_at attributes) (handles_of (drop place attributes)))
+index_from attributes place numbered within =
+    let long = length-drop place attributes in
+    let both = ordered_from (kind_at attributes) (drop place attributes) (0 + place) (length attributes) (handles_drop attributes 0 place numbered.handles) (omega (arith, long)) in
+    record { within = above_less 0 (0 + place) (length attributes) _ (omega arith) both.0; ordered = both.1 }
+
+pub index_of : (attributes : List Attr) → IsNumbered attributes → IsIndex (kind_at attributes) (length attributes) (handles_by_kind attributes)
+index_of attributes numbered = index_from attributes 0 numbered (omega arith)
+
+pub length-handles_by_kind : (attributes : List Attr) → length (handles_by_kind attributes) ≡ length attributes
+length-handles_by_kind attributes = length_by_kind (kind_at attributes) (handles_of attributes) ∙ length-map attributes (λ (attr : Attr). attr.handle)
+
+less_none : (n : ℕ) → n - 0 ≡ n
+less_none n = omega arith
+
+pub found : (attributes : List Attr) (index : List ℕ) (k first last : ℕ) → IsNumbered attributes → index ≡ handles_by_kind attributes
+    → drop (place_from (kind_at attributes) index k first) (take (place_from (kind_at attributes) index k (last + 1)) index) ≡ handles_of_type attributes k first last
+found attributes index k first last numbered is =
+    let kind = kind_at attributes in
+    let all = handles_by_kind attributes in
+    let from : ℕ → Bool = λ x. is_before (kind x) x k first in
+    let to : ℕ → Bool = λ x. is_before (kind x) x k (last + 1) in
+    let ordered : IsOrdered kind all = (index_of attributes numbered).ordered in
+    ap (λ (l : List ℕ). drop (place_from kind l k first) (take (place_from kind l k (last + 1)) l)) is
+    ∙ between from to all (closed kind k first all ordered) (closed kind k (last + 1) all ordered)
+    ∙ filter_same (is_between from to) (is_of kind k first last) all (λ x. is_of_between (kind x) k first last x)
+    ∙ filter_by_kind kind k (is_of kind k first last) (handles_of attributes) (λ x passes. is_of_kind (kind x) k first last x passes)
+    ∙ range kind attributes 0 k first last numbered.handles (all_kinds kind attributes 0 numbered.handles (kind_read attributes))
+    ∙ ap (λ n. of_kind k (drop n (take (last - 0) attributes))) (less_none (first - 1))
+    ∙ ap (λ n. of_kind k (drop (first - 1) (take n attributes))) (less_none last)
+
+-- a search by halves: at most so many entries are left for so many comparisons
+abbrev pub remaining : ℕ → ℕ
+remaining zero = 0
+remaining (suc turns) = remaining turns + remaining turns + 1
+
+-- the place is between the two, and the comparisons that are left are enough
+pub record IsNarrowed (place low high size before now : ℕ) : Type 0 where
+  pub low_side : low ≤ place
+  pub high_side : place ≤ high
+  pub inside : high ≤ size
+  pub turns : ℕ
+  pub enough : high - low ≤ remaining turns
+  pub counted : now + turns ≤ before + 11
+
+pub begin : (place size count : ℕ) → place ≤ size → size ≤ 1024 → IsNarrowed place 0 size size count count
+begin place size count within most = record {
+  low_side = omega arith;
+  high_side = within;
+  inside = omega arith;
+  turns = 11;
+  enough = omega arith;
+  counted = omega arith;
+}
+
+next_low : (place low high size before now spent middle turns : ℕ) → IsNarrowed place low high size before now → high - low ≤ remaining turns → now + turns ≤ before + 11
+    → middle ≡ low + (high - low) / 2 → low < high → spent ≤ now + 1 → middle < place → IsNarrowed place (middle + 1) high size before spent
+next_low place low high size before now spent middle zero narrowed enough counted is left ticked below = absurd (omega arith)
+next_low place low high size before now spent middle (suc turns) narrowed enough counted is left ticked below = record {
+  low_side = omega arith;
+  high_side = narrowed.high_side;
+  inside = narrowed.inside;
+  turns = turns;
+  enough = omega arith;
+  counted = omega arith;
+}
+
+pub narrow_low : (place low high size before now spent middle : ℕ) → IsNarrowed place low high size before now
+    → middle ≡ low + (high - low) / 2 → low < high → spent ≤ now + 1 → middle < place → IsNarrowed place (middle + 1) high size before spent
+narrow_low place low high size before now spent middle narrowed =
+    next_low place low high size before now spent middle narrowed.turns narrowed narrowed.enough narrowed.counted
+
+next_high : (place low high size before now spent middle turns : ℕ) → IsNarrowed place low high size before now → high - low ≤ remaining turns → now + turns ≤ before + 11
+    → middle ≡ low + (high - low) / 2 → low < high → spent ≤ now + 1 → place ≤ middle → IsNarrowed place low middle size before spent
+next_high place low high size before now spent middle zero narrowed enough counted is left ticked above = absurd (omega arith)
+next_high place low high size before now spent middle (suc turns) narrowed enough counted is left ticked above = record {
+  low_side = narrowed.low_side;
+  high_side = above;
+  inside = omega (arith, narrowed.inside);
+  turns = turns;
+  enough = omega arith;
+  counted = omega arith;
+}
+
+pub narrow_high : (place low high size before now spent middle : ℕ) → IsNarrowed place low high size before now
+    → middle ≡ low + (high - low) / 2 → low < high → spent ≤ now + 1 → place ≤ middle → IsNarrowed place low middle size before spent
+narrow_high place low high size before now spent middle narrowed =
+    next_high place low high size before now spent middle narrowed.turns narrowed narrowed.enough narrowed.counted
+
+-- an entry is a handle of the table
+pub above_at : (low last : ℕ) (xs : List ℕ) (i d : ℕ) → AllAbove low last xs → i < length xs → (low < get_or xs i d) × (get_or xs i d ≤ last)
+above_at low last [] i d above within = absurd (omega arith)
+above_at low last (x ∷ xs) zero d above within = (above.0, above.1)
+above_at low last (x ∷ xs) (suc i) d above within = above_at low last xs i d above.2 (omega arith)
+
+pub middle_within : (low high size : ℕ) → low < high → high ≤ size → low + (high - low) / 2 < size
+middle_within low high size left inside = omega arith
+
+pub index_given : (attributes : List Attr) (index : List ℕ) → IsNumbered attributes → index ≡ handles_by_kind attributes
+    → IsIndex (kind_at attributes) (length attributes) index
+index_given attributes index numbered is = subst (λ l. IsIndex (kind_at attributes) (length attributes) l) (sym is) (index_of attributes numbered)
+
+pub length_given : (attributes : List Attr) (index : List ℕ) → IsNumbered attributes → index ≡ handles_by_kind attributes → length index ≤ 1024
+length_given attributes index numbered is = omega (arith, ap length is, length-handles_by_kind attributes, numbered.most)
+
+-- what is shown of the index as it is made, from the back
+pub index_so_far : (attributes : List Attr) (shown items : List ℕ) (place : ℕ) → IsNumbered attributes → place ≤ length attributes
+    → shown ≡ items → items ≡ by_kind (kind_at attributes) (handles_of (drop place attributes))
+    → IsIndex (kind_at attributes) (length attributes) shown
+index_so_far attributes shown items place numbered within is so_far =
+    subst (λ l. IsIndex (kind_at attributes) (length attributes) l) (sym (is ∙ so_far)) (index_from attributes place numbered within)
+
+pub length_so_far : (attributes : List Attr) (shown items : List ℕ) (place : ℕ) → IsNumbered attributes
+    → shown ≡ items → items ≡ by_kind (kind_at attributes) (handles_of (drop place attributes)) → length shown ≤ 1024
+length_so_far attributes shown items place numbered is so_far =
+    let handles = handles_of (drop place attributes) in
+    let made : length shown ≡ length handles = ap length (is ∙ so_far) ∙ length_by_kind (kind_at attributes) handles in
+    let long : length handles ≡ length (drop place attributes) = length-map (drop place attributes) (λ (attr : Attr). attr.handle) in
+    let left = length-drop place attributes in
+    omega (arith, numbered.most)
+
+kinds_at : (kind : ℕ → ℕ) (attributes : List Attr) (i : ℕ) (d : Attr) → AllKinds kind attributes → i < length attributes
+    → kind (get_or attributes i d).handle ≡ (get_or attributes i d).kind
+kinds_at kind [] i d kinds within = absurd (omega arith)
+kinds_at kind (attr ∷ rest) zero d kinds within = kinds.0
+kinds_at kind (attr ∷ rest) (suc i) d kinds within = kinds_at kind rest i d kinds.1 (omega arith)
+
+pub one_more : (attributes : List Attr) (shown items made : List ℕ) (place at : ℕ) (d : Attr) → IsNumbered attributes → 0 < place → place ≤ length attributes
+    → shown ≡ items → items ≡ by_kind (kind_at attributes) (handles_of (drop place attributes))
+    → at ≡ place_from (kind_at attributes) shown (get_or attributes (place - 1) d).kind 0
+    → made ≡ insert items at (get_or attributes (place - 1) d).handle
+    → made ≡ by_kind (kind_at attributes) (handles_of (drop (place - 1) attributes))
+one_more attributes shown items made place at d numbered first within is so_far found_at inserted =
+    let kind = kind_at attributes in
+    let attr = get_or attributes (place - 1) d in
+    let below : place - 1 < length attributes = omega arith in
+    let next : place - 1 + 1 ≡ place = omega arith in
+    let own : kind attr.handle ≡ attr.kind =
+    kinds_at kind attributes (place - 1) d (all_kinds kind attributes 0 numbered.handles (kind_read attributes)) below in
+    let here : at ≡ place_from kind items (kind attr.handle) 0 =
+    found_at ∙ ap (λ (l : List ℕ). place_from kind l attr.kind 0) is ∙ ap (λ k. place_from kind items k 0) (sym own) in
+    let front : drop (place - 1) attributes ≡ attr ∷ drop place attributes =
+    drop_more attributes (place - 1) d below ∙ ap (λ n. attr ∷ drop n attributes) next in
+    inserted
+    ∙ ap (λ n. insert items n attr.handle) here
+    ∙ put_inserts kind attr.handle items
+    ∙ ap (put kind attr.handle) so_far
+    ∙ ap (λ l. by_kind kind (handles_of l)) (sym front)
+
+-- one more attribute, at the next handle
+handles_push : (attributes : List Attr) (attr : Attr) (first : ℕ) → HaveHandlesFrom first attributes → attr.handle ≡ length attributes + first
+    → HaveHandlesFrom first (attributes ++ attr ∷ [])
+handles_push [] attr first handles next = (omega (arith, next), tt)
+handles_push (head ∷ rest) attr first handles next =
+    (handles.0, handles_push rest attr (first + 1) handles.1 (omega (arith, next)))
+
+pub numbered_pushed : (attributes : List Attr) (attr : Attr) → IsNumbered attributes → length attributes < 1024 → attr.handle ≡ length attributes + 1
+    → IsNumbered (attributes ++ attr ∷ [])
+numbered_pushed attributes attr numbered room next =
+    let long = length-append attributes (attr ∷ []) in
+    record { handles = handles_push attributes attr 1 numbered.handles next; most = omega (arith, long) }
