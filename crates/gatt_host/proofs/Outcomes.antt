@@ -4,7 +4,8 @@ use Rattle.att_policy.specs.declared.policy.Access.TheVariants.{Write}
 use Rattle.att_policy.specs.declared.policy.Rule.{Rule}
 use Rattle.att_policy.specs.Policy.{first_broken_of}
 use Rattle.att_table.specs.Table.{Contents, room_at}
-use Rattle.gatt_host.specs.Answer.{Outcome, guard_at, is_configuration_at, unless_broken, stored, write_outcome}
+use Rattle.att_reads.specs.Access.{guard_at, is_configuration_at}
+use Rattle.gatt_host.specs.Answer.{Outcome, unless_broken, stored, write_outcome}
 use Rattle.gatt_host.specs.Connection.{Connection}
 
 either_keeps : (conn : Connection) (test : Bool) (this that : Outcome) → this.conn ≡ conn → that.conn ≡ conn → (if test then this else that).conn ≡ conn

@@ -1,23 +1,19 @@
 -- What one Attribute PDU of one connection leads to.
-use Rattle.std.specs.Prelude.{ℕ, ◌-◌, Bool, true, false, nat_lt, if◌then◌else◌, List, [], ◌∷◌, length, take, Option, Some, None, Result, Ok, Err}
-use Rattle.std.specs.Option.{option_map, option_map_or}
+use Rattle.std.specs.Prelude.{ℕ, nat_lt, if◌then◌else◌, List, [], ◌∷◌, length, Option, Some, None, Result, Ok, Err}
 use Rattle.att_pdu.specs.declared.grammar.PduFault.{PduFault}
 use Rattle.att_pdu.specs.declared.grammar.PduFault.TheVariants.{Ignored, Invalid, Unsupported}
 use Rattle.att_pdu.specs.PduBuf.{error_response}
 use Rattle.att_pdu.specs.Octets.{two_octets}
 use Rattle.att_pdu.specs.Grammar.{request_of}
 use Rattle.att_pdu.specs.Request.{Asked, ExchangeMtuRequest, FindInformationRequest, FindByTypeValueRequest, ReadByTypeRequest, ReadRequest, ReadBlobRequest, ReadMultipleRequest, ReadByGroupTypeRequest, WriteRequest, PrepareWriteRequest, ExecuteWriteRequest, ConfirmationPdu, WriteCommandPdu}
-use Rattle.att_policy.specs.declared.guard.Guard.{Guard}
-use Rattle.att_policy.specs.declared.policy.Access.TheVariants.{Read, Write}
+use Rattle.att_policy.specs.declared.policy.Access.TheVariants.{Write}
 use Rattle.att_policy.specs.declared.policy.Rule.{Rule}
 use Rattle.att_policy.specs.Policy.{first_broken_of}
-use Rattle.att_table.specs.declared.attr.Attr.{Attr}
-use Rattle.att_table.specs.declared.attr.Role.{Role}
-use Rattle.att_table.specs.declared.attr.Role.TheVariants.{Declaration, Value, Configuration, Descriptor}
-use Rattle.att_table.specs.ConfigRow.{bits_at}
+use Rattle.att_reads.specs.Access.{guard_at, is_configuration_at}
+use Rattle.att_reads.specs.Answer.{read_answer}
 use Rattle.gatt_host.specs.Connection.{Connection, after_exchange}
 use Rattle.att_table.specs.Cell.{patched}
-use Rattle.att_table.specs.Table.{Contents, attribute_at, value_at, is_fixed_at, room_at, with_value}
+use Rattle.att_table.specs.Table.{Contents, value_at, is_fixed_at, room_at, with_value}
 
 -- the answer, if one is due; the values and the connection afterwards; and the handles that were written
 pub record Outcome : Type 0 where
@@ -43,30 +39,9 @@ abbrev pub unless_broken : Contents → Connection → ℕ → ℕ → Option (R
 unless_broken table conn opcode handle (Some broken) permitted = refused table conn opcode handle broken.1
 unless_broken table conn opcode handle None permitted = permitted
 
--- who may use the attribute at a handle
-abbrev pub guard_at : List Attr → ℕ → Option Guard
-guard_at attributes handle = option_map (λ (attr : Attr). attr.guard) (attribute_at attributes handle)
-
-abbrev pub is_configuration : Role → Bool
-is_configuration Declaration = false
-is_configuration Value = false
-is_configuration Configuration = true
-is_configuration Descriptor = false
-
-abbrev pub is_configuration_at : List Attr → ℕ → Bool
-is_configuration_at attributes handle = option_map_or (λ (attr : Attr). is_configuration attr.role) (attribute_at attributes handle) false
-
--- the value that a client reads at a handle: its configurations are its own (Core 5.0, Vol 3 Part G, 3.3.3.3)
-abbrev pub value_for : Contents → List (ℕ × ℕ) → ℕ → List ℕ
-value_for table row handle =
-    if is_configuration_at table.attributes handle then bits_at row handle ∷ 0 ∷ []
-    else value_at table.values handle
-
--- a Read Request: Core 5.0, Vol 3 Part F, 3.4.4.3
-abbrev pub read_outcome : Contents → List (ℕ × ℕ) → Connection → ℕ → Outcome
-read_outcome table row conn handle =
-    unless_broken table conn 0x0A handle (first_broken_of Read (guard_at table.attributes handle) conn.standing)
-    (answered table conn (0x0B ∷ take (conn.mtu - 1) (value_for table row handle)))
+-- a request that reads
+abbrev pub read_outcome : Contents → List (ℕ × ℕ) → Connection → Asked → Outcome
+read_outcome table row conn request = answered table conn (read_answer table row conn.standing conn.mtu request)
 
 -- a value is written whole, or refused where it is longer than there is room for
 abbrev pub stored : Contents → Connection → ℕ → List ℕ → Outcome
@@ -93,13 +68,13 @@ unserved table conn opcode = refused table conn opcode 0 0x06
 -- what a PDU that asks for this, or for nothing, leads to
 abbrev pub outcome : Contents → List (ℕ × ℕ) → Connection → Result Asked PduFault → Outcome
 outcome table row conn (Ok (ExchangeMtuRequest client_rx_mtu)) = exchange_mtu_outcome table conn client_rx_mtu
-outcome table row conn (Ok (FindInformationRequest first last)) = unserved table conn 0x04
-outcome table row conn (Ok (FindByTypeValueRequest first last kind value)) = unserved table conn 0x06
-outcome table row conn (Ok (ReadByTypeRequest first last kind)) = unserved table conn 0x08
-outcome table row conn (Ok (ReadRequest handle)) = read_outcome table row conn handle
-outcome table row conn (Ok (ReadBlobRequest handle offset)) = unserved table conn 0x0C
-outcome table row conn (Ok (ReadMultipleRequest handles)) = unserved table conn 0x0E
-outcome table row conn (Ok (ReadByGroupTypeRequest first last kind)) = unserved table conn 0x10
+outcome table row conn (Ok (FindInformationRequest first last)) = read_outcome table row conn (FindInformationRequest first last)
+outcome table row conn (Ok (FindByTypeValueRequest first last kind value)) = read_outcome table row conn (FindByTypeValueRequest first last kind value)
+outcome table row conn (Ok (ReadByTypeRequest first last kind)) = read_outcome table row conn (ReadByTypeRequest first last kind)
+outcome table row conn (Ok (ReadRequest handle)) = read_outcome table row conn (ReadRequest handle)
+outcome table row conn (Ok (ReadBlobRequest handle offset)) = read_outcome table row conn (ReadBlobRequest handle offset)
+outcome table row conn (Ok (ReadMultipleRequest handles)) = read_outcome table row conn (ReadMultipleRequest handles)
+outcome table row conn (Ok (ReadByGroupTypeRequest first last kind)) = read_outcome table row conn (ReadByGroupTypeRequest first last kind)
 outcome table row conn (Ok (WriteRequest handle value)) = write_outcome table conn handle value
 outcome table row conn (Ok (PrepareWriteRequest handle offset part)) = unserved table conn 0x16
 outcome table row conn (Ok (ExecuteWriteRequest flags)) = unserved table conn 0x18

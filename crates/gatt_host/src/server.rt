@@ -1,13 +1,16 @@
 ghost use Rattle.std.specs.Prelude.{◌≡◌, true, false, [], ◌∷◌, is_some, unwrap_or, ◌↔◌, IsTrue};
 ghost use Rattle.att_pdu.specs.Octets.{two_octets};
 ghost use Rattle.att_pdu.specs.PduBuf.{contents, mtu_of, error_response, IsSameBuffer};
-ghost use Rattle.gatt_host.specs.Answer.{outcome_of, read_outcome, write_outcome};
+ghost use Rattle.att_pdu.specs.Request.{asked};
+ghost use Rattle.att_reads.specs.Answer.{read_answer};
+ghost use Rattle.gatt_host.specs.Answer.{outcome_of, write_outcome};
 ghost use Rattle.gatt_host.specs.Connection.{after_exchange};
 
 use crate::conn::Conn;
 use arrayvec::ArrayVec;
 use att_pdu::{PduBuf, PduFault, Request, opcode, read_request};
 use att_policy::{Access, error_code, first_broken};
+use att_reads::answer_read;
 use att_table::{ConfigRow, Role, Table};
 
 /// What an Attribute PDU led to, beside the answer itself.
@@ -49,13 +52,15 @@ pub fn answer(
 {
     match read_request(pdu, conn.mtu()) {
         Ok(Request::ExchangeMtu { client_rx_mtu }) => exchange_mtu(conn, client_rx_mtu, out),
-        Ok(Request::FindInformation { .. }) => unserved(opcode::FIND_INFORMATION_REQUEST, out),
-        Ok(Request::FindByTypeValue { .. }) => unserved(opcode::FIND_BY_TYPE_VALUE_REQUEST, out),
-        Ok(Request::ReadByType { .. }) => unserved(opcode::READ_BY_TYPE_REQUEST, out),
-        Ok(Request::Read { handle }) => read(table, row, conn, handle, out),
-        Ok(Request::ReadBlob { .. }) => unserved(opcode::READ_BLOB_REQUEST, out),
-        Ok(Request::ReadMultiple { .. }) => unserved(opcode::READ_MULTIPLE_REQUEST, out),
-        Ok(Request::ReadByGroupType { .. }) => unserved(opcode::READ_BY_GROUP_TYPE_REQUEST, out),
+        Ok(
+            request @ (Request::FindInformation { .. }
+            | Request::FindByTypeValue { .. }
+            | Request::ReadByType { .. }
+            | Request::Read { .. }
+            | Request::ReadBlob { .. }
+            | Request::ReadMultiple { .. }
+            | Request::ReadByGroupType { .. }),
+        ) => read(table, row, conn, &request, out),
         Ok(Request::Write { handle, value }) => write(table, conn, handle, value, out),
         Ok(Request::PrepareWrite { .. }) => unserved(opcode::PREPARE_WRITE_REQUEST, out),
         Ok(Request::ExecuteWrite { .. }) => unserved(opcode::EXECUTE_WRITE_REQUEST, out),
@@ -110,29 +115,23 @@ fn exchange_mtu(conn: &mut Conn, client_rx_mtu: u16, out: &mut PduBuf<'_>) -> An
     }
 }
 
-/// Serves a Read Request: Core 5.0, Vol 3 Part F, 3.4.4.3.
-fn read(table: &Table, row: &ConfigRow, conn: &Conn, handle: u16, out: &mut PduBuf<'_>) -> Answered
+/// Serves a request that reads: Core 5.0, Vol 3 Part F, 3.4.3 and 3.4.4.
+fn read(
+    table: &Table,
+    row: &ConfigRow,
+    conn: &Conn,
+    request: &Request<'_>,
+    out: &mut PduBuf<'_>,
+) -> Answered
     requires empty { contents out.old ≡ [] }
     requires mtu { mtu_of out.old ≡ conn.now.mtu }
-    ensures answer { Some (contents out.new) ≡ (read_outcome table.now row.now conn.now handle).answer }
+    ensures answer { contents out.new ≡ read_answer table.now row.now conn.now.standing conn.now.mtu (asked request.now) }
     ensures due { result.due ≡ true }
     ensures confirmed { result.confirmed ≡ false }
     ensures touched { result.touched.items ≡ [] }
     ensures same_buffer { IsSameBuffer out.old out.new }
 {
-    let attr = table.get(handle);
-    let guard = attr.map(|attr| &attr.guard);
-    if let Some((_, code)) = first_broken(Access::Read, guard, conn.standing()) {
-        return refuse(opcode::READ_REQUEST, handle, code, out);
-    }
-    out.value(&[opcode::READ_RESPONSE]);
-    let room = usize::from(conn.mtu()) - 1;
-    let bits = [row.get(handle), 0];
-    let value = match attr {
-        Some(attr) if attr.role == Role::Configuration => bits.as_slice(),
-        _ => table.value(handle),
-    };
-    out.value(&value[..value.len().min(room)]);
+    answer_read(table, row, conn.standing(), request, conn.mtu(), out);
     Answered {
         due: true,
         confirmed: false,

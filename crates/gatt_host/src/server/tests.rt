@@ -24,12 +24,18 @@ const EXCHANGES: [(&[u8], &[u8]); 27] = [
     (b"\x0A\x15\x00", b"\x0B"),
     (b"\x0A\x16\x00", b"\x01\x0A\x16\x00\x01"),
     (b"\x1E", b""),
-    (b"\x04\x01\x00\xFF\xFF", b"\x01\x04\x00\x00\x06"),
-    (b"\x06\x01\x00\xFF\xFF\xF3\xFF\x02", b"\x01\x06\x00\x00\x06"),
-    (b"\x08\x01\x00\xFF\xFF\xF3\xFF", b"\x01\x08\x00\x00\x06"),
-    (b"\x0C\x03\x00\x04\x00", b"\x01\x0C\x00\x00\x06"),
-    (b"\x0E\x03\x00\x06\x00", b"\x01\x0E\x00\x00\x06"),
-    (b"\x10\x01\x00\xFF\xFF\x00\x28", b"\x01\x10\x00\x00\x06"),
+    (
+        b"\x04\x01\x00\xFF\xFF",
+        b"\x05\x01\x01\x00\x00\x28\x02\x00\x03\x28\x03\x00\x00\x2A\x04\x00\x00\x28\x05\x00\x03\x28",
+    ),
+    (b"\x06\x01\x00\xFF\xFF\xF3\xFF\x02", b"\x01\x06\x01\x00\x0A"),
+    (b"\x08\x01\x00\xFF\xFF\xF3\xFF", b"\x09\x03\x0F\x00\x01"),
+    (b"\x0C\x03\x00\x04\x00", b"\x0D"),
+    (b"\x0E\x03\x00\x06\x00", b"\x0F\x4C\x6F\x63\x6B\x64"),
+    (
+        b"\x10\x01\x00\xFF\xFF\x00\x28",
+        b"\x11\x06\x01\x00\x03\x00\x00\x18\x04\x00\x07\x00\x0F\x18\x08\x00\x15\x00\xF0\xFF",
+    ),
     (b"\x16\x15\x00\x00\x00a", b"\x01\x16\x00\x00\x06"),
     (b"\x18\x01", b"\x01\x18\x00\x00\x06"),
 ];
@@ -103,5 +109,33 @@ fn exchanges_of_the_mtu(rt: HostRuntime) -> Result<(), Fail> {
         &mut conn,
         &[(b"\x02\xFF\xFF", b"\x03\x05\x02", 517)],
     );
+    Ok(())
+}
+
+/// A value of 512 octets is written and read whole at the largest ATT_MTU, and its first 253 octets
+/// are read by type.
+#[test]
+fn reads_the_largest_value(rt: HostRuntime) -> Result<(), Fail> {
+    let mut table = Table::read(rt.alloc(), DOOR).expect(&rt, "the door");
+    let mut conn = Conn::new(rt.alloc())?;
+    conn.limit(517);
+    let mut write = [0x61; 515];
+    write[0] = 0x12;
+    write[1] = 0x15;
+    write[2] = 0x00;
+    let mut whole = [0x61; 513];
+    whole[0] = 0x0B;
+    let mut front = [0x61; 257];
+    front[0] = 0x09;
+    front[1] = 0xFF;
+    front[2] = 0x15;
+    front[3] = 0x00;
+    let exchanges: [(&[u8], &[u8], u16); 4] = [
+        (b"\x02\x05\x02", b"\x03\x05\x02", 517),
+        (&write, b"\x13", 517),
+        (b"\x0A\x15\x00", &whole, 517),
+        (b"\x08\x01\x00\xFF\xFF\xF4\xFF", &front, 517),
+    ];
+    exchange(&rt, &mut table, &mut conn, &exchanges);
     Ok(())
 }

@@ -1,0 +1,5 @@
+pub mod Access
+pub mod Answer
+pub mod List
+pub mod Listing
+pub mod Reader

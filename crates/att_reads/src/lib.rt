@@ -1,0 +1,11 @@
+//! The answers to the requests of the Attribute Protocol that read: Core 5.0, Vol 3 Part F, 3.4.3
+//! and 3.4.4.
+#![tactic(auto)]
+
+mod answer;
+mod find;
+mod list;
+mod reader;
+mod value;
+
+pub use answer::answer_read;

@@ -1,0 +1,162 @@
+//! Answers that list the values of one type, all of one length: Core 5.0, Vol 3 Part F, 3.4.4.1,
+//! 3.4.4.2, 3.4.4.9 and 3.4.4.10.
+
+ghost use Rattle.std.specs.Prelude.{◌≡◌, ◌-◌, ◌+◌, ◌≤◌, ◌<◌, ◌∷◌, ◌++◌, ◌↔◌, [], map, length, take, IsTrue, IsSome};
+ghost use Rattle.std.specs.Bool.{OnTrue, OnFalse};
+ghost use Rattle.att_pdu.specs.PduBuf.{contents, mtu_of, IsSameBuffer};
+ghost use Rattle.att_table.specs.Table.{attribute_at};
+ghost use Rattle.att_reads.specs.Answer.{size_itself};
+ghost use Rattle.att_reads.specs.List.{request_of, head_of, cut_of, entry_of, item_of};
+ghost use Rattle.att_reads.specs.Listing.{list_answer, with_listed, HasNext, HasNoNext};
+
+use crate::reader::Reader;
+use att_pdu::{PduBuf, opcode};
+use att_policy::error_code;
+use att_table::Table;
+
+/// What is listed.
+#[derive(Clone, Copy, Debug, PartialEq, Eq)]
+pub enum Listing {
+    /// The attributes of a type, each by its handle and its value.
+    Values,
+    /// The groups of a type, each by its first and its last handle and its value.
+    Groups,
+}
+
+impl Listing {
+    /// The opcode of the request.
+    fn request(self) -> u8
+        ensures { result ≡ request_of self }
+    {
+        match self {
+            Listing::Values => opcode::READ_BY_TYPE_REQUEST,
+            Listing::Groups => opcode::READ_BY_GROUP_TYPE_REQUEST,
+        }
+    }
+
+    /// How many octets stand before each value.
+    fn head(self) -> u16
+        ensures { result ≡ head_of self }
+    {
+        match self {
+            Listing::Values => 2,
+            Listing::Groups => 4,
+        }
+    }
+
+    /// The front of a value that is listed at an ATT_MTU: what fits beside its handles, with a
+    /// length that one octet tells.
+    fn cut<'a>(self, value: &'a [u8], mtu: u16) -> &'a [u8]
+        requires { 23 ≤ mtu }
+        ensures { result.now ≡ take (cut_of self mtu) value.now }
+    {
+        let most = (mtu - 2 - self.head()).min(255 - self.head());
+        &value[..value.len().min(usize::from(most))]
+    }
+
+    /// Appends an attribute with the front of its value, where it fits.
+    fn append(self, table: &Table, handle: u16, front: &[u8], out: &mut PduBuf<'_>) -> bool
+        requires { IsSome (attribute_at table.now.attributes handle) }
+        ensures fits { IsTrue result ↔ (length (contents out.old) + length (entry_of self table.now handle front.now) ≤ mtu_of out.old) }
+        ensures appended { OnTrue result (contents out.new ≡ contents out.old ++ entry_of self table.now handle front.now) }
+        ensures unchanged { OnFalse result (contents out.new ≡ contents out.old) }
+        ensures same_buffer { IsSameBuffer out.old out.new }
+    {
+        match self {
+            Listing::Values => out.pair(handle, front),
+            Listing::Groups => out.group(handle, table.group_end(handle), front),
+        }
+    }
+}
+
+/// Answers with the list of the attributes at these handles, of which all have the type that is
+/// asked for.
+pub fn answer(
+    listing: Listing,
+    reader: Reader<'_>,
+    handles: &[u16],
+    start: u16,
+    mtu: u16,
+    out: &mut PduBuf<'_>,
+)
+    requires empty { contents out.old ≡ [] }
+    requires mtu { mtu_of out.old ≡ mtu }
+    ensures answer { contents out.new ≡ list_answer (request_of listing) size_itself mtu start
+        (map (item_of listing reader.entry.table.now reader.entry.row.now reader.entry.standing.now mtu) handles.now) }
+    ensures same_buffer { IsSameBuffer out.old out.new }
+{
+    let [first, rest @ ..] = handles else {
+        out.error(listing.request(), start, error_code::ATTRIBUTE_NOT_FOUND);
+        return;
+    };
+    match reader.read(*first) {
+        Ok(value) => {
+            let front = listing.cut(value.as_slice(), mtu);
+            begin(listing, reader.table, *first, front, mtu, out);
+            let size = usize::from(listing.head()) + front.len();
+            append_all(listing, reader, rest, size, mtu, out);
+        }
+        Err(code) => out.error(listing.request(), *first, code),
+    }
+}
+
+/// Begins an answer by its opcode, the octets of each attribute, and the first one.
+fn begin(listing: Listing, table: &Table, handle: u16, front: &[u8], mtu: u16, out: &mut PduBuf<'_>)
+    requires empty { contents out.old ≡ [] }
+    requires mtu { mtu_of out.old ≡ mtu }
+    requires exists { IsSome (attribute_at table.now.attributes handle) }
+    requires cut { length front.now ≤ cut_of listing mtu }
+    ensures begun { contents out.new ≡ (request_of listing + 1) ∷ (head_of listing + length front.now) ∷ entry_of listing table.now handle front.now }
+    ensures same_buffer { IsSameBuffer out.old out.new }
+{
+    let size = usize::from(listing.head()) + front.len();
+    out.value(&[listing.request() + 1, size as u8]);
+    listing.append(table, handle, front, out);
+}
+
+/// Appends the attributes at these handles, up to the first that is refused, has another size or
+/// does not fit.
+fn append_all(
+    listing: Listing,
+    reader: Reader<'_>,
+    handles: &[u16],
+    size: usize,
+    mtu: u16,
+    out: &mut PduBuf<'_>,
+)
+    requires mtu { mtu_of out.old ≡ mtu }
+    requires size { 0 < size }
+    ensures appended { contents out.new ≡ with_listed mtu size (contents out.old)
+        (map (item_of listing reader.entry.table.now reader.entry.row.now reader.entry.standing.now mtu) handles.now) }
+    ensures same_buffer { IsSameBuffer out.old out.new }
+{
+    for &handle in handles {
+        if !append_next(listing, reader, handle, size, mtu, out) {
+            return;
+        }
+    }
+}
+
+/// Appends an attribute that is not refused, has this size and fits.
+fn append_next(
+    listing: Listing,
+    reader: Reader<'_>,
+    handle: u16,
+    size: usize,
+    mtu: u16,
+    out: &mut PduBuf<'_>,
+) -> bool
+    requires { mtu_of out.old ≡ mtu }
+    ensures appended { OnTrue result (HasNext mtu size (item_of listing reader.entry.table.now reader.entry.row.now reader.entry.standing.now mtu handle)
+        (contents out.old) (contents out.new)) }
+    ensures unchanged { OnFalse result (HasNoNext mtu size (item_of listing reader.entry.table.now reader.entry.row.now reader.entry.standing.now mtu handle)
+        (contents out.old) (contents out.new)) }
+    ensures same_buffer { IsSameBuffer out.old out.new }
+{
+    let Ok(value) = reader.read(handle) else {
+        return false;
+    };
+    let front = listing.cut(value.as_slice(), mtu);
+    usize::from(listing.head()) + front.len() == size
+        && listing.append(reader.table, handle, front, out)
+}

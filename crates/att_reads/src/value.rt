@@ -1,0 +1,78 @@
+//! The values of attributes that are asked for by their handles: Core 5.0, Vol 3 Part F, 3.4.4.3
+//! to 3.4.4.8.
+
+ghost use Rattle.std.specs.Prelude.{◌≡◌, [], map};
+ghost use Rattle.std.specs.Int.{w16, from_le_bytes};
+ghost use Rattle.att_pdu.specs.PduBuf.{contents, mtu_of, IsSameBuffer};
+ghost use Rattle.att_reads.specs.Answer.{value_answer, part_answer, blob_answer, multiple_answer};
+
+use crate::reader::Reader;
+use att_pdu::{PduBuf, opcode};
+use att_policy::error_code;
+
+/// Answers a Read Request.
+pub fn read(reader: Reader<'_>, handle: u16, out: &mut PduBuf<'_>)
+    requires { contents out.old ≡ [] }
+    ensures answer { contents out.new ≡ value_answer reader.entry.table.now reader.entry.row.now reader.entry.standing.now (mtu_of out.old) handle }
+    ensures same_buffer { IsSameBuffer out.old out.new }
+{
+    match reader.read(handle) {
+        Ok(value) => {
+            out.value(&[opcode::READ_RESPONSE]);
+            out.front(value.as_slice());
+        }
+        Err(code) => out.error(opcode::READ_REQUEST, handle, code),
+    }
+}
+
+/// Answers a Read Blob Request.
+pub fn read_blob(reader: Reader<'_>, handle: u16, offset: u16, out: &mut PduBuf<'_>)
+    requires { contents out.old ≡ [] }
+    ensures answer { contents out.new ≡ blob_answer reader.entry.table.now reader.entry.row.now reader.entry.standing.now (mtu_of out.old) handle offset }
+    ensures same_buffer { IsSameBuffer out.old out.new }
+{
+    match reader.read(handle) {
+        Ok(value) => part(value.as_slice(), handle, offset, out),
+        Err(code) => out.error(opcode::READ_BLOB_REQUEST, handle, code),
+    }
+}
+
+/// Answers with the part of a value from an offset on.
+fn part(value: &[u8], handle: u16, offset: u16, out: &mut PduBuf<'_>)
+    requires { contents out.old ≡ [] }
+    ensures answer { contents out.new ≡ part_answer (mtu_of out.old) handle offset value.now }
+    ensures same_buffer { IsSameBuffer out.old out.new }
+{
+    match value.get(usize::from(offset)..) {
+        Some(part) => {
+            out.value(&[opcode::READ_BLOB_RESPONSE]);
+            out.front(part);
+        }
+        None => out.error(
+            opcode::READ_BLOB_REQUEST,
+            handle,
+            error_code::INVALID_OFFSET,
+        ),
+    }
+}
+
+/// Answers a Read Multiple Request, whose handles have the lower octet first. All of them are
+/// judged, those too whose values do not fit any more.
+pub fn read_multiple(reader: Reader<'_>, handles: &[[u8; 2]], out: &mut PduBuf<'_>)
+    requires { contents out.old ≡ [] }
+    ensures answer { contents out.new ≡ multiple_answer reader.entry.table.now reader.entry.row.now reader.entry.standing.now (mtu_of out.old)
+        (map (from_le_bytes w16) handles.now) }
+    ensures same_buffer { IsSameBuffer out.old out.new }
+{
+    out.value(&[opcode::READ_MULTIPLE_RESPONSE]);
+    for octets in handles {
+        let handle = u16::from_le_bytes(*octets);
+        match reader.read(handle) {
+            Ok(value) => out.front(value.as_slice()),
+            Err(code) => {
+                out.error(opcode::READ_MULTIPLE_REQUEST, handle, code);
+                return;
+            }
+        }
+    }
+}
