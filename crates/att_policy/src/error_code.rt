@@ -27,3 +27,6 @@ pub const INVALID_ATTRIBUTE_VALUE_LENGTH: u8 = 0x0D;
 pub const INSUFFICIENT_ENCRYPTION: u8 = 0x0F;
 
 pub const UNSUPPORTED_GROUP_TYPE: u8 = 0x10;
+
+/// A value that the attribute may not have: Core Specification Supplement, Part B, 1.2.
+pub const OUT_OF_RANGE: u8 = 0xFF;

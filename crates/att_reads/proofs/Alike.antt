@@ -10,11 +10,11 @@ use Rattle.att_pdu.specs.Kind.{number_of}
 use Rattle.att_pdu.specs.Request.{Asked, ExchangeMtuRequest, WriteRequest, PrepareWriteRequest, ExecuteWriteRequest, ConfirmationPdu, WriteCommandPdu, FindInformationRequest, FindByTypeValueRequest, ReadByTypeRequest, ReadRequest, ReadBlobRequest, ReadMultipleRequest, ReadByGroupTypeRequest}
 use Rattle.att_pdu.specs.declared.kind.Kind.TheVariants.{Short}
 use Rattle.att_table.specs.ConfigRow.{bits_at}
-use Rattle.att_table.specs.Table.{Contents, value_at}
+use Rattle.att_table.specs.Table.{Contents, is_configuration_at, value_at}
 use Rattle.att_table.specs.OfType.{handles_of_type}
 use Rattle.att_reads.specs.declared.list.Listing.{Listing}
 use Rattle.att_reads.specs.declared.list.Listing.TheVariants.{Values, Groups}
-use Rattle.att_reads.specs.Access.{refusal_at, is_configuration_at, value_for, IsAlike}
+use Rattle.att_reads.specs.Access.{refusal_at, value_for, IsAlike}
 use Rattle.att_reads.specs.Answer.{unless_refused, part_answer, multiple_from, multiple_answer, is_match, found_answer, in_range, of_services, size_itself, read_answer}
 use Rattle.att_reads.specs.List.{cut_of, entry_of, item_of}
 use Rattle.att_reads.specs.Listing.{Item, is_listed, joined, list_from, list_answer}

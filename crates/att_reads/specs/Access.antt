@@ -1,33 +1,17 @@
 -- What a client may read of an attribute, and what it reads there.
-use Rattle.std.specs.Prelude.{◌≡◌, ℕ, Bool, true, false, if◌then◌else◌, List, [], ◌∷◌, Option, None}
-use Rattle.std.specs.Option.{option_map, option_map_or}
-use Rattle.att_policy.specs.declared.guard.Guard.{Guard}
+use Rattle.std.specs.Prelude.{◌≡◌, ℕ, if◌then◌else◌, List, [], ◌∷◌, Option, None}
+use Rattle.std.specs.Option.{option_map}
 use Rattle.att_policy.specs.declared.policy.Access.TheVariants.{Read}
 use Rattle.att_policy.specs.declared.standing.Standing.{Standing}
 use Rattle.att_policy.specs.Policy.{first_broken_of}
 use Rattle.att_table.specs.declared.attr.Attr.{Attr}
-use Rattle.att_table.specs.declared.attr.Role.{Role}
-use Rattle.att_table.specs.declared.attr.Role.TheVariants.{Declaration, Value, Configuration, Descriptor}
 use Rattle.att_table.specs.ConfigRow.{bits_at}
-use Rattle.att_table.specs.Table.{Contents, attribute_at, value_at}
-
--- who may use the attribute at a handle
-abbrev pub guard_at : List Attr → ℕ → Option Guard
-guard_at attributes handle = option_map (λ (attr : Attr). attr.guard) (attribute_at attributes handle)
+use Rattle.att_table.specs.Table.{Contents, guard_at, is_configuration_at, value_at}
 
 -- the error code of the first rule that reading there breaks, if it breaks one
 abbrev pub refusal_at : List Attr → Standing → ℕ → Option ℕ
 refusal_at attributes standing handle =
     option_map (λ broken. broken.1) (first_broken_of Read (guard_at attributes handle) standing)
-
-abbrev pub is_configuration : Role → Bool
-is_configuration Declaration = false
-is_configuration Value = false
-is_configuration Configuration = true
-is_configuration Descriptor = false
-
-abbrev pub is_configuration_at : List Attr → ℕ → Bool
-is_configuration_at attributes handle = option_map_or (λ (attr : Attr). is_configuration attr.role) (attribute_at attributes handle) false
 
 -- the value that a client reads at a handle: its configurations are its own (Core 5.0, Vol 3 Part G, 3.3.3.3)
 abbrev pub value_for : Contents → List (ℕ × ℕ) → ℕ → List ℕ

@@ -1,3 +1,4 @@
+pub mod Configurations
 pub mod Contents
 pub mod Digits
 pub mod Faults

@@ -4,6 +4,7 @@ use Rattle.std.specs.List.{All, position}
 use Rattle.std.proofs.lemmas.Bool.Decides.{nat_tests}
 use Rattle.std.proofs.lemmas.Grind.{common_steps}
 use Rattle.std.proofs.lemmas.List.Elements.{All-nil, All-cons, All-head, All-tail}
+use Rattle.att_table.proofs.Configurations.{one_entry_each}
 use Rattle.att_table.specs.ConfigRow.{bits_at, with_bits, has_entry, IsEntry}
 
 -- the bits are those of the entry at the place that is found
@@ -65,4 +66,4 @@ All-with_bits (entry ∷ row) handle bits used known all =
     ]
 
 -- what a write leaves
-pub ruleset writes = (bits_at_written, bits_at_other, All-with_bits)
+pub ruleset writes = (bits_at_written, bits_at_other, All-with_bits, one_entry_each)

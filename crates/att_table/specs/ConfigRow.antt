@@ -1,7 +1,9 @@
 -- The client characteristic configurations of one client, as a list of pairs of a handle and its
 -- bits: Core 5.0, Vol 3 Part G, 3.3.3.3.
-use Rattle.std.specs.Prelude.{ℕ, ◌<◌, ◌≤◌, Bool, ◌||◌, ◌==◌, nat_lt, if◌then◌else◌, List, [], ◌∷◌, length}
+use Rattle.std.specs.Prelude.{◌≡◌, ℕ, ◌<◌, ◌≤◌, All, Bool, true, false, ◌||◌, ◌==◌, nat_lt, if◌then◌else◌, List, [], ◌∷◌, length}
 use Rattle.std.specs.List.{list_any}
+use Rattle.att_table.specs.declared.attr.Attr.{Attr}
+use Rattle.att_table.specs.Table.{is_configuration_at}
 
 -- the bits at a handle: 0 where the row has no entry
 abbrev pub bits_at : List (ℕ × ℕ) → ℕ → ℕ
@@ -25,3 +27,17 @@ has_room row handle = has_entry row handle || nat_lt (length row) 64
 -- an entry is of a handle that is in use, and its bits are notify and indicate
 abbrev pub IsEntry : ℕ × ℕ → Type 0
 IsEntry entry = (0 < entry.0) × (entry.1 ≤ 3)
+
+-- no handle has two entries
+abbrev pub HasOneEntryEach : List (ℕ × ℕ) → Type 0
+HasOneEntryEach [] = Unit
+HasOneEntryEach (entry ∷ row) = (has_entry row entry.0 ≡ false) × HasOneEntryEach row
+
+-- each handle of the row is that of a configuration
+abbrev pub IsRowOf : List Attr → List (ℕ × ℕ) → Type 0
+IsRowOf attributes row = All (λ entry. is_configuration_at attributes entry.0 ≡ true) row
+
+-- a row of these attributes has room for the configuration at a handle
+abbrev pub HasRowRoom : List Attr → ℕ → Type 0
+HasRowRoom attributes handle =
+    is_configuration_at attributes handle ≡ true → (row : List (ℕ × ℕ)) → IsRowOf attributes row → HasOneEntryEach row → has_room row handle ≡ true

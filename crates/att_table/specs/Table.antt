@@ -1,11 +1,13 @@
 -- The attribute table: the attributes by their handles, and their values, which are all that changes.
 -- Core 5.0, Vol 3 Part F, 3.2
 use Rattle.std.specs.Prelude.{◌≡◌, ◌≤◌, All, ℕ, ◌+◌, ◌-◌, ◌==◌, Bool, false, if◌then◌else◌, List, [], ◌∷◌, length, take, drop, map, slice_set, slice_index_or, slice_get, Option, None}
-use Rattle.std.specs.Option.{option_map_or}
+use Rattle.std.specs.Option.{option_map, option_map_or}
+use Rattle.att_policy.specs.declared.guard.Guard.{Guard}
 use Rattle.att_table.specs.declared.attr.Attr.{Attr}
 use Rattle.att_table.specs.Cell.{Cell}
 use Rattle.att_table.specs.Group.{group_ends_of}
 use Rattle.att_table.specs.KindIndex.{by_kind}
+use Rattle.att_table.specs.Limits.{is_configuration, configurations_of}
 
 -- the attributes in the order of their handles, and the value of each
 pub record Contents : Type 0 where
@@ -19,6 +21,14 @@ attribute_at attributes handle = if handle == 0 then None else slice_get attribu
 -- the attributes whose handles are from the first to the last one: those up to the last, without those before the first
 abbrev pub attributes_in : List Attr → ℕ → ℕ → List Attr
 attributes_in attributes first last = drop (first - 1) (take last attributes)
+
+-- who may use the attribute at a handle
+abbrev pub guard_at : List Attr → ℕ → Option Guard
+guard_at attributes handle = option_map (λ (attr : Attr). attr.guard) (attribute_at attributes handle)
+
+-- whether the attribute at a handle is a client characteristic configuration
+abbrev pub is_configuration_at : List Attr → ℕ → Bool
+is_configuration_at attributes handle = option_map_or (λ (attr : Attr). is_configuration attr.role) (attribute_at attributes handle) false
 
 -- the value at a handle
 abbrev pub value_at : List (List ℕ) → ℕ → List ℕ
@@ -66,8 +76,9 @@ pub record IsKept (attributes : List Attr) (cells : List Cell) : Type 0 where
   pub rooms : map (λ (attr : Attr). attr.largest) attributes ≡ map (λ (cell : Cell). cell.room) cells
   pub within : All (λ (cell : Cell). length cell.octets ≤ cell.room) cells
 
--- and the ends of the groups, and the handles by type, are those of the attributes
+-- at most 64 of the attributes are configurations, and the ends of the groups, and the handles by type, are those of the attributes
 pub record IsWhole (attributes : List Attr) (cells : List Cell) (group_ends by_type : List ℕ) : Type 0 where
   pub kept : IsKept attributes cells
+  pub few : configurations_of attributes ≤ 64
   pub ends : group_ends ≡ group_ends_of attributes
   pub types : by_type ≡ handles_by_kind attributes

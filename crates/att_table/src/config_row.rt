@@ -1,6 +1,8 @@
-ghost use Rattle.std.specs.Prelude.{◌≡◌, ◌≢◌, ℕ, ◌<◌, ◌≤◌, ◌==◌, [], position, IsTrue};
+ghost use Rattle.std.specs.Prelude.{◌≡◌, ◌≢◌, ℕ, ◌<◌, ◌≤◌, ◌==◌, true, List, [], position, IsTrue};
 ghost use Rattle.std.specs.Bool.{OnTrue, OnFalse};
-ghost use Rattle.att_table.specs.ConfigRow.{bits_at, with_bits, has_entry, has_room};
+ghost use Rattle.att_table.specs.declared.attr.Attr.{Attr};
+ghost use Rattle.att_table.specs.ConfigRow.{bits_at, with_bits, has_entry, has_room, HasOneEntryEach, IsRowOf};
+ghost use Rattle.att_table.specs.Table.{is_configuration_at};
 
 use arrayvec::ArrayVec;
 use std::marker::Model;
@@ -14,13 +16,13 @@ pub struct ConfigRow {
 
 impl Model for ConfigRow {
     ghost use Rattle.std.specs.Prelude.{ℕ, List, All};
-    ghost use Rattle.att_table.specs.ConfigRow.{IsEntry};
+    ghost use Rattle.att_table.specs.ConfigRow.{IsEntry, HasOneEntryEach};
 
     ghost Value = { List (ℕ × ℕ) };
 
     ghost view = { λ row. row.entries.items };
 
-    ghost invariant = { λ row. All IsEntry row.entries.items };
+    ghost invariant = { λ row. All IsEntry row.entries.items × HasOneEntryEach row.entries.items };
 }
 
 impl ConfigRow {
@@ -49,13 +51,16 @@ impl ConfigRow {
         contains_handle(&self.entries, handle) || !self.entries.is_full()
     }
 
-    /// Sets the bits at a handle.
-    #[tactic(auto, using(crate::proofs::Rows::writes))]
+    /// Sets the bits at a handle. The row has an entry there, or room for one: it has for each
+    /// configuration of a table if all its handles are those of configurations of that table.
+    #[tactic(auto, using(crate::proofs::Rows::writes, crate::proofs::Configurations::row_of))]
     pub fn set(&mut self, handle: u16, bits: u8)
         requires handle { 0 < handle }
         requires bits { bits ≤ 3 }
-        requires room { IsTrue (has_room self.old handle) }
+        requires room { HasOneEntryEach self.old → IsTrue (has_room self.old handle) }
         ensures after { self.new ≡ with_bits self.old handle bits }
+        ensures table { (attributes : List Attr) → is_configuration_at attributes handle ≡ true
+            → IsRowOf attributes self.old → IsRowOf attributes self.new }
         ensures written { bits_at self.new handle ≡ bits }
         ensures others { (other : ℕ) → other ≢ handle
             → bits_at self.new other ≡ bits_at self.old other }

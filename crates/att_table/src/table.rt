@@ -1,8 +1,10 @@
-ghost use Rattle.std.specs.Prelude.{◌≡◌, ◌+◌, ◌≤◌, ◌∷◌, ◌++◌, [], map, length, sum_by, vec_len, IsSome, OnOk, OnErr};
+ghost use Rattle.std.specs.Prelude.{◌≡◌, ◌+◌, ◌≤◌, ◌∷◌, ◌++◌, [], map, length, sum_by, vec_len, IfSome, IsSome, OnOk, OnErr};
 ghost use Rattle.std.specs.Option.{option_copied};
 ghost use Rattle.att_table.specs.declared.attr.Attr.{Attr};
 ghost use Rattle.att_table.specs.Cell.{patched};
+ghost use Rattle.att_table.specs.ConfigRow.{HasRowRoom};
 ghost use Rattle.att_table.specs.Group.{group_ends_of, group_end_at};
+ghost use Rattle.att_table.specs.Limits.{configurations_of};
 ghost use Rattle.att_table.specs.OfType.{handles_of_type};
 ghost use Rattle.att_table.specs.Table.{Contents, attribute_at, attributes_in, value_at, is_fixed_at, room_at, with_value, values_of, handles_by_kind, IsKept, IsWhole};
 
@@ -39,6 +41,7 @@ impl Table {
         by_type: Vec<u16>,
     ) -> Self
         requires kept { IsKept attributes.items values }
+        requires few { configurations_of attributes.items ≤ 64 }
         requires ends { group_ends.items ≡ group_ends_of attributes.items }
         requires types { by_type.items ≡ handles_by_kind attributes.items }
         ensures attributes { result.attributes ≡ attributes.items }
@@ -60,8 +63,12 @@ impl Table {
     }
 
     /// The attribute at a handle, if there is one.
+    #[tactic(auto, using(crate::proofs::Configurations::room_in_row))]
     pub fn get(&self, handle: u16) -> Option<&Attr>
-        ensures { option_copied result ≡ attribute_at self.now.attributes handle }
+        ensures attribute { option_copied result ≡ attribute_at self.now.attributes handle }
+        // It has a value, and a client's row has room for it if it is a configuration.
+        ensures value { IfSome result (λ attr. handle ≤ length self.now.values) }
+        ensures row { HasRowRoom self.now.attributes handle }
     {
         self.attributes.get(usize::from(handle.checked_sub(1)?))
     }

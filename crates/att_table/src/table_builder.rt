@@ -1,6 +1,7 @@
 //! A table that grows by one attribute at a time, until it is whole.
 
 ghost use Rattle.std.specs.Prelude.{◌≡◌, ◌+◌, ◌<◌, ◌≤◌, ◌∷◌, ◌++◌, [], length, IfOk, IsSome, OnOk, OnErr};
+ghost use Rattle.att_table.specs.Limits.{configurations_of};
 ghost use Rattle.att_table.specs.Table.{Contents, attribute_at, value_at, values_of, IsKept};
 
 use crate::attr::Attr;
@@ -76,8 +77,10 @@ impl TableBuilder {
         self.values.value_at(handle)
     }
 
-    /// The table of these attributes, with the ends of their groups and their handles by type.
+    /// The table of these attributes, of which at most 64 are client characteristic configurations,
+    /// with the ends of their groups and their handles by type.
     pub fn finish(self, alloc: Global) -> Result<Table, AllocError>
+        requires { configurations_of self.attributes ≤ 64 }
         ensures { IfOk result (λ table. table ≡ self) }
     {
         let group_ends = group::group_ends(alloc, &self.attributes)?;

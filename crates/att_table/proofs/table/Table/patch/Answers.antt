@@ -21,6 +21,7 @@ invariant_of-self c =
     let fits = fits_cell c.self.inside.attributes.items c.self.inside.values c.args.self.now c.args.handle _ c.self.invariant.kept c.self.view_is c.requires.exists c.requires.fits in
     record {
       kept = rw c.patch_at.ensures (kept-patched _ _ _ _ _ _ c.self.invariant.kept in_value (rw c.from.ensures fits));
+      few = c.self.invariant.few;
       ends = c.self.invariant.ends;
       types = c.self.invariant.types;
     }
