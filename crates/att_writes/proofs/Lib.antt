@@ -1,0 +1,5 @@
+pub mod AtOnce
+pub mod Laid
+pub mod Reached
+pub mod Sizes
+pub mod Touched

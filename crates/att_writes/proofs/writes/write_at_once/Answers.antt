@@ -1,0 +1,29 @@
+use Rattle.std.proofs.Common.{sym, ap, ◌∙◌}
+use Rattle.att_writes.specs.Applied.{stored_in, stored_after}
+use Rattle.att_writes.specs.Entry.{entry_of}
+use Rattle.att_writes.specs.Outcome.{outcome_of}
+use Rattle.att_writes.proofs.AtOnce.{fits_at_first, refused_at_first}
+use Rattle.att_writes.proofs.writes.write_at_once.Goals as goal
+
+pub put-requires-clause-fits : goal.put-requires-clause-fits
+put-requires-clause-fits c =
+    fits_at_first c.args.access c.args.table.now.attributes c.args.standing.now (stored_in c.args.table.now c.args.row.now) (entry_of c.args.entry)
+    (sym c.fault_of.ensures.fault ∙ c.in-None.is)
+
+pub returns-in-Some-clause-outcome : goal.returns-in-Some-clause-outcome
+returns-in-Some-clause-outcome c =
+    ap (outcome_of c.args.opcode)
+    (sym (refused_at_first c.args.access c.args.table.now.attributes c.args.standing.now (stored_in c.args.table.now c.args.row.now) (entry_of c.args.entry) c.in-Some.code
+    (sym c.fault_of.ensures.fault ∙ c.in-Some.is)))
+
+pub returns-in-Some-clause-values : goal.returns-in-Some-clause-values
+returns-in-Some-clause-values c =
+    ap (λ applied. (stored_after (stored_in c.args.table.now c.args.row.now) applied).values)
+    (sym (refused_at_first c.args.access c.args.table.now.attributes c.args.standing.now (stored_in c.args.table.now c.args.row.now) (entry_of c.args.entry) c.in-Some.code
+    (sym c.fault_of.ensures.fault ∙ c.in-Some.is)))
+
+pub returns-in-Some-clause-row : goal.returns-in-Some-clause-row
+returns-in-Some-clause-row c =
+    ap (λ applied. (stored_after (stored_in c.args.table.now c.args.row.now) applied).row)
+    (sym (refused_at_first c.args.access c.args.table.now.attributes c.args.standing.now (stored_in c.args.table.now c.args.row.now) (entry_of c.args.entry) c.in-Some.code
+    (sym c.fault_of.ensures.fault ∙ c.in-Some.is)))

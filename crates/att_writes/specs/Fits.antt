@@ -1,0 +1,22 @@
+-- That entries can be made, which no policy says.
+use Rattle.std.specs.Prelude.{◌≡◌, List, [], ◌∷◌, length, None, IsSome}
+use Rattle.att_table.specs.declared.attr.Attr.{Attr}
+use Rattle.att_table.specs.Table.{attribute_at, value_at}
+use Rattle.att_writes.specs.Applied.{Stored, after_entry}
+use Rattle.att_writes.specs.Entry.{Entry}
+use Rattle.att_writes.specs.Fault.{form_fault}
+
+-- an entry has an attribute, and a form that the attribute takes
+pub record Fits (attributes : List Attr) (stored : Stored) (entry : Entry) : Type 0 where
+  pub exists : IsSome (attribute_at attributes entry.handle)
+  pub taken : form_fault attributes (length (value_at stored.values entry.handle)) entry ≡ None
+
+-- each entry fits what stands by then
+abbrev pub AllFit : List Attr → Stored → List Entry → Type 0
+AllFit attributes stored [] = Unit
+AllFit attributes stored (entry ∷ rest) = Fits attributes stored entry × AllFit attributes (after_entry attributes stored entry) rest
+
+-- what stands after all entries
+abbrev pub after_all : List Attr → Stored → List Entry → Stored
+after_all attributes stored [] = stored
+after_all attributes stored (entry ∷ rest) = after_all attributes (after_entry attributes stored entry) rest

@@ -1,0 +1,152 @@
+//! Writes that are prepared, and made together: Core 5.0, Vol 3 Part F, 3.4.6.
+
+ghost use Rattle.std.specs.Prelude.{◌≡◌, ◌≤◌, ℕ, ◌∷◌, [], List, length, map, IfSome, IsNone, OnSome, Err, Ok, IsOk};
+ghost use Rattle.att_table.specs.ConfigRow.{IsRowOf};
+ghost use Rattle.att_writes.specs.declared.queue.Place.{Place};
+ghost use Rattle.att_writes.specs.Applied.{applied_to, written_to, stored_in};
+ghost use Rattle.att_writes.specs.Entry.{entry_of};
+ghost use Rattle.att_writes.specs.Fits.{AllFit, after_all};
+ghost use Rattle.att_writes.specs.Outcome.{outcome_of};
+ghost use Rattle.att_writes.specs.Queue.{entries_in, sizes_of, handles_of, once_each, prepare_fault, prepared, prepare_outcome, touched_by};
+
+use crate::entry::EntryRef;
+use crate::fault::fault_of;
+use crate::outcome::{EXECUTE_WRITE_REQUEST, Outcome, PREPARE_WRITE_REQUEST};
+use crate::queue::{Place, Queue};
+use crate::writes::put;
+use arrayvec::ArrayVec;
+use att_policy::{Access, Standing, error_code, first_broken};
+use att_table::{ConfigRow, Table};
+
+/// Adds the part of a Prepare Write Request to the queue of a client, or refuses it and changes
+/// nothing. Its offset and its length are judged when it is executed.
+pub fn prepare(
+    table: &Table,
+    standing: &Standing,
+    queue: &mut Queue,
+    handle: u16,
+    offset: u16,
+    part: &[u8],
+) -> Outcome
+    ensures outcome { result ≡ prepare_outcome (record { handle = handle; offset = offset; part = part.now })
+        (prepare_fault table.now.attributes standing.entry.now queue.old (record { handle = handle; offset = offset; part = part.now })) }
+    ensures queue { queue.new ≡ prepared queue.old (record { handle = handle; offset = offset; part = part.now })
+        (prepare_fault table.now.attributes standing.entry.now queue.old (record { handle = handle; offset = offset; part = part.now })) }
+{
+    let guard = table.get(handle).map(|attr| &attr.guard);
+    if let Some((_, code)) = first_broken(Access::Write, guard, standing) {
+        return Outcome::Denied(PREPARE_WRITE_REQUEST, handle, code);
+    }
+    if !queue.has_room(part) {
+        return Outcome::Denied(
+            PREPARE_WRITE_REQUEST,
+            handle,
+            error_code::PREPARE_QUEUE_FULL,
+        );
+    }
+    queue.push(EntryRef {
+        handle,
+        offset,
+        part,
+    });
+    Outcome::Queued
+}
+
+/// Makes all prepared writes of a client, in their order, or refuses them all and changes nothing.
+/// The policy is that of this moment. In both cases the queue is empty afterwards, and `touched`
+/// has the handles that were written, each once, in the order of their first entries.
+pub fn execute(
+    table: &mut Table,
+    row: &mut ConfigRow,
+    standing: &Standing,
+    queue: &mut Queue,
+    touched: &mut ArrayVec<u16, 32>,
+) -> Outcome
+    requires row { IsRowOf table.old.attributes row.old }
+    ensures outcome { result ≡ outcome_of 0x18 (applied_to Access.Write table.old row.old standing.entry.now queue.old) }
+    ensures values { table.new.values ≡ (written_to Access.Write table.old row.old standing.entry.now queue.old).values }
+    ensures row { row.new ≡ (written_to Access.Write table.old row.old standing.entry.now queue.old).row }
+    ensures touched { touched.new.items ≡ touched_by queue.old (applied_to Access.Write table.old row.old standing.entry.now queue.old) }
+    ensures queue { queue.new ≡ [] }
+    ensures attributes { table.new.attributes ≡ table.old.attributes }
+    ensures table { IsRowOf table.new.attributes row.new }
+{
+    touched.clear();
+    let (places, octets) = queue.parts();
+    let outcome = match first_refused(table, standing, places, octets) {
+        Some((handle, code)) => Outcome::Denied(EXECUTE_WRITE_REQUEST, handle, code),
+        None => {
+            put_all(table, row, places, octets);
+            touch_all(places, touched);
+            Outcome::Written
+        }
+    };
+    queue.clear();
+    outcome
+}
+
+/// The handle of the first entry that is refused, with its error code, if one is. The parts of the
+/// entries stand one behind the other.
+fn first_refused(
+    table: &Table,
+    standing: &Standing,
+    places: &[Place],
+    octets: &[u8],
+) -> Option<(u16, u8)>
+    requires { sizes_of places.now ≡ length octets.now }
+    ensures refused { IfSome result (λ refusal. (row : List (ℕ × ℕ))
+        → applied_to Access.Write table.now row standing.entry.now (entries_in places.now octets.now) ≡ Err (record { handle = refusal.0; code = refusal.1 })) }
+    ensures written { IsNone result → (row : List (ℕ × ℕ))
+        → applied_to Access.Write table.now row standing.entry.now (entries_in places.now octets.now)
+        ≡ Ok (after_all table.now.attributes (stored_in table.now row) (entries_in places.now octets.now)) }
+    ensures fits { IsNone result → (row : List (ℕ × ℕ)) → AllFit table.now.attributes (stored_in table.now row) (entries_in places.now octets.now) }
+{
+    let mut rest = octets;
+    for (index, place) in places.iter().enumerate() {
+        let (part, after) = rest.split_at(usize::from(place.len));
+        rest = after;
+        let earlier = &places[..index];
+        if let Some(code) = fault_of(Access::Write, table, standing, earlier, place.entry(part)) {
+            return Some((place.handle, code));
+        }
+    }
+    None
+}
+
+/// Writes entries, each of which fits in its turn. Their parts stand one behind the other.
+fn put_all(table: &mut Table, row: &mut ConfigRow, places: &[Place], octets: &[u8])
+    requires sizes { sizes_of places.now ≡ length octets.now }
+    requires row { IsRowOf table.old.attributes row.old }
+    requires fits { AllFit table.old.attributes (stored_in table.old row.old) (entries_in places.now octets.now) }
+    ensures values { table.new.values ≡ (after_all table.old.attributes (stored_in table.old row.old) (entries_in places.now octets.now)).values }
+    ensures row { row.new ≡ (after_all table.old.attributes (stored_in table.old row.old) (entries_in places.now octets.now)).row }
+    ensures attributes { table.new.attributes ≡ table.old.attributes }
+    ensures table { IsRowOf table.new.attributes row.new }
+{
+    let mut rest = octets;
+    for place in places {
+        let (part, after) = rest.split_at(usize::from(place.len));
+        rest = after;
+        put(table, row, place.entry(part));
+    }
+}
+
+/// Puts the handles of entries, each once, into an empty buffer.
+fn touch_all(places: &[Place], touched: &mut ArrayVec<u16, 32>)
+    requires empty { touched.old.items ≡ [] }
+    requires few { length places.now ≤ 32 }
+    ensures { touched.new.items ≡ once_each (map (λ (place : Place). place.handle) places.now) }
+{
+    for place in places {
+        if !touched.contains(&place.handle) {
+            touched.push(place.handle);
+        }
+    }
+}
+
+/// Drops the prepared writes of a client.
+pub fn cancel(queue: &mut Queue)
+    ensures { queue.new ≡ [] }
+{
+    queue.clear();
+}

@@ -1,0 +1,135 @@
+//! When a write is refused: Core 5.0, Vol 3 Part F, 3.4.1.1.
+
+ghost use Rattle.std.specs.Prelude.{◌≡◌, ◌≤◌, length, Some, IsNone};
+ghost use Rattle.att_table.specs.Table.{attribute_at};
+ghost use Rattle.att_writes.specs.Entry.{entry_of};
+ghost use Rattle.att_writes.specs.Fault.{configuration_bits, configuration_bits_at, configuration_fault, value_fault, fault_of};
+ghost use Rattle.att_writes.specs.Sizes.{size_with, size_after};
+
+use crate::entry::EntryRef;
+use crate::queue::Place;
+use att_policy::{Access, Properties, Standing, error_code, first_broken};
+use att_table::{Attr, Role, Table};
+use bitflags::Flags;
+
+/// The bits of a client characteristic configuration: Core 5.0, Vol 3 Part G, 3.3.3.3.
+const NOTIFICATION: u8 = 0x01;
+
+const INDICATION: u8 = 0x02;
+
+/// The error code by which a client is refused a write, if it is, once the entries at these earlier
+/// places are written.
+pub fn fault_of(
+    access: Access,
+    table: &Table,
+    standing: &Standing,
+    earlier: &[Place],
+    entry: EntryRef<'_>,
+) -> Option<u8>
+    ensures fault { result ≡ fault_of access table.now.attributes standing.entry.now
+        (size_after table.now.attributes table.now.values entry.entry.handle earlier.now) (entry_of entry.entry) }
+    ensures value { IsNone result → entry.entry.handle ≤ length table.now.values }
+{
+    let attr = table.get(entry.handle);
+    if let Some((_, code)) = first_broken(access, attr.map(|attr| &attr.guard), standing) {
+        return Some(code);
+    }
+    let attr = attr?;
+    if attr.role == Role::Configuration {
+        configuration_fault(table, entry)
+    } else {
+        value_fault(table, attr, earlier, entry)
+    }
+}
+
+/// The error code by which another value than a configuration is refused, if it is.
+fn value_fault(table: &Table, attr: &Attr, earlier: &[Place], entry: EntryRef<'_>) -> Option<u8>
+    requires { attribute_at table.now.attributes entry.handle ≡ Some attr.now }
+    ensures { result ≡ value_fault table.now.attributes
+        (size_after table.now.attributes table.now.values entry.entry.handle earlier.now) (entry_of entry.entry) }
+{
+    let size = size_after(table, attr, earlier, entry.handle);
+    let room = if attr.fixed {
+        size
+    } else {
+        usize::from(attr.largest)
+    };
+    let offset = usize::from(entry.offset);
+    if offset > size {
+        Some(error_code::INVALID_OFFSET)
+    } else if offset + entry.part.len() > room {
+        Some(error_code::INVALID_ATTRIBUTE_VALUE_LENGTH)
+    } else {
+        None
+    }
+}
+
+/// How many octets the value of an attribute has once the entries at these places are written.
+fn size_after(table: &Table, attr: &Attr, places: &[Place], handle: u16) -> usize
+    requires { attribute_at table.now.attributes handle ≡ Some attr.now }
+    ensures { result ≡ size_after table.now.attributes table.now.values handle places.now }
+{
+    let size = table.value(handle).len();
+    if attr.fixed {
+        size
+    } else {
+        size_with(handle, size, places)
+    }
+}
+
+/// How many octets a variable value of this length at a handle has once the entries at these places
+/// are written.
+fn size_with(handle: u16, len: usize, places: &[Place]) -> usize
+    ensures { result ≡ size_with handle len places.now }
+{
+    let mut size = len;
+    for place in places {
+        if place.handle == handle {
+            size = usize::from(place.offset) + usize::from(place.len);
+        }
+    }
+    size
+}
+
+/// The error code by which a client characteristic configuration is refused, if it is.
+fn configuration_fault(table: &Table, entry: EntryRef<'_>) -> Option<u8>
+    ensures { result ≡ configuration_fault table.now.attributes (entry_of entry.entry) }
+{
+    if entry.offset != 0 {
+        return Some(error_code::INVALID_OFFSET);
+    }
+    let [low, high] = *entry.part else {
+        return Some(error_code::INVALID_ATTRIBUTE_VALUE_LENGTH);
+    };
+    if high == 0 && low & configuration_bits_at(table, entry.handle) == low {
+        None
+    } else {
+        Some(error_code::OUT_OF_RANGE)
+    }
+}
+
+/// The bits that the client characteristic configuration at a handle may have. Its characteristic
+/// value stands before it.
+fn configuration_bits_at(table: &Table, handle: u16) -> u8
+    ensures { result ≡ configuration_bits_at table.now.attributes handle }
+{
+    match table.get(handle.saturating_sub(1)) {
+        Some(attr) => configuration_bits(attr.guard.properties),
+        None => 0,
+    }
+}
+
+/// The bits that a client characteristic configuration may have, by the properties of its
+/// characteristic.
+fn configuration_bits(properties: Properties) -> u8
+    ensures bits { result ≡ configuration_bits properties }
+{
+    let mut bits = 0;
+    if properties.contains(Properties::NOTIFY) {
+        bits |= NOTIFICATION;
+    }
+    if properties.contains(Properties::INDICATE) {
+        bits |= INDICATION;
+    }
+    bits
+}

@@ -1,0 +1,14 @@
+//! The changes that a client makes: Core 5.0, Vol 3 Part F, 3.4.5 and 3.4.6.
+#![tactic(auto)]
+
+mod entry;
+mod execution;
+mod fault;
+mod outcome;
+mod queue;
+mod writes;
+
+pub use execution::{cancel, execute, prepare};
+pub use outcome::Outcome;
+pub use queue::Queue;
+pub use writes::{command, write};

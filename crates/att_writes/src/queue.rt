@@ -1,0 +1,110 @@
+ghost use Rattle.std.specs.Prelude.{◌≡◌, ◌+◌, ◌<◌, ◌≤◌, [], ◌∷◌, ◌++◌, length, vec_capacity, IfOk, IsTrue};
+ghost use Rattle.att_writes.specs.Entry.{entry_of};
+ghost use Rattle.att_writes.specs.Queue.{entries_in, sizes_of, has_room};
+
+use crate::entry::EntryRef;
+use std::alloc::{AllocError, Global};
+use std::marker::Model;
+
+/// The most entries in a queue: this profile's own.
+const MAX_ENTRIES: usize = 32;
+
+/// The most octets of all parts in a queue: this profile's own.
+const MAX_OCTETS: usize = 1024;
+
+/// Where a prepared write is to be made, and how many octets its part has.
+#[derive(Clone, Copy, Debug)]
+pub struct Place {
+    /// The handle of the attribute.
+    pub handle: u16,
+    /// The offset in its value, in octets.
+    pub offset: u16,
+    /// The length of the part, in octets.
+    pub len: u16,
+}
+
+impl Place {
+    /// The entry with this part.
+    pub fn entry(self, part: &[u8]) -> EntryRef<'_>
+        ensures { entry_of result ≡ record { handle = self.handle; offset = self.offset; part = part.now } }
+    {
+        EntryRef {
+            handle: self.handle,
+            offset: self.offset,
+            part,
+        }
+    }
+}
+
+/// The prepared writes of one client, in their order: at most 32, with at most 1,024 octets of
+/// parts. (Core 5.0, Vol 3 Part F, 3.4.6)
+#[derive(Debug, Drop)]
+pub struct Queue {
+    places: Vec<Place>,
+    /// The parts, one behind the other.
+    octets: Vec<u8>,
+}
+
+impl Model for Queue {
+    ghost use Rattle.std.specs.Prelude.{List, vec_capacity};
+    ghost use Rattle.att_writes.specs.Entry.{Entry};
+    ghost use Rattle.att_writes.specs.Queue.{entries_in, IsLaidOut};
+
+    ghost Value = { List Entry };
+
+    ghost view = { λ queue. entries_in queue.places.items queue.octets.items };
+
+    ghost invariant = { λ queue. IsLaidOut queue.places.items queue.octets.items (vec_capacity queue.places) (vec_capacity queue.octets) };
+}
+
+impl Queue {
+    /// An empty queue, with all the room that it will need.
+    pub fn new(alloc: Global) -> Result<Queue, AllocError>
+        ensures { IfOk result (λ queue. queue ≡ []) }
+    {
+        Ok(Queue {
+            places: Vec::with_capacity(alloc, MAX_ENTRIES)?,
+            octets: Vec::with_capacity(alloc, MAX_OCTETS)?,
+        })
+    }
+
+    /// Whether the queue takes one more entry, with this part.
+    #[tactic(auto, using(crate::proofs::Laid::laid))]
+    pub fn has_room(&self, part: &[u8]) -> bool
+        ensures { result ≡ has_room self.now part.now }
+    {
+        self.places.len() < MAX_ENTRIES && self.octets.len() + part.len() <= MAX_OCTETS
+    }
+
+    /// Adds an entry at the end. It takes no memory.
+    #[tactic(auto, using(crate::proofs::Laid::laid))]
+    pub fn push(&mut self, entry: EntryRef<'_>)
+        requires room { IsTrue (has_room self.old entry.part.now) }
+        ensures { self.new ≡ self.old ++ entry_of entry.entry ∷ [] }
+    {
+        self.places.push_reserved(Place {
+            handle: entry.handle,
+            offset: entry.offset,
+            len: entry.part.len() as u16,
+        });
+        // The room was made with the queue.
+        let _ = self.octets.extend_from_slice(entry.part);
+    }
+
+    /// Where the entries are to be made, and their parts, one behind the other.
+    pub fn parts(&self) -> (&[Place], &[u8])
+        ensures entries { entries_in result.0.now result.1.now ≡ self.now }
+        ensures sizes { sizes_of result.0.now ≡ length result.1.now }
+        ensures within { length result.0.now ≤ 32 }
+    {
+        (&self.places, &self.octets)
+    }
+
+    /// Drops all entries.
+    pub fn clear(&mut self)
+        ensures { self.new ≡ [] }
+    {
+        self.places.clear();
+        self.octets.clear();
+    }
+}

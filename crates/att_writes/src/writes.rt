@@ -1,0 +1,109 @@
+//! Writes that are made at once: Core 5.0, Vol 3 Part F, 3.4.5.
+
+ghost use Rattle.std.specs.Prelude.{◌≡◌, [], ◌∷◌};
+ghost use Rattle.att_table.specs.ConfigRow.{IsRowOf};
+ghost use Rattle.att_writes.specs.Applied.{after_entry, stored_in, applied_to, written_to};
+ghost use Rattle.att_writes.specs.Entry.{entry_of, whole};
+ghost use Rattle.att_writes.specs.Fits.{Fits};
+ghost use Rattle.att_writes.specs.Outcome.{outcome_of};
+
+use crate::entry::EntryRef;
+use crate::fault::fault_of;
+use crate::outcome::{Outcome, WRITE_COMMAND, WRITE_REQUEST};
+use att_policy::{Access, Standing};
+use att_table::{ConfigRow, Role, Table};
+
+/// Makes the change that a Write Request asks for, or refuses it and changes nothing. `row` is what
+/// the client has configured, `standing` what the policy sees of it. A value that keeps its length
+/// keeps the octets behind those that are written.
+pub fn write(
+    table: &mut Table,
+    row: &mut ConfigRow,
+    standing: &Standing,
+    handle: u16,
+    value: &[u8],
+) -> Outcome
+    requires row { IsRowOf table.old.attributes row.old }
+    ensures outcome { result ≡ outcome_of 0x12 (applied_to Access.Write table.old row.old standing.entry.now (whole handle value.now ∷ [])) }
+    ensures values { table.new.values ≡ (written_to Access.Write table.old row.old standing.entry.now (whole handle value.now ∷ [])).values }
+    ensures row { row.new ≡ (written_to Access.Write table.old row.old standing.entry.now (whole handle value.now ∷ [])).row }
+    ensures attributes { table.new.attributes ≡ table.old.attributes }
+    ensures table { IsRowOf table.new.attributes row.new }
+{
+    let entry = EntryRef {
+        handle,
+        offset: 0,
+        part: value,
+    };
+    write_at_once(Access::Write, WRITE_REQUEST, table, row, standing, entry)
+}
+
+/// The same for a Write Command, which is never answered.
+pub fn command(
+    table: &mut Table,
+    row: &mut ConfigRow,
+    standing: &Standing,
+    handle: u16,
+    value: &[u8],
+) -> Outcome
+    requires row { IsRowOf table.old.attributes row.old }
+    ensures outcome { result ≡ outcome_of 0x52 (applied_to Access.Command table.old row.old standing.entry.now (whole handle value.now ∷ [])) }
+    ensures values { table.new.values ≡ (written_to Access.Command table.old row.old standing.entry.now (whole handle value.now ∷ [])).values }
+    ensures row { row.new ≡ (written_to Access.Command table.old row.old standing.entry.now (whole handle value.now ∷ [])).row }
+    ensures attributes { table.new.attributes ≡ table.old.attributes }
+    ensures table { IsRowOf table.new.attributes row.new }
+{
+    let entry = EntryRef {
+        handle,
+        offset: 0,
+        part: value,
+    };
+    write_at_once(Access::Command, WRITE_COMMAND, table, row, standing, entry)
+}
+
+/// Writes one entry, or refuses it under the opcode of the request that asks for it.
+#[tactic(auto, using(crate::proofs::AtOnce::at_once))]
+fn write_at_once(
+    access: Access,
+    opcode: u8,
+    table: &mut Table,
+    row: &mut ConfigRow,
+    standing: &Standing,
+    entry: EntryRef<'_>,
+) -> Outcome
+    requires row { IsRowOf table.old.attributes row.old }
+    ensures outcome { result ≡ outcome_of opcode (applied_to access table.old row.old standing.entry.now (entry_of entry.entry ∷ [])) }
+    ensures values { table.new.values ≡ (written_to access table.old row.old standing.entry.now (entry_of entry.entry ∷ [])).values }
+    ensures row { row.new ≡ (written_to access table.old row.old standing.entry.now (entry_of entry.entry ∷ [])).row }
+    ensures attributes { table.new.attributes ≡ table.old.attributes }
+    ensures table { IsRowOf table.new.attributes row.new }
+{
+    match fault_of(access, table, standing, &[], entry) {
+        Some(code) => Outcome::Denied(opcode, entry.handle, code),
+        None => {
+            put(table, row, entry);
+            Outcome::Written
+        }
+    }
+}
+
+/// Writes an entry that fits.
+pub fn put(table: &mut Table, row: &mut ConfigRow, entry: EntryRef<'_>)
+    requires row { IsRowOf table.old.attributes row.old }
+    requires fits { Fits table.old.attributes (stored_in table.old row.old) (entry_of entry) }
+    ensures values { table.new.values ≡ (after_entry table.old.attributes (stored_in table.old row.old) (entry_of entry.entry)).values }
+    ensures row { row.new ≡ (after_entry table.old.attributes (stored_in table.old row.old) (entry_of entry.entry)).row }
+    ensures attributes { table.new.attributes ≡ table.old.attributes }
+    ensures table { IsRowOf table.new.attributes row.new }
+{
+    let is_configuration = table
+        .get(entry.handle)
+        .is_some_and(|attr| attr.role == Role::Configuration);
+    if is_configuration {
+        if let Some(&bits) = entry.part.first() {
+            row.set(entry.handle, bits);
+        }
+    } else {
+        table.patch(entry.handle, entry.offset, entry.part);
+    }
+}
