@@ -1,17 +1,19 @@
-ghost use Rattle.std.specs.Prelude.{◌≡◌, true, false, [], ◌∷◌, is_some, unwrap_or, ◌↔◌, IsTrue};
+ghost use Rattle.std.specs.Prelude.{◌≡◌, ◌+◌, ◌≤◌, ℕ, true, false, List, [], ◌∷◌, length, is_some, unwrap_or, ◌↔◌, Some, None, IsTrue};
 ghost use Rattle.att_pdu.specs.Octets.{two_octets};
 ghost use Rattle.att_pdu.specs.PduBuf.{contents, mtu_of, error_response, IsSameBuffer};
 ghost use Rattle.att_pdu.specs.Request.{asked};
 ghost use Rattle.att_reads.specs.Answer.{read_answer};
-ghost use Rattle.gatt_host.specs.Answer.{outcome_of, write_outcome};
+ghost use Rattle.att_table.specs.ConfigRow.{IsRowOf};
+ghost use Rattle.gatt_host.specs.Answer.{answered, outcome_of, write_outcome, command_outcome, prepare_outcome, execute_outcome, without_queue};
 ghost use Rattle.gatt_host.specs.Connection.{after_exchange};
 
 use crate::conn::Conn;
 use arrayvec::ArrayVec;
-use att_pdu::{PduBuf, PduFault, Request, opcode, read_request};
-use att_policy::{Access, error_code, first_broken};
+use att_pdu::{ExecuteFlags, PduBuf, PduFault, Request, opcode, read_request};
+use att_policy::error_code;
 use att_reads::answer_read;
-use att_table::{ConfigRow, Role, Table};
+use att_table::{ConfigRow, Table};
+use att_writes::Outcome;
 
 /// What an Attribute PDU led to, beside the answer itself.
 #[derive(Debug, Drop)]
@@ -26,8 +28,8 @@ pub struct Answered {
 
 /// Serves one Attribute PDU of one connection: puts the answer into `out`, and makes the change
 /// that it asks for, where the policy permits it. `row` is what the connection's client has
-/// configured.
-#[tactic(auto, unfolding(crate::specs::Answer::outcome_of, att_pdu::specs::Form::form_of), using(crate::proofs::Outcomes::write_keeps_conn))]
+/// configured, of this table.
+#[tactic(auto, unfolding(crate::specs::Answer::outcome_of, att_pdu::specs::Form::form_of))]
 pub fn answer(
     table: &mut Table,
     row: &mut ConfigRow,
@@ -37,17 +39,19 @@ pub fn answer(
 ) -> Answered
     requires empty { contents out.old ≡ [] }
     requires mtu { mtu_of out.old ≡ conn.old.mtu }
+    requires row { IsRowOf table.old.attributes row.old }
 
     ensures answer { contents out.new ≡ unwrap_or (outcome_of table.old row.old conn.old pdu.now).answer [] }
     ensures due { result.due ≡ is_some (outcome_of table.old row.old conn.old pdu.now).answer }
     ensures touched { result.touched.items ≡ (outcome_of table.old row.old conn.old pdu.now).touched }
     ensures values { table.new.values ≡ (outcome_of table.old row.old conn.old pdu.now).values }
+    ensures row { row.new ≡ (outcome_of table.old row.old conn.old pdu.now).row }
     ensures conn { conn.new ≡ (outcome_of table.old row.old conn.old pdu.now).conn }
     ensures confirmed { IsTrue result.confirmed ↔ (pdu.now ≡ 0x1E ∷ []) }
 
     // What stays.
     ensures attributes { table.new.attributes ≡ table.old.attributes }
-    ensures row { row.new ≡ row.old }
+    ensures table { IsRowOf table.new.attributes row.new }
     ensures same_buffer { IsSameBuffer out.old out.new }
 {
     match read_request(pdu, conn.mtu()) {
@@ -61,13 +65,31 @@ pub fn answer(
             | Request::ReadMultiple { .. }
             | Request::ReadByGroupType { .. }),
         ) => read(table, row, conn, &request, out),
-        Ok(Request::Write { handle, value }) => write(table, conn, handle, value, out),
-        Ok(Request::PrepareWrite { .. }) => unserved(opcode::PREPARE_WRITE_REQUEST, out),
-        Ok(Request::ExecuteWrite { .. }) => unserved(opcode::EXECUTE_WRITE_REQUEST, out),
+        Ok(Request::Write { handle, value }) => write(table, row, conn, handle, value, out),
+        Ok(
+            Request::PrepareWrite {
+                handle,
+                offset,
+                part,
+            },
+        ) => prepare(table, conn, handle, offset, part, out),
+        Ok(
+            Request::ExecuteWrite {
+                flags: ExecuteFlags::Cancel,
+            },
+        ) => cancel(conn, out),
+        Ok(
+            Request::ExecuteWrite {
+                flags: ExecuteFlags::Write,
+            },
+        ) => execute(table, row, conn, out),
         Ok(Request::Confirmation) => ignore(true),
-        Ok(Request::WriteCommand { .. }) | Err(PduFault::Ignored) => ignore(false),
+        Ok(Request::WriteCommand { handle, value }) => command(table, row, conn, handle, value),
+        Err(PduFault::Ignored) => ignore(false),
         Err(PduFault::Invalid(opcode)) => refuse(opcode, 0, error_code::INVALID_PDU, out),
-        Err(PduFault::Unsupported(opcode)) => unserved(opcode, out),
+        Err(PduFault::Unsupported(opcode)) => {
+            refuse(opcode, 0, error_code::REQUEST_NOT_SUPPORTED, out)
+        }
     }
 }
 
@@ -82,17 +104,6 @@ fn ignore(confirmed: bool) -> Answered
         confirmed,
         touched: ArrayVec::new(),
     }
-}
-
-/// Answers a request that is not served.
-fn unserved(request_opcode: u8, out: &mut PduBuf<'_>) -> Answered
-    ensures answer { contents out.new ≡ error_response request_opcode 0 0x06 }
-    ensures due { result.due ≡ true }
-    ensures confirmed { result.confirmed ≡ false }
-    ensures touched { result.touched.items ≡ [] }
-    ensures same_buffer { IsSameBuffer out.old out.new }
-{
-    refuse(request_opcode, 0, error_code::REQUEST_NOT_SUPPORTED, out)
 }
 
 /// Serves an Exchange MTU Request: Core 5.0, Vol 3 Part F, 3.4.2.
@@ -142,48 +153,149 @@ fn read(
 /// Serves a Write Request: Core 5.0, Vol 3 Part F, 3.4.5.1.
 fn write(
     table: &mut Table,
+    row: &mut ConfigRow,
     conn: &Conn,
     handle: u16,
     value: &[u8],
     out: &mut PduBuf<'_>,
 ) -> Answered
     requires empty { contents out.old ≡ [] }
-    requires mtu { mtu_of out.old ≡ conn.now.mtu }
-    ensures answer { Some (contents out.new) ≡ (write_outcome table.old conn.now handle value.now).answer }
+    requires row { IsRowOf table.old.attributes row.old }
+    ensures answer { Some (contents out.new) ≡ (write_outcome table.old row.old conn.now handle value.now).answer }
     ensures due { result.due ≡ true }
     ensures confirmed { result.confirmed ≡ false }
-    ensures touched { result.touched.items ≡ (write_outcome table.old conn.now handle value.now).touched }
-    ensures values { table.new.values ≡ (write_outcome table.old conn.now handle value.now).values }
+    ensures touched { result.touched.items ≡ (write_outcome table.old row.old conn.now handle value.now).touched }
+    ensures values { table.new.values ≡ (write_outcome table.old row.old conn.now handle value.now).values }
+    ensures row { row.new ≡ (write_outcome table.old row.old conn.now handle value.now).row }
+    ensures conn { (write_outcome table.old row.old conn.now handle value.now).conn ≡ conn.now }
     ensures attributes { table.new.attributes ≡ table.old.attributes }
+    ensures table { IsRowOf table.new.attributes row.new }
     ensures same_buffer { IsSameBuffer out.old out.new }
 {
-    let attr = table.get(handle).copied();
-    if attr.is_some_and(|attr| attr.role == Role::Configuration) {
-        return refuse(
-            opcode::WRITE_REQUEST,
-            handle,
-            error_code::WRITE_NOT_PERMITTED,
-            out,
-        );
+    match att_writes::write(table, row, conn.standing(), handle, value) {
+        Outcome::Denied(opcode, handle, code) => refuse(opcode, handle, code, out),
+        Outcome::Written | Outcome::Queued => {
+            out.value(&[opcode::WRITE_RESPONSE]);
+            written(true, touched_alone(handle))
+        }
     }
-    let guard = attr.as_ref().map(|attr| &attr.guard);
-    if let Some((_, code)) = first_broken(Access::Write, guard, conn.standing()) {
-        return refuse(opcode::WRITE_REQUEST, handle, code, out);
+}
+
+/// Serves a Write Command: Core 5.0, Vol 3 Part F, 3.4.5.3.
+fn command(
+    table: &mut Table,
+    row: &mut ConfigRow,
+    conn: &Conn,
+    handle: u16,
+    value: &[u8],
+) -> Answered
+    requires row { IsRowOf table.old.attributes row.old }
+    ensures answer { (command_outcome table.old row.old conn.now handle value.now).answer ≡ None }
+    ensures due { result.due ≡ false }
+    ensures confirmed { result.confirmed ≡ false }
+    ensures touched { result.touched.items ≡ (command_outcome table.old row.old conn.now handle value.now).touched }
+    ensures values { table.new.values ≡ (command_outcome table.old row.old conn.now handle value.now).values }
+    ensures row { row.new ≡ (command_outcome table.old row.old conn.now handle value.now).row }
+    ensures conn { (command_outcome table.old row.old conn.now handle value.now).conn ≡ conn.now }
+    ensures attributes { table.new.attributes ≡ table.old.attributes }
+    ensures table { IsRowOf table.new.attributes row.new }
+{
+    match att_writes::command(table, row, conn.standing(), handle, value) {
+        Outcome::Denied(..) => ignore(false),
+        Outcome::Written | Outcome::Queued => written(false, touched_alone(handle)),
     }
-    if value.len() > table.room(handle) {
-        return refuse(
-            opcode::WRITE_REQUEST,
-            handle,
-            error_code::INVALID_ATTRIBUTE_VALUE_LENGTH,
-            out,
-        );
+}
+
+/// Serves a Prepare Write Request, which fits the ATT_MTU: Core 5.0, Vol 3 Part F, 3.4.6.1.
+fn prepare(
+    table: &Table,
+    conn: &mut Conn,
+    handle: u16,
+    offset: u16,
+    part: &[u8],
+    out: &mut PduBuf<'_>,
+) -> Answered
+    requires empty { contents out.old ≡ [] }
+    requires fits { 5 + length part.now ≤ mtu_of out.old }
+    ensures outcome { (row : List (ℕ × ℕ)) → prepare_outcome table.now row conn.old (record { handle = handle; offset = offset; part = part.now })
+        ≡ answered table.now row conn.new (contents out.new) }
+    ensures due { result.due ≡ true }
+    ensures confirmed { result.confirmed ≡ false }
+    ensures touched { result.touched.items ≡ [] }
+    ensures same_buffer { IsSameBuffer out.old out.new }
+{
+    match conn.prepare(table, handle, offset, part) {
+        Outcome::Denied(opcode, handle, code) => refuse(opcode, handle, code, out),
+        Outcome::Written | Outcome::Queued => {
+            out.value(&[opcode::PREPARE_WRITE_RESPONSE]);
+            out.part(handle, offset, part);
+            written(true, ArrayVec::new())
+        }
     }
-    table.patch(handle, 0, value);
-    out.value(&[opcode::WRITE_RESPONSE]);
+}
+
+/// Serves an Execute Write Request that drops what is prepared: Core 5.0, Vol 3 Part F, 3.4.6.3.
+fn cancel(conn: &mut Conn, out: &mut PduBuf<'_>) -> Answered
+    requires empty { contents out.old ≡ [] }
+    ensures answer { contents out.new ≡ 0x19 ∷ [] }
+    ensures due { result.due ≡ true }
+    ensures confirmed { result.confirmed ≡ false }
+    ensures touched { result.touched.items ≡ [] }
+    ensures conn { conn.new ≡ without_queue conn.old }
+    ensures same_buffer { IsSameBuffer out.old out.new }
+{
+    conn.cancel();
+    out.value(&[opcode::EXECUTE_WRITE_RESPONSE]);
+    written(true, ArrayVec::new())
+}
+
+/// Serves an Execute Write Request that writes what is prepared: Core 5.0, Vol 3 Part F, 3.4.6.3.
+fn execute(
+    table: &mut Table,
+    row: &mut ConfigRow,
+    conn: &mut Conn,
+    out: &mut PduBuf<'_>,
+) -> Answered
+    requires empty { contents out.old ≡ [] }
+    requires row { IsRowOf table.old.attributes row.old }
+    ensures answer { Some (contents out.new) ≡ (execute_outcome table.old row.old conn.old ExecuteFlags.Write).answer }
+    ensures due { result.due ≡ true }
+    ensures confirmed { result.confirmed ≡ false }
+    ensures touched { result.touched.items ≡ (execute_outcome table.old row.old conn.old ExecuteFlags.Write).touched }
+    ensures values { table.new.values ≡ (execute_outcome table.old row.old conn.old ExecuteFlags.Write).values }
+    ensures row { row.new ≡ (execute_outcome table.old row.old conn.old ExecuteFlags.Write).row }
+    ensures conn { conn.new ≡ (execute_outcome table.old row.old conn.old ExecuteFlags.Write).conn }
+    ensures attributes { table.new.attributes ≡ table.old.attributes }
+    ensures table { IsRowOf table.new.attributes row.new }
+    ensures same_buffer { IsSameBuffer out.old out.new }
+{
+    let mut touched = ArrayVec::new();
+    match conn.execute(table, row, &mut touched) {
+        Outcome::Denied(opcode, handle, code) => refuse(opcode, handle, code, out),
+        Outcome::Written | Outcome::Queued => {
+            out.value(&[opcode::EXECUTE_WRITE_RESPONSE]);
+            written(true, touched)
+        }
+    }
+}
+
+/// One handle that was written.
+fn touched_alone(handle: u16) -> ArrayVec<u16, 32>
+    ensures { result.items ≡ handle ∷ [] }
+{
     let mut touched = ArrayVec::new();
     touched.push(handle);
+    touched
+}
+
+/// A PDU that was served, with or without an answer.
+fn written(due: bool, touched: ArrayVec<u16, 32>) -> Answered
+    ensures due { result.due ≡ due }
+    ensures confirmed { result.confirmed ≡ false }
+    ensures touched { result.touched.items ≡ touched.items }
+{
     Answered {
-        due: true,
+        due,
         confirmed: false,
         touched,
     }
