@@ -1,0 +1,110 @@
+-- The entries of a key file: each is what its element writes, or its first fault. The format is this profile's own.
+use Rattle.std.specs.Prelude.{ℕ, ℤ, pos, negsuc, Bool, ◌==◌, ◌&&◌, ◌||◌, not, nat_le, nat_lt, if◌then◌else◌, List, [], ◌∷◌, length, replicate, codes, Option, Some, None, Result, Ok, Err}
+use Rattle.std.specs.List.{list_any}
+use Rattle.std.specs.Result.{result_ok}
+use Rattle.std.specs.Str.{bytes_eq}
+use Rattle.hex.specs.Hex.{decode_sized}
+use Rattle.toml.specs.Data.{Data, Members, as_table}
+use Rattle.toml_tables.specs.Reading.{◌>>=◌, unless, required, text_at, integer_at, boolean_at, flag_at}
+use Rattle.toml_tables.specs.Shape.{Keys, is_shaped}
+use Rattle.toml_tables.specs.declared.shape.Shape.TheVariants.{Text, Boolean, Integer}
+use Rattle.le_security.specs.declared.entry.Entry.{Entry}
+use Rattle.le_security.specs.declared.entry_file.Written.{Written as WrittenText}
+use Rattle.le_security.specs.declared.key_fault.KeyFault.{KeyFault}
+use Rattle.le_security.specs.declared.key_fault.KeyFault.TheVariants.{Missing, BadAddress, BadHex, BadSize, Twice, TooMany, Shape, NotZero}
+use Rattle.le_security.specs.Address.{address_of, kind_of}
+use Rattle.le_security.specs.Entry.{is_for}
+
+abbrev pub entry_keys : Keys
+entry_keys =
+    (codes "address", Text) ∷ (codes "kind", Text) ∷ (codes "rand", Text) ∷ (codes "ediv", Integer) ∷ (codes "ltk", Text)
+    ∷ (codes "size", Integer) ∷ (codes "authenticated", Boolean) ∷ (codes "secure", Boolean) ∷ []
+
+-- what an entry writes
+pub record Written : Type 0 where
+  pub address : List ℕ
+  pub kind : List ℕ
+  pub random_number : List ℕ
+  pub diversifier : ℕ
+  pub ltk : List ℕ
+  pub size : ℤ
+  pub authenticated : Bool
+  pub secure : Bool
+
+-- the same as the code has it
+abbrev pub written_view : WrittenText → Written
+written_view written = record {
+  address = written.address.now;
+  kind = written.kind.now;
+  random_number = written.random_number.now;
+  diversifier = written.diversifier;
+  ltk = written.ltk.now;
+  size = written.size;
+  authenticated = written.authenticated;
+  secure = written.secure;
+}
+
+-- a diversifier has 16 bits
+abbrev pub diversifier_of : Option ℤ → Result (Option ℕ) KeyFault
+diversifier_of None = Ok None
+diversifier_of (Some (pos diversifier)) = if nat_lt diversifier 65536 then Ok (Some diversifier) else Err Shape
+diversifier_of (Some (negsuc _)) = Err Shape
+
+abbrev pub written_at : Members → Result Written KeyFault
+written_at members = do
+  ediv ← diversifier_of (integer_at (codes "ediv") members)
+  address ← required (text_at (codes "address") members) Missing
+  kind ← required (text_at (codes "kind") members) Missing
+  random_number ← required (text_at (codes "rand") members) Missing
+  diversifier ← required ediv Missing
+  ltk ← required (text_at (codes "ltk") members) Missing
+  size ← required (integer_at (codes "size") members) Missing
+  authenticated ← required (boolean_at (codes "authenticated") members) Missing
+  Ok (record {
+    address = address;
+    kind = kind;
+    random_number = random_number;
+    diversifier = diversifier;
+    ltk = ltk;
+    size = size;
+    authenticated = authenticated;
+    secure = flag_at (codes "secure") members;
+  })
+
+-- the size of a key: from 7 to 16 octets (Core 5.0, Vol 3 Part H, 2.3.4)
+abbrev pub size_of : ℤ → Option ℕ
+size_of (pos size) = if nat_le 7 size && nat_le size 16 then Some size else None
+size_of (negsuc _) = None
+
+-- a key of LE Secure Connections has the random number and the diversifier 0 (Core 5.0, Vol 3 Part H, 2.4.4)
+abbrev pub is_zero : List ℕ → ℕ → Bool
+is_zero random_number diversifier = bytes_eq random_number (replicate 8 0) && (diversifier == 0)
+
+abbrev pub entry_of : Written → Result Entry KeyFault
+entry_of written = do
+  address ← required (address_of written.address) BadAddress
+  kind ← required (kind_of written.kind) BadAddress
+  random_number ← required (result_ok (decode_sized written.random_number 8)) BadHex
+  ltk ← required (result_ok (decode_sized written.ltk 16)) BadHex
+  size ← required (size_of written.size) BadSize
+  _ ← unless (not written.secure || is_zero random_number written.diversifier) NotZero
+  Ok (record {
+    peer = record { kind = kind; address = address };
+    random_number = random_number;
+    diversifier = written.diversifier;
+    key = record {
+      ltk = ltk;
+      facts = record { size = size; authenticated = written.authenticated; secure = written.secure };
+    };
+  })
+
+-- an entry behind others, at most 64 in all, none of which answers the same request
+abbrev pub entry_after : List Entry → Data → Result Entry KeyFault
+entry_after entries value = do
+  _ ← unless (nat_lt (length entries) 64) TooMany
+  members ← required (as_table value) Shape
+  _ ← unless (is_shaped entry_keys members) Shape
+  written ← written_at members
+  entry ← entry_of written
+  _ ← unless (not (list_any (is_for entry.peer entry.random_number entry.diversifier) entries)) Twice
+  Ok entry

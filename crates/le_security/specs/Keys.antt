@@ -1,0 +1,21 @@
+-- The keys that are provisioned, in the order of their file, and how they are looked up: this profile's own.
+use Rattle.std.specs.Prelude.{ℕ, Bool, List, slice_get, Option}
+use Rattle.std.specs.List.{find, list_any}
+use Rattle.std.specs.Option.{option_map}
+use Rattle.le_hci.specs.declared.peer.Peer.{Peer}
+use Rattle.le_security.specs.declared.entry.Entry.{Entry}
+use Rattle.le_security.specs.declared.entry.Key.{Key}
+use Rattle.le_security.specs.Entry.{same_peer, is_for}
+
+-- whether a peer has a key
+abbrev pub is_known : List Entry → Peer → Bool
+is_known entries peer = list_any (λ (entry : Entry). same_peer entry.peer peer) entries
+
+-- the key that is asked for by peer, random number and diversifier
+abbrev pub answer_of : List Entry → Peer → List ℕ → ℕ → Option Key
+answer_of entries peer random_number diversifier =
+    option_map (λ (entry : Entry). entry.key) (find (is_for peer random_number diversifier) entries)
+
+-- the peer of the key at a place, counted from 0
+abbrev pub peer_at : List Entry → ℕ → Option Peer
+peer_at entries at = option_map (λ (entry : Entry). entry.peer) (slice_get entries at)

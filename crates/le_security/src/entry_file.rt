@@ -1,0 +1,180 @@
+//! The entries of a key file.
+
+ghost use Rattle.std.specs.Prelude.{◌≡◌, ◌≢◌, IfErr};
+ghost use Rattle.std.specs.List.{list_any};
+ghost use Rattle.std.specs.Result.{result_map_both};
+ghost use Rattle.toml.specs.View.{view, table_view};
+ghost use Rattle.le_security.specs.declared.key_fault.KeyFault.TheVariants.{NotToml};
+ghost use Rattle.le_security.specs.Entry.{is_for};
+ghost use Rattle.le_security.specs.EntryFile.{written_view, diversifier_of, written_at, size_of, is_zero, entry_of, entry_after};
+
+use crate::address;
+use crate::entry::{Entry, Key};
+use crate::key_fault::KeyFault;
+use att_policy::KeyFacts;
+use le_hci::Peer;
+use toml::{Table, Value};
+use toml_tables::{Key as Listed, Shape};
+
+/// The most entries that a key file may have.
+const MAX_ENTRIES: usize = 64;
+
+/// The keys of an entry.
+const ENTRY: [Listed; 8] = [
+    Listed {
+        name: "address",
+        shape: Shape::Text,
+    },
+    Listed {
+        name: "kind",
+        shape: Shape::Text,
+    },
+    Listed {
+        name: "rand",
+        shape: Shape::Text,
+    },
+    Listed {
+        name: "ediv",
+        shape: Shape::Integer,
+    },
+    Listed {
+        name: "ltk",
+        shape: Shape::Text,
+    },
+    Listed {
+        name: "size",
+        shape: Shape::Integer,
+    },
+    Listed {
+        name: "authenticated",
+        shape: Shape::Boolean,
+    },
+    Listed {
+        name: "secure",
+        shape: Shape::Boolean,
+    },
+];
+
+/// What an entry writes, before it is judged.
+#[derive(Clone, Copy, Debug)]
+pub struct Written<'a> {
+    pub address: &'a str,
+    pub kind: &'a str,
+    pub random_number: &'a str,
+    pub diversifier: u16,
+    pub ltk: &'a str,
+    pub size: i64,
+    pub authenticated: bool,
+    pub secure: bool,
+}
+
+/// The entry that an element of a key file describes, behind the entries before it, or its first
+/// fault.
+pub fn read_entry(entries: &[Entry], element: &Value) -> Result<Entry, KeyFault>
+    ensures entry { result ≡ entry_after entries.now (view element.now) }
+    ensures is_toml { IfErr result (λ fault. fault ≢ NotToml) }
+{
+    if entries.len() >= MAX_ENTRIES {
+        return Err(KeyFault::TooMany);
+    }
+    let table = element.as_table().ok_or(KeyFault::Shape)?;
+    if !toml_tables::is_shaped(table, &ENTRY) {
+        return Err(KeyFault::Shape);
+    }
+    let entry = judge(&read_written(table)?)?;
+    if is_answered(entries, &entry) {
+        return Err(KeyFault::Twice);
+    }
+    Ok(entry)
+}
+
+/// What an entry writes: `Shape` where its diversifier is out of range, `Missing` where a key that
+/// it has to have is not there.
+fn read_written<'a>(table: &'a Table) -> Result<Written<'a>, KeyFault>
+    ensures written { result_map_both written_view (λ fault. fault) result ≡ written_at (table_view table.now) }
+    ensures is_toml { IfErr result (λ fault. fault ≢ NotToml) }
+{
+    let diversifier = read_diversifier(toml_tables::integer(table, "ediv"))?;
+    Ok(Written {
+        address: toml_tables::text(table, "address").ok_or(KeyFault::Missing)?,
+        kind: toml_tables::text(table, "kind").ok_or(KeyFault::Missing)?,
+        random_number: toml_tables::text(table, "rand").ok_or(KeyFault::Missing)?,
+        diversifier: diversifier.ok_or(KeyFault::Missing)?,
+        ltk: toml_tables::text(table, "ltk").ok_or(KeyFault::Missing)?,
+        size: toml_tables::integer(table, "size").ok_or(KeyFault::Missing)?,
+        authenticated: toml_tables::boolean(table, "authenticated").ok_or(KeyFault::Missing)?,
+        secure: toml_tables::flag(table, "secure"),
+    })
+}
+
+/// The diversifier that is written, if any: `Shape` unless it is from 0 to 65,535.
+fn read_diversifier(number: Option<i64>) -> Result<Option<u16>, KeyFault>
+    ensures diversifier { result ≡ diversifier_of number }
+    ensures is_toml { IfErr result (λ fault. fault ≢ NotToml) }
+{
+    let Some(number) = number else {
+        return Ok(None);
+    };
+    let Ok(diversifier) = u16::try_from(number) else {
+        return Err(KeyFault::Shape);
+    };
+    Ok(Some(diversifier))
+}
+
+/// The entry that is written, or its first fault.
+fn judge(written: &Written<'_>) -> Result<Entry, KeyFault>
+    ensures entry { result ≡ entry_of (written_view written.now) }
+    ensures is_toml { IfErr result (λ fault. fault ≢ NotToml) }
+{
+    let address = address::read_address(written.address).ok_or(KeyFault::BadAddress)?;
+    let kind = address::read_kind(written.kind).ok_or(KeyFault::BadAddress)?;
+    let mut random_number = [0; 8];
+    if hex::decode_to_slice(written.random_number, &mut random_number).is_err() {
+        return Err(KeyFault::BadHex);
+    }
+    let mut ltk = [0; 16];
+    if hex::decode_to_slice(written.ltk, &mut ltk).is_err() {
+        return Err(KeyFault::BadHex);
+    }
+    let size = read_size(written.size).ok_or(KeyFault::BadSize)?;
+    if written.secure && !is_zero(random_number, written.diversifier) {
+        return Err(KeyFault::NotZero);
+    }
+    Ok(Entry {
+        peer: Peer { kind, address },
+        random_number,
+        diversifier: written.diversifier,
+        key: Key {
+            ltk,
+            facts: KeyFacts {
+                size,
+                authenticated: written.authenticated,
+                secure: written.secure,
+            },
+        },
+    })
+}
+
+/// The size of a key, in octets: `None` unless it is from 7 to 16.
+fn read_size(size: i64) -> Option<u8>
+    ensures { result ≡ size_of size }
+{
+    match u8::try_from(size) {
+        Ok(size @ 7..=16) => Some(size),
+        _ => None,
+    }
+}
+
+/// Whether a random number and a diversifier are 0.
+fn is_zero(random_number: [u8; 8], diversifier: u16) -> bool
+    ensures { result ≡ is_zero random_number diversifier }
+{
+    random_number == [0; 8] && diversifier == 0
+}
+
+/// Whether one of the entries answers the request that this one answers.
+fn is_answered(entries: &[Entry], entry: &Entry) -> bool
+    ensures { result ≡ list_any (is_for entry.now.peer entry.now.random_number entry.now.diversifier) entries.now }
+{
+    entries.iter().any(|other| other.is_for(&entry.peer, entry.random_number, entry.diversifier))
+}

@@ -1,0 +1,60 @@
+ghost use Rattle.std.specs.Prelude.{◌≡◌};
+ghost use Rattle.le_security.specs.declared.key_fault.KeyFault.TheVariants.{OutOfMemory};
+ghost use Rattle.le_security.specs.KeyFault.{number_of};
+
+use std::alloc::AllocError;
+
+/// Why a key file is refused: the first fault of the file, read from its beginning.
+#[derive(Clone, Copy, Debug, PartialEq, Eq)]
+pub enum KeyFault {
+    /// The text is not TOML.
+    NotToml,
+    /// A key that each entry has to have is not there.
+    Missing,
+    /// An address is not six pairs of hexadecimal digits joined by colons, or its kind is neither
+    /// `public` nor `random`.
+    BadAddress,
+    /// A random number or a long-term key has another number of hexadecimal digits than its own.
+    BadHex,
+    /// The size of a key is not from 7 to 16.
+    BadSize,
+    /// An earlier entry has the same peer, random number and diversifier.
+    Twice,
+    /// There are more than 64 entries.
+    TooMany,
+    /// Memory was refused.
+    OutOfMemory,
+    /// A key is unknown, or its value is of another TOML type than its own, or a diversifier is not
+    /// from 0 to 65,535.
+    Shape,
+    /// A key of LE Secure Connections has another random number or diversifier than 0.
+    NotZero,
+}
+
+impl KeyFault {
+    /// The number by which the fault is told, from 1.
+    pub fn number(self) -> u8
+        ensures { result ≡ number_of self }
+    {
+        match self {
+            KeyFault::NotToml => 1,
+            KeyFault::Missing => 2,
+            KeyFault::BadAddress => 3,
+            KeyFault::BadHex => 4,
+            KeyFault::BadSize => 5,
+            KeyFault::Twice => 6,
+            KeyFault::TooMany => 7,
+            KeyFault::OutOfMemory => 8,
+            KeyFault::Shape => 9,
+            KeyFault::NotZero => 10,
+        }
+    }
+}
+
+impl From<AllocError> for KeyFault {
+    ghost from_gives = { λ _ fault. fault ≡ OutOfMemory };
+
+    fn from(_refused: AllocError) -> Self {
+        KeyFault::OutOfMemory
+    }
+}

@@ -1,0 +1,158 @@
+ghost use Rattle.std.specs.Prelude.{◌≡◌, [], ◌∷◌, ◌++◌, length, OnOk, OnErr};
+ghost use Rattle.std.specs.Option.{option_copied};
+ghost use Rattle.le_security.specs.Keys.{is_known, answer_of, peer_at};
+
+use crate::entry::{Entry, Key};
+use le_hci::Peer;
+use std::alloc::{AllocError, Global};
+use std::marker::Model;
+
+/// The keys that are provisioned for peers, in the order of their file.
+#[derive(Drop)]
+pub struct Keys {
+    entries: Vec<Entry>,
+}
+
+impl Model for Keys {
+    ghost use Rattle.std.specs.Prelude.{List};
+    ghost use Rattle.le_security.specs.declared.entry.Entry.{Entry};
+
+    ghost Value = { List Entry };
+
+    ghost view = { λ keys. keys.entries.items };
+}
+
+impl Keys {
+    /// No keys.
+    pub(crate) fn new(alloc: Global) -> Self
+        ensures { result ≡ [] }
+    {
+        Keys {
+            entries: Vec::new(alloc),
+        }
+    }
+
+    /// Adds a key at the end.
+    pub(crate) fn push(&mut self, entry: Entry) -> Result<(), AllocError>
+        ensures pushed { OnOk result (self.new ≡ self.old ++ entry ∷ []) }
+        ensures unchanged { OnErr result (self.new ≡ self.old) }
+    {
+        self.entries.push(entry)?;
+        Ok(())
+    }
+
+    /// The keys, in the order of their file.
+    pub(crate) fn entries(&self) -> &[Entry]
+        ensures { result.now ≡ self.now }
+    {
+        &self.entries
+    }
+
+    /// Whether there is a key of a peer.
+    pub fn known(&self, peer: &Peer) -> bool
+        ensures { result ≡ is_known self.now peer.now }
+    {
+        self.entries.iter().any(|entry| entry.peer == *peer)
+    }
+
+    /// The key of a peer that a request for it names by its random number and its diversifier.
+    pub fn answer(&self, peer: &Peer, random_number: [u8; 8], diversifier: u16) -> Option<&Key>
+        ensures { option_copied result ≡ answer_of self.now peer.now random_number diversifier }
+    {
+        let entry = self
+            .entries
+            .iter()
+            .find(|entry| entry.is_for(peer, random_number, diversifier))?;
+        Some(&entry.key)
+    }
+
+    /// How many keys there are.
+    pub fn count(&self) -> usize
+        ensures { result ≡ length self.now }
+    {
+        self.entries.len()
+    }
+
+    /// The peer of the key at a place, counted from 0 in the order of the file.
+    pub fn peer(&self, at: usize) -> Option<&Peer>
+        ensures { option_copied result ≡ peer_at self.now at }
+    {
+        Some(&self.entries.get(at)?.peer)
+    }
+}
+
+#[cfg(test)]
+mod tests {
+    use super::*;
+    use crate::examples::{KEYS, SECURE_KEY};
+    use att_policy::KeyFacts;
+    use le_hci::{PUBLIC_ADDRESS, RANDOM_ADDRESS};
+    use std::test::Fail;
+
+    const PHONE: Peer = Peer {
+        kind: RANDOM_ADDRESS,
+        address: [0x01, 0x00, 0x00, 0x00, 0x00, 0xc0],
+    };
+
+    const TABLET: Peer = Peer {
+        kind: PUBLIC_ADDRESS,
+        address: [0x55, 0x44, 0x33, 0x22, 0x11, 0x00],
+    };
+
+    const WATCH: Peer = Peer {
+        kind: RANDOM_ADDRESS,
+        address: [0x02, 0x00, 0x00, 0x00, 0x00, 0xc0],
+    };
+
+    #[test]
+    fn peers(rt: HostRuntime) {
+        let keys = Keys::read(rt.alloc(), KEYS).expect(&rt, "the keys");
+        assert_eq!(rt; keys.count(), 3);
+        for (place, peer) in [(0, PHONE), (1, TABLET), (2, TABLET)] {
+            assert!(rt; keys.peer(place) == Some(&peer), "{place}");
+        }
+        assert!(rt; keys.peer(3).is_none());
+        assert!(rt; keys.known(&PHONE));
+        assert!(rt; keys.known(&TABLET));
+        assert!(rt; !keys.known(&WATCH));
+        let public_phone = Peer {
+            kind: PUBLIC_ADDRESS,
+            ..PHONE
+        };
+        assert!(rt; !keys.known(&public_phone));
+    }
+
+    #[test]
+    fn answers(rt: HostRuntime) -> Result<(), Fail> {
+        let text = format!(in rt.alloc(); "{KEYS}{SECURE_KEY}")?;
+        let keys = Keys::read(rt.alloc(), &text).expect(&rt, "the keys");
+        let key = keys
+            .answer(&PHONE, [0x01; 8], 257)
+            .expect(&rt, "the phone's key");
+        assert_eq!(rt;
+            key.ltk,
+            *b"\x00\x11\x22\x33\x44\x55\x66\x77\x88\x99\xaa\xbb\xcc\xdd\xee\xff"
+        );
+        assert!(rt;
+            key.facts
+                == KeyFacts {
+                    size: 16,
+                    authenticated: false,
+                    secure: false,
+                }
+        );
+        assert!(rt; keys.answer(&PHONE, [0x02; 8], 257).is_none());
+        assert!(rt; keys.answer(&PHONE, [0x01; 8], 258).is_none());
+        assert!(rt; keys.answer(&TABLET, [0x01; 8], 257).is_none());
+        let short = keys
+            .answer(&TABLET, [0x03; 8], 771)
+            .expect(&rt, "the tablet's second key");
+        assert_eq!(rt; short.facts.size, 7);
+        let secure = keys
+            .answer(&WATCH, [0x00; 8], 0)
+            .expect(&rt, "the secure key");
+        assert!(rt; secure.facts.secure);
+        assert_eq!(rt; secure.ltk[0], 0x0f);
+        Ok(())
+    }
+}

@@ -1,0 +1,17 @@
+//! Keys and links: the keys that are provisioned for peers, and what a link's key is worth. (Core
+//! 5.0, Vol 3 Part C, 10.2)
+#![tactic(auto)]
+
+mod address;
+mod entry;
+mod entry_file;
+pub mod examples;
+mod key_fault;
+mod key_file;
+mod keys;
+mod link;
+
+pub use entry::Key;
+pub use key_fault::KeyFault;
+pub use keys::Keys;
+pub use link::{Link, LinkChange};

@@ -1,0 +1,151 @@
+ghost use Rattle.std.specs.Prelude.{◌≡◌, List, option_map};
+ghost use Rattle.le_security.specs.Link.{Step, no_key, with_asked, after_encryption, after_refresh, change_of, after_steps, key_after};
+
+use crate::entry::Key;
+use att_policy::KeyFacts;
+use std::marker::Model;
+
+/// What an event of encryption did to a link.
+#[derive(Clone, Copy, Debug, PartialEq, Eq)]
+pub enum LinkChange {
+    /// It had no key, and has none.
+    Same,
+    /// It has a key.
+    Raised,
+    /// It had a key, and has none.
+    Lost,
+}
+
+/// The security of one link: the key that it is encrypted with, as far as that is known. (Core 5.0,
+/// Vol 3 Part C, 10.2)
+#[derive(Debug, Drop)]
+pub struct Link {
+    asked: Option<KeyFacts>,
+    key: Option<KeyFacts>,
+}
+
+impl Model for Link {
+    ghost use Rattle.le_security.specs.Link.{Linking};
+
+    ghost Value = { Linking };
+
+    ghost view = { λ link. record { asked = link.asked; key = link.key } };
+}
+
+impl Link {
+    /// A link that is not encrypted, of which no key was asked for.
+    pub fn new() -> Self
+        ensures { result ≡ no_key }
+    {
+        Link {
+            asked: None,
+            key: None,
+        }
+    }
+
+    /// The controller asked for a key, and this was the answer.
+    pub fn request(&mut self, answer: Option<&Key>)
+        ensures { self.new ≡ with_asked self.old (option_map (λ key. key.now.facts) answer.entry) }
+    {
+        self.asked = answer.map(|key| key.facts);
+    }
+
+    /// Encryption was turned on, or off where `enabled` is 0, or could not be changed, where
+    /// `status` is not 0: Core 5.0, Vol 2 Part E, 7.7.8.
+    pub fn encryption(&mut self, status: u8, enabled: u8) -> LinkChange
+        ensures link { self.new ≡ after_encryption self.old status enabled }
+        ensures change { result ≡ change_of self.old self.new }
+    {
+        let encrypted = status == 0 && enabled != 0;
+        let asked = self.asked;
+        self.replace(if encrypted { asked } else { None })
+    }
+
+    /// The key of the encrypted link was changed, or could not be, where `status` is not 0: Core 5.0,
+    /// Vol 2 Part E, 7.7.39.
+    pub fn refresh(&mut self, status: u8) -> LinkChange
+        ensures link { self.new ≡ after_refresh self.old status }
+        ensures change { result ≡ change_of self.old self.new }
+    {
+        let asked = self.asked;
+        self.replace(if status == 0 { asked } else { None })
+    }
+
+    /// What is known of the link's key, if it has one.
+    #[tactic(auto, using(crate::proofs::Links::key_of_steps))]
+    pub fn facts(&self) -> Option<KeyFacts>
+        ensures key { result ≡ self.now.key }
+        ensures after_any_steps { (steps : List Step) → self.now ≡ after_steps steps → result ≡ key_after steps }
+    {
+        self.key
+    }
+
+    /// Sets the link's key.
+    fn replace(&mut self, key: Option<KeyFacts>) -> LinkChange
+        ensures link { self.new ≡ record self.old { key = key } }
+        ensures change { result ≡ change_of self.old self.new }
+    {
+        let had_key = self.key.is_some();
+        self.key = key;
+        match (had_key, key.is_some()) {
+            (_, true) => LinkChange::Raised,
+            (true, false) => LinkChange::Lost,
+            (false, false) => LinkChange::Same,
+        }
+    }
+}
+
+#[cfg(test)]
+mod tests {
+    use super::*;
+
+    const KEY: Key = Key {
+        ltk: [0x00; 16],
+        facts: KeyFacts {
+            size: 16,
+            authenticated: false,
+            secure: false,
+        },
+    };
+
+    #[test]
+    fn asked_for_a_key_that_is_not_there(rt: HostRuntime) {
+        let mut link = Link::new();
+        assert!(rt; link.facts().is_none());
+        link.request(None);
+        assert!(rt; link.encryption(0x00, 0x01) == LinkChange::Same);
+        assert!(rt; link.facts().is_none());
+    }
+
+    #[test]
+    fn encrypted_and_lost(rt: HostRuntime) {
+        let mut link = Link::new();
+        link.request(Some(&KEY));
+        assert!(rt; link.facts().is_none());
+        assert!(rt; link.encryption(0x00, 0x01) == LinkChange::Raised);
+        assert!(rt; link.facts() == Some(KEY.facts));
+        assert!(rt; link.encryption(0x06, 0x01) == LinkChange::Lost);
+        assert!(rt; link.facts().is_none());
+        assert!(rt; link.encryption(0x00, 0x00) == LinkChange::Same);
+    }
+
+    #[test]
+    fn refreshed(rt: HostRuntime) {
+        let mut link = Link::new();
+        link.request(Some(&KEY));
+        assert!(rt; link.encryption(0x00, 0x02) == LinkChange::Raised);
+        let weaker = Key {
+            facts: KeyFacts {
+                size: 7,
+                ..KEY.facts
+            },
+            ..KEY
+        };
+        link.request(Some(&weaker));
+        assert!(rt; link.facts() == Some(KEY.facts));
+        assert!(rt; link.refresh(0x00) == LinkChange::Raised);
+        assert!(rt; link.facts() == Some(weaker.facts));
+        assert!(rt; link.refresh(0x3d) == LinkChange::Lost);
+        assert!(rt; link.facts().is_none());
+    }
+}
