@@ -1,5 +1,5 @@
 -- A text of as many characters as an address has, character by character.
-use Rattle.std.proofs.Common.{◌≡◌, ℕ, zero, suc, ◌+◌, if◌then◌else◌, ◌==◌, ◌&&◌, Option, None, List, [], ◌∷◌, length, get_or, drop, ap, ◌∙◌, drop-cons, arith}
+use Rattle.std.proofs.Common.{◌≡◌, ℕ, zero, suc, ◌+◌, if◌then◌else◌, ◌==◌, ◌&&◌, None, List, [], ◌∷◌, length, get_or, drop, ap, drop-cons, arith}
 use Rattle.std.proofs.lemmas.Grind.{common_steps}
 use Rattle.le_security.specs.Address.{octets_of, address_of}
 

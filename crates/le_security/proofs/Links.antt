@@ -1,7 +1,7 @@
 -- A link's key after any steps.
-use Rattle.std.proofs.Common.{◌≡◌, Bool, ◌==◌, ◌&&◌, not, if◌then◌else◌, List, [], ◌∷◌, Option, None, refl, ap}
+use Rattle.std.proofs.Common.{◌≡◌, ◌==◌, ◌&&◌, not, if◌then◌else◌, List, [], ◌∷◌, Option, None, refl, ap}
 use Rattle.att_policy.specs.declared.standing.KeyFacts.{KeyFacts}
-use Rattle.le_security.specs.Link.{Linking, Step, Request, Encryption, Refresh, last_asked, key_after, after_steps}
+use Rattle.le_security.specs.Link.{Step, Request, Encryption, Refresh, last_asked, key_after, after_steps}
 
 pub asked_after : (steps : List Step) → (after_steps steps).asked ≡ last_asked steps
 asked_after [] = refl

@@ -1,6 +1,5 @@
 -- The entries of a key file: each is what its element writes, or its first fault. The format is this profile's own.
 use Rattle.std.specs.Prelude.{ℕ, ℤ, pos, negsuc, Bool, ◌==◌, ◌&&◌, ◌||◌, not, nat_le, nat_lt, if◌then◌else◌, List, [], ◌∷◌, length, replicate, codes, Option, Some, None, Result, Ok, Err}
-use Rattle.std.specs.List.{list_any}
 use Rattle.std.specs.Result.{result_ok}
 use Rattle.std.specs.Str.{bytes_eq}
 use Rattle.hex.specs.Hex.{decode_sized}
@@ -13,7 +12,7 @@ use Rattle.le_security.specs.declared.entry_file.Written.{Written as WrittenText
 use Rattle.le_security.specs.declared.key_fault.KeyFault.{KeyFault}
 use Rattle.le_security.specs.declared.key_fault.KeyFault.TheVariants.{Missing, BadAddress, BadHex, BadSize, Twice, TooMany, Shape, NotZero}
 use Rattle.le_security.specs.Address.{address_of, kind_of}
-use Rattle.le_security.specs.Entry.{is_for}
+use Rattle.le_security.specs.Keys.{has_answer}
 
 abbrev pub entry_keys : Keys
 entry_keys =
@@ -106,5 +105,5 @@ entry_after entries value = do
   _ ← unless (is_shaped entry_keys members) Shape
   written ← written_at members
   entry ← entry_of written
-  _ ← unless (not (list_any (is_for entry.peer entry.random_number entry.diversifier) entries)) Twice
+  _ ← unless (not (has_answer entries entry)) Twice
   Ok entry

@@ -1,11 +1,20 @@
 -- The keys that are provisioned, in the order of their file, and how they are looked up: this profile's own.
-use Rattle.std.specs.Prelude.{ℕ, Bool, List, slice_get, Option}
-use Rattle.std.specs.List.{find, list_any}
+use Rattle.std.specs.Prelude.{ℕ, ◌≤◌, Bool, List, length, slice_get, Option}
+use Rattle.std.specs.List.{find, list_any, count_by}
 use Rattle.std.specs.Option.{option_map}
 use Rattle.le_hci.specs.declared.peer.Peer.{Peer}
 use Rattle.le_security.specs.declared.entry.Entry.{Entry}
 use Rattle.le_security.specs.declared.entry.Key.{Key}
 use Rattle.le_security.specs.Entry.{same_peer, is_for}
+
+-- there are at most 64 of them, and at most one for each request
+pub record AreProvisioned (entries : List Entry) : Type 0 where
+  pub within : length entries ≤ 64
+  pub once : (peer : Peer) (random_number : List ℕ) (diversifier : ℕ) → count_by (is_for peer random_number diversifier) entries ≤ 1
+
+-- whether the request that an entry answers has an answer
+abbrev pub has_answer : List Entry → Entry → Bool
+has_answer entries entry = list_any (is_for entry.peer entry.random_number entry.diversifier) entries
 
 -- whether a peer has a key
 abbrev pub is_known : List Entry → Peer → Bool

@@ -1,12 +1,11 @@
 //! The entries of a key file.
 
-ghost use Rattle.std.specs.Prelude.{◌≡◌, ◌≢◌, IfErr};
-ghost use Rattle.std.specs.List.{list_any};
+ghost use Rattle.std.specs.Prelude.{◌≡◌, ◌≢◌, ◌<◌, length, IfOk, IfErr, IsFalse};
 ghost use Rattle.std.specs.Result.{result_map_both};
 ghost use Rattle.toml.specs.View.{view, table_view};
 ghost use Rattle.le_security.specs.declared.key_fault.KeyFault.TheVariants.{NotToml};
-ghost use Rattle.le_security.specs.Entry.{is_for};
 ghost use Rattle.le_security.specs.EntryFile.{written_view, diversifier_of, written_at, size_of, is_zero, entry_of, entry_after};
+ghost use Rattle.le_security.specs.Keys.{has_answer};
 
 use crate::address;
 use crate::entry::{Entry, Key};
@@ -72,6 +71,8 @@ pub struct Written<'a> {
 /// fault.
 pub fn read_entry(entries: &[Entry], element: &Value) -> Result<Entry, KeyFault>
     ensures entry { result ≡ entry_after entries.now (view element.now) }
+    ensures room { IfOk result (λ _. length entries.now < 64) }
+    ensures once { IfOk result (λ entry. IsFalse (has_answer entries.now entry)) }
     ensures is_toml { IfErr result (λ fault. fault ≢ NotToml) }
 {
     if entries.len() >= MAX_ENTRIES {
@@ -174,7 +175,7 @@ fn is_zero(random_number: [u8; 8], diversifier: u16) -> bool
 
 /// Whether one of the entries answers the request that this one answers.
 fn is_answered(entries: &[Entry], entry: &Entry) -> bool
-    ensures { result ≡ list_any (is_for entry.now.peer entry.now.random_number entry.now.diversifier) entries.now }
+    ensures { result ≡ has_answer entries.now entry.now }
 {
     entries.iter().any(|other| other.is_for(&entry.peer, entry.random_number, entry.diversifier))
 }

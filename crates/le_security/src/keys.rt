@@ -1,6 +1,8 @@
-ghost use Rattle.std.specs.Prelude.{◌≡◌, [], ◌∷◌, ◌++◌, length, OnOk, OnErr};
+ghost use Rattle.std.specs.Prelude.{◌≡◌, ◌≤◌, ◌<◌, [], ◌∷◌, ◌++◌, length, OnOk, OnErr, IsFalse};
+ghost use Rattle.std.specs.List.{count_by};
 ghost use Rattle.std.specs.Option.{option_copied};
-ghost use Rattle.le_security.specs.Keys.{is_known, answer_of, peer_at};
+ghost use Rattle.le_security.specs.Entry.{is_for};
+ghost use Rattle.le_security.specs.Keys.{has_answer, is_known, answer_of, peer_at};
 
 use crate::entry::{Entry, Key};
 use le_hci::Peer;
@@ -15,11 +17,14 @@ pub struct Keys {
 
 impl Model for Keys {
     ghost use Rattle.std.specs.Prelude.{List};
+    ghost use Rattle.le_security.specs.Keys.{AreProvisioned};
     ghost use Rattle.le_security.specs.declared.entry.Entry.{Entry};
 
     ghost Value = { List Entry };
 
     ghost view = { λ keys. keys.entries.items };
+
+    ghost invariant = { λ keys. AreProvisioned keys.entries.items };
 }
 
 impl Keys {
@@ -34,6 +39,8 @@ impl Keys {
 
     /// Adds a key at the end.
     pub(crate) fn push(&mut self, entry: Entry) -> Result<(), AllocError>
+        requires room { length self.old < 64 }
+        requires once { IsFalse (has_answer self.old entry) }
         ensures pushed { OnOk result (self.new ≡ self.old ++ entry ∷ []) }
         ensures unchanged { OnErr result (self.new ≡ self.old) }
     {
@@ -57,7 +64,8 @@ impl Keys {
 
     /// The key of a peer that a request for it names by its random number and its diversifier.
     pub fn answer(&self, peer: &Peer, random_number: [u8; 8], diversifier: u16) -> Option<&Key>
-        ensures { option_copied result ≡ answer_of self.now peer.now random_number diversifier }
+        ensures key { option_copied result ≡ answer_of self.now peer.now random_number diversifier }
+        ensures only_one { count_by (is_for peer.now random_number diversifier) self.now ≤ 1 }
     {
         let entry = self
             .entries
@@ -68,7 +76,8 @@ impl Keys {
 
     /// How many keys there are.
     pub fn count(&self) -> usize
-        ensures { result ≡ length self.now }
+        ensures count { result ≡ length self.now }
+        ensures within { result ≤ 64 }
     {
         self.entries.len()
     }
