@@ -44,7 +44,7 @@ answer_from server pdu = outcome_of server.table server.row server.conn pdu
 abbrev pub server_after : Server → List ℕ → Server
 server_after server pdu =
     let outcome = answer_from server pdu in
-    record server { table = record server.table { values = outcome.values }; conn = outcome.conn }
+    record { table = record server.table { values = outcome.values }; row = outcome.row; conn = outcome.conn }
 
 -- what is printed in all, and the number of the first line that is not hexadecimal, with which the printing ends
 pub record Report : Type 0 where

@@ -20,7 +20,7 @@ onto (octet ∷ octets) [] = (octet ∷ octets) ∷ []
 onto (octet ∷ octets) (line ∷ lines) = (octet ∷ octets ++ line) ∷ lines
 
 abbrev pub server_of : Session → Server
-server_of session = record { table = session.table; row = session.row; conn = session.conn }
+server_of session = session.server
 
 -- the report on what is still to come, where it is these octets
 unfoldable pub report_from : Session → List ℕ → Report

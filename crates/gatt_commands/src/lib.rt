@@ -6,6 +6,7 @@ mod check;
 mod fault;
 mod input;
 mod output;
+mod server;
 mod session;
 mod table_file;
 

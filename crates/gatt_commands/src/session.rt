@@ -1,26 +1,20 @@
 ghost use Rattle.std.specs.Prelude.{◌≡◌, ◌≢◌, ℕ, ◌+◌, ◌^◌, ◌<◌, ◌≤◌, [], ◌∷◌, ◌++◌, length, Some, None, OnOk, IfErr, IfOk};
 ghost use Rattle.std.specs.Io.KnownBytes.{Appends};
 ghost use Rattle.hex.specs.Hex.{encode_lower};
-ghost use Rattle.gatt_commands.specs.Att.{pdu_of, door, door_server, nothing, ends_at};
+ghost use Rattle.gatt_commands.specs.Att.{pdu_of, door_server, nothing, ends_at};
 ghost use Rattle.gatt_commands.specs.Session.{IsStartFault};
 
 use crate::fault::ShellFault;
 use crate::output::print;
+use crate::server::DoorServer;
 use arrayvec::ArrayVec;
-use att_pdu::PduBuf;
-use att_table::examples::DOOR;
-use att_table::{ConfigRow, Table, TableFault};
-use gatt_host::{Conn, answer};
 use std::alloc::Global;
 use std::io::Write;
 
-/// One connection of an unknown peer to the table of the example door lock, and the line of its
-/// input that has begun.
+/// A server of the example door lock, and the line of its input that has begun.
 #[derive(Drop)]
 pub(crate) struct Session {
-    table: Table,
-    row: ConfigRow,
-    conn: Conn,
+    server: DoorServer,
     /// The octets of the line so far: the longest line has 1,040 digits.
     line: ArrayVec<u8, 1040>,
     /// The number of the line, from 1.
@@ -36,14 +30,8 @@ impl Session {
         ensures number { IfOk result (λ session. session.number ≡ 1) }
         ensures refused { IfErr result IsStartFault }
     {
-        let table = door_table(alloc)?;
-        let Ok(conn) = Conn::new(alloc) else {
-            return Err(ShellFault::Memory);
-        };
         Ok(Session {
-            table,
-            row: ConfigRow::new(),
-            conn,
+            server: DoorServer::new(alloc)?,
             line: ArrayVec::new(),
             number: 1,
         })
@@ -111,33 +99,12 @@ impl Session {
         if hex::decode_to_slice(self.line.as_slice(), pdu).is_err() {
             return Err(ShellFault::NotHex(self.number));
         }
-        let mut answer_octets = ArrayVec::new();
-        let mut out = PduBuf::new(&mut answer_octets, self.conn.mtu());
-        let answered = answer(
-            &mut self.table,
-            &mut self.row,
-            &mut self.conn,
-            pdu,
-            &mut out,
-        );
-        if answered.due {
-            print_answer(answer_octets.as_slice(), writer)
+        let mut answer = ArrayVec::new();
+        if self.server.answer(pdu, &mut answer) {
+            print_answer(answer.as_slice(), writer)
         } else {
             print(b"-\n", writer)
         }
-    }
-}
-
-/// The table of the example door lock.
-#[tactic(auto, unfolding(crate::specs::Att::door))]
-fn door_table(alloc: Global) -> Result<Table, ShellFault>
-    ensures door { IfOk result (λ table. table ≡ door) }
-    ensures refused { IfErr result IsStartFault }
-{
-    match Table::read(alloc, DOOR) {
-        Ok(table) => Ok(table),
-        Err(TableFault::OutOfMemory) => Err(ShellFault::Memory),
-        Err(fault) => Err(ShellFault::Table(fault.number())),
     }
 }
 

@@ -1,0 +1,80 @@
+ghost use Rattle.std.specs.Prelude.{◌≡◌, [], is_some, unwrap_or, IfErr, IfOk};
+ghost use Rattle.gatt_commands.specs.Att.{answer_from, door, door_server, server_after};
+ghost use Rattle.gatt_commands.specs.Session.{IsStartFault};
+
+use crate::fault::ShellFault;
+use arrayvec::ArrayVec;
+use att_pdu::PduBuf;
+use att_table::examples::DOOR;
+use att_table::{ConfigRow, Table, TableFault};
+use gatt_host::{Conn, answer};
+use std::alloc::Global;
+use std::marker::Model;
+
+/// The table of the example door lock, and one connection of an unknown peer to it, with what its
+/// client has configured.
+#[derive(Drop)]
+pub(crate) struct DoorServer {
+    table: Table,
+    row: ConfigRow,
+    conn: Conn,
+}
+
+impl Model for DoorServer {
+    ghost use Rattle.att_table.specs.ConfigRow.{IsRowOf};
+    ghost use Rattle.gatt_commands.specs.Att.{Server};
+
+    ghost Value = { Server };
+
+    ghost view = { λ server. record { table = server.table; row = server.row; conn = server.conn } };
+
+    ghost invariant = { λ server. IsRowOf server.table.attributes server.row };
+}
+
+impl DoorServer {
+    /// A server whose connection has done nothing yet.
+    pub(crate) fn new(alloc: Global) -> Result<DoorServer, ShellFault>
+        ensures server { IfOk result (λ server. server ≡ door_server) }
+        ensures refused { IfErr result IsStartFault }
+    {
+        let table = door_table(alloc)?;
+        let Ok(conn) = Conn::new(alloc) else {
+            return Err(ShellFault::Memory);
+        };
+        Ok(DoorServer {
+            table,
+            row: ConfigRow::new(),
+            conn,
+        })
+    }
+
+    /// Serves a PDU: puts the answer into `octets` and tells whether one is due.
+    pub(crate) fn answer(&mut self, pdu: &[u8], octets: &mut ArrayVec<u8, 517>) -> bool
+        ensures answer { octets.new.items ≡ unwrap_or (answer_from self.old pdu.now).answer [] }
+        ensures due { result ≡ is_some (answer_from self.old pdu.now).answer }
+        ensures server { self.new ≡ server_after self.old pdu.now }
+    {
+        let mut out = PduBuf::new(octets, self.conn.mtu());
+        let answered = answer(
+            &mut self.table,
+            &mut self.row,
+            &mut self.conn,
+            pdu,
+            &mut out,
+        );
+        answered.due
+    }
+}
+
+/// The table of the example door lock.
+#[tactic(auto, unfolding(crate::specs::Att::door))]
+fn door_table(alloc: Global) -> Result<Table, ShellFault>
+    ensures door { IfOk result (λ table. table ≡ door) }
+    ensures refused { IfErr result IsStartFault }
+{
+    match Table::read(alloc, DOOR) {
+        Ok(table) => Ok(table),
+        Err(TableFault::OutOfMemory) => Err(ShellFault::Memory),
+        Err(fault) => Err(ShellFault::Table(fault.number())),
+    }
+}
