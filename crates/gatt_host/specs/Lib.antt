@@ -1,3 +1,4 @@
 pub mod Answer
 pub mod Conn
 pub mod Connection
+pub mod PreparedWrites
