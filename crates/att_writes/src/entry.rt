@@ -1,6 +1,6 @@
 /// A write into the value of one attribute.
 #[derive(Clone, Copy, Debug)]
-pub struct EntryRef<'a> {
+pub(crate) struct EntryRef<'a> {
     /// The handle of the attribute.
     pub handle: u16,
     /// The offset in its value, in octets.

@@ -19,7 +19,7 @@ const INDICATION: u8 = 0x02;
 
 /// The error code by which a client is refused a write, if it is, once the entries at these earlier
 /// places are written.
-pub fn fault_of(
+pub(crate) fn fault_of(
     access: Access,
     table: &Table,
     standing: &Standing,

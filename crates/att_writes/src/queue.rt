@@ -14,7 +14,7 @@ const MAX_OCTETS: usize = 1024;
 
 /// Where a prepared write is to be made, and how many octets its part has.
 #[derive(Clone, Copy, Debug)]
-pub struct Place {
+pub(crate) struct Place {
     /// The handle of the attribute.
     pub handle: u16,
     /// The offset in its value, in octets.
@@ -25,7 +25,7 @@ pub struct Place {
 
 impl Place {
     /// The entry with this part.
-    pub fn entry(self, part: &[u8]) -> EntryRef<'_>
+    pub(crate) fn entry(self, part: &[u8]) -> EntryRef<'_>
         ensures { entry_of result ≡ record { handle = self.handle; offset = self.offset; part = part.now } }
     {
         EntryRef {
@@ -70,7 +70,7 @@ impl Queue {
 
     /// Whether the queue takes one more entry, with this part.
     #[tactic(auto, using(crate::proofs::Laid::laid))]
-    pub fn has_room(&self, part: &[u8]) -> bool
+    pub(crate) fn has_room(&self, part: &[u8]) -> bool
         ensures { result ≡ has_room self.now part.now }
     {
         self.places.len() < MAX_ENTRIES && self.octets.len() + part.len() <= MAX_OCTETS
@@ -78,7 +78,7 @@ impl Queue {
 
     /// Adds an entry at the end. It takes no memory.
     #[tactic(auto, using(crate::proofs::Laid::laid))]
-    pub fn push(&mut self, entry: EntryRef<'_>)
+    pub(crate) fn push(&mut self, entry: EntryRef<'_>)
         requires room { IsTrue (has_room self.old entry.part.now) }
         ensures { self.new ≡ self.old ++ entry_of entry.entry ∷ [] }
     {
@@ -92,7 +92,7 @@ impl Queue {
     }
 
     /// Where the entries are to be made, and their parts, one behind the other.
-    pub fn parts(&self) -> (&[Place], &[u8])
+    pub(crate) fn parts(&self) -> (&[Place], &[u8])
         ensures entries { entries_in result.0.now result.1.now ≡ self.now }
         ensures sizes { sizes_of result.0.now ≡ length result.1.now }
         ensures within { length result.0.now ≤ 32 }
@@ -101,7 +101,7 @@ impl Queue {
     }
 
     /// Drops all entries.
-    pub fn clear(&mut self)
+    pub(crate) fn clear(&mut self)
         ensures { self.new ≡ [] }
     {
         self.places.clear();

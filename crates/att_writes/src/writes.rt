@@ -88,7 +88,7 @@ fn write_at_once(
 }
 
 /// Writes an entry that fits.
-pub fn put(table: &mut Table, row: &mut ConfigRow, entry: EntryRef<'_>)
+pub(crate) fn put(table: &mut Table, row: &mut ConfigRow, entry: EntryRef<'_>)
     requires row { IsRowOf table.old.attributes row.old }
     requires fits { Fits table.old.attributes (stored_in table.old row.old) (entry_of entry) }
     ensures values { table.new.values ≡ (after_entry table.old.attributes (stored_in table.old row.old) (entry_of entry.entry)).values }

@@ -98,6 +98,20 @@ fn ends_at_the_first_bad_line(rt: HostRuntime) -> Result<(), Fail> {
     Ok(())
 }
 
+/// A value is written in two parts, and read before and after.
+#[test]
+fn answers_a_long_write(rt: HostRuntime) -> Result<(), Fail> {
+    let mut input: &[u8] = b"1615000000426f6c7420776f726e2e2053656e64206120\n\
+        16150012006e6577206f6e652e\n0a1500\n1801\n0a1500\n0c15001600\n";
+    let output: &[u8] = b"1715000000426f6c7420776f726e2e2053656e64206120\n\
+        17150012006e6577206f6e652e\n0b\n19\n\
+        0b426f6c7420776f726e2e2053656e642061206e657720\n0d6f6e652e\n";
+    let mut printed = Vec::new(rt.alloc());
+    assert_eq!(rt; att_lines(rt.alloc(), &mut input, &mut printed), Ok(()));
+    assert_eq!(rt; printed.as_slice(), output);
+    Ok(())
+}
+
 #[test]
 fn takes_lines_of_1040_digits(rt: HostRuntime) -> Result<(), Fail> {
     let digits = [b'0'; 1041];
