@@ -1,3 +1,5 @@
 pub mod Inputs
+pub mod KeyFiles
 pub mod Sessions
 pub mod TableFiles
+pub mod Texts

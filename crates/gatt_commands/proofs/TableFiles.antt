@@ -1,18 +1,15 @@
--- Octets that are text, and those that are not.
-use Rattle.std.proofs.Common.{◌≡◌, ℕ, Bool, true, false, List, Err, refl}
+-- Table files that are text, and those that are not.
+use Rattle.std.proofs.Common.{◌≡◌, ℕ, List, Err, refl}
 use Rattle.std.specs.Str.{IsUtf8, is_utf8}
-use Rattle.std.proofs.lemmas.Str.{IsUtf8-from_is_utf8, is_utf8-from_IsUtf8}
+use Rattle.std.proofs.lemmas.Str.{is_utf8-from_IsUtf8}
 use Rattle.att_table.specs.declared.table_fault.TableFault.TheVariants.{NotToml}
 use Rattle.att_table.specs.TableFile.{table_read}
 use Rattle.gatt_commands.specs.TableFile.{table_in}
+use Rattle.gatt_commands.proofs.Texts.{no_text}
 
 pub of_text : (octets : List ℕ) → IsUtf8 octets → table_in octets ≡ table_read octets
 unfolding table_in
 of_text octets is = rw (is_utf8-from_IsUtf8 octets is) refl
-
-no_text : (octets : List ℕ) (test : Bool) → is_utf8 octets ≡ test → ¬ (IsUtf8 octets) → test ≡ false
-no_text octets true e not = absurd (not (IsUtf8-from_is_utf8 octets e))
-no_text octets false e not = refl
 
 pub of_no_text : (octets : List ℕ) → ¬ (IsUtf8 octets) → table_in octets ≡ Err NotToml
 unfolding table_in

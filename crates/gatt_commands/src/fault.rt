@@ -87,8 +87,12 @@ pub fn status(fault: &ShellFault) -> u8
 }
 
 /// Appends a text and a number, which has at most 20 digits.
-pub(crate) fn push_numbered(out: &mut ArrayVec<u8, 40>, before: &str, number: u64)
-    requires { array_vec_len out.old + length before.now + 20 ≤ 40 }
+pub(crate) fn push_numbered<const CAP: usize>(
+    out: &mut ArrayVec<u8, CAP>,
+    before: &str,
+    number: u64,
+)
+    requires { array_vec_len out.old + length before.now + 20 ≤ CAP }
     ensures items { out.new.items ≡ out.old.items ++ before.now ++ decimal number }
     ensures len { array_vec_len out.new ≤ array_vec_len out.old + length before.now + 20 }
 {
@@ -98,8 +102,8 @@ pub(crate) fn push_numbered(out: &mut ArrayVec<u8, 40>, before: &str, number: u6
 }
 
 /// Appends a text that fits, so the `unwrap` is proved and tests nothing.
-fn push_text(out: &mut ArrayVec<u8, 40>, piece: &str)
-    requires { array_vec_len out.old + length piece.now ≤ 40 }
+fn push_text<const CAP: usize>(out: &mut ArrayVec<u8, CAP>, piece: &str)
+    requires { array_vec_len out.old + length piece.now ≤ CAP }
     ensures items { out.new.items ≡ out.old.items ++ piece.now }
     ensures len { array_vec_len out.new ≡ array_vec_len out.old + length piece.now }
 {

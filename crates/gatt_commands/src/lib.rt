@@ -5,6 +5,7 @@ mod att;
 mod check;
 mod fault;
 mod input;
+mod key_file;
 mod output;
 mod server;
 mod session;

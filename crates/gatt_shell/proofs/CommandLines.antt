@@ -1,13 +1,15 @@
 -- What the words of a command line mean to the parser, computed.
 use Rattle.std.proofs.Common.{◌≡◌, ◌⊎◌, inl, inr, [], ◌∷◌, drop, codes, option_map, List, ℕ, Some, None, true, refl, subst, ap, ◌∙◌}
 use Rattle.std.specs.Box.{box_value}
-use Rattle.clap.specs.Words.{App, HasKind, Kinds, fault_of, is_simple_and_free, kind_of, subcommand_name_of, subcommand_of, subcommand_rows, subcommand_rows_of, takes}
+use Rattle.clap.specs.Words.{App, HasKind, Kinds, Text, fault_of, first_of, first_value, is_simple_and_free, kind_of, rows_of, subcommand_name_of, subcommand_of, subcommand_rows, subcommand_rows_of, takes}
+use Rattle.clap.specs.declared.parser.matches.Found.{Found}
 use Rattle.clap.specs.declared.ArgMatches.{ArgMatches}
 use Rattle.clap.specs.declared.parser.matches.ArgMatches.TheViews.{out-ArgMatches, out-SubCommand}
 use Rattle.clap.specs.declared.error.ErrorKind.{ErrorKind}
 use Rattle.clap.specs.declared.error.ErrorKind.TheVariants.{DisplayHelp, DisplayVersion, MissingSubcommand}
 use Rattle.clap.specs.declared.Error.{Error}
 use Rattle.clap.proofs.OnLiterals.{clap_on_literals}
+use Rattle.clap.proofs.WalkLemmas.{first_value-rows}
 use Rattle.gatt_shell.specs.CommandLine.{command_line}
 use Rattle.gatt_shell.specs.Refusal.{ShowsUnlessMemory, refusal_for}
 use Rattle.gatt_shell.specs.declared.words.Refusal.TheVariants.{Misunderstood, Memory}
@@ -94,6 +96,10 @@ name-rows m = elim (out-ArgMatches m).subcommand as (λ met. option_map (λ b. (
       | Some b ↦ refl
       | None ↦ refl
     ]
+
+-- what a getter gives is what the rows have
+pub first_in_rows : (found : Found) (name : Text) → first_value found name ≡ first_of name (rows_of found)
+first_in_rows found name = first_value-rows found name
 
 -- the kinds that an error may have, where the words behind the program's name are these
 pub kinds_at : (app : App) (words rest : List (List ℕ)) (error : Error) → app ≡ command_line → drop 1 words ≡ rest

@@ -1,6 +1,6 @@
 -- The command line that the program takes, as clap's specification reads one.
-use Rattle.std.specs.Prelude.{ℕ, List, [], codes, true, Some}
-use Rattle.clap.specs.Words.{App, Rule, Shape, Text, new_app, new_rule, with_rule, with_subcommand}
+use Rattle.std.specs.Prelude.{◌≡◌, ℕ, List, [], codes, true, Option, Some, IfSome, option_map}
+use Rattle.clap.specs.Words.{App, Row, Rule, Shape, Text, first_of, new_app, new_rule, with_rule, with_subcommand}
 use Rattle.clap.specs.declared.builder.action.ArgAction.TheVariants.{Set}
 use Rattle.gatt_shell.specs.declared.words.Choice.{Choice}
 use Rattle.gatt_shell.specs.declared.words.Choice.TheVariants.{Att, Check}
@@ -31,4 +31,14 @@ command_line = with_subcommand (with_subcommand (record { top = program_shape; s
 -- the name that chooses a command
 abbrev pub name_of : Choice → List ℕ
 name_of Att = codes "att"
-name_of (Check table) = codes "check"
+name_of (Check table keys) = codes "check"
+
+-- the files of a choice are those that these arguments of its command give
+abbrev pub HasFilesOf : List Row → Choice → Type 0
+HasFilesOf arguments Att = Unit {0}
+HasFilesOf arguments (Check table keys) =
+    (first_of (codes "TABLE") arguments ≡ Some table.now) × (first_of (codes "KEYS") arguments ≡ Some keys.now)
+
+-- the same of a command that is named with its arguments
+abbrev pub HasFiles : Option (Text × List Row) → Choice → Type 0
+HasFiles named choice = IfSome (option_map (λ name_and_arguments. name_and_arguments.1) named) (λ arguments. HasFilesOf arguments choice)

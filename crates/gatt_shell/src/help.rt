@@ -41,15 +41,16 @@ Example: the line `0a0300`, a Read Request of the handle 3, is answered by `0b4c
 pub const CHECK: &str = "check";
 
 /// What `check` does, in a line.
-pub const CHECK_ABOUT: &str = "Judge a table file, and say how many attributes it gives";
+pub const CHECK_ABOUT: &str = "Judge a table file and a key file, and count what they give";
 
 /// What `check` reads and prints.
 pub const CHECK_DETAILS: &str = "\
-Judge a table file, and say how many attributes it gives.
+Judge a table file and a key file, and say how many attributes and keys they give.
 
-A table file is TOML that describes services, characteristics and descriptors; docs/FORMATS.md
-has its keys and faults. Where it is refused, its first fault is told by its number on standard
-error. The key file is not opened yet.
+A table file is TOML that describes services, characteristics and descriptors, and a key file
+is TOML that has the long-term keys of known peers; docs/FORMATS.md has their keys and faults.
+The table file is judged first. Where a file is refused, its first fault is told by its number
+on standard error, and nothing is printed.
 
   gatt_shell check examples/door.toml examples/keys.toml";
 

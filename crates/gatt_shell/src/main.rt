@@ -3,6 +3,7 @@
 #![tactic(auto)]
 
 mod help;
+mod lazy_file;
 mod words;
 
 ghost use Rattle.std.specs.Prelude.{◌≡◌, Ok, Err, true, false};
@@ -10,7 +11,8 @@ ghost use Rattle.gatt_commands.specs.Fault.{status_of};
 
 use arrayvec::ArrayVec;
 use gatt_commands::ShellFault;
-use std::fs::{File, Files};
+use lazy_file::LazyFile;
+use std::fs::Files;
 use std::io::{ErrorKind, LineWriter, Write};
 use std::process::ExitCode;
 use std::rt::Env;
@@ -80,12 +82,16 @@ fn run_att(rt: &(impl Input + Print + AllocGlobal)) -> Result<(), ShellFault> {
     outcome_of(ran, writer.flush().is_ok())
 }
 
-/// Judges a table file, and prints how many attributes it gives.
-fn run_check(rt: &(impl Files + Print + AllocGlobal), table: &str) -> Result<(), ShellFault> {
-    let Ok(mut table) = File::open(rt, table) else {
-        return Err(ShellFault::Unreadable);
-    };
-    gatt_commands::check_files(rt.alloc(), &mut table, &mut io::writer(rt))
+/// Judges a table file and then a key file, and prints how many attributes and keys they give.
+/// Neither is opened before its turn.
+fn run_check(
+    rt: &(impl Files + Print + AllocGlobal),
+    table: &str,
+    keys: &str,
+) -> Result<(), ShellFault> {
+    let mut table = LazyFile::new(rt, table);
+    let mut keys = LazyFile::new(rt, keys);
+    gatt_commands::check_files(rt.alloc(), &mut table, &mut keys, &mut io::writer(rt))
 }
 
 /// The words of the command line. One that is no text is not understood.
@@ -101,7 +107,7 @@ fn words_of(rt: &(impl Env + AllocGlobal)) -> Result<Vec<String>, Refusal> {
 fn run_words(rt: &(impl Files + Input + Print + Eprint + AllocGlobal), words: &[String]) -> u8 {
     match words::chosen(rt.alloc(), words) {
         Ok(Choice::Att) => exit_status(rt, run_att(rt)),
-        Ok(Choice::Check { table }) => exit_status(rt, run_check(rt, table)),
+        Ok(Choice::Check { table, keys }) => exit_status(rt, run_check(rt, table, keys)),
         Err(refusal) => refusal_status(rt, &refusal),
     }
 }

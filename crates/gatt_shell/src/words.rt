@@ -3,9 +3,10 @@ ghost use Rattle.std.specs.Prelude.{◌≡◌, ◌⊎◌, [], ◌∷◌, map, dr
 ghost use Rattle.std.specs.Prelude.{IfSome, IfOk, IfErr, IsErrAnd, MatchResult, false};
 ghost use Rattle.clap.specs.Words.{IsAmong, app_of, fault_of, kind_of, shape_of};
 ghost use Rattle.clap.specs.declared.builder.Command.TheViews.{out-Command};
-ghost use Rattle.clap.specs.Words.{subcommand_name_of, subcommand_of};
+ghost use Rattle.clap.specs.Words.{found_of, rows_of, subcommand_name_of, subcommand_of, subcommand_rows_of};
 ghost use Rattle.clap.specs.Words.{rule_of, IsPlainArg};
 ghost use Rattle.gatt_shell.specs.CommandLine.{att_shape, file_rule, check_shape, command_line, name_of};
+ghost use Rattle.gatt_shell.specs.CommandLine.{HasFiles, HasFilesOf};
 ghost use Rattle.gatt_shell.specs.Refusal.{ShowsUnlessMemory, refusal_for};
 
 use crate::help;
@@ -22,6 +23,8 @@ pub enum Choice<'a> {
     Check {
         /// The table file.
         table: &'a str,
+        /// The key file.
+        keys: &'a str,
     },
 }
 
@@ -54,6 +57,7 @@ impl Refusal {
 /// The command that a parse has met.
 fn choice_in<'a>(matches: &ArgMatches<'a>) -> Result<Choice<'a>, Refusal>
     ensures named { IfOk result (λ choice. subcommand_name_of matches.now ≡ Some (name_of choice)) }
+    ensures files { IfOk result (HasFiles (subcommand_rows_of matches.now)) }
     ensures att { subcommand_name_of matches.now ≡ Some (codes "att") → result ≡ Ok Choice.Att }
     ensures err { IfErr result (λ refusal. refusal ≡ Refusal.Misunderstood) }
 {
@@ -68,11 +72,14 @@ fn choice_in<'a>(matches: &ArgMatches<'a>) -> Result<Choice<'a>, Refusal>
 }
 
 /// The choice of `check`, with its files.
+#[tactic(auto, using(crate::proofs::CommandLines::first_in_rows))]
 fn checking<'a>(arguments: &ArgMatches<'a>) -> Option<Choice<'a>>
-    ensures { IfSome result (λ choice. name_of choice ≡ codes "check") }
+    ensures name { IfSome result (λ choice. name_of choice ≡ codes "check") }
+    ensures files { IfSome result (HasFilesOf (rows_of (found_of arguments.now))) }
 {
     let table = arguments.get_str(help::TABLE)?;
-    Some(Choice::Check { table })
+    let keys = arguments.get_str(help::KEYS)?;
+    Some(Choice::Check { table, keys })
 }
 
 /// What is told where the parser refuses the words: its text only where help or the version was
@@ -140,10 +147,12 @@ fn command<'a>(alloc: Global) -> Result<Command<'a>, AllocError>
 /// The command that the words of the command line choose, of which the first is the program's
 /// own name.
 pub fn chosen<'a>(alloc: Global, words: &'a [String]) -> Result<Choice<'a>, Refusal>
-    // What is chosen is the command that the words name, and they have no fault.
+    // What is chosen is the command that the words name, with the files that they give, and they
+    // have no fault.
     ensures named { IfOk result (λ choice.
         option_map (λ named. named.0) (subcommand_of command_line (map string_bytes words.now))
         ≡ Some (name_of choice)) }
+    ensures files { IfOk result (HasFiles (subcommand_of command_line (map string_bytes words.now))) }
     ensures faultless { IfOk result (λ _.
         fault_of command_line (map string_bytes words.now) ≡ []) }
 

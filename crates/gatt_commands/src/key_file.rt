@@ -1,0 +1,37 @@
+//! Key files, as octets of an input.
+
+ghost use Rattle.std.specs.Prelude.{◌≡◌, ◌≢◌, ℕ, IfErr, IfOk, IfSome};
+ghost use Rattle.le_security.specs.Memory.{Gives};
+ghost use Rattle.gatt_commands.specs.KeyFile.{keys_in, AreRefusedAs, IsKeyFileFault};
+
+use crate::fault::ShellFault;
+use crate::input;
+use le_security::{KeyFault, Keys};
+use std::alloc::Global;
+use std::io::Read;
+use std::str;
+
+/// Reads a key file, and gives its keys.
+pub(crate) fn read_keys<R: Read>(alloc: Global, reader: &mut R) -> Result<Keys, ShellFault>
+    ensures keys { IfOk result (λ keys. IfSome (R.remaining reader.old) (λ octets. keys_in octets ≡ Ok keys)) }
+    ensures refused { (number : ℕ) → result ≡ Err (ShellFault.Keys number) → number ≢ 8
+        → IfSome (R.remaining reader.old) (λ octets. AreRefusedAs number (keys_in octets)) }
+    ensures faults { IfErr result IsKeyFileFault }
+{
+    let octets = input::read_all(alloc, reader)?;
+    match keys_in(alloc, octets.as_slice()) {
+        Ok(keys) => Ok(keys),
+        Err(fault) => Err(ShellFault::Keys(fault.number())),
+    }
+}
+
+/// The keys of a file with these octets: one that is not UTF-8 is not TOML.
+#[tactic(auto, using(crate::proofs::KeyFiles::of_text, crate::proofs::KeyFiles::of_no_text))]
+fn keys_in(alloc: Global, octets: &[u8]) -> Result<Keys, KeyFault>
+    ensures { Gives (keys_in octets.now) result }
+{
+    match str::from_utf8(octets) {
+        Ok(text) => Keys::read(alloc, text),
+        Err(_) => Err(KeyFault::NotToml),
+    }
+}
