@@ -159,6 +159,7 @@ impl Sender {
 }
 
 /// Writes the fragment of a PDU's frame that begins with the octet `gone`.
+#[tactic(auto, using(crate::proofs::Fragments::take_header, crate::proofs::Fragments::drop_header, crate::proofs::Fragments::flag_later))]
 fn write_fragment(
     handle: u16,
     channel: u16,
@@ -175,27 +176,22 @@ fn write_fragment(
     ensures { out.new.items ≡ acl_octets handle (flag_at gone) (take acl_len (drop gone (frame_of (channel, payload.now)))) }
 {
     if gone == 0 {
-        let first = first_fragment(channel, payload, acl_len);
-        write_acl(handle, FIRST_FRAGMENT, first.as_slice(), out);
+        let header = frame_header(channel, payload.len() as u16);
+        let fragment = part(payload, 0, acl_len - HEADER);
+        write_acl(handle, FIRST_FRAGMENT, &header, fragment, out);
     } else {
         let fragment = part(payload, gone - HEADER, acl_len);
-        write_acl(handle, CONTINUATION, fragment, out);
+        write_acl(handle, CONTINUATION, &[], fragment, out);
     }
 }
 
-/// The header of a PDU's frame, and as much of its payload as fits behind it.
-fn first_fragment(channel: u16, payload: &[u8], acl_len: usize) -> ArrayVec<u8, 251>
-    requires payload { length payload.now ≤ 517 }
-    requires least { 4 ≤ acl_len }
-    requires most { acl_len ≤ 251 }
-    ensures { result.items ≡ two_octets (length payload.now) ++ two_octets channel ++ take (acl_len - 4) payload.now }
+/// The header of a frame: the length of its payload, then its channel.
+fn frame_header(channel: u16, length: u16) -> [u8; HEADER]
+    ensures { result ≡ two_octets length ++ two_octets channel }
 {
-    let [size_low, size_high] = (payload.len() as u16).to_le_bytes();
+    let [size_low, size_high] = length.to_le_bytes();
     let [low, high] = channel.to_le_bytes();
-    let mut first = ArrayVec::new();
-    let _ = first.try_extend_from_slice(&[size_low, size_high, low, high]);
-    let _ = first.try_extend_from_slice(&payload[..payload.len().min(acl_len - HEADER)]);
-    first
+    [size_low, size_high, low, high]
 }
 
 /// As many octets from `start` on as there are, and at most `count`.
