@@ -28,4 +28,4 @@ abbrev pub octets_taken : {capacity : ℕ} → ArraySink capacity → List ℕ
 octets_taken sink = sink.octets.items
 
 abbrev pub failed_array_writes : {capacity : ℕ} → ArraySink capacity → Option ℕ
-failed_array_writes sink = sink.failed_writes
+failed_array_writes sink = sink.refused_writes

@@ -191,7 +191,7 @@ impl Source for SliceSource<'_> {
 #[derive(Drop)]
 pub struct ArraySink<const N: usize> {
     octets: ArrayVec<u8, N>,
-    failed_writes: Option<u64>,
+    refused_writes: Option<u64>,
 }
 
 impl<const N: usize> ArraySink<N> {
@@ -204,7 +204,7 @@ impl<const N: usize> ArraySink<N> {
     {
         ArraySink {
             octets: ArrayVec::new(),
-            failed_writes: Some(0),
+            refused_writes: Some(0),
         }
     }
 
@@ -219,12 +219,12 @@ impl<const N: usize> ArraySink<N> {
 impl<const N: usize> Sink for ArraySink<N> {
     ghost contents = { λ sink. Some sink.octets.items };
 
-    ghost failures = { λ sink. sink.failed_writes };
+    ghost failures = { λ sink. sink.refused_writes };
 
     fn write(&mut self, buf: &[u8]) -> Result<usize, Failed> {
         let count = buf.len().min(self.octets.remaining_capacity());
         if count == 0 && !buf.is_empty() {
-            self.failed_writes = one_more(self.failed_writes);
+            self.refused_writes = one_more(self.refused_writes);
             return Err(Failed);
         }
         let _ = self.octets.try_extend_from_slice(&buf[..count]);
