@@ -2,6 +2,8 @@
 #![tactic(auto)]
 
 mod conn;
+#[cfg(test)]
+mod initialisation_trace;
 mod server;
 
 pub use conn::Conn;
