@@ -66,10 +66,9 @@ fn advertising() -> ArrayVec<u8, 31> {
 }
 
 /// Writes a command as a packet of the transport.
-fn write(rt: &impl Abort, command: &Command<'_>, written: &mut ArrayVec<u8, 260>) {
+fn write(command: &Command<'_>, written: &mut ArrayVec<u8, 260>) {
     let mut octets = ArrayVec::new();
     le_hci::write_command(command, &mut octets);
-    assert!(rt; octets.len() <= 259);
     le_h4::write_command(octets.as_slice(), written);
 }
 
@@ -102,7 +101,7 @@ fn take(
         Ok(Event::ConnectionComplete { handle, peer, .. }) => {
             assert_eq!(rt; handle, 0x0040);
             assert_eq!(rt; peer.kind, RANDOM_ADDRESS);
-            write(rt, &Command::LeSetAdvertiseEnable, written);
+            write(&Command::LeSetAdvertiseEnable, written);
             init
         }
         event => panic!(rt; "{event:?}"),
@@ -126,7 +125,7 @@ fn complete(
         Err((fault, _)) => panic!(rt; "{fault:?}"),
     };
     if let Some(command) = init.command() {
-        write(rt, &command, written);
+        write(&command, written);
     }
     init
 }
@@ -138,7 +137,7 @@ fn initialisation_and_a_connection(rt: HostRuntime) {
         let mut init = Init::new(None, advertising());
         let mut written = ArrayVec::new();
         if let Some(command) = init.command() {
-            write(&rt, &command, &mut written);
+            write(&command, &mut written);
         }
         assert_eq!(rt; written.as_slice(), RESET.as_slice());
         for (sent, wanted) in EXCHANGES {

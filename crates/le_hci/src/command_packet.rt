@@ -7,9 +7,10 @@ use crate::command::Command;
 use arrayvec::ArrayVec;
 
 /// Replaces the content of `out` by a command packet, from its opcode on: Core 5.0, Vol 2 Part E,
-/// 5.4.1.
+/// 5.4.1. A packet has at most 258 octets.
 pub fn write_command(command: &Command<'_>, out: &mut ArrayVec<u8, 260>)
-    ensures { out.new.items ≡ packet_of (commanded command.now) }
+    ensures packet { out.new.items ≡ packet_of (commanded command.now) }
+    ensures fits { length out.new.items ≤ 258 }
 {
     let opcode = command.opcode();
     match command {
@@ -47,7 +48,8 @@ const ADVERTISING_DATA: usize = 31;
 
 fn write_packet(opcode: u16, parameters: &[u8], out: &mut ArrayVec<u8, 260>)
     requires { length parameters.now ≤ 255 }
-    ensures { out.new.items ≡ packet opcode parameters.now }
+    ensures packet { out.new.items ≡ packet opcode parameters.now }
+    ensures fits { length out.new.items ≤ 258 }
 {
     write_header(opcode, parameters.len() as u8, out);
     append(parameters, out);
@@ -70,7 +72,8 @@ fn append(octets: &[u8], out: &mut ArrayVec<u8, 260>)
 }
 
 fn write_advertising_parameters(opcode: u16, own_address_type: u8, out: &mut ArrayVec<u8, 260>)
-    ensures { out.new.items ≡ packet opcode (advertising_parameters own_address_type) }
+    ensures packet { out.new.items ≡ packet opcode (advertising_parameters own_address_type) }
+    ensures fits { length out.new.items ≤ 258 }
 {
     let parameters = [
         0xA0,
@@ -93,7 +96,8 @@ fn write_advertising_parameters(opcode: u16, own_address_type: u8, out: &mut Arr
 }
 
 fn write_advertising_data(opcode: u16, advertising: &ArrayVec<u8, 31>, out: &mut ArrayVec<u8, 260>)
-    ensures { out.new.items ≡ packet opcode (advertising_data advertising.now.items) }
+    ensures packet { out.new.items ≡ packet opcode (advertising_data advertising.now.items) }
+    ensures fits { length out.new.items ≤ 258 }
 {
     let octets = advertising.as_slice();
     write_header(opcode, 32, out);
@@ -112,7 +116,8 @@ fn fill_up(length: usize, out: &mut ArrayVec<u8, 260>)
 }
 
 fn write_key_reply(opcode: u16, handle: u16, key: &[u8; 16], out: &mut ArrayVec<u8, 260>)
-    ensures { out.new.items ≡ packet opcode (key_reply handle key.now) }
+    ensures packet { out.new.items ≡ packet opcode (key_reply handle key.now) }
+    ensures fits { length out.new.items ≤ 258 }
 {
     write_header(opcode, 18, out);
     append(&handle.to_le_bytes(), out);
