@@ -16,7 +16,7 @@ use arrayvec::ArrayVec;
 use toml::Value;
 
 /// A service of a table, by the handles of its first and its last attribute.
-#[derive(Clone, Copy, Debug, PartialEq, Eq)]
+#[derive(Clone, Copy)]
 pub struct ServiceHandles {
     /// The handle of its declaration.
     pub first: u16,

@@ -1,7 +1,7 @@
 //! The attributes of one type, found by halves among the handles of all in the order of their
 //! types: Core 5.0, Vol 3 Part F, 3.2.1.
 
-ghost use Rattle.std.specs.Prelude.{◌≡◌, ◌+◌, ◌<◌, ◌≤◌, ◌≢◌, length, IfOk};
+ghost use Rattle.std.specs.Prelude.{◌≡◌, ◌+◌, ◌-◌, ◌^◌, ◌<◌, ◌≤◌, ◌≢◌, min, length, IfOk};
 ghost use Rattle.att_table.specs.KindIndex.{is_before, place_from, IsIndex};
 ghost use Rattle.att_table.specs.OfType.{handles_of_type};
 ghost use Rattle.att_table.specs.Table.{kind_at, handles_by_kind, IsNumbered};
@@ -41,7 +41,10 @@ pub struct Counted {
 impl Steps for Counted {
     ghost count = { λ steps. steps.count };
 
-    fn tick(&mut self) {
+    fn tick(&mut self)
+        ensures counts { self.new.count ≤ self.old.count + 1 }
+        ensures one_more { self.new.count ≡ min (self.old.count + 1) (2 ^ 32 - 1) }
+    {
         self.count = self.count.saturating_add(1);
     }
 }

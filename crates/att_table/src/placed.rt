@@ -16,7 +16,7 @@ use bitflags::Flags;
 use toml::{Table, Value};
 
 /// An attribute with its value.
-#[derive(Debug, Drop)]
+#[derive(Drop)]
 pub struct Placed {
     /// The attribute.
     pub attr: Attr,
