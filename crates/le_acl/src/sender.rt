@@ -6,7 +6,7 @@ ghost use Rattle.le_h4.specs.Packet.{two_octets};
 
 use crate::pdus::{MAX_PDUS, Pdus};
 use arrayvec::ArrayVec;
-use le_h4::write_acl;
+use le_h4::{write_acl, write_acl_parts};
 use std::alloc::{AllocError, Global};
 use std::marker::Model;
 
@@ -178,10 +178,10 @@ fn write_fragment(
     if gone == 0 {
         let header = frame_header(channel, payload.len() as u16);
         let fragment = part(payload, 0, acl_len - HEADER);
-        write_acl(handle, FIRST_FRAGMENT, &header, fragment, out);
+        write_acl_parts(handle, FIRST_FRAGMENT, &header, fragment, out);
     } else {
         let fragment = part(payload, gone - HEADER, acl_len);
-        write_acl(handle, CONTINUATION, &[], fragment, out);
+        write_acl(handle, CONTINUATION, fragment, out);
     }
 }
 

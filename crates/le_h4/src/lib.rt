@@ -12,4 +12,4 @@ mod write;
 pub use deframer::{Deframer, Fed, H4Fault};
 pub use packet::PacketRef;
 pub use stream::{ArraySink, Failed, Reader, Sink, SliceSource, Source, Writer};
-pub use write::{write_acl, write_command};
+pub use write::{write_acl, write_acl_parts, write_command};

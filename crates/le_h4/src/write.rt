@@ -5,9 +5,26 @@ use crate::indicator;
 use arrayvec::ArrayVec;
 
 /// Writes an ACL packet in place of what `out` holds: a connection handle of 12 bits, the packet
-/// boundary flag, and at most 255 octets of data, which are `header` and then `octets`. Its broadcast
-/// flag is 0. (Core 5.0, Vol 2 Part E, 5.4.2)
-pub fn write_acl(handle: u16, pb: u8, header: &[u8], octets: &[u8], out: &mut ArrayVec<u8, 260>)
+/// boundary flag, and at most 255 octets of data. Its broadcast flag is 0. (Core 5.0, Vol 2 Part E,
+/// 5.4.2)
+pub fn write_acl(handle: u16, pb: u8, octets: &[u8], out: &mut ArrayVec<u8, 260>)
+    requires handle { handle < 2 ^ 12 }
+    requires pb { pb ≤ 3 }
+    requires octets { length octets.now ≤ 255 }
+    ensures { out.new.items ≡ 0x02 ∷ two_octets (handle + 2 ^ 12 * pb) ++ two_octets (length octets.now) ++ octets.now }
+{
+    write_acl_parts(handle, pb, &[], octets, out);
+}
+
+/// The same of data that stand in two places: at most 255 octets, those of `header` and then those
+/// of `octets`. So the header of a frame goes in front of its payload without a copy of both.
+pub fn write_acl_parts(
+    handle: u16,
+    pb: u8,
+    header: &[u8],
+    octets: &[u8],
+    out: &mut ArrayVec<u8, 260>,
+)
     requires handle { handle < 2 ^ 12 }
     requires pb { pb ≤ 3 }
     requires octets { length header.now + length octets.now ≤ 255 }
@@ -21,6 +38,7 @@ pub fn write_acl(handle: u16, pb: u8, header: &[u8], octets: &[u8], out: &mut Ar
         &[indicator::ACL, low, high, size_low, size_high],
         header,
     );
+    // There is room, so this is proved to take all of them.
     let _ = out.try_extend_from_slice(octets);
 }
 
@@ -53,7 +71,7 @@ mod tests {
         write_command(&[0x03, 0x0C, 0x00], &mut out);
         assert_eq!(rt; out.as_slice(), [0x01, 0x03, 0x0C, 0x00].as_slice());
         let frame = [0x05, 0x00, 0x04, 0x00, 0x0B, 0x4C, 0x6F, 0x63, 0x6B];
-        write_acl(0x0040, 0, &frame[..4], &frame[4..], &mut out);
+        write_acl_parts(0x0040, 0, &frame[..4], &frame[4..], &mut out);
         assert_eq!(rt;
             out.as_slice(),
             [
@@ -61,7 +79,7 @@ mod tests {
             ]
             .as_slice()
         );
-        write_acl(0x0EFF, 1, &[], &[], &mut out);
+        write_acl(0x0EFF, 1, &[], &mut out);
         assert_eq!(rt; out.as_slice(), [0x02, 0xFF, 0x1E, 0x00, 0x00].as_slice());
     }
 }
