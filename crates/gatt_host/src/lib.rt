@@ -5,6 +5,7 @@ mod conn;
 #[cfg(test)]
 mod initialisation_trace;
 mod server;
+mod writing;
 
 pub use conn::Conn;
 pub use server::{Answered, answer};

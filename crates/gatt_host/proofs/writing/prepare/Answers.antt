@@ -5,7 +5,7 @@ use Rattle.att_pdu.specs.PduBuf.{contents}
 use Rattle.att_writes.specs.Entry.{Entry}
 use Rattle.att_writes.specs.Queue.{prepare_fault}
 use Rattle.gatt_host.proofs.Prepared.{denied, taken, accepted}
-use Rattle.gatt_host.proofs.server.prepare.Goals as goal
+use Rattle.gatt_host.proofs.writing.prepare.Goals as goal
 
 pub returns-in-Denied-clause-outcome : goal.returns-in-Denied-clause-outcome
 returns-in-Denied-clause-outcome c = λ row.
