@@ -1,6 +1,6 @@
 -- The policy: the rules of an access in their order, what breaks each, and its error code.
 -- The codes are those of Core 5.0, Vol 3 Part F, 3.4.1.1; the order is this profile's own.
-use Rattle.std.specs.Prelude.{◌≡◌, ℕ, ◌<◌, Bool, true, false, ◌==◌, ◌&&◌, not, nat_lt, nat_le, is_none, if◌then◌else◌, List, [], ◌∷◌, Option, Some, None}
+use Rattle.std.specs.Prelude.{◌≡◌, ℕ, ◌+◌, ◌<◌, Bool, true, false, ◌==◌, ◌&&◌, not, nat_lt, nat_le, is_none, if◌then◌else◌, List, [], ◌∷◌, Option, Some, None}
 use Rattle.std.specs.Int.RustNames.{bit_and}
 use Rattle.std.specs.List.{find}
 use Rattle.std.specs.Option.{option_map, option_map_or}
@@ -111,3 +111,13 @@ IsPermitted access guard standing = (rule : Rule) → is_broken access guard sta
 pub record IsFirstBroken (access : Access) (guard : Option Guard) (standing : Standing) (rule : Rule) : Type 0 where
   pub broken : is_broken access guard standing rule ≡ true
   pub none_before : (earlier : Rule) → place_of earlier < place_of rule → is_broken access guard standing earlier ≡ false
+
+-- the bits of a client characteristic configuration that a value's properties allow: 1 for notification, 2 for indication (Core 5.0, Vol 3 Part G, 3.3.3.3)
+abbrev pub configuration_bits_of : Properties → ℕ
+configuration_bits_of properties =
+    (if has_property properties 0x10 then 1 else 0) + (if has_property properties 0x20 then 2 else 0)
+
+-- whether a client that has configured these bits may hear of a value: one of them is allowed, and nothing is unmet that reading needs. The property to read is not needed (this profile's own)
+abbrev pub may_hear_of : Guard → ℕ → Standing → Bool
+may_hear_of guard bits standing =
+    not (bit_and bits (configuration_bits_of guard.properties) == 0) && is_none (first_unmet_rule_of guard.read standing)

@@ -1,4 +1,5 @@
-ghost use Rattle.std.specs.Prelude.{⊤, ◌≡◌, [], ◌∷◌, codes};
+ghost use Rattle.std.specs.Prelude.{⊤, ◌≡◌, ◌≤◌, [], ◌∷◌, codes};
+ghost use Rattle.att_policy.specs.Policy.{configuration_bits_of};
 ghost use Rattle.att_policy.specs.Need.{needs_encryption_of, needs_authentication_of, key_size_of};
 
 use bitflags::{Flag, Flags, bitflag_items};
@@ -38,6 +39,29 @@ impl Flags for Properties {
 
     fn from_bits_retain(bits: u8) -> Properties {
         Properties(bits)
+    }
+}
+
+/// The bits of a client characteristic configuration: Core 5.0, Vol 3 Part G, 3.3.3.3.
+const NOTIFICATION: u8 = 0x01;
+
+const INDICATION: u8 = 0x02;
+
+impl Properties {
+    /// The bits that the client characteristic configuration of a characteristic with these
+    /// properties may have: 1 where it notifies, 2 where it indicates.
+    pub fn configuration_bits(self) -> u8
+        ensures bits { result ≡ configuration_bits_of self }
+        ensures known { result ≤ 3 }
+    {
+        let mut bits = 0;
+        if self.contains(Properties::NOTIFY) {
+            bits |= NOTIFICATION;
+        }
+        if self.contains(Properties::INDICATE) {
+            bits |= INDICATION;
+        }
+        bits
     }
 }
 

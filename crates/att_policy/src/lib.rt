@@ -8,5 +8,5 @@ mod policy;
 mod standing;
 
 pub use guard::{Guard, Need, Properties};
-pub use policy::{Access, Rule, first_broken};
+pub use policy::{Access, Rule, first_broken, may_hear};
 pub use standing::{KeyFacts, Standing};

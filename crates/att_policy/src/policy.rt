@@ -1,6 +1,6 @@
 ghost use Rattle.std.specs.Prelude.{◌≡◌, ◌↔◌, IsNone, IfSome};
 ghost use Rattle.std.specs.Option.{option_copied};
-ghost use Rattle.att_policy.specs.Policy.{property_of, need_of, not_permitted_code, first_unmet_rule_of, first_broken_rule_of, first_broken_of, code_of, IsFirstBroken, IsPermitted};
+ghost use Rattle.att_policy.specs.Policy.{property_of, need_of, not_permitted_code, first_unmet_rule_of, first_broken_rule_of, first_broken_of, may_hear_of, code_of, IsFirstBroken, IsPermitted};
 
 use crate::error_code;
 use crate::guard::{Guard, Need, Properties};
@@ -84,6 +84,16 @@ pub fn first_broken(
 {
     let rule = first_broken_rule(access, guard, standing)?;
     Some((rule, code(rule, access, standing)))
+}
+
+/// Whether a client that has configured these bits may be notified of a value, or have it indicated:
+/// 1 asks for notifications, 2 for indications (Core 5.0, Vol 3 Part G, 3.3.3.3). The value has the
+/// property of one of them, and the connection all that reading the value needs.
+pub fn may_hear(guard: &Guard, bits: u8, standing: &Standing) -> bool
+    ensures { result ≡ may_hear_of guard.now bits standing.entry.now }
+{
+    bits & guard.properties.configuration_bits() != 0
+        && first_unmet_rule(&guard.read, standing).is_none()
 }
 
 fn first_broken_rule(access: Access, guard: Option<&Guard>, standing: &Standing) -> Option<Rule>

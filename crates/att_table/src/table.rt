@@ -1,4 +1,4 @@
-ghost use Rattle.std.specs.Prelude.{◌≡◌, ◌+◌, ◌≤◌, ◌∷◌, ◌++◌, [], map, length, sum_by, vec_len, IfSome, IsSome, OnOk, OnErr};
+ghost use Rattle.std.specs.Prelude.{◌≡◌, ◌+◌, ◌<◌, ◌≤◌, ◌∷◌, ◌++◌, [], map, length, sum_by, vec_len, IfSome, IsSome, OnOk, OnErr};
 ghost use Rattle.std.specs.Option.{option_copied};
 ghost use Rattle.att_table.specs.declared.attr.Attr.{Attr};
 ghost use Rattle.att_table.specs.Cell.{patched};
@@ -68,6 +68,8 @@ impl Table {
         ensures attribute { option_copied result ≡ attribute_at self.now.attributes handle }
         // It has a value, and a client's row has room for it if it is a configuration.
         ensures value { IfSome result (λ attr. handle ≤ length self.now.values) }
+        ensures used { IfSome result (λ attr. 0 < handle) }
+        ensures most { IfSome result (λ attr. handle ≤ 1024) }
         ensures row { HasRowRoom self.now.attributes handle }
     {
         self.attributes.get(usize::from(handle.checked_sub(1)?))

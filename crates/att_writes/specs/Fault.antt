@@ -3,25 +3,18 @@
 use Rattle.std.specs.Prelude.{ℕ, ◌+◌, ◌-◌, Bool, false, ◌==◌, ◌&&◌, not, nat_lt, if◌then◌else◌, List, [], ◌∷◌, length, Option, Some, None}
 use Rattle.std.specs.Int.RustNames.{bit_and}
 use Rattle.std.specs.Option.{option_map_or}
-use Rattle.att_policy.specs.declared.guard.Properties.{Properties}
 use Rattle.att_policy.specs.declared.policy.Access.{Access}
 use Rattle.att_policy.specs.declared.policy.Rule.{Rule}
 use Rattle.att_policy.specs.declared.standing.Standing.{Standing}
-use Rattle.att_policy.specs.Policy.{has_property, first_broken_of}
+use Rattle.att_policy.specs.Policy.{configuration_bits_of, first_broken_of}
 use Rattle.att_table.specs.declared.attr.Attr.{Attr}
 use Rattle.att_table.specs.Table.{attribute_at, guard_at, is_configuration_at, is_fixed_at}
 use Rattle.att_writes.specs.Entry.{Entry}
 
--- the bits that a client characteristic configuration may have: notification where the
--- characteristic notifies, and indication where it indicates (Core 5.0, Vol 3 Part G, 3.3.3.3)
-abbrev pub configuration_bits : Properties → ℕ
-configuration_bits properties =
-    (if has_property properties 0x10 then 1 else 0) + (if has_property properties 0x20 then 2 else 0)
-
--- those of the configuration at a handle: its characteristic value stands before it
+-- the bits that the configuration at a handle may have: its characteristic value stands before it (Core 5.0, Vol 3 Part G, 3.3.3.3)
 abbrev pub configuration_bits_at : List Attr → ℕ → ℕ
 configuration_bits_at attributes handle =
-    option_map_or (λ (attr : Attr). configuration_bits attr.guard.properties) (attribute_at attributes (handle - 1)) 0
+    option_map_or (λ (attr : Attr). configuration_bits_of attr.guard.properties) (attribute_at attributes (handle - 1)) 0
 
 -- octets are bits that a configuration may have, the lower octet first
 abbrev pub has_bits_within : ℕ → List ℕ → Bool

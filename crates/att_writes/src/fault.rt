@@ -3,19 +3,13 @@
 ghost use Rattle.std.specs.Prelude.{◌≡◌, ◌≤◌, length, Some, IsNone};
 ghost use Rattle.att_table.specs.Table.{attribute_at};
 ghost use Rattle.att_writes.specs.Entry.{entry_of};
-ghost use Rattle.att_writes.specs.Fault.{configuration_bits, configuration_bits_at, configuration_fault, value_fault, fault_of};
+ghost use Rattle.att_writes.specs.Fault.{configuration_bits_at, configuration_fault, value_fault, fault_of};
 ghost use Rattle.att_writes.specs.Sizes.{size_with, size_after};
 
 use crate::entry::EntryRef;
 use crate::queue::Place;
-use att_policy::{Access, Properties, Standing, error_code, first_broken};
+use att_policy::{Access, Standing, error_code, first_broken};
 use att_table::{Attr, Role, Table};
-use bitflags::Flags;
-
-/// The bits of a client characteristic configuration: Core 5.0, Vol 3 Part G, 3.3.3.3.
-const NOTIFICATION: u8 = 0x01;
-
-const INDICATION: u8 = 0x02;
 
 /// The error code by which a client is refused a write, if it is, once the entries at these earlier
 /// places are written.
@@ -114,22 +108,7 @@ fn configuration_bits_at(table: &Table, handle: u16) -> u8
     ensures { result ≡ configuration_bits_at table.now.attributes handle }
 {
     match table.get(handle.saturating_sub(1)) {
-        Some(attr) => configuration_bits(attr.guard.properties),
+        Some(attr) => attr.guard.properties.configuration_bits(),
         None => 0,
     }
-}
-
-/// The bits that a client characteristic configuration may have, by the properties of its
-/// characteristic.
-fn configuration_bits(properties: Properties) -> u8
-    ensures bits { result ≡ configuration_bits properties }
-{
-    let mut bits = 0;
-    if properties.contains(Properties::NOTIFY) {
-        bits |= NOTIFICATION;
-    }
-    if properties.contains(Properties::INDICATE) {
-        bits |= INDICATION;
-    }
-    bits
 }
