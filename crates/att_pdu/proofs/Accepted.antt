@@ -8,7 +8,7 @@ use Rattle.att_pdu.specs.declared.kind.Kind.{Kind}
 use Rattle.att_pdu.specs.declared.kind.Kind.TheVariants.{Short, Long}
 use Rattle.att_pdu.proofs.Handles.{handles_read, handles_twice}
 use Rattle.att_pdu.proofs.LongKind.{long_read}
-use Rattle.att_pdu.specs.Octets.{two_octets}
+use Rattle.octets.specs.Number.{two_octets}
 use Rattle.att_pdu.specs.Kind.{kind_octets, kind_form, HasKindOctets}
 use Rattle.att_pdu.specs.Request.{Asked, ExchangeMtuRequest, FindInformationRequest, FindByTypeValueRequest, ReadByTypeRequest, ReadRequest, ReadBlobRequest, ReadMultipleRequest, ReadByGroupTypeRequest, WriteRequest, PrepareWriteRequest, ExecuteWriteRequest, ConfirmationPdu, WriteCommandPdu, spelled, HasOctetFields}
 use Rattle.att_pdu.specs.Form.{form_of}

@@ -3,7 +3,7 @@ use Rattle.std.specs.Prelude.{ℕ, ◌%◌, ◌==◌, ◌&&◌, nat_le, if◌the
 use Rattle.std.specs.Option.{option_map}
 use Rattle.att_pdu.specs.declared.request.ExecuteFlags.TheVariants.{Cancel, Write}
 use Rattle.att_pdu.specs.Kind.{kind_form}
-use Rattle.att_pdu.specs.Octets.{from_two}
+use Rattle.octets.specs.Number.{from_two}
 use Rattle.att_pdu.specs.Request.{Asked, ExchangeMtuRequest, FindInformationRequest, FindByTypeValueRequest, ReadByTypeRequest, ReadRequest, ReadBlobRequest, ReadMultipleRequest, ReadByGroupTypeRequest, WriteRequest, PrepareWriteRequest, ExecuteWriteRequest, ConfirmationPdu, WriteCommandPdu}
 
 abbrev pub exchange_mtu_form : List ℕ → Option Asked

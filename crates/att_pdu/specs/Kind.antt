@@ -3,7 +3,7 @@ use Rattle.std.specs.Prelude.{ℕ, ◌+◌, ◌*◌, ◌^◌, ◌<◌, ◌==◌,
 use Rattle.std.specs.Int.{w128, from_le_bytes, to_le_bytes}
 use Rattle.att_pdu.specs.declared.kind.Kind.{Kind}
 use Rattle.att_pdu.specs.declared.kind.Kind.TheVariants.{Short, Long}
-use Rattle.att_pdu.specs.Octets.{two_octets, from_two}
+use Rattle.octets.specs.Number.{two_octets, from_two}
 
 -- the number by which types are compared: Core 5.0, Vol 3 Part B, 2.5.1
 abbrev pub number_of : Kind → ℕ

@@ -3,7 +3,7 @@ use Rattle.std.specs.Prelude.{◌≡◌, ℕ, List, [], ◌∷◌, ◌++◌}
 use Rattle.std.specs.Borrow.{MutBor}
 use Rattle.arrayvec.specs.ArrayVec.{ArrayVec}
 use Rattle.att_pdu.specs.declared.pdu_buf.PduBuf.{PduBuf}
-use Rattle.att_pdu.specs.Octets.{two_octets}
+use Rattle.octets.specs.Number.{two_octets}
 
 -- the octets so far
 abbrev pub contents : PduBuf → List ℕ

@@ -8,7 +8,7 @@ use Rattle.att_pdu.specs.declared.request.ExecuteFlags.TheVariants as flags
 use Rattle.att_pdu.specs.declared.request.Request.{Request}
 use Rattle.att_pdu.specs.declared.request.Request.TheVariants.{ExchangeMtu, FindInformation, FindByTypeValue, ReadByType, Read, ReadBlob, ReadMultiple, ReadByGroupType, Write, PrepareWrite, ExecuteWrite, Confirmation, WriteCommand}
 use Rattle.att_pdu.specs.Kind.{kind_octets, HasKindOctets}
-use Rattle.att_pdu.specs.Octets.{two_octets}
+use Rattle.octets.specs.Number.{two_octets}
 
 -- what a request asks for
 pub data Asked : Type 0 where

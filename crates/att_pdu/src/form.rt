@@ -5,8 +5,8 @@ ghost use Rattle.att_pdu.specs.Request.{asked, spelled};
 ghost use Rattle.att_pdu.specs.Form.{form_of, exchange_mtu_form, find_information_form, find_by_type_value_form, read_by_type_form, read_form, read_blob_form, read_multiple_form, read_by_group_type_form, write_form, prepare_write_form, execute_write_form, confirmation_form, write_command_form};
 
 use crate::kind::Kind;
-use crate::opcode;
 use crate::request::{ExecuteFlags, Request};
+use att_numbers::opcode;
 
 /// The request that parameters spell behind an opcode, however long they are.
 #[tactic(auto, unfolding(crate::specs::Form::form_of))]

@@ -3,8 +3,9 @@ ghost use Rattle.std.specs.Result.{result_map_both};
 ghost use Rattle.att_pdu.specs.Request.{Asked, asked, spelled, HasOctetFields};
 ghost use Rattle.att_pdu.specs.Grammar.{request_of, fault_of, is_due};
 
+use crate::form;
 use crate::request::Request;
-use crate::{form, opcode};
+use att_numbers::opcode;
 
 /// Why octets are no request that can be served.
 #[derive(Clone, Copy, Debug, PartialEq, Eq)]

@@ -5,7 +5,6 @@
 mod form;
 mod grammar;
 mod kind;
-pub mod opcode;
 mod pdu_buf;
 mod request;
 

@@ -2,8 +2,8 @@ ghost use Rattle.std.specs.Prelude.{◌≡◌, ◌+◌, ◌-◌, ◌≤◌, ◌�
 ghost use Rattle.std.specs.Bool.{OnTrue, OnFalse};
 ghost use Rattle.arrayvec.specs.ArrayVec.{array_vec_len};
 
-use crate::opcode;
 use arrayvec::ArrayVec;
+use att_numbers::opcode;
 
 /// The least ATT_MTU of an LE link, in octets: Core 5.0, Vol 3 Part G, 5.2.1.
 pub const MIN_MTU: u16 = 23;
@@ -22,7 +22,7 @@ pub struct PduBuf<'a> {
 }
 
 impl<'a> PduBuf<'a> {
-    ghost use Rattle.att_pdu.specs.Octets.{two_octets};
+    ghost use Rattle.octets.specs.Number.{two_octets};
     ghost use Rattle.att_pdu.specs.PduBuf.{contents, mtu_of, IsIn, IsSameBuffer, error_response};
 
     /// An empty PDU in `octets`, whose content is dropped.

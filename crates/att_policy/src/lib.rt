@@ -2,7 +2,6 @@
 //! Attribute Protocol (ATT) that each other one is answered with.
 #![tactic(auto)]
 
-pub mod error_code;
 mod guard;
 mod policy;
 mod standing;

@@ -2,9 +2,9 @@ ghost use Rattle.std.specs.Prelude.{◌≡◌, ◌↔◌, IsNone, IfSome};
 ghost use Rattle.std.specs.Option.{option_copied};
 ghost use Rattle.att_policy.specs.Policy.{property_of, need_of, not_permitted_code, first_unmet_rule_of, first_broken_rule_of, first_broken_of, may_hear_of, code_of, IsFirstBroken, IsPermitted};
 
-use crate::error_code;
 use crate::guard::{Guard, Need, Properties};
 use crate::standing::Standing;
+use att_numbers::error_code;
 use bitflags::Flags;
 
 /// How a connection wants to use an attribute.

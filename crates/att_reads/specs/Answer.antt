@@ -4,7 +4,7 @@ use Rattle.std.specs.List.{find, flat_map}
 use Rattle.std.specs.Str.{bytes_eq}
 use Rattle.att_policy.specs.declared.standing.Standing.{Standing}
 use Rattle.att_pdu.specs.Kind.{number_of}
-use Rattle.att_pdu.specs.Octets.{two_octets}
+use Rattle.octets.specs.Number.{two_octets}
 use Rattle.att_pdu.specs.PduBuf.{error_response}
 use Rattle.att_pdu.specs.Request.{Asked, FindInformationRequest, FindByTypeValueRequest, ReadByTypeRequest, ReadRequest, ReadBlobRequest, ReadMultipleRequest, ReadByGroupTypeRequest}
 use Rattle.att_pdu.specs.declared.kind.Kind.TheVariants.{Short}

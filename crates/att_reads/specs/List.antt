@@ -1,7 +1,7 @@
 -- Read By Type and Read By Group Type: Core 5.0, Vol 3 Part F, 3.4.4.1, 3.4.4.2, 3.4.4.9 and 3.4.4.10.
 use Rattle.std.specs.Prelude.{ℕ, ◌-◌, List, ◌++◌, min, take}
 use Rattle.att_policy.specs.declared.standing.Standing.{Standing}
-use Rattle.att_pdu.specs.Octets.{two_octets}
+use Rattle.octets.specs.Number.{two_octets}
 use Rattle.att_table.specs.Group.{group_end_at}
 use Rattle.att_table.specs.Table.{Contents}
 use Rattle.att_reads.specs.declared.list.Listing.{Listing}

@@ -1,7 +1,7 @@
 -- Answers that list attributes, all of them with as many octets: Core 5.0, Vol 3 Part F, 3.4.3.2, 3.4.4.2 and 3.4.4.10.
 use Rattle.std.specs.Prelude.{◌≡◌, ◌≤◌, true, ℕ, ◌+◌, ◌-◌, ◌/◌, Bool, ◌==◌, ◌&&◌, if◌then◌else◌, is_none, List, [], ◌∷◌, ◌++◌, length, take, take_while, Option, Some, None}
 use Rattle.std.specs.List.{flat_map}
-use Rattle.att_pdu.specs.Octets.{two_octets}
+use Rattle.octets.specs.Number.{two_octets}
 use Rattle.att_pdu.specs.PduBuf.{error_response}
 use Rattle.att_table.specs.declared.attr.Attr.{Attr}
 use Rattle.att_table.specs.Kind.{kind_octets}

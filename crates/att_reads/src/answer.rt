@@ -12,8 +12,9 @@ ghost use Rattle.att_reads.specs.Listing.{information_item, information_format, 
 use crate::list::Listing;
 use crate::reader::Reader;
 use crate::{find, list, value};
-use att_pdu::{Kind, PduBuf, Request, opcode};
-use att_policy::{Standing, error_code};
+use att_numbers::{error_code, opcode};
+use att_pdu::{Kind, PduBuf, Request};
+use att_policy::Standing;
 use att_table::{ConfigRow, Table, Uncounted, is_service};
 
 /// Answers a request that reads: Find Information, Find By Type Value, Read By Type, Read, Read

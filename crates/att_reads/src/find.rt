@@ -9,8 +9,8 @@ ghost use Rattle.att_reads.specs.Answer.{is_match, found_group, found_answer, wi
 ghost use Rattle.att_reads.specs.Listing.{information_item, information_format, list_answer, with_listed, HasNext, HasNoNext};
 
 use crate::reader::Reader;
-use att_pdu::{PduBuf, opcode};
-use att_policy::error_code;
+use att_numbers::{error_code, opcode};
+use att_pdu::PduBuf;
 use att_table::{Attr, Table, kind};
 
 /// The formats of the answer to a Find Information Request: Core 5.0, Vol 3 Part F, 3.4.3.2.

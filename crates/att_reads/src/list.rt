@@ -10,8 +10,8 @@ ghost use Rattle.att_reads.specs.List.{request_of, head_of, cut_of, entry_of, it
 ghost use Rattle.att_reads.specs.Listing.{list_answer, with_listed, HasNext, HasNoNext};
 
 use crate::reader::Reader;
-use att_pdu::{PduBuf, opcode};
-use att_policy::error_code;
+use att_numbers::{error_code, opcode};
+use att_pdu::PduBuf;
 use att_table::Table;
 
 /// What is listed.

@@ -7,8 +7,8 @@ ghost use Rattle.att_pdu.specs.PduBuf.{contents, mtu_of, IsSameBuffer};
 ghost use Rattle.att_reads.specs.Answer.{value_answer, part_answer, blob_answer, multiple_answer};
 
 use crate::reader::Reader;
-use att_pdu::{PduBuf, opcode};
-use att_policy::error_code;
+use att_numbers::{error_code, opcode};
+use att_pdu::PduBuf;
 
 /// Answers a Read Request.
 pub fn read(reader: Reader<'_>, handle: u16, out: &mut PduBuf<'_>)

@@ -15,7 +15,8 @@ use crate::outcome::{EXECUTE_WRITE_REQUEST, Outcome, PREPARE_WRITE_REQUEST};
 use crate::queue::{Place, Queue};
 use crate::writes::put;
 use arrayvec::ArrayVec;
-use att_policy::{Access, Standing, error_code, first_broken};
+use att_numbers::error_code;
+use att_policy::{Access, Standing, first_broken};
 use att_table::{ConfigRow, Table};
 
 /// Adds the part of a Prepare Write Request to the queue of a client, or refuses it and changes

@@ -8,7 +8,8 @@ ghost use Rattle.att_writes.specs.Sizes.{size_with, size_after};
 
 use crate::entry::EntryRef;
 use crate::queue::Place;
-use att_policy::{Access, Standing, error_code, first_broken};
+use att_numbers::error_code;
+use att_policy::{Access, Standing, first_broken};
 use att_table::{Attr, Role, Table};
 
 /// The error code by which a client is refused a write, if it is, once the entries at these earlier

@@ -5,9 +5,9 @@ use Rattle.std.specs.Result.{result_ok, result_unwrap_or}
 use Rattle.hex.specs.Hex.{decode_of, encode_lower}
 use Rattle.gatt_commands.specs.declared.fault.ShellFault.{ShellFault}
 use Rattle.gatt_commands.specs.declared.fault.ShellFault.TheVariants.{Table, NotHex, Unreadable, Unwritten, Memory}
-use Rattle.gatt_host.specs.Answer.{Outcome, outcome_of}
-use Rattle.gatt_host.specs.Conn.{new_connection}
-use Rattle.gatt_host.specs.Connection.{Connection}
+use Rattle.gatt_conn.specs.Answer.{Outcome, outcome_of}
+use Rattle.gatt_conn.specs.Conn.{new_connection}
+use Rattle.gatt_conn.specs.Connection.{Connection}
 use Rattle.att_table.specs.declared.examples.TheConstants.{DOOR}
 use Rattle.att_table.specs.declared.table_fault.TableFault.{TableFault}
 use Rattle.att_table.specs.Table.{Contents}

@@ -7,7 +7,7 @@ use arrayvec::ArrayVec;
 use att_pdu::PduBuf;
 use att_table::examples::DOOR;
 use att_table::{ConfigRow, Table, TableFault};
-use gatt_host::{Conn, answer};
+use gatt_conn::{Conn, answer};
 use std::alloc::Global;
 use std::marker::Model;
 

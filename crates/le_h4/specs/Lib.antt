@@ -4,5 +4,3 @@ pub mod Gathering
 pub mod Held
 pub mod Packet
 pub mod Progress
-pub mod Stream
-pub mod Streams

@@ -6,10 +6,9 @@ mod deframer;
 pub mod indicator;
 mod packet;
 mod progress;
-mod stream;
 mod write;
 
 pub use deframer::{Deframer, Fed, H4Fault};
+pub use octets::{ArraySink, Failed, Reader, Sink, SliceSource, Source, Writer};
 pub use packet::PacketRef;
-pub use stream::{ArraySink, Failed, Reader, Sink, SliceSource, Source, Writer};
 pub use write::{write_acl, write_acl_parts, write_command};

@@ -1,0 +1,158 @@
+ghost use Rattle.std.specs.Prelude.{◌≡◌, ◌≤◌, false, [], IfOk};
+ghost use Rattle.att_table.specs.ConfigRow.{IsRowOf};
+ghost use Rattle.att_writes.specs.Applied.{applied_to, written_to};
+ghost use Rattle.att_writes.specs.Outcome.{outcome_of};
+ghost use Rattle.att_writes.specs.Queue.{prepare_fault, prepared, prepare_outcome, touched_by};
+ghost use Rattle.gatt_conn.specs.Conn.{new_connection};
+ghost use Rattle.gatt_conn.specs.Connection.{after_exchange};
+
+use arrayvec::ArrayVec;
+use att_pdu::MIN_MTU;
+use att_policy::{Access, Standing};
+use att_table::{ConfigRow, Table};
+use att_writes::{Outcome, Queue};
+use std::alloc::{AllocError, Global};
+use std::marker::Model;
+
+/// The largest PDU that a server receives unless it is limited, in octets: this profile's own.
+const RX_MTU: u16 = 247;
+
+/// What the server keeps of one connection.
+#[derive(Debug, Drop)]
+pub struct Conn {
+    standing: Standing,
+    mtu: u16,
+    /// The largest PDU that the server receives.
+    rx_mtu: u16,
+    /// A client has exchanged its own for it.
+    exchanged: bool,
+    /// The prepared writes.
+    queue: Queue,
+}
+
+impl Model for Conn {
+    ghost use Rattle.std.specs.Prelude.{◌≤◌};
+    ghost use Rattle.gatt_conn.specs.Connection.{Connection};
+
+    ghost Value = { Connection };
+
+    ghost view = { λ conn. record { standing = conn.standing; mtu = conn.mtu; rx_mtu = conn.rx_mtu; exchanged = conn.exchanged; queue = conn.queue } };
+
+    ghost invariant = { λ conn. (23 ≤ conn.mtu) × (conn.mtu ≤ 517) × (23 ≤ conn.rx_mtu) × (conn.rx_mtu ≤ 517) };
+}
+
+impl Conn {
+    /// A connection of an unknown peer over a link that is not encrypted, before any ATT_MTU is
+    /// exchanged. All the room that it will need is made here, with `alloc`.
+    pub fn new(alloc: Global) -> Result<Conn, AllocError>
+        ensures { IfOk result (λ conn. conn ≡ new_connection) }
+    {
+        Ok(Conn {
+            standing: Standing {
+                key: None,
+                key_known: false,
+                until: 0,
+                now: 0,
+            },
+            mtu: MIN_MTU,
+            rx_mtu: RX_MTU,
+            exchanged: false,
+            queue: Queue::new(alloc)?,
+        })
+    }
+
+    /// Sets the largest PDU that the server receives on this connection, in octets, before any
+    /// ATT_MTU is exchanged.
+    pub fn limit(&mut self, rx_mtu: u16)
+        requires least { 23 ≤ rx_mtu }
+        requires most { rx_mtu ≤ 517 }
+        requires not_exchanged { self.old.exchanged ≡ false }
+        ensures { self.new ≡ record self.old { rx_mtu = rx_mtu } }
+    {
+        self.rx_mtu = rx_mtu;
+    }
+
+    /// Sets what the policy sees of the connection.
+    pub fn stand(&mut self, standing: Standing)
+        ensures { self.new ≡ record self.old { standing = standing } }
+    {
+        self.standing = standing;
+    }
+
+    /// Drops the prepared writes of the connection.
+    pub fn cancel(&mut self)
+        ensures { self.new ≡ record self.old { queue = [] } }
+    {
+        att_writes::cancel(&mut self.queue);
+    }
+
+    /// The ATT_MTU, in octets.
+    pub fn mtu(&self) -> u16
+        ensures mtu { result ≡ self.now.mtu }
+        ensures least { 23 ≤ result }
+        ensures most { result ≤ 517 }
+    {
+        self.mtu
+    }
+
+    /// The largest PDU that the server receives, in octets.
+    pub(crate) fn rx_mtu(&self) -> u16
+        ensures { result ≡ self.now.rx_mtu }
+    {
+        self.rx_mtu
+    }
+
+    /// Takes in the largest PDU that the client receives, in octets.
+    pub(crate) fn exchange(&mut self, client_rx_mtu: u16)
+        ensures { self.new ≡ after_exchange self.old client_rx_mtu }
+    {
+        if !self.exchanged {
+            self.mtu = client_rx_mtu.min(self.rx_mtu).max(MIN_MTU);
+            self.exchanged = true;
+        }
+    }
+
+    /// What the policy sees of the connection.
+    pub(crate) fn standing(&self) -> &Standing
+        ensures { result.now ≡ self.now.standing }
+    {
+        &self.standing
+    }
+
+    /// Adds a part to the prepared writes, or refuses it.
+    pub(crate) fn prepare(
+        &mut self,
+        table: &Table,
+        handle: u16,
+        offset: u16,
+        part: &[u8],
+    ) -> Outcome
+        ensures outcome { result ≡ prepare_outcome (record { handle = handle; offset = offset; part = part.now })
+            (prepare_fault table.now.attributes self.old.standing self.old.queue (record { handle = handle; offset = offset; part = part.now })) }
+        ensures conn { self.new ≡ record self.old {
+          queue = prepared self.old.queue (record { handle = handle; offset = offset; part = part.now })
+              (prepare_fault table.now.attributes self.old.standing self.old.queue (record { handle = handle; offset = offset; part = part.now }));
+        } }
+    {
+        att_writes::prepare(table, &self.standing, &mut self.queue, handle, offset, part)
+    }
+
+    /// Makes all prepared writes, or refuses them. In both cases none is left.
+    pub(crate) fn execute(
+        &mut self,
+        table: &mut Table,
+        row: &mut ConfigRow,
+        touched: &mut ArrayVec<u16, 32>,
+    ) -> Outcome
+        requires row { IsRowOf table.old.attributes row.old }
+        ensures outcome { result ≡ outcome_of 0x18 (applied_to Access.Write table.old row.old self.old.standing self.old.queue) }
+        ensures values { table.new.values ≡ (written_to Access.Write table.old row.old self.old.standing self.old.queue).values }
+        ensures row { row.new ≡ (written_to Access.Write table.old row.old self.old.standing self.old.queue).row }
+        ensures touched { touched.new.items ≡ touched_by self.old.queue (applied_to Access.Write table.old row.old self.old.standing self.old.queue) }
+        ensures conn { self.new ≡ record self.old { queue = [] } }
+        ensures attributes { table.new.attributes ≡ table.old.attributes }
+        ensures table { IsRowOf table.new.attributes row.new }
+    {
+        att_writes::execute(table, row, &self.standing, &mut self.queue, touched)
+    }
+}

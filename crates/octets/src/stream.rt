@@ -1,0 +1,266 @@
+ghost use Rattle.std.specs.Prelude.{◌≡◌, ℕ, ◌<◌, ◌≤◌, List, Option, Some, None, IfOk, [], ◌++◌, length};
+ghost use Rattle.std.specs.Io.KnownBytes.{ReadConsumes, WriteAppends};
+ghost use Rattle.octets.specs.Stream.{CountsFailure, CountsOne};
+
+use arrayvec::ArrayVec;
+use std::io::{ErrorKind, Read, Write};
+
+/// A read or a write failed, and took nothing.
+#[derive(Clone, Copy, Debug, PartialEq, Eq)]
+pub struct Failed;
+
+/// Where octets come from.
+pub trait Source {
+    /// The octets that reads will give from here on, where they are known.
+    ghost remaining: { Self → Option (List ℕ) };
+
+    /// How many reads have failed so far, as long as they are counted.
+    ghost failures: { Self → Option ℕ };
+
+    /// Reads octets into the front of `buf`, and answers how many: none only at the end of the
+    /// octets, or where `buf` has no room.
+    fn read(&mut self, buf: &mut [u8]) -> Result<usize, Failed>
+        ensures bound { IfOk result (λ count. count ≤ length buf.old) }
+        ensures octets { ReadConsumes (remaining self.old) (remaining self.new) result buf.new }
+        ensures failures { CountsFailure (failures self.old) (failures self.new) result };
+}
+
+/// Where octets go to.
+pub trait Sink {
+    /// The octets that writes have given so far, where they are known.
+    ghost contents: { Self → Option (List ℕ) };
+
+    /// How many writes have failed so far, as long as they are counted.
+    ghost failures: { Self → Option ℕ };
+
+    /// Takes octets from the front of `buf`, and answers how many. To take none of some octets is a
+    /// failure.
+    fn write(&mut self, buf: &[u8]) -> Result<usize, Failed>
+        ensures bound { IfOk result (λ count. count ≤ length buf.now) }
+        ensures progress { IfOk result (λ count. 0 < length buf.now → 0 < count) }
+        ensures octets { WriteAppends (contents self.old) (contents self.new) result buf.now }
+        ensures failures { CountsFailure (failures self.old) (failures self.new) result };
+}
+
+/// One failure more, as long as they are counted.
+fn one_more(failures: Option<u64>) -> Option<u64>
+    ensures { CountsOne failures result }
+{
+    match failures {
+        Some(count) if count < u64::MAX => Some(count + 1),
+        _ => None,
+    }
+}
+
+/// A reader of std as a source: a read that is interrupted is made again.
+#[derive(Drop)]
+pub struct Reader<R> {
+    reader: R,
+    failed_reads: Option<u64>,
+}
+
+impl<R> Reader<R> {
+    ghost use Rattle.octets.specs.Streams.{reader_of, failed_reads_of};
+
+    /// A source that has not failed yet.
+    pub fn new(reader: R) -> Self
+        ensures reader { reader_of result ≡ reader }
+        ensures failures { failed_reads_of result ≡ Some 0 }
+    {
+        Reader {
+            reader,
+            failed_reads: Some(0),
+        }
+    }
+}
+
+impl<R: Read> Source for Reader<R> {
+    ghost remaining = { λ source. R.remaining source.reader };
+
+    ghost failures = { λ source. source.failed_reads };
+
+    fn read(&mut self, buf: &mut [u8]) -> Result<usize, Failed> {
+        let read = read_uninterrupted(&mut self.reader, buf);
+        if read.is_err() {
+            self.failed_reads = one_more(self.failed_reads);
+        }
+        read
+    }
+}
+
+/// Reads once, but again where the read was interrupted.
+fn read_uninterrupted<R: Read>(reader: &mut R, buf: &mut [u8]) -> Result<usize, Failed>
+    ensures bound { IfOk result (λ count. count ≤ length buf.old) }
+    ensures octets { ReadConsumes (R.remaining reader.old) (R.remaining reader.new) result buf.new }
+{
+    for _attempt in 0..u64::MAX {
+        match reader.read(buf) {
+            Ok(count) => return Ok(count),
+            Err(error) if error.kind() == ErrorKind::Interrupted => {}
+            Err(_) => return Err(Failed),
+        }
+    }
+    Err(Failed)
+}
+
+/// A writer of std as a sink: a write that is interrupted is made again.
+#[derive(Drop)]
+pub struct Writer<W> {
+    writer: W,
+    failed_writes: Option<u64>,
+}
+
+impl<W> Writer<W> {
+    ghost use Rattle.octets.specs.Streams.{writer_of, failed_writes_of};
+
+    /// A sink that has not failed yet.
+    pub fn new(writer: W) -> Self
+        ensures writer { writer_of result ≡ writer }
+        ensures failures { failed_writes_of result ≡ Some 0 }
+    {
+        Writer {
+            writer,
+            failed_writes: Some(0),
+        }
+    }
+}
+
+impl<W: Write> Sink for Writer<W> {
+    ghost contents = { λ sink. W.contents sink.writer };
+
+    ghost failures = { λ sink. sink.failed_writes };
+
+    fn write(&mut self, buf: &[u8]) -> Result<usize, Failed> {
+        let written = write_uninterrupted(&mut self.writer, buf);
+        if written.is_err() {
+            self.failed_writes = one_more(self.failed_writes);
+        }
+        written
+    }
+}
+
+/// Writes once, but again where the write was interrupted.
+fn write_uninterrupted<W: Write>(writer: &mut W, buf: &[u8]) -> Result<usize, Failed>
+    ensures bound { IfOk result (λ count. count ≤ length buf.now) }
+    ensures progress { IfOk result (λ count. 0 < length buf.now → 0 < count) }
+    ensures octets { WriteAppends (W.contents writer.old) (W.contents writer.new) result buf.now }
+{
+    for _attempt in 0..u64::MAX {
+        match writer.write(buf) {
+            Ok(0) if !buf.is_empty() => return Err(Failed),
+            Ok(count) => return Ok(count),
+            Err(error) if error.kind() == ErrorKind::Interrupted => {}
+            Err(_) => return Err(Failed),
+        }
+    }
+    Err(Failed)
+}
+
+/// Octets in memory as a source, which never fails.
+#[derive(Drop)]
+pub struct SliceSource<'a> {
+    left: &'a [u8],
+}
+
+impl<'a> SliceSource<'a> {
+    ghost use Rattle.octets.specs.Streams.{octets_left};
+
+    /// A source of these octets.
+    pub fn new(octets: &'a [u8]) -> Self
+        ensures { octets_left result ≡ octets.now }
+    {
+        SliceSource { left: octets }
+    }
+}
+
+impl Source for SliceSource<'_> {
+    ghost remaining = { λ source. Some source.left.now };
+
+    ghost failures = { λ _. Some 0 };
+
+    fn read(&mut self, buf: &mut [u8]) -> Result<usize, Failed> {
+        let count = self.left.len().min(buf.len());
+        let (now, later) = self.left.split_at(count);
+        buf[..count].copy_from_slice(now);
+        self.left = later;
+        Ok(count)
+    }
+}
+
+/// A buffer of at most `N` octets as a sink, which fails where it is full.
+#[derive(Drop)]
+pub struct ArraySink<const N: usize> {
+    octets: ArrayVec<u8, N>,
+    refused_writes: Option<u64>,
+}
+
+impl<const N: usize> ArraySink<N> {
+    ghost use Rattle.octets.specs.Streams.{octets_taken, failed_array_writes};
+
+    /// An empty sink that has not failed yet.
+    pub fn new() -> Self
+        ensures octets { octets_taken result ≡ [] }
+        ensures failures { failed_array_writes result ≡ Some 0 }
+    {
+        ArraySink {
+            octets: ArrayVec::new(),
+            refused_writes: Some(0),
+        }
+    }
+
+    /// The octets that were taken.
+    pub fn octets(&self) -> &[u8]
+        ensures { result.now ≡ octets_taken self.now }
+    {
+        self.octets.as_slice()
+    }
+}
+
+impl<const N: usize> Sink for ArraySink<N> {
+    ghost contents = { λ sink. Some sink.octets.items };
+
+    ghost failures = { λ sink. sink.refused_writes };
+
+    fn write(&mut self, buf: &[u8]) -> Result<usize, Failed> {
+        let count = buf.len().min(self.octets.remaining_capacity());
+        if count == 0 && !buf.is_empty() {
+            self.refused_writes = one_more(self.refused_writes);
+            return Err(Failed);
+        }
+        let _ = self.octets.try_extend_from_slice(&buf[..count]);
+        Ok(count)
+    }
+}
+
+#[cfg(test)]
+mod tests {
+    use super::*;
+
+    #[test]
+    fn std_reader_and_writer(rt: HostRuntime) {
+        let mut source = Reader::new(b"abc".as_slice());
+        let mut buf = [0; 2];
+        assert_eq!(rt; source.read(&mut buf), Ok(2));
+        assert_eq!(rt; buf.as_slice(), b"ab".as_slice());
+        assert_eq!(rt; source.read(&mut buf), Ok(1));
+        assert_eq!(rt; source.read(&mut buf), Ok(0));
+        let mut sink = Writer::new(Vec::new(rt.alloc()));
+        assert_eq!(rt; sink.write(b"abc"), Ok(3));
+    }
+
+    #[test]
+    fn memory(rt: HostRuntime) {
+        let mut source = SliceSource::new(b"abc");
+        let mut buf = [0; 2];
+        assert_eq!(rt; source.read(&mut buf), Ok(2));
+        assert_eq!(rt; source.read(&mut buf), Ok(1));
+        assert_eq!(rt; buf.as_slice(), b"cb".as_slice());
+        assert_eq!(rt; source.read(&mut buf), Ok(0));
+        let mut sink = ArraySink::<4>::new();
+        assert_eq!(rt; sink.write(b"abc"), Ok(3));
+        assert_eq!(rt; sink.write(b"def"), Ok(1));
+        assert_eq!(rt; sink.write(b"ef"), Err(Failed));
+        assert_eq!(rt; sink.write(b""), Ok(0));
+        assert_eq!(rt; sink.octets(), b"abcd".as_slice());
+    }
+}
