@@ -4,6 +4,10 @@ use Rattle.std.specs.Prelude.{◌≡◌, ℕ, ◌+◌, ◌<◌, Bool, true, fals
 use Rattle.std.specs.Int.RustNames.{bit_and}
 use Rattle.std.specs.List.{find}
 use Rattle.std.specs.Option.{option_map, option_map_or}
+use Rattle.att_numbers.specs.Types.{Code}
+use Rattle.att_numbers.specs.declared.error_code.TheConstants.{INVALID_HANDLE, READ_NOT_PERMITTED, WRITE_NOT_PERMITTED, INSUFFICIENT_AUTHENTICATION, INSUFFICIENT_AUTHORIZATION, INSUFFICIENT_ENCRYPTION_KEY_SIZE, INSUFFICIENT_ENCRYPTION}
+use Rattle.att_policy.specs.declared.guard.TheConstants.{NOTIFICATION, INDICATION}
+use Rattle.att_policy.specs.declared.guard.TheConstants.Properties.{READ, WRITE, WRITE_WITHOUT_RESPONSE, NOTIFY, INDICATE}
 use Rattle.att_policy.specs.declared.guard.Guard.{Guard}
 use Rattle.att_policy.specs.declared.guard.Need.{Need}
 use Rattle.att_policy.specs.declared.guard.Properties.{Properties}
@@ -16,13 +20,13 @@ use Rattle.att_policy.specs.declared.standing.Standing.{Standing}
 use Rattle.att_policy.specs.Need.{needs_encryption_of, needs_authentication_of, key_size_of}
 
 -- the property that an access asks for: read, write, and write without response
-abbrev pub property_of : Access → ℕ
-property_of Read = 0x02
-property_of Write = 0x08
-property_of Command = 0x04
+abbrev pub property_of : Access → Properties
+property_of Read = READ
+property_of Write = WRITE
+property_of Command = WRITE_WITHOUT_RESPONSE
 
-abbrev pub has_property : Properties → ℕ → Bool
-has_property properties property = bit_and properties.0 property == property
+abbrev pub has_property : Properties → Properties → Bool
+has_property properties property = bit_and properties.0 property.0 == property.0
 
 -- what an access needs of the connection
 abbrev pub need_of : Access → Guard → Need
@@ -74,22 +78,22 @@ place_of KeySize = 5
 place_of SecureConnections = 6
 place_of Authorization = 7
 
--- Read Not Permitted or Write Not Permitted
-abbrev pub not_permitted_code : Access → ℕ
-not_permitted_code Read = 0x02
-not_permitted_code Write = 0x03
-not_permitted_code Command = 0x03
+-- the error code of an access that the properties do not have
+abbrev pub not_permitted_code : Access → Code
+not_permitted_code Read = READ_NOT_PERMITTED
+not_permitted_code Write = WRITE_NOT_PERMITTED
+not_permitted_code Command = WRITE_NOT_PERMITTED
 
 -- the error code of a broken rule. A peer that has a key is asked to encrypt, and another one to
 -- authenticate (Core 5.0, Vol 3 Part C, 10.3.1)
-abbrev pub code_of : Access → Standing → Rule → ℕ
-code_of access standing HandleExists = 0x01
+abbrev pub code_of : Access → Standing → Rule → Code
+code_of access standing HandleExists = INVALID_HANDLE
 code_of access standing Property = not_permitted_code access
-code_of access standing Encryption = if standing.key_known then 0x0F else 0x05
-code_of access standing Authentication = 0x05
-code_of access standing KeySize = 0x0C
-code_of access standing SecureConnections = 0x05
-code_of access standing Authorization = 0x08
+code_of access standing Encryption = if standing.key_known then INSUFFICIENT_ENCRYPTION else INSUFFICIENT_AUTHENTICATION
+code_of access standing Authentication = INSUFFICIENT_AUTHENTICATION
+code_of access standing KeySize = INSUFFICIENT_ENCRYPTION_KEY_SIZE
+code_of access standing SecureConnections = INSUFFICIENT_AUTHENTICATION
+code_of access standing Authorization = INSUFFICIENT_AUTHORIZATION
 
 -- the first rule on what is needed that a connection fails
 abbrev pub first_unmet_rule_of : Need → Standing → Option Rule
@@ -99,7 +103,7 @@ first_unmet_rule_of need standing = find (is_unmet need standing) rules_of_need
 abbrev pub first_broken_rule_of : Access → Option Guard → Standing → Option Rule
 first_broken_rule_of access guard standing = find (is_broken access guard standing) rules_in_order
 
-abbrev pub first_broken_of : Access → Option Guard → Standing → Option (Rule × ℕ)
+abbrev pub first_broken_of : Access → Option Guard → Standing → Option (Rule × Code)
 first_broken_of access guard standing =
     option_map (λ rule. (rule, code_of access standing rule)) (first_broken_rule_of access guard standing)
 
@@ -112,12 +116,18 @@ pub record IsFirstBroken (access : Access) (guard : Option Guard) (standing : St
   pub broken : is_broken access guard standing rule ≡ true
   pub none_before : (earlier : Rule) → place_of earlier < place_of rule → is_broken access guard standing earlier ≡ false
 
--- the bits of a client characteristic configuration that a value's properties allow: 1 for notification, 2 for indication (Core 5.0, Vol 3 Part G, 3.3.3.3)
+-- the bits that a client characteristic configuration may have, by its value's properties: Core 5.0, Vol 3 Part G, 3.3.3.3
 abbrev pub configuration_bits_of : Properties → ℕ
 configuration_bits_of properties =
-    (if has_property properties 0x10 then 1 else 0) + (if has_property properties 0x20 then 2 else 0)
+    (if has_property properties NOTIFY then NOTIFICATION else 0) + (if has_property properties INDICATE then INDICATION else 0)
 
--- whether a client that has configured these bits may hear of a value: one of them is allowed, and nothing is unmet that reading needs. The property to read is not needed (this profile's own)
+-- whether a client that has configured these bits may hear of a value: one of them is allowed, and nothing is unmet that
+-- reading needs. The property to read is not needed (this profile's own)
 abbrev pub may_hear_of : Guard → ℕ → Standing → Bool
 may_hear_of guard bits standing =
     not (bit_and bits (configuration_bits_of guard.properties) == 0) && is_none (first_unmet_rule_of guard.read standing)
+
+-- the same in the words of the rules
+pub record MayHear (guard : Guard) (bits : ℕ) (standing : Standing) : Type 0 where
+  pub allowed : 0 < bit_and bits (configuration_bits_of guard.properties)
+  pub met : (rule : Rule) → is_unmet guard.read standing rule ≡ false

@@ -1,6 +1,6 @@
-ghost use Rattle.std.specs.Prelude.{◌≡◌, ◌↔◌, IsNone, IfSome};
+ghost use Rattle.std.specs.Prelude.{◌≡◌, ◌↔◌, IsTrue, IsNone, IfSome};
 ghost use Rattle.std.specs.Option.{option_copied};
-ghost use Rattle.att_policy.specs.Policy.{property_of, need_of, not_permitted_code, first_unmet_rule_of, first_broken_rule_of, first_broken_of, may_hear_of, code_of, IsFirstBroken, IsPermitted};
+ghost use Rattle.att_policy.specs.Policy.{property_of, need_of, not_permitted_code, first_unmet_rule_of, first_broken_rule_of, first_broken_of, may_hear_of, code_of, IsFirstBroken, IsPermitted, MayHear};
 
 use crate::guard::{Guard, Need, Properties};
 use crate::standing::Standing;
@@ -21,7 +21,7 @@ pub enum Access {
 impl Access {
     /// The property without which this access is not permitted.
     fn property(self) -> Properties
-        ensures { result.0 ≡ property_of self }
+        ensures { result ≡ property_of self }
     {
         match self {
             Access::Read => Properties::READ,
@@ -90,7 +90,8 @@ pub fn first_broken(
 /// 1 asks for notifications, 2 for indications (Core 5.0, Vol 3 Part G, 3.3.3.3). The value has the
 /// property of one of them, and the connection all that reading the value needs.
 pub fn may_hear(guard: &Guard, bits: u8, standing: &Standing) -> bool
-    ensures { result ≡ may_hear_of guard.now bits standing.entry.now }
+    ensures exact { result ≡ may_hear_of guard.now bits standing.entry.now }
+    ensures heard { IsTrue result ↔ MayHear guard.now bits standing.entry.now }
 {
     bits & guard.properties.configuration_bits() != 0
         && first_unmet_rule(&guard.read, standing).is_none()
