@@ -3,3 +3,4 @@ pub mod Grammar
 pub mod Kind
 pub mod PduBuf
 pub mod Request
+pub mod Response

@@ -1,16 +1,18 @@
--- What a contract sees of a PDU in a buffer, and the error answer.
-use Rattle.std.specs.Prelude.{◌≡◌, ℕ, List, [], ◌∷◌, ◌++◌}
+-- What a contract sees of a PDU in a buffer.
+use Rattle.std.specs.Prelude.{◌≡◌, ℕ, ◌+◌, ◌≤◌, ◌↔◌, Bool, IsTrue, ◌++◌, length}
+use Rattle.std.specs.Bool.{OnTrue, OnFalse}
 use Rattle.std.specs.Borrow.{MutBor}
 use Rattle.arrayvec.specs.ArrayVec.{ArrayVec}
+use Rattle.att_numbers.specs.Types.{Mtu}
 use Rattle.att_pdu.specs.declared.pdu_buf.PduBuf.{PduBuf}
-use Rattle.octets.specs.Number.{two_octets}
+use Rattle.octets.specs.Number.{Octets}
 
 -- the octets so far
-abbrev pub contents : PduBuf → List ℕ
+abbrev pub contents : PduBuf → Octets
 contents pdu = pdu.octets.now.items
 
 -- the ATT_MTU that the PDU keeps within
-abbrev pub mtu_of : PduBuf → ℕ
+abbrev pub mtu_of : PduBuf → Mtu
 mtu_of pdu = pdu.mtu
 
 -- the PDU is put together in this buffer
@@ -22,6 +24,9 @@ pub record IsSameBuffer (old new : PduBuf) : Type 0 where
   pub place : new.octets.ghost_name ≡ old.octets.ghost_name
   pub mtu : new.mtu ≡ old.mtu
 
--- the Error Response to a request, by its opcode, the handle at fault and the error code: Core 5.0, Vol 3 Part F, 3.4.1.1
-abbrev pub error_response : ℕ → ℕ → ℕ → List ℕ
-error_response opcode handle code = 0x01 ∷ opcode ∷ two_octets handle ++ code ∷ []
+-- octets were appended where all of them fit, and else nothing changed
+pub record AppendsWhereFits (old new : PduBuf) (octets : Octets) (result : Bool) : Type 0 where
+  pub fits : IsTrue result ↔ (length (contents old) + length octets ≤ mtu_of old)
+  pub appended : OnTrue result (contents new ≡ contents old ++ octets)
+  pub unchanged : OnFalse result (contents new ≡ contents old)
+  pub same_buffer : IsSameBuffer old new

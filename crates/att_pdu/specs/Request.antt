@@ -2,29 +2,31 @@
 use Rattle.std.specs.Prelude.{ℕ, ◌^◌, ◌<◌, ◌≤◌, List, [], ◌∷◌, ◌++◌, length, map, All}
 use Rattle.std.specs.Int.{w16, from_le_bytes}
 use Rattle.std.specs.List.{flat_map}
+use Rattle.att_numbers.specs.Types.{Handle, Mtu}
+use Rattle.att_numbers.specs.declared.opcode.TheConstants.{EXCHANGE_MTU_REQUEST, FIND_INFORMATION_REQUEST, FIND_BY_TYPE_VALUE_REQUEST, READ_BY_TYPE_REQUEST, READ_REQUEST, READ_BLOB_REQUEST, READ_MULTIPLE_REQUEST, READ_BY_GROUP_TYPE_REQUEST, WRITE_REQUEST, PREPARE_WRITE_REQUEST, EXECUTE_WRITE_REQUEST, HANDLE_VALUE_CONFIRMATION, WRITE_COMMAND}
 use Rattle.att_pdu.specs.declared.kind.Kind.{Kind}
 use Rattle.att_pdu.specs.declared.request.ExecuteFlags.{ExecuteFlags}
 use Rattle.att_pdu.specs.declared.request.ExecuteFlags.TheVariants as flags
 use Rattle.att_pdu.specs.declared.request.Request.{Request}
 use Rattle.att_pdu.specs.declared.request.Request.TheVariants.{ExchangeMtu, FindInformation, FindByTypeValue, ReadByType, Read, ReadBlob, ReadMultiple, ReadByGroupType, Write, PrepareWrite, ExecuteWrite, Confirmation, WriteCommand}
 use Rattle.att_pdu.specs.Kind.{kind_octets, HasKindOctets}
-use Rattle.octets.specs.Number.{two_octets}
+use Rattle.octets.specs.Number.{Octets, two_octets}
 
 -- what a request asks for
 pub data Asked : Type 0 where
-  ExchangeMtuRequest : (client_rx_mtu : ℕ) → Asked
-  FindInformationRequest : (first last : ℕ) → Asked
-  FindByTypeValueRequest : (first last kind : ℕ) (value : List ℕ) → Asked
-  ReadByTypeRequest : (first last : ℕ) (kind : Kind) → Asked
-  ReadRequest : (handle : ℕ) → Asked
-  ReadBlobRequest : (handle offset : ℕ) → Asked
-  ReadMultipleRequest : (handles : List ℕ) → Asked
-  ReadByGroupTypeRequest : (first last : ℕ) (kind : Kind) → Asked
-  WriteRequest : (handle : ℕ) (value : List ℕ) → Asked
-  PrepareWriteRequest : (handle offset : ℕ) (part : List ℕ) → Asked
+  ExchangeMtuRequest : (client_rx_mtu : Mtu) → Asked
+  FindInformationRequest : (first last : Handle) → Asked
+  FindByTypeValueRequest : (first last : Handle) (kind : ℕ) (value : Octets) → Asked
+  ReadByTypeRequest : (first last : Handle) (kind : Kind) → Asked
+  ReadRequest : (handle : Handle) → Asked
+  ReadBlobRequest : (handle : Handle) (offset : ℕ) → Asked
+  ReadMultipleRequest : (handles : List Handle) → Asked
+  ReadByGroupTypeRequest : (first last : Handle) (kind : Kind) → Asked
+  WriteRequest : (handle : Handle) (value : Octets) → Asked
+  PrepareWriteRequest : (handle : Handle) (offset : ℕ) (part : Octets) → Asked
   ExecuteWriteRequest : (flags : ExecuteFlags) → Asked
   ConfirmationPdu : Asked
-  WriteCommandPdu : (handle : ℕ) (value : List ℕ) → Asked
+  WriteCommandPdu : (handle : Handle) (value : Octets) → Asked
 
 -- what a request that borrows its parts asks for
 abbrev pub asked : Request → Asked
@@ -48,20 +50,20 @@ flags_octet flags.Cancel = 0x00
 flags_octet flags.Write = 0x01
 
 -- the octets of a request: Core 5.0, Vol 3 Part F, 3.4
-abbrev pub spelled : Asked → List ℕ
-spelled (ExchangeMtuRequest client_rx_mtu) = 0x02 ∷ two_octets client_rx_mtu
-spelled (FindInformationRequest first last) = 0x04 ∷ two_octets first ++ two_octets last
-spelled (FindByTypeValueRequest first last kind value) = 0x06 ∷ two_octets first ++ two_octets last ++ two_octets kind ++ value
-spelled (ReadByTypeRequest first last kind) = 0x08 ∷ two_octets first ++ two_octets last ++ kind_octets kind
-spelled (ReadRequest handle) = 0x0A ∷ two_octets handle
-spelled (ReadBlobRequest handle offset) = 0x0C ∷ two_octets handle ++ two_octets offset
-spelled (ReadMultipleRequest handles) = 0x0E ∷ flat_map two_octets handles
-spelled (ReadByGroupTypeRequest first last kind) = 0x10 ∷ two_octets first ++ two_octets last ++ kind_octets kind
-spelled (WriteRequest handle value) = 0x12 ∷ two_octets handle ++ value
-spelled (PrepareWriteRequest handle offset part) = 0x16 ∷ two_octets handle ++ two_octets offset ++ part
-spelled (ExecuteWriteRequest flags) = 0x18 ∷ flags_octet flags ∷ []
-spelled ConfirmationPdu = 0x1E ∷ []
-spelled (WriteCommandPdu handle value) = 0x52 ∷ two_octets handle ++ value
+abbrev pub spelled : Asked → Octets
+spelled (ExchangeMtuRequest client_rx_mtu) = EXCHANGE_MTU_REQUEST ∷ two_octets client_rx_mtu
+spelled (FindInformationRequest first last) = FIND_INFORMATION_REQUEST ∷ two_octets first ++ two_octets last
+spelled (FindByTypeValueRequest first last kind value) = FIND_BY_TYPE_VALUE_REQUEST ∷ two_octets first ++ two_octets last ++ two_octets kind ++ value
+spelled (ReadByTypeRequest first last kind) = READ_BY_TYPE_REQUEST ∷ two_octets first ++ two_octets last ++ kind_octets kind
+spelled (ReadRequest handle) = READ_REQUEST ∷ two_octets handle
+spelled (ReadBlobRequest handle offset) = READ_BLOB_REQUEST ∷ two_octets handle ++ two_octets offset
+spelled (ReadMultipleRequest handles) = READ_MULTIPLE_REQUEST ∷ flat_map two_octets handles
+spelled (ReadByGroupTypeRequest first last kind) = READ_BY_GROUP_TYPE_REQUEST ∷ two_octets first ++ two_octets last ++ kind_octets kind
+spelled (WriteRequest handle value) = WRITE_REQUEST ∷ two_octets handle ++ value
+spelled (PrepareWriteRequest handle offset part) = PREPARE_WRITE_REQUEST ∷ two_octets handle ++ two_octets offset ++ part
+spelled (ExecuteWriteRequest flags) = EXECUTE_WRITE_REQUEST ∷ flags_octet flags ∷ []
+spelled ConfirmationPdu = HANDLE_VALUE_CONFIRMATION ∷ []
+spelled (WriteCommandPdu handle value) = WRITE_COMMAND ∷ two_octets handle ++ value
 
 -- handles, offsets and MTUs have 16 bits; a Read Multiple Request has two or more handles
 abbrev pub HasOctetFields : Asked → Type 0

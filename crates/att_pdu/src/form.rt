@@ -1,6 +1,7 @@
 //! The forms of the parameters behind each opcode.
 ghost use Rattle.std.specs.Prelude.{◌≡◌, ◌∷◌, IfSome};
 ghost use Rattle.std.specs.Option.{option_map};
+ghost use Rattle.att_numbers.specs.declared.opcode.TheConstants.{EXCHANGE_MTU_REQUEST, FIND_INFORMATION_REQUEST, FIND_BY_TYPE_VALUE_REQUEST, READ_BY_TYPE_REQUEST, READ_REQUEST, READ_BLOB_REQUEST, READ_MULTIPLE_REQUEST, READ_BY_GROUP_TYPE_REQUEST, WRITE_REQUEST, PREPARE_WRITE_REQUEST, EXECUTE_WRITE_REQUEST, HANDLE_VALUE_CONFIRMATION, WRITE_COMMAND};
 ghost use Rattle.att_pdu.specs.Request.{asked, spelled};
 ghost use Rattle.att_pdu.specs.Form.{form_of, exchange_mtu_form, find_information_form, find_by_type_value_form, read_by_type_form, read_form, read_blob_form, read_multiple_form, read_by_group_type_form, write_form, prepare_write_form, execute_write_form, confirmation_form, write_command_form};
 
@@ -35,7 +36,7 @@ pub(crate) fn request(opcode: u8, parameters: &[u8]) -> Option<Request<'_>>
 /// Core 5.0, Vol 3 Part F, 3.4.2.1.
 fn exchange_mtu(parameters: &[u8]) -> Option<Request<'_>>
     ensures form { option_map asked result ≡ exchange_mtu_form parameters.now }
-    ensures spelled { IfSome result (λ request. spelled (asked request) ≡ 0x02 ∷ parameters.now) }
+    ensures spelled { IfSome result (λ request. spelled (asked request) ≡ EXCHANGE_MTU_REQUEST ∷ parameters.now) }
 {
     match parameters {
         [low, high] => Some(Request::ExchangeMtu {
@@ -48,7 +49,7 @@ fn exchange_mtu(parameters: &[u8]) -> Option<Request<'_>>
 /// Core 5.0, Vol 3 Part F, 3.4.3.1.
 fn find_information(parameters: &[u8]) -> Option<Request<'_>>
     ensures form { option_map asked result ≡ find_information_form parameters.now }
-    ensures spelled { IfSome result (λ request. spelled (asked request) ≡ 0x04 ∷ parameters.now) }
+    ensures spelled { IfSome result (λ request. spelled (asked request) ≡ FIND_INFORMATION_REQUEST ∷ parameters.now) }
 {
     match parameters {
         [first_low, first_high, last_low, last_high] => Some(Request::FindInformation {
@@ -62,7 +63,7 @@ fn find_information(parameters: &[u8]) -> Option<Request<'_>>
 /// Core 5.0, Vol 3 Part F, 3.4.3.3.
 fn find_by_type_value(parameters: &[u8]) -> Option<Request<'_>>
     ensures form { option_map asked result ≡ find_by_type_value_form parameters.now }
-    ensures spelled { IfSome result (λ request. spelled (asked request) ≡ 0x06 ∷ parameters.now) }
+    ensures spelled { IfSome result (λ request. spelled (asked request) ≡ FIND_BY_TYPE_VALUE_REQUEST ∷ parameters.now) }
 {
     match parameters {
         [
@@ -86,7 +87,7 @@ fn find_by_type_value(parameters: &[u8]) -> Option<Request<'_>>
 /// Core 5.0, Vol 3 Part F, 3.4.4.1.
 fn read_by_type(parameters: &[u8]) -> Option<Request<'_>>
     ensures form { option_map asked result ≡ read_by_type_form parameters.now }
-    ensures spelled { IfSome result (λ request. spelled (asked request) ≡ 0x08 ∷ parameters.now) }
+    ensures spelled { IfSome result (λ request. spelled (asked request) ≡ READ_BY_TYPE_REQUEST ∷ parameters.now) }
 {
     match parameters {
         [first_low, first_high, last_low, last_high, kind @ ..] => Some(Request::ReadByType {
@@ -101,7 +102,7 @@ fn read_by_type(parameters: &[u8]) -> Option<Request<'_>>
 /// Core 5.0, Vol 3 Part F, 3.4.4.3.
 fn read(parameters: &[u8]) -> Option<Request<'_>>
     ensures form { option_map asked result ≡ read_form parameters.now }
-    ensures spelled { IfSome result (λ request. spelled (asked request) ≡ 0x0A ∷ parameters.now) }
+    ensures spelled { IfSome result (λ request. spelled (asked request) ≡ READ_REQUEST ∷ parameters.now) }
 {
     match parameters {
         [low, high] => Some(Request::Read {
@@ -114,7 +115,7 @@ fn read(parameters: &[u8]) -> Option<Request<'_>>
 /// Core 5.0, Vol 3 Part F, 3.4.4.5.
 fn read_blob(parameters: &[u8]) -> Option<Request<'_>>
     ensures form { option_map asked result ≡ read_blob_form parameters.now }
-    ensures spelled { IfSome result (λ request. spelled (asked request) ≡ 0x0C ∷ parameters.now) }
+    ensures spelled { IfSome result (λ request. spelled (asked request) ≡ READ_BLOB_REQUEST ∷ parameters.now) }
 {
     match parameters {
         [low, high, offset_low, offset_high] => Some(Request::ReadBlob {
@@ -129,7 +130,7 @@ fn read_blob(parameters: &[u8]) -> Option<Request<'_>>
 #[tactic(auto, using(crate::proofs::Handles::handles_in_pairs, crate::proofs::Handles::handles_spelled))]
 fn read_multiple(parameters: &[u8]) -> Option<Request<'_>>
     ensures form { option_map asked result ≡ read_multiple_form parameters.now }
-    ensures spelled { IfSome result (λ request. spelled (asked request) ≡ 0x0E ∷ parameters.now) }
+    ensures spelled { IfSome result (λ request. spelled (asked request) ≡ READ_MULTIPLE_REQUEST ∷ parameters.now) }
 {
     match parameters.as_chunks::<2>() {
         (handles, []) if handles.len() >= 2 => Some(Request::ReadMultiple { handles }),
@@ -140,7 +141,7 @@ fn read_multiple(parameters: &[u8]) -> Option<Request<'_>>
 /// Core 5.0, Vol 3 Part F, 3.4.4.9.
 fn read_by_group_type(parameters: &[u8]) -> Option<Request<'_>>
     ensures form { option_map asked result ≡ read_by_group_type_form parameters.now }
-    ensures spelled { IfSome result (λ request. spelled (asked request) ≡ 0x10 ∷ parameters.now) }
+    ensures spelled { IfSome result (λ request. spelled (asked request) ≡ READ_BY_GROUP_TYPE_REQUEST ∷ parameters.now) }
 {
     match parameters {
         [first_low, first_high, last_low, last_high, kind @ ..] => Some(Request::ReadByGroupType {
@@ -155,7 +156,7 @@ fn read_by_group_type(parameters: &[u8]) -> Option<Request<'_>>
 /// Core 5.0, Vol 3 Part F, 3.4.5.1.
 fn write(parameters: &[u8]) -> Option<Request<'_>>
     ensures form { option_map asked result ≡ write_form parameters.now }
-    ensures spelled { IfSome result (λ request. spelled (asked request) ≡ 0x12 ∷ parameters.now) }
+    ensures spelled { IfSome result (λ request. spelled (asked request) ≡ WRITE_REQUEST ∷ parameters.now) }
 {
     match parameters {
         [low, high, value @ ..] => Some(Request::Write {
@@ -169,7 +170,7 @@ fn write(parameters: &[u8]) -> Option<Request<'_>>
 /// Core 5.0, Vol 3 Part F, 3.4.6.1.
 fn prepare_write(parameters: &[u8]) -> Option<Request<'_>>
     ensures form { option_map asked result ≡ prepare_write_form parameters.now }
-    ensures spelled { IfSome result (λ request. spelled (asked request) ≡ 0x16 ∷ parameters.now) }
+    ensures spelled { IfSome result (λ request. spelled (asked request) ≡ PREPARE_WRITE_REQUEST ∷ parameters.now) }
 {
     match parameters {
         [low, high, offset_low, offset_high, part @ ..] => Some(Request::PrepareWrite {
@@ -184,7 +185,7 @@ fn prepare_write(parameters: &[u8]) -> Option<Request<'_>>
 /// Core 5.0, Vol 3 Part F, 3.4.6.3.
 fn execute_write(parameters: &[u8]) -> Option<Request<'_>>
     ensures form { option_map asked result ≡ execute_write_form parameters.now }
-    ensures spelled { IfSome result (λ request. spelled (asked request) ≡ 0x18 ∷ parameters.now) }
+    ensures spelled { IfSome result (λ request. spelled (asked request) ≡ EXECUTE_WRITE_REQUEST ∷ parameters.now) }
 {
     match parameters {
         [0x00] => Some(Request::ExecuteWrite {
@@ -200,7 +201,7 @@ fn execute_write(parameters: &[u8]) -> Option<Request<'_>>
 /// Core 5.0, Vol 3 Part F, 3.4.7.3.
 fn confirmation(parameters: &[u8]) -> Option<Request<'_>>
     ensures form { option_map asked result ≡ confirmation_form parameters.now }
-    ensures spelled { IfSome result (λ request. spelled (asked request) ≡ 0x1E ∷ parameters.now) }
+    ensures spelled { IfSome result (λ request. spelled (asked request) ≡ HANDLE_VALUE_CONFIRMATION ∷ parameters.now) }
 {
     match parameters {
         [] => Some(Request::Confirmation),
@@ -211,7 +212,7 @@ fn confirmation(parameters: &[u8]) -> Option<Request<'_>>
 /// Core 5.0, Vol 3 Part F, 3.4.5.3.
 fn write_command(parameters: &[u8]) -> Option<Request<'_>>
     ensures form { option_map asked result ≡ write_command_form parameters.now }
-    ensures spelled { IfSome result (λ request. spelled (asked request) ≡ 0x52 ∷ parameters.now) }
+    ensures spelled { IfSome result (λ request. spelled (asked request) ≡ WRITE_COMMAND ∷ parameters.now) }
 {
     match parameters {
         [low, high, value @ ..] => Some(Request::WriteCommand {

@@ -1,8 +1,7 @@
 ghost use Rattle.std.specs.Prelude.{◌≡◌, IfSome};
 ghost use Rattle.att_pdu.specs.Kind.{number_of, kind_form, kind_octets};
 
-/// The Bluetooth Base UUID, to which a type of 16 bits is added at bit 96.
-const BASE_UUID: u128 = 0x0000_0000_0000_1000_8000_0080_5F9B_34FB;
+use att_numbers::attribute_type;
 
 /// An attribute type as a request spells it, by a UUID of 16 or of 128 bits: Core 5.0, Vol 3
 /// Part F, 3.2.1.
@@ -19,7 +18,7 @@ impl Kind {
         ensures { result ≡ number_of self }
     {
         match self {
-            Kind::Short(short) => u128::from(short) * (1 << 96) + BASE_UUID,
+            Kind::Short(short) => attribute_type::from_16_bits(short),
             Kind::Long(long) => long,
         }
     }

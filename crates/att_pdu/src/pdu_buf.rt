@@ -23,7 +23,8 @@ pub struct PduBuf<'a> {
 
 impl<'a> PduBuf<'a> {
     ghost use Rattle.octets.specs.Number.{two_octets};
-    ghost use Rattle.att_pdu.specs.PduBuf.{contents, mtu_of, IsIn, IsSameBuffer, error_response};
+    ghost use Rattle.att_pdu.specs.PduBuf.{contents, mtu_of, IsIn, IsSameBuffer, AppendsWhereFits};
+    ghost use Rattle.att_pdu.specs.Response.{OfAttribute, OfGroup, element_octets, ErrorResponse, sent};
 
     /// An empty PDU in `octets`, whose content is dropped.
     pub fn new(octets: &'a mut ArrayVec<u8, 517>, mtu: u16) -> PduBuf<'a>
@@ -37,9 +38,19 @@ impl<'a> PduBuf<'a> {
         PduBuf { octets, mtu }
     }
 
+    /// The ATT_MTU that the PDU keeps within, in octets.
+    #[inline(always)]
+    pub fn mtu(&self) -> u16
+        ensures mtu { result ≡ mtu_of self.now }
+        ensures least { 23 ≤ result }
+        ensures most { result ≤ 517 }
+    {
+        self.mtu
+    }
+
     /// Replaces the content by the Error Response to a request: Core 5.0, Vol 3 Part F, 3.4.1.1.
     pub fn error(&mut self, request_opcode: u8, handle: u16, code: u8)
-        ensures contents { contents self.new ≡ error_response request_opcode handle code }
+        ensures error { contents self.new ≡ sent (ErrorResponse request_opcode handle code) }
         ensures same_buffer { IsSameBuffer self.old self.new }
     {
         let [low, high] = handle.to_le_bytes();
@@ -50,10 +61,7 @@ impl<'a> PduBuf<'a> {
     /// Appends octets, an opcode and the octets of a format too, or answers `false` with nothing
     /// changed where they do not fit.
     pub fn value(&mut self, octets: &[u8]) -> bool
-        ensures fits { IsTrue result ↔ (length (contents self.old) + length octets.now ≤ mtu_of self.old) }
-        ensures appended { OnTrue result (contents self.new ≡ contents self.old ++ octets.now) }
-        ensures unchanged { OnFalse result (contents self.new ≡ contents self.old) }
-        ensures same_buffer { IsSameBuffer self.old self.new }
+        ensures { AppendsWhereFits self.old self.new octets.now result }
     {
         if !self.has_room(octets.len()) {
             return false;
@@ -73,13 +81,10 @@ impl<'a> PduBuf<'a> {
     }
 
     /// Appends a handle and octets, an attribute's type or its value, or answers `false` with
-    /// nothing changed where they do not fit: an entry of the responses of Core 5.0, Vol 3 Part F,
+    /// nothing changed where they do not fit: an element of the responses of Core 5.0, Vol 3 Part F,
     /// 3.4.3.2 and 3.4.4.2, or with the last handle of a group that of 3.4.3.4.
     pub fn pair(&mut self, handle: u16, octets: &[u8]) -> bool
-        ensures fits { IsTrue result ↔ (length (contents self.old) + 2 + length octets.now ≤ mtu_of self.old) }
-        ensures appended { OnTrue result (contents self.new ≡ contents self.old ++ two_octets handle ++ octets.now) }
-        ensures unchanged { OnFalse result (contents self.new ≡ contents self.old) }
-        ensures same_buffer { IsSameBuffer self.old self.new }
+        ensures { AppendsWhereFits self.old self.new (element_octets (OfAttribute handle octets.now)) result }
     {
         if !self.has_room(2 + octets.len()) {
             return false;
@@ -90,13 +95,10 @@ impl<'a> PduBuf<'a> {
     }
 
     /// Appends the first and the last handle of a group and its value, or answers `false` with
-    /// nothing changed where they do not fit: an entry of the response of Core 5.0, Vol 3 Part F,
+    /// nothing changed where they do not fit: an element of the response of Core 5.0, Vol 3 Part F,
     /// 3.4.4.10.
     pub fn group(&mut self, first: u16, last: u16, octets: &[u8]) -> bool
-        ensures fits { IsTrue result ↔ (length (contents self.old) + 4 + length octets.now ≤ mtu_of self.old) }
-        ensures appended { OnTrue result (contents self.new ≡ contents self.old ++ two_octets first ++ two_octets last ++ octets.now) }
-        ensures unchanged { OnFalse result (contents self.new ≡ contents self.old) }
-        ensures same_buffer { IsSameBuffer self.old self.new }
+        ensures { AppendsWhereFits self.old self.new (element_octets (OfGroup first last octets.now)) result }
     {
         if !self.has_room(4 + octets.len()) {
             return false;
@@ -110,10 +112,7 @@ impl<'a> PduBuf<'a> {
     /// Appends a handle, an offset and a part of a value, or answers `false` with nothing changed
     /// where they do not fit: the response of Core 5.0, Vol 3 Part F, 3.4.6.2.
     pub fn part(&mut self, handle: u16, offset: u16, octets: &[u8]) -> bool
-        ensures fits { IsTrue result ↔ (length (contents self.old) + 4 + length octets.now ≤ mtu_of self.old) }
-        ensures appended { OnTrue result (contents self.new ≡ contents self.old ++ two_octets handle ++ two_octets offset ++ octets.now) }
-        ensures unchanged { OnFalse result (contents self.new ≡ contents self.old) }
-        ensures same_buffer { IsSameBuffer self.old self.new }
+        ensures { AppendsWhereFits self.old self.new (two_octets handle ++ two_octets offset ++ octets.now) result }
     {
         // The offset is spelled as a handle is.
         self.group(handle, offset, octets)

@@ -1,42 +1,58 @@
 -- How the first attribute begins the list of its type.
-use Rattle.std.proofs.Common.{◌≡◌, ◌<◌, ◌≤◌, ℕ, ◌+◌, List, None, ◌∷◌, length, take, sym, ap, ◌∙◌, arith, length-take}
+use Rattle.std.proofs.Common.{◌≡◌, ◌<◌, ◌≤◌, ℕ, ◌+◌, List, Option, None, [], ◌∷◌, length, take, map, refl, sym, ap, ◌∙◌, arith, length-take}
 use Rattle.std.specs.Prelude.{min}
+use Rattle.std.specs.List.{flat_map}
+use Rattle.att_numbers.specs.Types.{Handle, Mtu, Row}
+use Rattle.att_pdu.specs.Response.{Element, element_octets, sent}
 use Rattle.att_policy.specs.declared.standing.Standing.{Standing}
+use Rattle.att_policy.specs.Refusal.{Refusal}
 use Rattle.att_table.specs.Table.{Contents}
 use Rattle.att_reads.specs.declared.list.Listing.{Listing}
 use Rattle.att_reads.specs.declared.list.Listing.TheVariants.{Values, Groups}
-use Rattle.att_reads.specs.Access.{refusal_at, value_for}
-use Rattle.att_reads.specs.Answer.{size_itself}
-use Rattle.att_reads.specs.List.{request_of, head_of, cut_of, entry_of, item_of}
-use Rattle.att_reads.specs.Listing.{Item, list_answer, with_listed}
+use Rattle.att_reads.specs.Access.{refusal_at, refusal_of, value_for}
+use Rattle.att_reads.specs.List.{request_of, head_of, cut_of, element_of, candidate_of, list_response, list_answer}
+use Rattle.att_reads.specs.Listing.{Candidate, size_of, size_of_first, elements_within, with_listed}
+use Rattle.att_reads.specs.Refusals.{unless_refused}
 use Rattle.att_reads.proofs.Listed.{list_begun}
+use Rattle.octets.specs.Number.{Octets}
 
-entry_size : (listing : Listing) (table : Contents) (handle : ℕ) (front : List ℕ) → length (entry_of listing table handle front) ≡ head_of listing + length front
-entry_size Values table handle front = omega arith
-entry_size Groups table handle front = omega arith
+element_size : (listing : Listing) (table : Contents) (handle : Handle) (front : Octets) → length (element_octets (element_of listing table handle front)) ≡ head_of listing + length front
+element_size Values table handle front = omega arith
+element_size Groups table handle front = omega arith
 
 head_above : (listing : Listing) → 2 ≤ head_of listing
 head_above Values = omega arith
 head_above Groups = omega arith
 
-entry_fits : (listing : Listing) (mtu size : ℕ) → 23 ≤ mtu → size ≤ cut_of listing mtu → 2 + (head_of listing + size) ≤ mtu
-entry_fits Values mtu size least cut = omega (arith, least, cut)
-entry_fits Groups mtu size least cut = omega (arith, least, cut)
+element_fits : (listing : Listing) (mtu : Mtu) (size : ℕ) → 23 ≤ mtu → size ≤ cut_of listing mtu → 2 + (head_of listing + size) ≤ mtu
+element_fits Values mtu size least cut = omega (arith, least, cut)
+element_fits Groups mtu size least cut = omega (arith, least, cut)
 
-pub list_of_first : (listing : Listing) (table : Contents) (row : List (ℕ × ℕ)) (standing : Standing) (mtu start handle : ℕ) (rest : List Item) (front octets : List ℕ)
+sent_list : (listing : Listing) (size : ℕ) (listed : List Element) → sent (list_response listing size listed) ≡ (request_of listing + 1) ∷ size ∷ flat_map element_octets listed
+sent_list Values size listed = refl
+sent_list Groups size listed = refl
+
+pub none_refused : (table : Contents) (standing : Standing) (handle : Handle) → refusal_at table.attributes standing handle ≡ None → refusal_of table.attributes standing handle ≡ None
+none_refused table standing handle permitted = rw permitted refl
+
+pub list_of_first : (listing : Listing) (table : Contents) (row : Row) (standing : Standing) (mtu : Mtu) (start handle : Handle) (rest : List Handle) (front octets : Octets)
     → refusal_at table.attributes standing handle ≡ None → 23 ≤ mtu → front ≡ take (cut_of listing mtu) (value_for table row handle)
-    → octets ≡ (request_of listing + 1) ∷ (head_of listing + length front) ∷ entry_of listing table handle front
-    → with_listed mtu (head_of listing + length front) octets rest
-    ≡ list_answer (request_of listing) size_itself mtu start (item_of listing table row standing mtu handle ∷ rest)
+    → octets ≡ (request_of listing + 1) ∷ (head_of listing + length front) ∷ element_octets (element_of listing table handle front)
+    → with_listed mtu (head_of listing + length front) octets (map (candidate_of listing table row standing mtu) rest)
+    ≡ sent (list_answer listing table row standing mtu start (handle ∷ rest))
 list_of_first listing table row standing mtu start handle rest front octets permitted least front_is begun =
-    let first = item_of listing table row standing mtu handle in
-    let octets_is : first.octets ≡ entry_of listing table handle front = ap (entry_of listing table handle) (sym front_is) in
-    let size : length first.octets ≡ head_of listing + length front = ap length octets_is ∙ entry_size listing table handle front in
+    let first = candidate_of listing table row standing mtu handle in
+    let left = map (candidate_of listing table row standing mtu) rest in
+    let refusal : first.refusal ≡ None = none_refused table standing handle permitted in
+    let element_is : element_octets first.element ≡ element_octets (element_of listing table handle front) = ap (λ value. element_octets (element_of listing table handle value)) (sym front_is) in
+    let size : size_of first ≡ head_of listing + length front = ap length element_is ∙ element_size listing table handle front in
     let cut : length front ≡ min (cut_of listing mtu) (length (value_for table row handle)) = ap length front_is ∙ length-take (cut_of listing mtu) (value_for table row handle) in
     let within : length front ≤ cut_of listing mtu = omega (arith, cut) in
-    let fits : 2 + length first.octets ≤ mtu = let room = entry_fits listing mtu (length front) least within in omega (arith, room, size) in
-    let above : 0 < length first.octets = let head = head_above listing in omega (arith, head, size) in
-    ap (λ begin. with_listed mtu (head_of listing + length front) begin rest) begun
-    ∙ ap (λ n. with_listed mtu n ((request_of listing + 1) ∷ n ∷ entry_of listing table handle front) rest) (sym size)
-    ∙ ap (λ entry. with_listed mtu (length first.octets) ((request_of listing + 1) ∷ length first.octets ∷ entry) rest) (sym octets_is)
-    ∙ list_begun (request_of listing) mtu start size_itself first rest permitted above fits
+    let fits : 2 + size_of first ≤ mtu = let room = element_fits listing mtu (length front) least within in omega (arith, room, size) in
+    let above : 0 < size_of first = let head = head_above listing in omega (arith, head, size) in
+    ap (λ begin. with_listed mtu (head_of listing + length front) begin left) begun
+    ∙ ap (λ n. with_listed mtu n ((request_of listing + 1) ∷ n ∷ element_octets (element_of listing table handle front)) left) (sym size)
+    ∙ ap (λ element. with_listed mtu (size_of first) ((request_of listing + 1) ∷ size_of first ∷ element) left) (sym element_is)
+    ∙ list_begun (request_of listing + 1) (size_of first) mtu first left refusal above fits
+    ∙ sym (sent_list listing (size_of first) (elements_within mtu (first ∷ left)))
+    ∙ ap (λ refused. sent (unless_refused (request_of listing) (None ∷ refused ∷ []) (list_response listing (size_of first) (elements_within mtu (first ∷ left))))) (sym refusal)

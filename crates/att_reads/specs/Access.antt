@@ -1,20 +1,28 @@
 -- What a client may read of an attribute, and what it reads there.
-use Rattle.std.specs.Prelude.{◌≡◌, ℕ, if◌then◌else◌, List, [], ◌∷◌, Option, None}
+use Rattle.std.specs.Prelude.{◌≡◌, if◌then◌else◌, List, [], ◌∷◌, Option, None}
 use Rattle.std.specs.Option.{option_map}
+use Rattle.att_numbers.specs.Types.{Handle, Code, Row}
 use Rattle.att_policy.specs.declared.policy.Access.TheVariants.{Read}
 use Rattle.att_policy.specs.declared.standing.Standing.{Standing}
 use Rattle.att_policy.specs.Policy.{first_broken_of}
+use Rattle.att_policy.specs.Refusal.{Refusal}
 use Rattle.att_table.specs.declared.attr.Attr.{Attr}
 use Rattle.att_table.specs.ConfigRow.{bits_at}
 use Rattle.att_table.specs.Table.{Contents, guard_at, is_configuration_at, value_at}
+use Rattle.octets.specs.Number.{Octets}
 
 -- the error code of the first rule that reading there breaks, if it breaks one
-abbrev pub refusal_at : List Attr → Standing → ℕ → Option ℕ
+abbrev pub refusal_at : List Attr → Standing → Handle → Option Code
 refusal_at attributes standing handle =
     option_map (λ broken. broken.1) (first_broken_of Read (guard_at attributes handle) standing)
 
+-- the same with the handle
+abbrev pub refusal_of : List Attr → Standing → Handle → Option Refusal
+refusal_of attributes standing handle =
+    option_map (λ code. record { handle = handle; code = code }) (refusal_at attributes standing handle)
+
 -- the value that a client reads at a handle: its configurations are its own (Core 5.0, Vol 3 Part G, 3.3.3.3)
-abbrev pub value_for : Contents → List (ℕ × ℕ) → ℕ → List ℕ
+abbrev pub value_for : Contents → Row → Handle → Octets
 value_for table row handle =
     if is_configuration_at table.attributes handle then bits_at row handle ∷ 0 ∷ []
     else value_at table.values handle
@@ -22,4 +30,4 @@ value_for table row handle =
 -- another table that differs in nothing but values that a client of this standing may not read
 pub record IsAlike (standing : Standing) (table other : Contents) : Type 0 where
   pub attributes : other.attributes ≡ table.attributes
-  pub readable : (handle : ℕ) → refusal_at table.attributes standing handle ≡ None → value_at other.values handle ≡ value_at table.values handle
+  pub readable : (handle : Handle) → refusal_at table.attributes standing handle ≡ None → value_at other.values handle ≡ value_at table.values handle

@@ -1,95 +1,105 @@
--- The answers to requests that read: Core 5.0, Vol 3 Part F, 3.4.3 and 3.4.4.
-use Rattle.std.specs.Prelude.{ℕ, ◌-◌, ◌/◌, Bool, ◌==◌, ◌&&◌, ◌||◌, nat_lt, if◌then◌else◌, is_none, is_some, List, [], ◌∷◌, ◌++◌, length, map, take, drop, filter, Option, Some, None}
-use Rattle.std.specs.List.{find, flat_map}
+-- The answers to requests that read, each behind the refusals that go before it, in their order: Core 5.0, Vol 3 Part F, 3.4.3 and 3.4.4.
+use Rattle.std.specs.Prelude.{ℕ, ◌-◌, ◌/◌, Bool, ◌==◌, ◌&&◌, if◌then◌else◌, is_none, List, [], ◌∷◌, ◌++◌, length, map, take, drop, filter, Option, Some, None}
+use Rattle.std.specs.List.{flat_map}
 use Rattle.std.specs.Str.{bytes_eq}
-use Rattle.att_policy.specs.declared.standing.Standing.{Standing}
+use Rattle.att_numbers.specs.AttributeType.{of_16_bits}
+use Rattle.att_numbers.specs.Types.{Handle, AttributeType, Mtu, Row}
+use Rattle.att_numbers.specs.declared.opcode.TheConstants.{FIND_INFORMATION_REQUEST, FIND_BY_TYPE_VALUE_REQUEST, READ_BY_TYPE_REQUEST, READ_REQUEST, READ_BLOB_REQUEST, READ_MULTIPLE_REQUEST, READ_BY_GROUP_TYPE_REQUEST}
 use Rattle.att_pdu.specs.Kind.{number_of}
-use Rattle.octets.specs.Number.{two_octets}
-use Rattle.att_pdu.specs.PduBuf.{error_response}
 use Rattle.att_pdu.specs.Request.{Asked, FindInformationRequest, FindByTypeValueRequest, ReadByTypeRequest, ReadRequest, ReadBlobRequest, ReadMultipleRequest, ReadByGroupTypeRequest}
-use Rattle.att_pdu.specs.declared.kind.Kind.TheVariants.{Short}
-use Rattle.att_table.specs.Group.{is_service_kind, group_end_at}
-use Rattle.att_table.specs.Table.{Contents, attributes_in}
+use Rattle.att_pdu.specs.Response.{Element, element_octets, OfAttribute, OfGroup, Response, FindInformationResponse, FindByTypeValueResponse, ReadByTypeResponse, ReadResponse, ReadBlobResponse, ReadMultipleResponse, ReadByGroupTypeResponse}
+use Rattle.att_policy.specs.declared.standing.Standing.{Standing}
+use Rattle.att_table.specs.declared.attr.Attr.{Attr}
+use Rattle.att_table.specs.Group.{group_end_at}
+use Rattle.att_table.specs.Kind.{kind_octets}
 use Rattle.att_table.specs.OfType.{handles_of_type}
-use Rattle.att_reads.specs.Access.{refusal_at, value_for}
+use Rattle.att_table.specs.Table.{Contents, attributes_in}
+use Rattle.att_reads.specs.Access.{refusal_at, refusal_of, value_for}
 use Rattle.att_reads.specs.declared.list.Listing.TheVariants.{Values, Groups}
-use Rattle.att_reads.specs.List.{item_of}
-use Rattle.att_reads.specs.Listing.{list_answer, information_item, information_format}
+use Rattle.att_reads.specs.List.{candidate_of}
+use Rattle.att_reads.specs.Listing.{Candidate, first_refusal, size_of_first, elements_within}
+use Rattle.att_reads.specs.Refusals.{unless_refused, range_refusal, group_type_refusal, not_found, offset_refusal}
+use Rattle.octets.specs.Number.{Octets}
 
--- a refusal is the answer, and else what the value gives
-abbrev pub unless_refused : ℕ → ℕ → Option ℕ → List ℕ → List ℕ
-unless_refused opcode handle (Some code) answer = error_response opcode handle code
-unless_refused opcode handle None answer = answer
+-- Find Information Request: 3.4.3.1. It needs no permission
+abbrev pub information_of : Attr → Candidate
+information_of attr = record { refusal = None; element = OfAttribute attr.handle (kind_octets attr.kind) }
 
--- Read Request: Core 5.0, Vol 3 Part F, 3.4.4.3
-abbrev pub value_answer : Contents → List (ℕ × ℕ) → Standing → ℕ → ℕ → List ℕ
-value_answer table row standing mtu handle =
-    unless_refused 0x0A handle (refusal_at table.attributes standing handle)
-    (0x0B ∷ take (mtu - 1) (value_for table row handle))
+-- the format is 1 where the types have 16 bits, else 2
+abbrev pub information_format : ℕ → ℕ
+information_format size = if size == 4 then 1 else 2
 
--- Read Blob Request: 3.4.4.5. An offset at the end gives an empty part
-abbrev pub part_answer : ℕ → ℕ → ℕ → List ℕ → List ℕ
-part_answer mtu handle offset value =
-    if nat_lt (length value) offset then error_response 0x0C handle 0x07
-    else 0x0D ∷ take (mtu - 1) (drop offset value)
-
-abbrev pub blob_answer : Contents → List (ℕ × ℕ) → Standing → ℕ → ℕ → ℕ → List ℕ
-blob_answer table row standing mtu handle offset =
-    unless_refused 0x0C handle (refusal_at table.attributes standing handle)
-    (part_answer mtu handle offset (value_for table row handle))
-
--- Read Multiple Request: 3.4.4.7. The first handle that is refused is told, in the order of the request
-abbrev pub multiple_from : Contents → List (ℕ × ℕ) → Standing → ℕ → List ℕ → Option ℕ → List ℕ
-multiple_from table row standing mtu handles None = 0x0F ∷ take (mtu - 1) (flat_map (value_for table row) handles)
-multiple_from table row standing mtu handles (Some handle) =
-    unless_refused 0x0E handle (refusal_at table.attributes standing handle) []
-
-abbrev pub multiple_answer : Contents → List (ℕ × ℕ) → Standing → ℕ → List ℕ → List ℕ
-multiple_answer table row standing mtu handles =
-    multiple_from table row standing mtu handles (find (λ handle. is_some (refusal_at table.attributes standing handle)) handles)
+unfoldable pub information_answer : Contents → Mtu → Handle → Handle → Response
+information_answer table mtu first last =
+    let types = map information_of (attributes_in table.attributes first last) in
+    unless_refused FIND_INFORMATION_REQUEST
+    (range_refusal first last ∷ not_found first types ∷ [])
+    (FindInformationResponse (information_format (size_of_first types)) (elements_within mtu types))
 
 -- Find By Type Value Request: 3.4.3.3. An attribute that the client may not read has no value to compare (this profile's own)
-abbrev pub is_match : Contents → List (ℕ × ℕ) → Standing → List ℕ → ℕ → Bool
+abbrev pub is_match : Contents → Row → Standing → Octets → Handle → Bool
 is_match table row standing value handle =
     is_none (refusal_at table.attributes standing handle) && bytes_eq (value_for table row handle) value
 
-abbrev pub found_group : Contents → ℕ → List ℕ
-found_group table handle = two_octets handle ++ two_octets (group_end_at table.attributes handle)
+abbrev pub group_of : Contents → Handle → Element
+group_of table handle = OfGroup handle (group_end_at table.attributes handle) []
 
 -- octets, and the groups that are found behind them, as many as fit
-abbrev pub with_groups : Contents → ℕ → List ℕ → List ℕ → List ℕ
-with_groups table mtu octets handles = octets ++ flat_map (found_group table) (take ((mtu - length octets) / 4) handles)
+abbrev pub with_groups : Contents → Mtu → Octets → List Handle → Octets
+with_groups table mtu octets found = octets ++ flat_map (λ handle. element_octets (group_of table handle)) (take ((mtu - length octets) / 4) found)
 
-abbrev pub found_answer : Contents → ℕ → ℕ → List ℕ → List ℕ
-found_answer table mtu start [] = error_response 0x06 start 0x0A
-found_answer table mtu start (first ∷ rest) = with_groups table mtu (0x07 ∷ []) (first ∷ rest)
+unfoldable pub found_answer : Contents → Row → Standing → Mtu → Handle → Handle → AttributeType → Octets → Response
+found_answer table row standing mtu first last type value =
+    let found = filter (is_match table row standing value) (handles_of_type table.attributes type first last) in
+    unless_refused FIND_BY_TYPE_VALUE_REQUEST
+    (range_refusal first last ∷ not_found first found ∷ [])
+    (FindByTypeValueResponse (map (group_of table) (take ((mtu - 1) / 4) found)))
 
--- a range that is empty or begins with 0 is refused: 3.4.3.1
-abbrev pub in_range : ℕ → ℕ → ℕ → List ℕ → List ℕ
-in_range opcode start last answer = if (start == 0) || nat_lt last start then error_response opcode start 0x01 else answer
+-- Read By Type Request: 3.4.4.1
+unfoldable pub values_answer : Contents → Row → Standing → Mtu → Handle → Handle → AttributeType → Response
+values_answer table row standing mtu first last type =
+    let values = map (candidate_of Values table row standing mtu) (handles_of_type table.attributes type first last) in
+    unless_refused READ_BY_TYPE_REQUEST
+    (range_refusal first last ∷ not_found first values ∷ first_refusal values ∷ [])
+    (ReadByTypeResponse (size_of_first values) (elements_within mtu values))
 
--- only services are read by group: Core 5.0, Vol 3 Part G, 2.5.3
-abbrev pub of_services : ℕ → ℕ → List ℕ → List ℕ
-of_services start kind answer = if is_service_kind kind then answer else error_response 0x10 start 0x10
+-- Read Request: 3.4.4.3
+unfoldable pub value_answer : Contents → Row → Standing → Mtu → Handle → Response
+value_answer table row standing mtu handle =
+    unless_refused READ_REQUEST
+    (refusal_of table.attributes standing handle ∷ [])
+    (ReadResponse (take (mtu - 1) (value_for table row handle)))
 
--- the length octet of an answer that lists values
-abbrev pub size_itself : ℕ → ℕ
-size_itself size = size
+-- Read Blob Request: 3.4.4.5. An offset at the end gives an empty part
+unfoldable pub part_answer : Contents → Row → Standing → Mtu → Handle → ℕ → Response
+part_answer table row standing mtu handle offset =
+    let value = value_for table row handle in
+    unless_refused READ_BLOB_REQUEST
+    (refusal_of table.attributes standing handle ∷ offset_refusal handle offset value ∷ [])
+    (ReadBlobResponse (take (mtu - 1) (drop offset value)))
 
--- what is answered to a request at an ATT_MTU; nothing to one that does not read
-unfoldable pub read_answer : Contents → List (ℕ × ℕ) → Standing → ℕ → Asked → List ℕ
-read_answer table row standing mtu (FindInformationRequest first last) =
-    in_range 0x04 first last (list_answer 0x04 information_format mtu first (map information_item (attributes_in table.attributes first last)))
-read_answer table row standing mtu (FindByTypeValueRequest first last kind value) =
-    in_range 0x06 first last (found_answer table mtu first
-    (filter (is_match table row standing value) (handles_of_type table.attributes (number_of (Short kind)) first last)))
-read_answer table row standing mtu (ReadByTypeRequest first last kind) =
-    in_range 0x08 first last (list_answer 0x08 size_itself mtu first
-    (map (item_of Values table row standing mtu) (handles_of_type table.attributes (number_of kind) first last)))
-read_answer table row standing mtu (ReadRequest handle) = value_answer table row standing mtu handle
-read_answer table row standing mtu (ReadBlobRequest handle offset) = blob_answer table row standing mtu handle offset
-read_answer table row standing mtu (ReadMultipleRequest handles) = multiple_answer table row standing mtu handles
-read_answer table row standing mtu (ReadByGroupTypeRequest first last kind) =
-    in_range 0x10 first last (of_services first (number_of kind) (list_answer 0x10 size_itself mtu first
-    (map (item_of Groups table row standing mtu) (handles_of_type table.attributes (number_of kind) first last))))
-read_answer table row standing mtu _ = []
+-- Read Multiple Request: 3.4.4.7
+unfoldable pub multiple_answer : Contents → Row → Standing → Mtu → List Handle → Response
+multiple_answer table row standing mtu handles =
+    unless_refused READ_MULTIPLE_REQUEST
+    (map (refusal_of table.attributes standing) handles)
+    (ReadMultipleResponse (take (mtu - 1) (flat_map (value_for table row) handles)))
+
+-- Read By Group Type Request: 3.4.4.9
+unfoldable pub groups_answer : Contents → Row → Standing → Mtu → Handle → Handle → AttributeType → Response
+groups_answer table row standing mtu first last type =
+    let groups = map (candidate_of Groups table row standing mtu) (handles_of_type table.attributes type first last) in
+    unless_refused READ_BY_GROUP_TYPE_REQUEST
+    (range_refusal first last ∷ group_type_refusal first type ∷ not_found first groups ∷ first_refusal groups ∷ [])
+    (ReadByGroupTypeResponse (size_of_first groups) (elements_within mtu groups))
+
+-- what is answered to a request at an ATT_MTU, if it is one that reads
+abbrev pub read_answer : Contents → Row → Standing → Mtu → Asked → Option Response
+read_answer table row standing mtu (FindInformationRequest first last) = Some (information_answer table mtu first last)
+read_answer table row standing mtu (FindByTypeValueRequest first last type value) = Some (found_answer table row standing mtu first last (of_16_bits type) value)
+read_answer table row standing mtu (ReadByTypeRequest first last type) = Some (values_answer table row standing mtu first last (number_of type))
+read_answer table row standing mtu (ReadRequest handle) = Some (value_answer table row standing mtu handle)
+read_answer table row standing mtu (ReadBlobRequest handle offset) = Some (part_answer table row standing mtu handle offset)
+read_answer table row standing mtu (ReadMultipleRequest handles) = Some (multiple_answer table row standing mtu handles)
+read_answer table row standing mtu (ReadByGroupTypeRequest first last type) = Some (groups_answer table row standing mtu first last (number_of type))
+read_answer table row standing mtu _ = None

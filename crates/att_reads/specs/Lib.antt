@@ -3,3 +3,4 @@ pub mod Answer
 pub mod List
 pub mod Listing
 pub mod Reader
+pub mod Refusals

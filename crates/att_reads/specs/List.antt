@@ -1,17 +1,21 @@
 -- Read By Type and Read By Group Type: Core 5.0, Vol 3 Part F, 3.4.4.1, 3.4.4.2, 3.4.4.9 and 3.4.4.10.
-use Rattle.std.specs.Prelude.{ℕ, ◌-◌, List, ◌++◌, min, take}
+use Rattle.std.specs.Prelude.{ℕ, ◌-◌, List, [], ◌∷◌, min, map, take}
+use Rattle.att_numbers.specs.Types.{Handle, Mtu, Opcode, Row}
+use Rattle.att_numbers.specs.declared.opcode.TheConstants.{READ_BY_TYPE_REQUEST, READ_BY_GROUP_TYPE_REQUEST}
+use Rattle.att_pdu.specs.Response.{Element, OfAttribute, OfGroup, Response, ReadByTypeResponse, ReadByGroupTypeResponse}
 use Rattle.att_policy.specs.declared.standing.Standing.{Standing}
-use Rattle.octets.specs.Number.{two_octets}
 use Rattle.att_table.specs.Group.{group_end_at}
 use Rattle.att_table.specs.Table.{Contents}
 use Rattle.att_reads.specs.declared.list.Listing.{Listing}
 use Rattle.att_reads.specs.declared.list.Listing.TheVariants.{Values, Groups}
-use Rattle.att_reads.specs.Access.{refusal_at, value_for}
-use Rattle.att_reads.specs.Listing.{Item}
+use Rattle.att_reads.specs.Access.{refusal_of, value_for}
+use Rattle.att_reads.specs.Listing.{Candidate, first_refusal, size_of_first, elements_within}
+use Rattle.att_reads.specs.Refusals.{unless_refused, not_found}
+use Rattle.octets.specs.Number.{Octets}
 
-abbrev pub request_of : Listing → ℕ
-request_of Values = 0x08
-request_of Groups = 0x10
+abbrev pub request_of : Listing → Opcode
+request_of Values = READ_BY_TYPE_REQUEST
+request_of Groups = READ_BY_GROUP_TYPE_REQUEST
 
 -- how many octets stand before a value
 abbrev pub head_of : Listing → ℕ
@@ -19,17 +23,28 @@ head_of Values = 2
 head_of Groups = 4
 
 -- how much of a value is listed: what fits beside its handles, with a length that one octet tells
-abbrev pub cut_of : Listing → ℕ → ℕ
+abbrev pub cut_of : Listing → Mtu → ℕ
 cut_of listing mtu = min (mtu - 2 - head_of listing) (255 - head_of listing)
 
 -- an attribute with the front of its value; a group has its last handle too
-abbrev pub entry_of : Listing → Contents → ℕ → List ℕ → List ℕ
-entry_of Values table handle front = two_octets handle ++ front
-entry_of Groups table handle front = two_octets handle ++ two_octets (group_end_at table.attributes handle) ++ front
+abbrev pub element_of : Listing → Contents → Handle → Octets → Element
+element_of Values table handle front = OfAttribute handle front
+element_of Groups table handle front = OfGroup handle (group_end_at table.attributes handle) front
 
-abbrev pub item_of : Listing → Contents → List (ℕ × ℕ) → Standing → ℕ → ℕ → Item
-item_of listing table row standing mtu handle = record {
-  handle = handle;
-  refusal = refusal_at table.attributes standing handle;
-  octets = entry_of listing table handle (take (cut_of listing mtu) (value_for table row handle));
+abbrev pub candidate_of : Listing → Contents → Row → Standing → Mtu → Handle → Candidate
+candidate_of listing table row standing mtu handle = record {
+  refusal = refusal_of table.attributes standing handle;
+  element = element_of listing table handle (take (cut_of listing mtu) (value_for table row handle));
 }
+
+abbrev pub list_response : Listing → ℕ → List Element → Response
+list_response Values size values = ReadByTypeResponse size values
+list_response Groups size groups = ReadByGroupTypeResponse size groups
+
+-- the list of the attributes at these handles, which all have the type that is asked for. The first one has to be permitted
+abbrev pub list_answer : Listing → Contents → Row → Standing → Mtu → Handle → List Handle → Response
+list_answer listing table row standing mtu start handles =
+    let candidates = map (candidate_of listing table row standing mtu) handles in
+    unless_refused (request_of listing)
+    (not_found start candidates ∷ first_refusal candidates ∷ [])
+    (list_response listing (size_of_first candidates) (elements_within mtu candidates))

@@ -1,57 +1,62 @@
 -- Answers that list attributes, all of them with as many octets: Core 5.0, Vol 3 Part F, 3.4.3.2, 3.4.4.2 and 3.4.4.10.
-use Rattle.std.specs.Prelude.{◌≡◌, ◌≤◌, true, ℕ, ◌+◌, ◌-◌, ◌/◌, Bool, ◌==◌, ◌&&◌, if◌then◌else◌, is_none, List, [], ◌∷◌, ◌++◌, length, take, take_while, Option, Some, None}
+use Rattle.std.specs.Prelude.{◌≡◌, ◌≤◌, true, ℕ, ◌+◌, ◌-◌, ◌/◌, Bool, ◌==◌, ◌&&◌, is_none, List, [], ◌∷◌, ◌++◌, length, map, take, take_while, Option, None}
+use Rattle.std.specs.Bool.{OnTrue, OnFalse}
 use Rattle.std.specs.List.{flat_map}
-use Rattle.octets.specs.Number.{two_octets}
-use Rattle.att_pdu.specs.PduBuf.{error_response}
-use Rattle.att_table.specs.declared.attr.Attr.{Attr}
-use Rattle.att_table.specs.Kind.{kind_octets}
+use Rattle.att_numbers.specs.Types.{Mtu}
+use Rattle.att_pdu.specs.declared.pdu_buf.PduBuf.{PduBuf}
+use Rattle.att_pdu.specs.PduBuf.{contents, mtu_of, IsSameBuffer}
+use Rattle.att_pdu.specs.Response.{Element, element_octets}
+use Rattle.att_policy.specs.Refusal.{Refusal}
+use Rattle.octets.specs.Number.{Octets}
 
--- an attribute that may be listed: its handle, the code by which the client is refused it, if it is, and its octets in the answer
-pub record Item : Type 0 where
-  pub handle : ℕ
-  pub refusal : Option ℕ
-  pub octets : List ℕ
+-- an attribute that may be listed: why the client is refused it, if it is, and its element of the list
+pub record Candidate : Type 0 where
+  pub refusal : Option Refusal
+  pub element : Element
 
-abbrev pub is_listed : ℕ → Item → Bool
-is_listed size item = is_none item.refusal && (length item.octets == size)
+abbrev pub size_of : Candidate → ℕ
+size_of candidate = length (element_octets candidate.element)
 
--- the longest run of items, from the first on, that are not refused, have this length, and fit into the room
-abbrev pub listed : ℕ → ℕ → List Item → List Item
-listed room size items = take (room / size) (take_while (is_listed size) items)
+abbrev pub is_listed : ℕ → Candidate → Bool
+is_listed size candidate = is_none candidate.refusal && (size_of candidate == size)
 
-abbrev pub joined : List Item → List ℕ
-joined items = flat_map (λ (item : Item). item.octets) items
+-- the longest run of candidates, from the first on, that are not refused, have this size, and fit into the room
+abbrev pub listed : ℕ → ℕ → List Candidate → List Candidate
+listed room size candidates = take (room / size) (take_while (is_listed size) candidates)
 
--- the answer to a request: the items behind two octets, of which the second tells their length
-abbrev pub list_from : ℕ → (ℕ → ℕ) → ℕ → Item → List Item → Option ℕ → List ℕ
-list_from opcode header mtu first items (Some code) = error_response opcode first.handle code
-list_from opcode header mtu first items None =
-    (opcode + 1) ∷ header (length first.octets) ∷ joined (listed (mtu - 2) (length first.octets) items)
+-- the first of them has the size of all
+abbrev pub size_of_first : List Candidate → ℕ
+size_of_first [] = 0
+size_of_first (first ∷ rest) = size_of first
 
--- an error where the first is refused, and where there is none
-abbrev pub list_answer : ℕ → (ℕ → ℕ) → ℕ → ℕ → List Item → List ℕ
-list_answer opcode header mtu start [] = error_response opcode start 0x0A
-list_answer opcode header mtu start (first ∷ rest) = list_from opcode header mtu first (first ∷ rest) first.refusal
+abbrev pub first_refusal : List Candidate → Option Refusal
+first_refusal [] = None
+first_refusal (first ∷ rest) = first.refusal
 
--- an attribute in the answer to a Find Information Request, which needs no permission
-abbrev pub information_item : Attr → Item
-information_item attr = record { handle = attr.handle; refusal = None; octets = two_octets attr.handle ++ kind_octets attr.kind }
+-- the elements of an answer, behind its opcode and one octet that tells their format or size
+abbrev pub elements : List Candidate → List Element
+elements candidates = map (λ (candidate : Candidate). candidate.element) candidates
 
--- the format of that answer: 1 where the types have 16 bits, else 2
-abbrev pub information_format : ℕ → ℕ
-information_format size = if size == 4 then 1 else 2
+abbrev pub elements_within : Mtu → List Candidate → List Element
+elements_within mtu candidates = elements (listed (mtu - 2) (size_of_first candidates) candidates)
 
--- octets, and the items that are listed behind them
-abbrev pub with_listed : ℕ → ℕ → List ℕ → List Item → List ℕ
-with_listed mtu size octets items = octets ++ joined (listed (mtu - length octets) size items)
+-- octets, and the elements that are listed behind them
+abbrev pub with_listed : Mtu → ℕ → Octets → List Candidate → Octets
+with_listed mtu size octets candidates = octets ++ flat_map element_octets (elements (listed (mtu - length octets) size candidates))
 
--- an item was listed next
-pub record HasNext (mtu size : ℕ) (item : Item) (old new : List ℕ) : Type 0 where
-  pub listed : is_listed size item ≡ true
+-- a candidate was listed next
+pub record HasNext (mtu : Mtu) (size : ℕ) (candidate : Candidate) (old new : Octets) : Type 0 where
+  pub listed : is_listed size candidate ≡ true
   pub fits : length old + size ≤ mtu
-  pub appended : new ≡ old ++ item.octets
+  pub appended : new ≡ old ++ element_octets candidate.element
 
--- an item was not listed, since it may not be or does not fit
-pub record HasNoNext (mtu size : ℕ) (item : Item) (old new : List ℕ) : Type 0 where
-  pub not_listed : is_listed size item ≡ true → length old + size ≤ mtu → ⊥
+-- a candidate was not listed, since it may not be or does not fit
+pub record HasNoNext (mtu : Mtu) (size : ℕ) (candidate : Candidate) (old new : Octets) : Type 0 where
+  pub not_listed : is_listed size candidate ≡ true → length old + size ≤ mtu → ⊥
   pub unchanged : new ≡ old
+
+-- a candidate was appended to a PDU where it may be listed and fits, and else nothing changed
+pub record AppendsNext (old new : PduBuf) (size : ℕ) (candidate : Candidate) (result : Bool) : Type 0 where
+  pub appended : OnTrue result (HasNext (mtu_of old) size candidate (contents old) (contents new))
+  pub unchanged : OnFalse result (HasNoNext (mtu_of old) size candidate (contents old) (contents new))
+  pub same_buffer : IsSameBuffer old new

@@ -1,13 +1,12 @@
-ghost use Rattle.std.specs.Prelude.{◌≡◌, [], map, filter, nat_lt, ◌==◌, ◌||◌, not};
+ghost use Rattle.std.specs.Prelude.{◌≡◌, ◌≤◌, [], nat_lt, ◌==◌, ◌||◌, not, length};
+ghost use Rattle.att_numbers.specs.AttributeType.{of_16_bits};
 ghost use Rattle.att_pdu.specs.Kind.{number_of};
 ghost use Rattle.att_pdu.specs.PduBuf.{contents, mtu_of, IsSameBuffer};
 ghost use Rattle.att_pdu.specs.Request.{asked};
-ghost use Rattle.att_table.specs.OfType.{handles_of_type};
-ghost use Rattle.att_table.specs.Table.{Contents, attributes_in};
+ghost use Rattle.att_pdu.specs.Response.{sent, sent_if_any};
+ghost use Rattle.att_table.specs.Table.{Contents};
 ghost use Rattle.att_reads.specs.Access.{IsAlike};
-ghost use Rattle.att_reads.specs.Answer.{is_match, found_answer, in_range, of_services, size_itself, read_answer};
-ghost use Rattle.att_reads.specs.List.{request_of, item_of};
-ghost use Rattle.att_reads.specs.Listing.{information_item, information_format, list_answer};
+ghost use Rattle.att_reads.specs.Answer.{information_answer, found_answer, values_answer, groups_answer, read_answer};
 
 use crate::list::Listing;
 use crate::reader::Reader;
@@ -32,10 +31,11 @@ pub fn answer_read(
 )
     requires empty { contents out.old ≡ [] }
     requires mtu { mtu_of out.old ≡ mtu }
-    ensures answer { contents out.new ≡ read_answer table.now row.now standing.entry.now mtu (asked request.now) }
+    ensures answer { contents out.new ≡ sent_if_any (read_answer table.now row.now standing.entry.now mtu (asked request.now)) }
     // The answer tells nothing of values that the client may not read.
     ensures undisclosed { (other : Contents) → IsAlike standing.entry.now table.now other
-        → contents out.new ≡ read_answer other row.now standing.entry.now mtu (asked request.now) }
+        → contents out.new ≡ sent_if_any (read_answer other row.now standing.entry.now mtu (asked request.now)) }
+    ensures fits { length (sent_if_any (read_answer table.now row.now standing.entry.now mtu (asked request.now))) ≤ mtu }
     ensures same_buffer { IsSameBuffer out.old out.new }
 {
     let reader = Reader {
@@ -43,20 +43,18 @@ pub fn answer_read(
         row,
         standing,
     };
-    answer_to(reader, request, mtu, out);
+    answer_to(reader, request, out);
 }
 
 /// Answers a request of a client that reads.
-#[tactic(auto, unfolding(crate::specs::Answer::read_answer))]
-fn answer_to(reader: Reader<'_>, request: &Request<'_>, mtu: u16, out: &mut PduBuf<'_>)
-    requires empty { contents out.old ≡ [] }
-    requires mtu { mtu_of out.old ≡ mtu }
-    ensures answer { contents out.new ≡ read_answer reader.entry.table.now reader.entry.row.now reader.entry.standing.now mtu (asked request.now) }
+fn answer_to(reader: Reader<'_>, request: &Request<'_>, out: &mut PduBuf<'_>)
+    requires { contents out.old ≡ [] }
+    ensures answer { contents out.new ≡ sent_if_any (read_answer reader.entry.table.now reader.entry.row.now reader.entry.standing.now (mtu_of out.old) (asked request.now)) }
     ensures same_buffer { IsSameBuffer out.old out.new }
 {
     match *request {
         Request::FindInformation { first, last } => {
-            find_information(reader.table, first, last, mtu, out);
+            find_information(reader.table, first, last, out);
         }
         Request::FindByTypeValue {
             first,
@@ -65,13 +63,13 @@ fn answer_to(reader: Reader<'_>, request: &Request<'_>, mtu: u16, out: &mut PduB
             value,
         } => find_by_type_value(reader, first, last, kind, value, out),
         Request::ReadByType { first, last, kind } => {
-            read_by_type(reader, first, last, kind, mtu, out);
+            read_by_type(reader, first, last, kind, out);
         }
         Request::Read { handle } => value::read(reader, handle, out),
         Request::ReadBlob { handle, offset } => value::read_blob(reader, handle, offset, out),
         Request::ReadMultiple { handles } => value::read_multiple(reader, handles, out),
         Request::ReadByGroupType { first, last, kind } => {
-            read_by_group_type(reader, first, last, kind, mtu, out);
+            read_by_group_type(reader, first, last, kind, out);
         }
         Request::ExchangeMtu { .. }
         | Request::Write { .. }
@@ -90,11 +88,10 @@ fn is_range(first: u16, last: u16) -> bool
 }
 
 /// Answers a Find Information Request.
-fn find_information(table: &Table, first: u16, last: u16, mtu: u16, out: &mut PduBuf<'_>)
-    requires empty { contents out.old ≡ [] }
-    requires mtu { mtu_of out.old ≡ mtu }
-    ensures answer { contents out.new ≡ in_range 0x04 first last
-        (list_answer 0x04 information_format mtu first (map information_item (attributes_in table.now.attributes first last))) }
+#[tactic(auto, unfolding(crate::specs::Answer::information_answer))]
+fn find_information(table: &Table, first: u16, last: u16, out: &mut PduBuf<'_>)
+    requires { contents out.old ≡ [] }
+    ensures answer { contents out.new ≡ sent (information_answer table.now (mtu_of out.old) first last) }
     ensures same_buffer { IsSameBuffer out.old out.new }
 {
     if !is_range(first, last) {
@@ -105,10 +102,11 @@ fn find_information(table: &Table, first: u16, last: u16, mtu: u16, out: &mut Pd
         );
         return;
     }
-    find::information(table.in_range(first, last), first, mtu, out);
+    find::information(table.in_range(first, last), first, out);
 }
 
 /// Answers a Find By Type Value Request.
+#[tactic(auto, unfolding(crate::specs::Answer::found_answer))]
 fn find_by_type_value(
     reader: Reader<'_>,
     first: u16,
@@ -117,10 +115,8 @@ fn find_by_type_value(
     value: &[u8],
     out: &mut PduBuf<'_>,
 )
-    requires empty { contents out.old ≡ [] }
-    ensures answer { contents out.new ≡ in_range 0x06 first last (found_answer reader.entry.table.now (mtu_of out.old) first
-        (filter (is_match reader.entry.table.now reader.entry.row.now reader.entry.standing.now value.now)
-        (handles_of_type reader.entry.table.now.attributes (number_of (Kind.Short kind)) first last))) }
+    requires { contents out.old ≡ [] }
+    ensures answer { contents out.new ≡ sent (found_answer reader.entry.table.now reader.entry.row.now reader.entry.standing.now (mtu_of out.old) first last (of_16_bits kind) value.now) }
     ensures same_buffer { IsSameBuffer out.old out.new }
 {
     if !is_range(first, last) {
@@ -137,19 +133,10 @@ fn find_by_type_value(
 }
 
 /// Answers a Read By Type Request.
-fn read_by_type(
-    reader: Reader<'_>,
-    first: u16,
-    last: u16,
-    kind: Kind,
-    mtu: u16,
-    out: &mut PduBuf<'_>,
-)
-    requires empty { contents out.old ≡ [] }
-    requires mtu { mtu_of out.old ≡ mtu }
-    ensures answer { contents out.new ≡ in_range 0x08 first last (list_answer 0x08 size_itself mtu first
-        (map (item_of Listing.Values reader.entry.table.now reader.entry.row.now reader.entry.standing.now mtu)
-        (handles_of_type reader.entry.table.now.attributes (number_of kind) first last))) }
+#[tactic(auto, unfolding(crate::specs::Answer::values_answer))]
+fn read_by_type(reader: Reader<'_>, first: u16, last: u16, kind: Kind, out: &mut PduBuf<'_>)
+    requires { contents out.old ≡ [] }
+    ensures answer { contents out.new ≡ sent (values_answer reader.entry.table.now reader.entry.row.now reader.entry.standing.now (mtu_of out.old) first last (number_of kind)) }
     ensures same_buffer { IsSameBuffer out.old out.new }
 {
     if !is_range(first, last) {
@@ -163,23 +150,14 @@ fn read_by_type(
     let handles = reader
         .table
         .of_type(kind.number(), first, last, &mut Uncounted);
-    list::answer(Listing::Values, reader, handles, first, mtu, out);
+    list::answer(Listing::Values, reader, handles, first, out);
 }
 
 /// Answers a Read By Group Type Request: only services are groups that can be read so.
-fn read_by_group_type(
-    reader: Reader<'_>,
-    first: u16,
-    last: u16,
-    kind: Kind,
-    mtu: u16,
-    out: &mut PduBuf<'_>,
-)
-    requires empty { contents out.old ≡ [] }
-    requires mtu { mtu_of out.old ≡ mtu }
-    ensures answer { contents out.new ≡ in_range 0x10 first last (of_services first (number_of kind) (list_answer 0x10 size_itself mtu first
-        (map (item_of Listing.Groups reader.entry.table.now reader.entry.row.now reader.entry.standing.now mtu)
-        (handles_of_type reader.entry.table.now.attributes (number_of kind) first last)))) }
+#[tactic(auto, unfolding(crate::specs::Answer::groups_answer))]
+fn read_by_group_type(reader: Reader<'_>, first: u16, last: u16, kind: Kind, out: &mut PduBuf<'_>)
+    requires { contents out.old ≡ [] }
+    ensures answer { contents out.new ≡ sent (groups_answer reader.entry.table.now reader.entry.row.now reader.entry.standing.now (mtu_of out.old) first last (number_of kind)) }
     ensures same_buffer { IsSameBuffer out.old out.new }
 {
     if !is_range(first, last) {
@@ -200,7 +178,7 @@ fn read_by_group_type(
         return;
     }
     let handles = reader.table.of_type(kind, first, last, &mut Uncounted);
-    list::answer(Listing::Groups, reader, handles, first, mtu, out);
+    list::answer(Listing::Groups, reader, handles, first, out);
 }
 
 #[cfg(test)]

@@ -1,12 +1,15 @@
 //! The requests that find attributes: Core 5.0, Vol 3 Part F, 3.4.3.
 
-ghost use Rattle.std.specs.Prelude.{◌≡◌, ◌<◌, ◌≤◌, ◌+◌, ◌++◌, ◌↔◌, [], map, filter, length, IsTrue, IsSome};
+ghost use Rattle.std.specs.Prelude.{◌≡◌, ◌-◌, ◌<◌, ◌/◌, ◌∷◌, ◌++◌, [], map, filter, take, IsSome};
 ghost use Rattle.std.specs.List.{list_any};
-ghost use Rattle.std.specs.Bool.{OnTrue, OnFalse};
-ghost use Rattle.att_pdu.specs.PduBuf.{contents, mtu_of, IsSameBuffer};
+ghost use Rattle.std.specs.Bool.{OnTrue};
+ghost use Rattle.att_numbers.specs.declared.opcode.TheConstants.{FIND_INFORMATION_REQUEST, FIND_BY_TYPE_VALUE_REQUEST};
+ghost use Rattle.att_pdu.specs.PduBuf.{contents, mtu_of, IsSameBuffer, AppendsWhereFits};
+ghost use Rattle.att_pdu.specs.Response.{element_octets, sent, FindInformationResponse, FindByTypeValueResponse};
 ghost use Rattle.att_table.specs.Table.{attribute_at};
-ghost use Rattle.att_reads.specs.Answer.{is_match, found_group, found_answer, with_groups};
-ghost use Rattle.att_reads.specs.Listing.{information_item, information_format, list_answer, with_listed, HasNext, HasNoNext};
+ghost use Rattle.att_reads.specs.Answer.{is_match, with_groups, group_of, information_of, information_format};
+ghost use Rattle.att_reads.specs.Listing.{size_of_first, elements_within, with_listed, AppendsNext};
+ghost use Rattle.att_reads.specs.Refusals.{unless_refused, not_found};
 
 use crate::reader::Reader;
 use att_numbers::{error_code, opcode};
@@ -20,10 +23,11 @@ const LONG_KINDS: u8 = 2;
 
 /// Answers a Find Information Request of these attributes, which begin at `start`. It needs no
 /// permission.
-pub fn information(attributes: &[Attr], start: u16, mtu: u16, out: &mut PduBuf<'_>)
-    requires empty { contents out.old ≡ [] }
-    requires mtu { mtu_of out.old ≡ mtu }
-    ensures answer { contents out.new ≡ list_answer 0x04 information_format mtu start (map information_item attributes.now) }
+pub fn information(attributes: &[Attr], start: u16, out: &mut PduBuf<'_>)
+    requires { contents out.old ≡ [] }
+    ensures answer { let types = map information_of attributes.now in
+        contents out.new ≡ sent (unless_refused FIND_INFORMATION_REQUEST (not_found start types ∷ [])
+        (FindInformationResponse (information_format (size_of_first types)) (elements_within (mtu_of out.old) types))) }
     ensures same_buffer { IsSameBuffer out.old out.new }
 {
     let Some(first) = attributes.first() else {
@@ -40,29 +44,25 @@ pub fn information(attributes: &[Attr], start: u16, mtu: u16, out: &mut PduBuf<'
         (LONG_KINDS, 18)
     };
     out.value(&[opcode::FIND_INFORMATION_RESPONSE, format]);
-    append_all(attributes, size, mtu, out);
+    append_all(attributes, size, out);
 }
 
 /// Appends these attributes, up to the first that has another size or does not fit.
-fn append_all(attributes: &[Attr], size: usize, mtu: u16, out: &mut PduBuf<'_>)
-    requires mtu { mtu_of out.old ≡ mtu }
-    requires size { 0 < size }
-    ensures appended { contents out.new ≡ with_listed mtu size (contents out.old) (map information_item attributes.now) }
+fn append_all(attributes: &[Attr], size: usize, out: &mut PduBuf<'_>)
+    requires { 0 < size }
+    ensures appended { contents out.new ≡ with_listed (mtu_of out.old) size (contents out.old) (map information_of attributes.now) }
     ensures same_buffer { IsSameBuffer out.old out.new }
 {
     for attr in attributes {
-        if !append_next(attr, size, mtu, out) {
+        if !append_next(attr, size, out) {
             return;
         }
     }
 }
 
 /// Appends an attribute that has this size and fits.
-fn append_next(attr: &Attr, size: usize, mtu: u16, out: &mut PduBuf<'_>) -> bool
-    requires { mtu_of out.old ≡ mtu }
-    ensures appended { OnTrue result (HasNext mtu size (information_item attr.now) (contents out.old) (contents out.new)) }
-    ensures unchanged { OnFalse result (HasNoNext mtu size (information_item attr.now) (contents out.old) (contents out.new)) }
-    ensures same_buffer { IsSameBuffer out.old out.new }
+fn append_next(attr: &Attr, size: usize, out: &mut PduBuf<'_>) -> bool
+    ensures { AppendsNext out.old out.new size (information_of attr.now) result }
 {
     let octets = kind::kind_octets(attr.kind);
     2 + octets.len() == size && out.pair(attr.handle, octets.as_slice())
@@ -77,9 +77,10 @@ pub fn by_type_value(
     value: &[u8],
     out: &mut PduBuf<'_>,
 )
-    requires empty { contents out.old ≡ [] }
-    ensures answer { contents out.new ≡ found_answer reader.entry.table.now (mtu_of out.old) start
-        (filter (is_match reader.entry.table.now reader.entry.row.now reader.entry.standing.now value.now) handles.now) }
+    requires { contents out.old ≡ [] }
+    ensures answer { let found = filter (is_match reader.entry.table.now reader.entry.row.now reader.entry.standing.now value.now) handles.now in
+        contents out.new ≡ sent (unless_refused FIND_BY_TYPE_VALUE_REQUEST (not_found start found ∷ [])
+        (FindByTypeValueResponse (map (group_of reader.entry.table.now) (take ((mtu_of out.old - 1) / 4) found)))) }
     ensures same_buffer { IsSameBuffer out.old out.new }
 {
     out.value(&[opcode::FIND_BY_TYPE_VALUE_RESPONSE]);
@@ -115,10 +116,7 @@ fn append_matches(reader: Reader<'_>, handles: &[u16], value: &[u8], out: &mut P
 /// Appends the group that the attribute at a handle begins, where it fits.
 fn append_group(table: &Table, handle: u16, out: &mut PduBuf<'_>) -> bool
     requires { IsSome (attribute_at table.now.attributes handle) }
-    ensures fits { IsTrue result ↔ (length (contents out.old) + 4 ≤ mtu_of out.old) }
-    ensures appended { OnTrue result (contents out.new ≡ contents out.old ++ found_group table.now handle) }
-    ensures unchanged { OnFalse result (contents out.new ≡ contents out.old) }
-    ensures same_buffer { IsSameBuffer out.old out.new }
+    ensures { AppendsWhereFits out.old out.new (element_octets (group_of table.now handle)) result }
 {
     out.pair(handle, &table.group_end(handle).to_le_bytes())
 }

@@ -1,13 +1,12 @@
 //! Answers that list the values of one type, all of one length: Core 5.0, Vol 3 Part F, 3.4.4.1,
 //! 3.4.4.2, 3.4.4.9 and 3.4.4.10.
 
-ghost use Rattle.std.specs.Prelude.{◌≡◌, ◌-◌, ◌+◌, ◌≤◌, ◌<◌, ◌∷◌, ◌++◌, ◌↔◌, [], map, length, take, IsTrue, IsSome};
-ghost use Rattle.std.specs.Bool.{OnTrue, OnFalse};
-ghost use Rattle.att_pdu.specs.PduBuf.{contents, mtu_of, IsSameBuffer};
+ghost use Rattle.std.specs.Prelude.{◌≡◌, ◌+◌, ◌≤◌, ◌<◌, ◌∷◌, [], map, length, take, IsSome};
+ghost use Rattle.att_pdu.specs.PduBuf.{contents, mtu_of, IsSameBuffer, AppendsWhereFits};
+ghost use Rattle.att_pdu.specs.Response.{element_octets, sent};
 ghost use Rattle.att_table.specs.Table.{attribute_at};
-ghost use Rattle.att_reads.specs.Answer.{size_itself};
-ghost use Rattle.att_reads.specs.List.{request_of, head_of, cut_of, entry_of, item_of};
-ghost use Rattle.att_reads.specs.Listing.{list_answer, with_listed, HasNext, HasNoNext};
+ghost use Rattle.att_reads.specs.List.{request_of, head_of, cut_of, element_of, candidate_of, list_answer};
+ghost use Rattle.att_reads.specs.Listing.{with_listed, AppendsNext};
 
 use crate::reader::Reader;
 use att_numbers::{error_code, opcode};
@@ -55,12 +54,10 @@ impl Listing {
     }
 
     /// Appends an attribute with the front of its value, where it fits.
+    #[inline(always)]
     fn append(self, table: &Table, handle: u16, front: &[u8], out: &mut PduBuf<'_>) -> bool
         requires { IsSome (attribute_at table.now.attributes handle) }
-        ensures fits { IsTrue result ↔ (length (contents out.old) + length (entry_of self table.now handle front.now) ≤ mtu_of out.old) }
-        ensures appended { OnTrue result (contents out.new ≡ contents out.old ++ entry_of self table.now handle front.now) }
-        ensures unchanged { OnFalse result (contents out.new ≡ contents out.old) }
-        ensures same_buffer { IsSameBuffer out.old out.new }
+        ensures { AppendsWhereFits out.old out.new (element_octets (element_of self table.now handle front.now)) result }
     {
         match self {
             Listing::Values => out.pair(handle, front),
@@ -71,18 +68,16 @@ impl Listing {
 
 /// Answers with the list of the attributes at these handles, of which all have the type that is
 /// asked for.
+#[inline(always)]
 pub fn answer(
     listing: Listing,
     reader: Reader<'_>,
     handles: &[u16],
     start: u16,
-    mtu: u16,
     out: &mut PduBuf<'_>,
 )
-    requires empty { contents out.old ≡ [] }
-    requires mtu { mtu_of out.old ≡ mtu }
-    ensures answer { contents out.new ≡ list_answer (request_of listing) size_itself mtu start
-        (map (item_of listing reader.entry.table.now reader.entry.row.now reader.entry.standing.now mtu) handles.now) }
+    requires { contents out.old ≡ [] }
+    ensures answer { contents out.new ≡ sent (list_answer listing reader.entry.table.now reader.entry.row.now reader.entry.standing.now (mtu_of out.old) start handles.now) }
     ensures same_buffer { IsSameBuffer out.old out.new }
 {
     let [first, rest @ ..] = handles else {
@@ -91,22 +86,21 @@ pub fn answer(
     };
     match reader.read(*first) {
         Ok(value) => {
-            let front = listing.cut(value.as_slice(), mtu);
-            begin(listing, reader.table, *first, front, mtu, out);
+            let front = listing.cut(value.as_slice(), out.mtu());
+            begin(listing, reader.table, *first, front, out);
             let size = usize::from(listing.head()) + front.len();
-            append_all(listing, reader, rest, size, mtu, out);
+            append_all(listing, reader, rest, size, out);
         }
         Err(code) => out.error(listing.request(), *first, code),
     }
 }
 
 /// Begins an answer by its opcode, the octets of each attribute, and the first one.
-fn begin(listing: Listing, table: &Table, handle: u16, front: &[u8], mtu: u16, out: &mut PduBuf<'_>)
+fn begin(listing: Listing, table: &Table, handle: u16, front: &[u8], out: &mut PduBuf<'_>)
     requires empty { contents out.old ≡ [] }
-    requires mtu { mtu_of out.old ≡ mtu }
     requires exists { IsSome (attribute_at table.now.attributes handle) }
-    requires cut { length front.now ≤ cut_of listing mtu }
-    ensures begun { contents out.new ≡ (request_of listing + 1) ∷ (head_of listing + length front.now) ∷ entry_of listing table.now handle front.now }
+    requires cut { length front.now ≤ cut_of listing (mtu_of out.old) }
+    ensures begun { contents out.new ≡ (request_of listing + 1) ∷ (head_of listing + length front.now) ∷ element_octets (element_of listing table.now handle front.now) }
     ensures same_buffer { IsSameBuffer out.old out.new }
 {
     let size = usize::from(listing.head()) + front.len();
@@ -121,17 +115,15 @@ fn append_all(
     reader: Reader<'_>,
     handles: &[u16],
     size: usize,
-    mtu: u16,
     out: &mut PduBuf<'_>,
 )
-    requires mtu { mtu_of out.old ≡ mtu }
-    requires size { 0 < size }
-    ensures appended { contents out.new ≡ with_listed mtu size (contents out.old)
-        (map (item_of listing reader.entry.table.now reader.entry.row.now reader.entry.standing.now mtu) handles.now) }
+    requires { 0 < size }
+    ensures appended { contents out.new ≡ with_listed (mtu_of out.old) size (contents out.old)
+        (map (candidate_of listing reader.entry.table.now reader.entry.row.now reader.entry.standing.now (mtu_of out.old)) handles.now) }
     ensures same_buffer { IsSameBuffer out.old out.new }
 {
     for &handle in handles {
-        if !append_next(listing, reader, handle, size, mtu, out) {
+        if !append_next(listing, reader, handle, size, out) {
             return;
         }
     }
@@ -143,20 +135,15 @@ fn append_next(
     reader: Reader<'_>,
     handle: u16,
     size: usize,
-    mtu: u16,
     out: &mut PduBuf<'_>,
 ) -> bool
-    requires { mtu_of out.old ≡ mtu }
-    ensures appended { OnTrue result (HasNext mtu size (item_of listing reader.entry.table.now reader.entry.row.now reader.entry.standing.now mtu handle)
-        (contents out.old) (contents out.new)) }
-    ensures unchanged { OnFalse result (HasNoNext mtu size (item_of listing reader.entry.table.now reader.entry.row.now reader.entry.standing.now mtu handle)
-        (contents out.old) (contents out.new)) }
-    ensures same_buffer { IsSameBuffer out.old out.new }
+    ensures { AppendsNext out.old out.new size
+        (candidate_of listing reader.entry.table.now reader.entry.row.now reader.entry.standing.now (mtu_of out.old) handle) result }
 {
     let Ok(value) = reader.read(handle) else {
         return false;
     };
-    let front = listing.cut(value.as_slice(), mtu);
+    let front = listing.cut(value.as_slice(), out.mtu());
     usize::from(listing.head()) + front.len() == size
         && listing.append(reader.table, handle, front, out)
 }

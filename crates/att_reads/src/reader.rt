@@ -44,6 +44,7 @@ impl<'a> Reader<'a> {
 
     /// The value of the attribute at a handle, or the error code of the first rule of the policy
     /// that reading it breaks.
+    #[inline(always)]
     pub fn read(self, handle: u16) -> Result<ReadValue<'a>, u8>
         ensures permitted { IfOk result (λ value. refusal_at self.entry.table.now.attributes self.entry.standing.now handle ≡ None) }
         ensures value { IfOk result (λ value. octets_of value ≡ value_for self.entry.table.now self.entry.row.now handle) }

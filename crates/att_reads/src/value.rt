@@ -1,19 +1,23 @@
 //! The values of attributes that are asked for by their handles: Core 5.0, Vol 3 Part F, 3.4.4.3
 //! to 3.4.4.8.
 
-ghost use Rattle.std.specs.Prelude.{◌≡◌, [], map};
+ghost use Rattle.std.specs.Prelude.{◌≡◌, ◌-◌, [], ◌∷◌, map, take, drop};
 ghost use Rattle.std.specs.Int.{w16, from_le_bytes};
 ghost use Rattle.att_pdu.specs.PduBuf.{contents, mtu_of, IsSameBuffer};
-ghost use Rattle.att_reads.specs.Answer.{value_answer, part_answer, blob_answer, multiple_answer};
+ghost use Rattle.att_numbers.specs.declared.opcode.TheConstants.{READ_BLOB_REQUEST};
+ghost use Rattle.att_pdu.specs.Response.{sent, ReadBlobResponse};
+ghost use Rattle.att_reads.specs.Answer.{value_answer, part_answer, multiple_answer};
+ghost use Rattle.att_reads.specs.Refusals.{unless_refused, offset_refusal};
 
 use crate::reader::Reader;
 use att_numbers::{error_code, opcode};
 use att_pdu::PduBuf;
 
 /// Answers a Read Request.
+#[tactic(auto, unfolding(crate::specs::Answer::value_answer))]
 pub fn read(reader: Reader<'_>, handle: u16, out: &mut PduBuf<'_>)
     requires { contents out.old ≡ [] }
-    ensures answer { contents out.new ≡ value_answer reader.entry.table.now reader.entry.row.now reader.entry.standing.now (mtu_of out.old) handle }
+    ensures answer { contents out.new ≡ sent (value_answer reader.entry.table.now reader.entry.row.now reader.entry.standing.now (mtu_of out.old) handle) }
     ensures same_buffer { IsSameBuffer out.old out.new }
 {
     match reader.read(handle) {
@@ -26,9 +30,10 @@ pub fn read(reader: Reader<'_>, handle: u16, out: &mut PduBuf<'_>)
 }
 
 /// Answers a Read Blob Request.
+#[tactic(auto, unfolding(crate::specs::Answer::part_answer))]
 pub fn read_blob(reader: Reader<'_>, handle: u16, offset: u16, out: &mut PduBuf<'_>)
     requires { contents out.old ≡ [] }
-    ensures answer { contents out.new ≡ blob_answer reader.entry.table.now reader.entry.row.now reader.entry.standing.now (mtu_of out.old) handle offset }
+    ensures answer { contents out.new ≡ sent (part_answer reader.entry.table.now reader.entry.row.now reader.entry.standing.now (mtu_of out.old) handle offset) }
     ensures same_buffer { IsSameBuffer out.old out.new }
 {
     match reader.read(handle) {
@@ -40,7 +45,8 @@ pub fn read_blob(reader: Reader<'_>, handle: u16, offset: u16, out: &mut PduBuf<
 /// Answers with the part of a value from an offset on.
 fn part(value: &[u8], handle: u16, offset: u16, out: &mut PduBuf<'_>)
     requires { contents out.old ≡ [] }
-    ensures answer { contents out.new ≡ part_answer (mtu_of out.old) handle offset value.now }
+    ensures answer { contents out.new ≡ sent (unless_refused READ_BLOB_REQUEST (offset_refusal handle offset value.now ∷ [])
+        (ReadBlobResponse (take (mtu_of out.old - 1) (drop offset value.now)))) }
     ensures same_buffer { IsSameBuffer out.old out.new }
 {
     match value.get(usize::from(offset)..) {
@@ -60,8 +66,8 @@ fn part(value: &[u8], handle: u16, offset: u16, out: &mut PduBuf<'_>)
 /// judged, those too whose values do not fit any more.
 pub fn read_multiple(reader: Reader<'_>, handles: &[[u8; 2]], out: &mut PduBuf<'_>)
     requires { contents out.old ≡ [] }
-    ensures answer { contents out.new ≡ multiple_answer reader.entry.table.now reader.entry.row.now reader.entry.standing.now (mtu_of out.old)
-        (map (from_le_bytes w16) handles.now) }
+    ensures answer { contents out.new ≡ sent (multiple_answer reader.entry.table.now reader.entry.row.now reader.entry.standing.now (mtu_of out.old)
+        (map (from_le_bytes w16) handles.now)) }
     ensures same_buffer { IsSameBuffer out.old out.new }
 {
     out.value(&[opcode::READ_MULTIPLE_RESPONSE]);

@@ -1,7 +1,7 @@
 -- How a Prepare Write Request ends.
 use Rattle.std.proofs.Common.{◌≡◌, ℕ, List, ◌∷◌, ◌++◌, Option, Some, None, ◌⊎◌, inl, inr, refl}
 use Rattle.octets.specs.Number.{two_octets}
-use Rattle.att_pdu.specs.PduBuf.{error_response}
+use Rattle.att_pdu.specs.Response.{ErrorResponse, sent}
 use Rattle.att_table.specs.Table.{Contents}
 use Rattle.att_writes.specs.declared.outcome.Outcome.{Outcome}
 use Rattle.att_writes.specs.declared.outcome.Outcome.TheVariants.{Written, Queued, Denied}
@@ -12,7 +12,7 @@ use Rattle.gatt_conn.specs.Connection.{Connection}
 
 pub denied : (table : Contents) (row : List (ℕ × ℕ)) (conn new : Connection) (entry : Entry) (fault : Option ℕ) (opcode handle code : ℕ)
     → Denied opcode handle code ≡ prepare_outcome entry fault → new ≡ record conn { queue = prepared conn.queue entry fault }
-    → queued table row conn entry fault ≡ answered table row new (error_response opcode handle code)
+    → queued table row conn entry fault ≡ answered table row new (sent (ErrorResponse opcode handle code))
 denied table row conn new entry (Some other) opcode handle code is after = cc (is, after)
 denied table row conn new entry None opcode handle code is after = cc is
 

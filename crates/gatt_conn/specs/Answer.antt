@@ -4,7 +4,7 @@ use Rattle.att_pdu.specs.declared.grammar.PduFault.{PduFault}
 use Rattle.att_pdu.specs.declared.grammar.PduFault.TheVariants.{Ignored, Invalid, Unsupported}
 use Rattle.att_pdu.specs.declared.request.ExecuteFlags.{ExecuteFlags}
 use Rattle.att_pdu.specs.declared.request.ExecuteFlags.TheVariants as flags
-use Rattle.att_pdu.specs.PduBuf.{error_response}
+use Rattle.att_pdu.specs.Response.{ErrorResponse, sent, sent_if_any}
 use Rattle.octets.specs.Number.{two_octets}
 use Rattle.att_pdu.specs.Grammar.{request_of}
 use Rattle.att_pdu.specs.Request.{Asked, ExchangeMtuRequest, FindInformationRequest, FindByTypeValueRequest, ReadByTypeRequest, ReadRequest, ReadBlobRequest, ReadMultipleRequest, ReadByGroupTypeRequest, WriteRequest, PrepareWriteRequest, ExecuteWriteRequest, ConfirmationPdu, WriteCommandPdu}
@@ -34,11 +34,11 @@ answered table row conn pdu = record { answer = Some pdu; values = table.values;
 
 -- a request is refused with an error code
 abbrev pub refused : Contents → List (ℕ × ℕ) → Connection → ℕ → ℕ → ℕ → Outcome
-refused table row conn opcode handle code = answered table row conn (error_response opcode handle code)
+refused table row conn opcode handle code = answered table row conn (sent (ErrorResponse opcode handle code))
 
 -- a request that reads
 abbrev pub read_outcome : Contents → List (ℕ × ℕ) → Connection → Asked → Outcome
-read_outcome table row conn request = answered table row conn (read_answer table row conn.standing conn.mtu request)
+read_outcome table row conn request = answered table row conn (sent_if_any (read_answer table row conn.standing conn.mtu request))
 
 -- a request to write entries is answered by the opcode behind its own, or refused
 abbrev pub written : Contents → List (ℕ × ℕ) → Connection → ℕ → List Entry → Result Stored Refusal → Outcome

@@ -1,6 +1,7 @@
 ghost use Rattle.std.specs.Prelude.{◌≡◌, ◌+◌, ◌≤◌, ℕ, true, false, List, [], ◌∷◌, length, is_some, unwrap_or, ◌↔◌, Some, None, IsTrue};
 ghost use Rattle.octets.specs.Number.{two_octets};
-ghost use Rattle.att_pdu.specs.PduBuf.{contents, mtu_of, error_response, IsSameBuffer};
+ghost use Rattle.att_pdu.specs.PduBuf.{contents, mtu_of, IsSameBuffer};
+ghost use Rattle.att_pdu.specs.Response.{ErrorResponse, sent, sent_if_any};
 ghost use Rattle.att_pdu.specs.Request.{asked};
 ghost use Rattle.att_reads.specs.Answer.{read_answer};
 ghost use Rattle.att_table.specs.ConfigRow.{IsRowOf};
@@ -136,7 +137,7 @@ fn read(
 ) -> Answered
     requires empty { contents out.old ≡ [] }
     requires mtu { mtu_of out.old ≡ conn.now.mtu }
-    ensures answer { contents out.new ≡ read_answer table.now row.now conn.now.standing conn.now.mtu (asked request.now) }
+    ensures answer { contents out.new ≡ sent_if_any (read_answer table.now row.now conn.now.standing conn.now.mtu (asked request.now)) }
     ensures due { result.due ≡ true }
     ensures confirmed { result.confirmed ≡ false }
     ensures touched { result.touched.items ≡ [] }
@@ -152,7 +153,7 @@ fn read(
 
 /// Answers a request by an error.
 pub(crate) fn refuse(request_opcode: u8, handle: u16, code: u8, out: &mut PduBuf<'_>) -> Answered
-    ensures answer { contents out.new ≡ error_response request_opcode handle code }
+    ensures answer { contents out.new ≡ sent (ErrorResponse request_opcode handle code) }
     ensures due { result.due ≡ true }
     ensures confirmed { result.confirmed ≡ false }
     ensures touched { result.touched.items ≡ [] }

@@ -1,9 +1,9 @@
-use Rattle.std.proofs.Common.{◌≡◌, ◌≤◌, ◌+◌, ◌-◌, ◌∷◌, length, take, drop, get_or, map, ap, sym, ◌∙◌, arith}
-use Rattle.att_pdu.specs.PduBuf.{contents}
+use Rattle.std.proofs.Common.{◌≡◌, ◌≤◌, ◌+◌, ◌-◌, ◌∷◌, length, take, drop, get_or, map, ap, sym, ◌∙◌}
+use Rattle.att_pdu.specs.PduBuf.{contents, mtu_of}
+use Rattle.att_pdu.specs.Response.{sent}
 use Rattle.att_reads.specs.Access.{value_for}
-use Rattle.att_reads.specs.Answer.{size_itself}
-use Rattle.att_reads.specs.List.{request_of, head_of, cut_of, item_of}
-use Rattle.att_reads.specs.Listing.{list_answer, with_listed}
+use Rattle.att_reads.specs.List.{head_of, cut_of, candidate_of, list_answer}
+use Rattle.att_reads.specs.Listing.{with_listed}
 use Rattle.att_reads.proofs.Entries.{list_of_first}
 use Rattle.att_reads.proofs.Lists.{first_and_rest}
 use Rattle.att_reads.proofs.list.answer.Goals as goal
@@ -11,19 +11,22 @@ use Rattle.att_reads.proofs.list.answer.Goals as goal
 pub returns-in-Ok-clause-answer : goal.returns-in-Ok-clause-answer
 returns-in-Ok-clause-answer c =
     let reader = c.args.reader in
+    let table = reader.table.now in
+    let row = reader.row.now in
+    let standing = reader.standing.now in
     let listing = c.args.listing in
-    let mtu = c.args.mtu in
-    let item = item_of listing reader.table.now reader.row.now reader.standing.now mtu in
+    let mtu = mtu_of c.args.out.now in
     let handles = c.args.handles.now in
-    let at : handles ≡ get_or handles 0 0 ∷ take (length handles - 1) (drop 1 handles) = first_and_rest handles 0 c.in-len1-up.len_at_least in
-    let front : c.cut-front.result.now ≡ take (cut_of listing mtu) (value_for reader.table.now reader.row.now (get_or handles 0 0)) =
-    c.cut-front.ensures ∙ ap (take (cut_of listing mtu)) (c.as_slice.ensures ∙ c.in-Ok.ensures.value) in
-    let least : 23 ≤ mtu = let same = c.requires.mtu in omega (arith, same, c.args.out.now.least) in
+    let first = get_or handles 0 0 in
+    let rest = take (length handles - 1) (drop 1 handles) in
+    let at : handles ≡ first ∷ rest = first_and_rest handles 0 c.in-len1-up.len_at_least in
+    let front : c.cut-front.result.now ≡ take (cut_of listing mtu) (value_for table row first) =
+    c.cut-front.ensures ∙ ap (λ n. take (cut_of listing n) c.as_slice.result.now) c.mtu.ensures.mtu ∙ ap (take (cut_of listing mtu)) (c.as_slice.ensures ∙ c.in-Ok.ensures.value) in
     let size : c.from.result + length c.cut-front.result.now ≡ head_of listing + length c.cut-front.result.now =
     ap (λ n. n + length c.cut-front.result.now) (c.from.ensures ∙ c.head.ensures) in
-    let rest = map item (take (length handles - 1) (drop 1 handles)) in
     c.append_all.ensures.appended
-    ∙ ap (λ n. with_listed mtu n (contents c.begin.new.out) rest) size
-    ∙ list_of_first listing reader.table.now reader.row.now reader.standing.now mtu c.args.start (get_or handles 0 0) rest c.cut-front.result.now (contents c.begin.new.out)
-    c.in-Ok.ensures.permitted least front c.begin.ensures.begun
-    ∙ ap (λ hs. list_answer (request_of listing) size_itself mtu c.args.start (map item hs)) (sym at)
+    ∙ ap (λ n. with_listed n (c.from.result + length c.cut-front.result.now) (contents c.begin.new.out) (map (candidate_of listing table row standing n) rest)) c.begin.ensures.same_buffer.mtu
+    ∙ ap (λ n. with_listed mtu n (contents c.begin.new.out) (map (candidate_of listing table row standing mtu) rest)) size
+    ∙ list_of_first listing table row standing mtu c.args.start first rest c.cut-front.result.now (contents c.begin.new.out)
+    c.in-Ok.ensures.permitted c.args.out.now.least front c.begin.ensures.begun
+    ∙ ap (λ hs. sent (list_answer listing table row standing mtu c.args.start hs)) (sym at)

@@ -1,17 +1,18 @@
 use Rattle.std.proofs.Common.{◌≡◌, drop}
 use Rattle.std.specs.Prelude.{map}
-use Rattle.att_pdu.specs.PduBuf.{contents, IsSameBuffer}
-use Rattle.att_reads.specs.List.{item_of}
+use Rattle.att_pdu.specs.PduBuf.{contents, mtu_of, IsSameBuffer}
+use Rattle.att_reads.specs.List.{candidate_of}
 use Rattle.att_reads.specs.Listing.{with_listed}
 use Rattle.att_reads.proofs.list.append_all.Given as goal
 
 -- what stands, and the attributes that are left, lead to the same list
 abbrev pub invariant-loop-handle : goal.invariant-loop-handle
 invariant-loop-handle l =
-    let item = item_of l.listing l.reader.table.now l.reader.row.now l.reader.standing.now l.mtu in
+    let mtu = mtu_of l.fn.out in
+    let candidate = candidate_of l.listing l.reader.table.now l.reader.row.now l.reader.standing.now mtu in
     record {
       same : IsSameBuffer l.fn.out l.out;
       listed :
-          with_listed l.mtu l.size (contents l.out) (map item (drop l.handle-index l.handles))
-          ≡ with_listed l.mtu l.size (contents l.fn.out) (map item l.handles);
+          with_listed mtu l.size (contents l.out) (map candidate (drop l.handle-index l.handles))
+          ≡ with_listed mtu l.size (contents l.fn.out) (map candidate l.handles);
     }

@@ -1,10 +1,24 @@
-use Rattle.std.proofs.Common.{◌≡◌, ◌+◌, ◌-◌, [], ◌∷◌, ◌++◌, length, take, drop, get_or, map, ap, sym, ◌∙◌}
+use Rattle.std.proofs.Common.{◌≡◌, ◌+◌, ◌-◌, [], ◌∷◌, ◌++◌, length, take, drop, get_or, map, ap, sym, ◌∙◌, rules}
 use Rattle.std.specs.Int.{w16, from_le_bytes}
+use Rattle.att_numbers.specs.declared.opcode.TheConstants.{READ_MULTIPLE_RESPONSE}
 use Rattle.att_pdu.specs.PduBuf.{contents, mtu_of}
 use Rattle.att_reads.specs.Access.{value_for}
 use Rattle.att_reads.proofs.Lists.{drop_next}
-use Rattle.att_reads.proofs.Multiple.{filled, finished, more}
+use Rattle.att_reads.proofs.Multiple.{filled, finished, begun, more}
 use Rattle.att_reads.proofs.value.read_multiple.Goals as goal
+
+pub loop-octets-init : goal.loop-octets-init
+loop-octets-init c =
+    let reader = c.args.reader in
+    let mtu = mtu_of c.args.out.now in
+    let handles = map (from_le_bytes w16) c.args.handles.now in
+    let begins : contents c.value.new.self ≡ READ_MULTIPLE_RESPONSE ∷ [] = search rules in
+    record {
+      same = c.value.ensures.same_buffer;
+      answer =
+          ap (λ octets. finished reader.table.now reader.row.now reader.standing.now mtu octets handles) begins
+          ∙ begun reader.table.now reader.row.now reader.standing.now mtu handles;
+    }
 
 pub loop-octets-preserved : goal.loop-octets-preserved
 loop-octets-preserved c =
