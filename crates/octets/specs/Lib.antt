@@ -1,3 +1,4 @@
+pub mod Memory
 pub mod Number
 pub mod Stream
 pub mod Streams
