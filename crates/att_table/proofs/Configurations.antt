@@ -6,17 +6,18 @@ use Rattle.std.specs.Prelude.{slice_get, nat_lt}
 use Rattle.std.proofs.lemmas.Bool.Decides.{nat_tests}
 use Rattle.std.proofs.lemmas.List.Elements.{All-cons, All-head, All-tail}
 use Rattle.std.proofs.lemmas.List.Sums.{sum_by-cons}
+use Rattle.att_numbers.specs.Types.{Handle, Row}
 use Rattle.att_table.specs.declared.attr.Attr.{Attr}
 use Rattle.att_table.specs.ConfigRow.{with_bits, has_entry, HasOneEntryEach, IsRowOf, HasRowRoom}
-use Rattle.att_table.specs.Limits.{is_configuration, configurations_of}
+use Rattle.att_table.specs.Table.{is_configuration, configurations_of}
 use Rattle.att_table.specs.Table.{attribute_at, is_configuration_at, HaveHandlesFrom, IsNumbered}
 
 -- a write adds no other entry
-has_with_bits : (row : List (ℕ × ℕ)) (handle bits other : ℕ) → has_entry (with_bits row handle bits) other ≡ has_entry row other || (handle == other)
+has_with_bits : (row : Row) (handle bits other : ℕ) → has_entry (with_bits row handle bits) other ≡ has_entry row other || (handle == other)
 has_with_bits [] handle bits other = grind (arith, nat_tests)
 has_with_bits (entry ∷ row) handle bits other = grind (arith, nat_tests, has_with_bits row handle bits other)
 
-pub one_entry_each : (row : List (ℕ × ℕ)) (handle bits : ℕ) → HasOneEntryEach row → HasOneEntryEach (with_bits row handle bits)
+pub one_entry_each : (row : Row) (handle bits : ℕ) → HasOneEntryEach row → HasOneEntryEach (with_bits row handle bits)
 one_entry_each [] handle bits once = (refl, tt)
 one_entry_each (entry ∷ row) handle bits once =
     elim (entry.0 == handle) as (λ same. (entry.0 == handle) ≡ same → HasOneEntryEach (if same then (handle, bits) ∷ row else entry ∷ with_bits row handle bits)) [
@@ -25,10 +26,10 @@ one_entry_each (entry ∷ row) handle bits once =
     ] refl
 
 -- and keeps the row one of its table
-pub row_of : (attributes : List Attr) (row : List (ℕ × ℕ)) (handle bits : ℕ) → is_configuration_at attributes handle ≡ true → IsRowOf attributes row → IsRowOf attributes (with_bits row handle bits)
+pub row_of : (attributes : List Attr) (row : Row) (handle bits : ℕ) → is_configuration_at attributes handle ≡ true → IsRowOf attributes row → IsRowOf attributes (with_bits row handle bits)
 row_of attributes [] handle bits is all = All-cons (λ entry. is_configuration_at attributes entry.0 ≡ true) (handle, bits) [] is all
 row_of attributes (entry ∷ row) handle bits is all =
-    let test = λ (of : ℕ × ℕ). is_configuration_at attributes of.0 ≡ true in
+    let test = λ (of : Handle × ℕ). is_configuration_at attributes of.0 ≡ true in
     elim (entry.0 == handle) as (λ same. IsRowOf attributes (if same then (handle, bits) ∷ row else entry ∷ with_bits row handle bits)) [
       | true ↦ All-cons test (handle, bits) row is (All-tail test entry row all)
       | false ↦ All-cons test entry (with_bits row handle bits) (All-head test entry row all) (row_of attributes row handle bits is (All-tail test entry row all))
@@ -84,13 +85,13 @@ configuration_found attributes handle numbered is =
     ] refl is
 
 -- a row has at most as many entries as its table has configurations
-abbrev is_covered : List (ℕ × ℕ) → Attr → Bool
+abbrev is_covered : Row → Attr → Bool
 is_covered row attr = is_configuration attr.role && has_entry row attr.handle
 
-covered_by : (attributes : List Attr) (row : List (ℕ × ℕ)) → IsNumbered attributes → IsRowOf attributes row → HasOneEntryEach row → length row ≤ count_by (is_covered row) attributes
+covered_by : (attributes : List Attr) (row : Row) → IsNumbered attributes → IsRowOf attributes row → HasOneEntryEach row → length row ≤ count_by (is_covered row) attributes
 covered_by attributes [] numbered all once = omega arith
 covered_by attributes (entry ∷ row) numbered all once =
-    let test = λ (of : ℕ × ℕ). is_configuration_at attributes of.0 ≡ true in
+    let test = λ (of : Handle × ℕ). is_configuration_at attributes of.0 ≡ true in
     let later = covered_by attributes row numbered (All-tail test entry row all) once.1 in
     let found = configuration_found attributes entry.0 numbered (All-head test entry row all) in
     let less = count_less (is_covered row) (is_covered (entry ∷ row)) attributes (entry.0 - 1) found.0
@@ -98,14 +99,14 @@ covered_by attributes (entry ∷ row) numbered all once =
     (grind (arith, found.1.own_handle, once.0)) (grind (arith, nat_tests, found.1.own_handle, found.1.is)) in
     omega arith
 
-within : (attributes : List Attr) (row : List (ℕ × ℕ)) → IsNumbered attributes → configurations_of attributes ≤ 64 → IsRowOf attributes row → HasOneEntryEach row → length row ≤ 64
+within : (attributes : List Attr) (row : Row) → IsNumbered attributes → configurations_of attributes ≤ 64 → IsRowOf attributes row → HasOneEntryEach row → length row ≤ 64
 within attributes row numbered few all once =
     let covered = covered_by attributes row numbered all once in
     let counted = count_le (is_covered row) (λ (attr : Attr). is_configuration attr.role) attributes (λ attr passed. grind arith) in
     omega arith
 
 -- so there is room for a configuration that the row lacks
-room_unless : (attributes : List Attr) (row : List (ℕ × ℕ)) (handle : ℕ) (has : Bool) → has_entry row handle ≡ has → IsNumbered attributes → configurations_of attributes ≤ 64
+room_unless : (attributes : List Attr) (row : Row) (handle : ℕ) (has : Bool) → has_entry row handle ≡ has → IsNumbered attributes → configurations_of attributes ≤ 64
     → is_configuration_at attributes handle ≡ true → IsRowOf attributes row → HasOneEntryEach row → has || nat_lt (length row) 64 ≡ true
 room_unless attributes row handle true has numbered few is all once = refl
 room_unless attributes row handle false has numbered few is all once =

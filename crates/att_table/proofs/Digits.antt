@@ -7,7 +7,7 @@ use Rattle.hex.specs.Hex.{decode_of, decode_pairs, decode_sized, digit_or_error,
 use Rattle.hex.specs.declared.error.FromHexError.{FromHexError}
 use Rattle.hex.proofs.HexLemmas.{decode_of-ok, decode_sized-twice}
 use Rattle.att_table.specs.declared.table_fault.TableFault.TheVariants.{TooLong}
-use Rattle.att_table.specs.Field.{value_decoded, value_of}
+use Rattle.att_table.specs.file.Field.{value_decoded, value_of}
 
 -- the first of three ranges that a character is in, or none
 in_some_range : (upper lower decimal : Bool) (x y z : ℕ)

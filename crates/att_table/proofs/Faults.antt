@@ -1,6 +1,5 @@
 -- The walk over a document never says that its text is not TOML.
 use Rattle.std.proofs.Common.{◌≡◌, ◌≢◌, ℕ, ◌+◌, Bool, true, false, not, ◌&&◌, ◌||◌, ◌==◌, if◌then◌else◌, List, [], ◌∷◌, ◌++◌, length, Option, Some, None, is_some, Result, Ok, Err, refl}
-use Rattle.std.specs.Int.RustNames.{bit_and}
 use Rattle.std.specs.Prelude.{ℤ, pos, negsuc, nat_le, codes}
 use Rattle.hex.specs.Hex.{decode_of}
 use Rattle.hex.specs.declared.error.FromHexError.{FromHexError}
@@ -8,6 +7,9 @@ use Rattle.toml.specs.Data.{Data, Items, no_items, item, Members, as_str, as_int
 use Rattle.toml.specs.Parse.{parse_document}
 use Rattle.toml_tables.specs.Reading.{◌>>=◌, unless, required, each, text_at, integer_at, flag_at, array_at, items_at, table_at}
 use Rattle.toml_tables.specs.Shape.{is_shaped}
+use Rattle.att_numbers.specs.AttributeType.{type_octets}
+use Rattle.att_numbers.specs.Types.{Handle, AttributeType}
+use Rattle.att_numbers.specs.declared.attribute_type.TheConstants.{INCLUDE, CHARACTERISTIC}
 use Rattle.att_policy.specs.declared.guard.Need.{Need}
 use Rattle.att_policy.specs.declared.guard.Properties.{Properties}
 use Rattle.att_table.specs.declared.attr.Attr.{Attr}
@@ -16,16 +18,16 @@ use Rattle.att_table.specs.declared.attr.Role.TheVariants.{Value as ValueRole, D
 use Rattle.att_table.specs.declared.table_fault.Name.TheVariants.{Service as ServiceName, Uuid, Properties as PropertiesName, Value}
 use Rattle.att_table.specs.declared.table_fault.TableFault.{TableFault}
 use Rattle.att_table.specs.declared.table_fault.TableFault.TheVariants.{NotToml, Missing, BadUuid, BadSecurity, BadProperty, BadInclude, TooLong, TooMany, Shape}
-use Rattle.att_table.specs.Field.{value_decoded, largest_of, property_named, key_size_of}
-use Rattle.att_table.specs.Fields.{kind_at, value_kind_at, no_properties, property_step, properties_at, value_read_at, placed_of}
-use Rattle.att_table.specs.Keys.{root_keys, service_keys, characteristic_keys, descriptor_keys, need_keys}
-use Rattle.att_table.specs.Kind.{kind_of, is_kind_of_value, short_kind, kind_octets}
-use Rattle.att_table.specs.Limits.{is_within_limits}
-use Rattle.att_table.specs.Needs.{need_read, need_at}
-use Rattle.att_table.specs.Placed.{next_handle, add, declaration, declare}
-use Rattle.att_table.specs.Service.{earlier_service, include_value}
+use Rattle.att_table.specs.file.Field.{value_decoded, largest_of, property_named, has_all, key_size_of}
+use Rattle.att_table.specs.file.Fields.{type_at, value_type_at, no_properties, property_step, properties_at, value_read_at, placed_of}
+use Rattle.att_table.specs.file.Keys.{root_keys, service_keys, characteristic_keys, descriptor_keys, need_keys}
+use Rattle.att_table.specs.file.Limits.{is_within_limits}
+use Rattle.att_table.specs.file.Needs.{need_read, need_at}
+use Rattle.att_table.specs.file.Placed.{next_handle, add, declaration, declare}
+use Rattle.att_table.specs.file.Service.{earlier_service, include_value}
 use Rattle.att_table.specs.Table.{Contents}
-use Rattle.att_table.specs.TableFile.{descriptor_step, is_announced, config_at, configuration, configure, characteristic_value, characterize, characteristic_step, include_step, service_kind_at, service_step, no_attributes, table_of, table_read}
+use Rattle.att_table.specs.file.TypeText.{type_named, is_type_of_value}
+use Rattle.att_table.specs.file.TableFile.{any_property, read_and_write, descriptor_step, is_announced, config_at, configuration, configure, characteristic_value, characterize, characteristic_step, include_step, service_type_at, service_step, no_attributes, table_of, table_read}
 
 abbrev IsWalked : {A : Type 0} → Result A TableFault → Type 0
 IsWalked (Ok _) = Unit
@@ -68,21 +70,21 @@ walked-need_read (Some needs) =
     walked-then (unless (is_shaped need_keys needs) BadSecurity) _ (walked-unless _ _ (λ e. cc e))
     (λ _. walked-then (key_size_of (integer_at (codes "key_size") needs)) _ (walked-key_size_of (integer_at (codes "key_size") needs)) (λ size. tt))
 
-walked-kind_at : (table : Members) → IsWalked (kind_at table)
-walked-kind_at table =
+walked-type_at : (table : Members) → IsWalked (type_at table)
+walked-type_at table =
     walked-then (required (text_at (codes "uuid") table) (Missing Uuid)) _ (walked-required _ _ (λ e. cc e))
-    (λ text. walked-required (kind_of text) _ (λ e. cc e))
+    (λ text. walked-required (type_named text) _ (λ e. cc e))
 
-walked-value_kind_at : (table : Members) → IsWalked (value_kind_at table)
-walked-value_kind_at table =
-    walked-then (kind_at table) _ (walked-kind_at table)
-    (λ kind. walked-then (unless (is_kind_of_value kind) BadUuid) _ (walked-unless _ _ (λ e. cc e)) (λ _. tt))
+walked-value_type_at : (table : Members) → IsWalked (value_type_at table)
+walked-value_type_at table =
+    walked-then (type_at table) _ (walked-type_at table)
+    (λ kind. walked-then (unless (is_type_of_value kind) BadUuid) _ (walked-unless _ _ (λ e. cc e)) (λ _. tt))
 
 walked-property_step : (allowed properties : Properties) (value : Data) → IsWalked (property_step allowed properties value)
 walked-property_step allowed properties value =
     walked-then (required (as_str value) Shape) _ (walked-required _ _ (λ e. cc e))
     (λ word. walked-then (required (property_named word) BadProperty) _ (walked-required _ _ (λ e. cc e))
-    (λ property. walked-then (unless (bit_and allowed.0 property == property) BadProperty) _ (walked-unless _ _ (λ e. cc e)) (λ _. tt)))
+    (λ property. walked-then (unless (has_all allowed property) BadProperty) _ (walked-unless _ _ (λ e. cc e)) (λ _. tt)))
 
 walked-properties_at : (allowed : Properties) (table : Members) → IsWalked (properties_at allowed table)
 walked-properties_at allowed table =
@@ -106,7 +108,7 @@ walked-largest_of (Some (negsuc _)) fixed size = λ e. cc e
 
 walked-placed_of : (role : Role) (handle : ℕ) (allowed : Properties) (table : Members) → IsWalked (placed_of role handle allowed table)
 walked-placed_of role handle allowed table =
-    walked-then (value_kind_at table) _ (walked-value_kind_at table)
+    walked-then (value_type_at table) _ (walked-value_type_at table)
     (λ kind. walked-then (properties_at allowed table) _ (walked-properties_at allowed table)
     (λ properties. walked-then (value_read_at table) _ (walked-value_read_at table)
     (λ value. walked-then (largest_of (integer_at (codes "max") table) (flag_at (codes "fixed") table) (length value)) _ (walked-largest_of (integer_at (codes "max") table) (flag_at (codes "fixed") table) (length value))
@@ -129,7 +131,7 @@ walked-descriptor_step : (draft : Contents) (value : Data) → IsWalked (descrip
 walked-descriptor_step draft value =
     walked-then (required (as_table value) Shape) _ (walked-required _ _ (λ e. cc e))
     (λ table. walked-then (unless (is_shaped descriptor_keys table) Shape) _ (walked-unless _ _ (λ e. cc e))
-    (λ _. walked-then (placed_of Descriptor (next_handle draft) (record { 0 = 0x0A }) table) _ (walked-placed_of Descriptor (next_handle draft) (record { 0 = 0x0A }) table)
+    (λ _. walked-then (placed_of Descriptor (next_handle draft) read_and_write table) _ (walked-placed_of Descriptor (next_handle draft) read_and_write table)
     (λ placed. walked-add draft placed.0 placed.1)))
 
 walked-config_at : (properties : Properties) (table : Members) → IsWalked (config_at properties table)
@@ -139,7 +141,7 @@ walked-config_at properties table =
 
 walked-characterize : (draft : Contents) (attr : Attr) (value : List ℕ) (need : Need) → IsWalked (characterize draft attr value need)
 walked-characterize draft attr value need =
-    walked-then (declare draft (short_kind 0x2803) (characteristic_value attr)) _ (walked-declare draft (short_kind 0x2803) (characteristic_value attr))
+    walked-then (declare draft CHARACTERISTIC (characteristic_value attr)) _ (walked-declare draft CHARACTERISTIC (characteristic_value attr))
     (λ declared. walked-then (add declared attr value) _ (walked-add declared attr value)
     (λ valued. walked-configure valued attr.guard.properties need))
 
@@ -147,7 +149,7 @@ walked-characteristic_step : (draft : Contents) (value : Data) → IsWalked (cha
 walked-characteristic_step draft value =
     walked-then (required (as_table value) Shape) _ (walked-required _ _ (λ e. cc e))
     (λ table. walked-then (unless (is_shaped characteristic_keys table) Shape) _ (walked-unless _ _ (λ e. cc e))
-    (λ _. walked-then (placed_of ValueRole (next_handle draft + 1) (record { 0 = 0x3E }) table) _ (walked-placed_of ValueRole (next_handle draft + 1) (record { 0 = 0x3E }) table)
+    (λ _. walked-then (placed_of ValueRole (next_handle draft + 1) any_property table) _ (walked-placed_of ValueRole (next_handle draft + 1) any_property table)
     (λ placed. walked-then (config_at placed.0.guard.properties table) _ (walked-config_at placed.0.guard.properties table)
     (λ need. walked-then (characterize draft placed.0 placed.1 need) _ (walked-characterize draft placed.0 placed.1 need)
     (λ next. walked-each descriptor_step next (items_at (codes "descriptor") table) walked-descriptor_step)))))
@@ -156,14 +158,14 @@ walked-include_step : (draft : Contents) (value : Data) → IsWalked (include_st
 walked-include_step draft value =
     walked-then (required (as_integer value) Shape) _ (walked-required _ _ (λ e. cc e))
     (λ position. walked-then (required (earlier_service draft.attributes position) BadInclude) _ (walked-required _ _ (λ e. cc e))
-    (λ service. walked-declare draft (short_kind 0x2802) (include_value draft.values service)))
+    (λ service. walked-declare draft INCLUDE (include_value draft.values service)))
 
 walked-service_step : (draft : Contents) (value : Data) → IsWalked (service_step draft value)
 walked-service_step draft value =
     walked-then (required (as_table value) Shape) _ (walked-required _ _ (λ e. cc e))
     (λ table. walked-then (unless (is_shaped service_keys table) Shape) _ (walked-unless _ _ (λ e. cc e))
-    (λ _. walked-then (kind_at table) _ (walked-kind_at table)
-    (λ kind. walked-then (declare draft (service_kind_at table) (kind_octets kind)) _ (walked-declare draft (service_kind_at table) (kind_octets kind))
+    (λ _. walked-then (type_at table) _ (walked-type_at table)
+    (λ kind. walked-then (declare draft (service_type_at table) (type_octets kind)) _ (walked-declare draft (service_type_at table) (type_octets kind))
     (λ declared. walked-then (each include_step declared (items_at (codes "include") table)) _ (walked-each include_step declared (items_at (codes "include") table) walked-include_step)
     (λ included. walked-each characteristic_step included (items_at (codes "characteristic") table) walked-characteristic_step)))))
 

@@ -3,7 +3,7 @@ use Rattle.std.proofs.Common.{◌≡◌, ℕ, suc, ◌-◌, ◌<◌, Bool, if◌
 use Rattle.std.proofs.lemmas.List.{get_or_read}
 use Rattle.std.specs.Prelude.{IsSome, slice_index_or}
 use Rattle.att_table.specs.declared.attr.Attr.{Attr}
-use Rattle.att_table.specs.Group.{is_service_kind, is_grouping_kind, last_before, group_ends_of, group_end_at}
+use Rattle.att_table.specs.Group.{is_service_type, is_grouping_type, last_before, group_ends_of, group_end_at}
 use Rattle.att_table.specs.Table.{attribute_at}
 use Rattle.att_table.proofs.Tables.{place_within}
 
@@ -16,8 +16,8 @@ open_end test (next ∷ rest) = if test next.kind then None else Some (last_befo
 pub record IsFound (attributes : List Attr) (ends : List ℕ) (place : ℕ) (service innermost : Option ℕ) : Type 0 where
   pub same_length : length ends ≡ length attributes
   pub found : drop place ends ≡ group_ends_of (drop place attributes)
-  pub service_end : service ≡ open_end is_service_kind (drop place attributes)
-  pub innermost_end : innermost ≡ open_end is_grouping_kind (drop place attributes)
+  pub service_end : service ≡ open_end is_service_type (drop place attributes)
+  pub innermost_end : innermost ≡ open_end is_grouping_type (drop place attributes)
 
 -- each attribute has an end
 length-group_ends_of : (attributes : List Attr) → length (group_ends_of attributes) ≡ length attributes

@@ -1,13 +1,9 @@
 pub mod Configurations
-pub mod Contents
 pub mod Digits
 pub mod Faults
 pub mod Groups
-pub mod InPlace
 pub mod OfType
 pub mod Parsed
-pub mod Pushes
 pub mod Rows
 pub mod Services
-pub mod Slots
 pub mod Tables

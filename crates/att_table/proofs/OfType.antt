@@ -8,9 +8,9 @@ use Rattle.std.specs.Prelude.{nat_lt, nat_le, slice_get}
 use Rattle.std.specs.List.{filter, prefix_len, insert}
 use Rattle.std.specs.Option.{option_map_or}
 use Rattle.att_table.specs.declared.attr.Attr.{Attr}
-use Rattle.att_table.specs.KindIndex.{put, by_kind, is_before, place_from, comes_before, AllAfter, IsOrdered, AllAbove, IsIndex}
+use Rattle.att_table.specs.TypeIndex.{put, by_type, is_before, place_from, comes_before, AllAfter, IsOrdered, AllAbove, IsIndex}
 use Rattle.att_table.specs.OfType.{handles_of_type}
-use Rattle.att_table.specs.Table.{kind_at, handles_by_kind, HaveHandlesFrom, IsNumbered}
+use Rattle.att_table.specs.Table.{type_at, handles_by_type, HaveHandlesFrom, IsNumbered}
 
 abbrev pub AllFail : (ℕ → Bool) → List ℕ → Type 0
 AllFail test [] = Unit
@@ -69,9 +69,9 @@ length_put kind h (x ∷ xs) = elim (nat_lt (kind x) (kind h)) as
       | false ↦ refl
     ]
 
-pub length_by_kind : (kind : ℕ → ℕ) (xs : List ℕ) → length (by_kind kind xs) ≡ length xs
+pub length_by_kind : (kind : ℕ → ℕ) (xs : List ℕ) → length (by_type kind xs) ≡ length xs
 length_by_kind kind [] = refl
-length_by_kind kind (x ∷ xs) = length_put kind x (by_kind kind xs) ∙ ap suc (length_by_kind kind xs)
+length_by_kind kind (x ∷ xs) = length_put kind x (by_type kind xs) ∙ ap suc (length_by_kind kind xs)
 
 -- a handle is put where its type begins
 prefix_cons : (test : ℕ → Bool) (x : ℕ) (xs : List ℕ) → prefix_len test (x ∷ xs) ≡ cond (test x) (suc (prefix_len test xs)) 0
@@ -101,10 +101,10 @@ filter_put kind k h test (x ∷ xs) of_kind =
     grind (arith, nat_tests, filter_put kind k h test xs of_kind, of_kind x, of_kind h)
 
 filter_by_kind : (kind : ℕ → ℕ) (k : ℕ) (test : ℕ → Bool) (xs : List ℕ) → ((x : ℕ) → test x ≡ true → kind x ≡ k)
-    → filter test (by_kind kind xs) ≡ filter test xs
+    → filter test (by_type kind xs) ≡ filter test xs
 filter_by_kind kind k test [] of_kind = refl
 filter_by_kind kind k test (x ∷ xs) of_kind =
-    filter_put kind k x test (by_kind kind xs) of_kind
+    filter_put kind k x test (by_type kind xs) of_kind
     ∙ ap (λ l. cond (test x) (x ∷ l) l) (filter_by_kind kind k test xs of_kind)
 
 -- where a search by halves may look
@@ -271,7 +271,7 @@ all_kinds kind (attr ∷ rest) h handles read =
     let step : (i : ℕ) → h + 1 + 1 + i ≡ h + 1 + suc i = λ i. omega arith in
     (ap kind at ∙ read 0, all_kinds kind rest (h + 1) handles.1 (λ i. ap kind (step i) ∙ read (suc i)))
 
-kind_read : (attributes : List Attr) (i : ℕ) → kind_at attributes (0 + 1 + i) ≡ option_map_or (λ (attr : Attr). attr.kind) (slice_get attributes i) 0
+kind_read : (attributes : List Attr) (i : ℕ) → type_at attributes (0 + 1 + i) ≡ option_map_or (λ (attr : Attr). attr.kind) (slice_get attributes i) 0
 kind_read attributes i =
     let place : 0 + 1 + i - 1 ≡ i = omega arith in
     let test : (0 + 1 + i == 0) ≡ false = grind (arith, nat_tests) in
@@ -283,11 +283,11 @@ above_less low more last [] le above = tt
 above_less low more last (x ∷ xs) le above = (omega (arith, above.0), above.1, above_less low more last xs le above.2)
 
 ordered_from : (kind : ℕ → ℕ) (attributes : List Attr) (h last : ℕ) → HaveHandlesFrom (h + 1) attributes → h + length attributes ≤ last
-    → AllAbove h last (by_kind kind (handles_of attributes)) × IsOrdered kind (by_kind kind (handles_of attributes))
+    → AllAbove h last (by_type kind (handles_of attributes)) × IsOrdered kind (by_type kind (handles_of attributes))
 ordered_from kind [] h last handles most = (tt, tt)
 ordered_from kind (attr ∷ rest) h last handles most =
     let later = ordered_from kind rest (h + 1) last handles.1 (omega arith) in
-    let index = by_kind kind (handles_of rest) in
+    let index = by_type kind (handles_of rest) in
     let above : AllAbove attr.handle last index = subst (λ n. AllAbove n last index) (sym handles.0) later.0 in (
       above_put kind h attr.handle last index (omega (arith, handles.0)) (omega (arith, handles.0)) (above_less h (h + 1) last index (omega arith) later.0),
       ordered_put kind attr.handle last index above later.1,
@@ -300,26 +300,26 @@ handles_drop (attr ∷ rest) h (suc place) handles =
     subst (λ n. HaveHandlesFrom n (drop place rest)) (omega arith) (handles_drop rest (h + 1) place handles.1)
 
 pub index_from : (attributes : List Attr) (place : ℕ) → IsNumbered attributes → place ≤ length attributes
-    → IsIndex (kind_at attributes) (length attributes) (by_kind (kind_at attributes) (handles_of (drop place attributes)))
+    → IsIndex (type_at attributes) (length attributes) (by_type (type_at attributes) (handles_of (drop place attributes)))
 index_from attributes place numbered within =
     let long = length-drop place attributes in
-    let both = ordered_from (kind_at attributes) (drop place attributes) (0 + place) (length attributes) (handles_drop attributes 0 place numbered.handles) (omega (arith, long)) in
+    let both = ordered_from (type_at attributes) (drop place attributes) (0 + place) (length attributes) (handles_drop attributes 0 place numbered.handles) (omega (arith, long)) in
     record { within = above_less 0 (0 + place) (length attributes) _ (omega arith) both.0; ordered = both.1 }
 
-pub index_of : (attributes : List Attr) → IsNumbered attributes → IsIndex (kind_at attributes) (length attributes) (handles_by_kind attributes)
+pub index_of : (attributes : List Attr) → IsNumbered attributes → IsIndex (type_at attributes) (length attributes) (handles_by_type attributes)
 index_of attributes numbered = index_from attributes 0 numbered (omega arith)
 
-pub length-handles_by_kind : (attributes : List Attr) → length (handles_by_kind attributes) ≡ length attributes
-length-handles_by_kind attributes = length_by_kind (kind_at attributes) (handles_of attributes) ∙ length-map attributes (λ (attr : Attr). attr.handle)
+pub length-handles_by_type : (attributes : List Attr) → length (handles_by_type attributes) ≡ length attributes
+length-handles_by_type attributes = length_by_kind (type_at attributes) (handles_of attributes) ∙ length-map attributes (λ (attr : Attr). attr.handle)
 
 less_none : (n : ℕ) → n - 0 ≡ n
 less_none n = omega arith
 
-pub found : (attributes : List Attr) (index : List ℕ) (k first last : ℕ) → IsNumbered attributes → index ≡ handles_by_kind attributes
-    → drop (place_from (kind_at attributes) index k first) (take (place_from (kind_at attributes) index k (last + 1)) index) ≡ handles_of_type attributes k first last
+pub found : (attributes : List Attr) (index : List ℕ) (k first last : ℕ) → IsNumbered attributes → index ≡ handles_by_type attributes
+    → drop (place_from (type_at attributes) index k first) (take (place_from (type_at attributes) index k (last + 1)) index) ≡ handles_of_type attributes k first last
 found attributes index k first last numbered is =
-    let kind = kind_at attributes in
-    let all = handles_by_kind attributes in
+    let kind = type_at attributes in
+    let all = handles_by_type attributes in
     let from : ℕ → Bool = λ x. is_before (kind x) x k first in
     let to : ℕ → Bool = λ x. is_before (kind x) x k (last + 1) in
     let ordered : IsOrdered kind all = (index_of attributes numbered).ordered in
@@ -398,25 +398,25 @@ above_at low last (x ∷ xs) (suc i) d above within = above_at low last xs i d a
 pub middle_within : (low high size : ℕ) → low < high → high ≤ size → low + (high - low) / 2 < size
 middle_within low high size left inside = omega arith
 
-pub index_given : (attributes : List Attr) (index : List ℕ) → IsNumbered attributes → index ≡ handles_by_kind attributes
-    → IsIndex (kind_at attributes) (length attributes) index
-index_given attributes index numbered is = subst (λ l. IsIndex (kind_at attributes) (length attributes) l) (sym is) (index_of attributes numbered)
+pub index_given : (attributes : List Attr) (index : List ℕ) → IsNumbered attributes → index ≡ handles_by_type attributes
+    → IsIndex (type_at attributes) (length attributes) index
+index_given attributes index numbered is = subst (λ l. IsIndex (type_at attributes) (length attributes) l) (sym is) (index_of attributes numbered)
 
-pub length_given : (attributes : List Attr) (index : List ℕ) → IsNumbered attributes → index ≡ handles_by_kind attributes → length index ≤ 1024
-length_given attributes index numbered is = omega (arith, ap length is, length-handles_by_kind attributes, numbered.most)
+pub length_given : (attributes : List Attr) (index : List ℕ) → IsNumbered attributes → index ≡ handles_by_type attributes → length index ≤ 1024
+length_given attributes index numbered is = omega (arith, ap length is, length-handles_by_type attributes, numbered.most)
 
 -- what is shown of the index as it is made, from the back
 pub index_so_far : (attributes : List Attr) (shown items : List ℕ) (place : ℕ) → IsNumbered attributes → place ≤ length attributes
-    → shown ≡ items → items ≡ by_kind (kind_at attributes) (handles_of (drop place attributes))
-    → IsIndex (kind_at attributes) (length attributes) shown
+    → shown ≡ items → items ≡ by_type (type_at attributes) (handles_of (drop place attributes))
+    → IsIndex (type_at attributes) (length attributes) shown
 index_so_far attributes shown items place numbered within is so_far =
-    subst (λ l. IsIndex (kind_at attributes) (length attributes) l) (sym (is ∙ so_far)) (index_from attributes place numbered within)
+    subst (λ l. IsIndex (type_at attributes) (length attributes) l) (sym (is ∙ so_far)) (index_from attributes place numbered within)
 
 pub length_so_far : (attributes : List Attr) (shown items : List ℕ) (place : ℕ) → IsNumbered attributes
-    → shown ≡ items → items ≡ by_kind (kind_at attributes) (handles_of (drop place attributes)) → length shown ≤ 1024
+    → shown ≡ items → items ≡ by_type (type_at attributes) (handles_of (drop place attributes)) → length shown ≤ 1024
 length_so_far attributes shown items place numbered is so_far =
     let handles = handles_of (drop place attributes) in
-    let made : length shown ≡ length handles = ap length (is ∙ so_far) ∙ length_by_kind (kind_at attributes) handles in
+    let made : length shown ≡ length handles = ap length (is ∙ so_far) ∙ length_by_kind (type_at attributes) handles in
     let long : length handles ≡ length (drop place attributes) = length-map (drop place attributes) (λ (attr : Attr). attr.handle) in
     let left = length-drop place attributes in
     omega (arith, numbered.most)
@@ -428,12 +428,12 @@ kinds_at kind (attr ∷ rest) zero d kinds within = kinds.0
 kinds_at kind (attr ∷ rest) (suc i) d kinds within = kinds_at kind rest i d kinds.1 (omega arith)
 
 pub one_more : (attributes : List Attr) (shown items made : List ℕ) (place at : ℕ) (d : Attr) → IsNumbered attributes → 0 < place → place ≤ length attributes
-    → shown ≡ items → items ≡ by_kind (kind_at attributes) (handles_of (drop place attributes))
-    → at ≡ place_from (kind_at attributes) shown (get_or attributes (place - 1) d).kind 0
+    → shown ≡ items → items ≡ by_type (type_at attributes) (handles_of (drop place attributes))
+    → at ≡ place_from (type_at attributes) shown (get_or attributes (place - 1) d).kind 0
     → made ≡ insert items at (get_or attributes (place - 1) d).handle
-    → made ≡ by_kind (kind_at attributes) (handles_of (drop (place - 1) attributes))
+    → made ≡ by_type (type_at attributes) (handles_of (drop (place - 1) attributes))
 one_more attributes shown items made place at d numbered first within is so_far found_at inserted =
-    let kind = kind_at attributes in
+    let kind = type_at attributes in
     let attr = get_or attributes (place - 1) d in
     let below : place - 1 < length attributes = omega arith in
     let next : place - 1 + 1 ≡ place = omega arith in
@@ -447,7 +447,7 @@ one_more attributes shown items made place at d numbered first within is so_far 
     ∙ ap (λ n. insert items n attr.handle) here
     ∙ put_inserts kind attr.handle items
     ∙ ap (put kind attr.handle) so_far
-    ∙ ap (λ l. by_kind kind (handles_of l)) (sym front)
+    ∙ ap (λ l. by_type kind (handles_of l)) (sym front)
 
 -- one more attribute, at the next handle
 handles_push : (attributes : List Attr) (attr : Attr) (first : ℕ) → HaveHandlesFrom first attributes → attr.handle ≡ length attributes + first

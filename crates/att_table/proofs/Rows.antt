@@ -5,29 +5,30 @@ use Rattle.std.proofs.lemmas.Bool.Decides.{nat_tests}
 use Rattle.std.proofs.lemmas.Grind.{common_steps}
 use Rattle.std.proofs.lemmas.List.Elements.{All-nil, All-cons, All-head, All-tail}
 use Rattle.att_table.proofs.Configurations.{one_entry_each}
+use Rattle.att_numbers.specs.Types.{Handle, Row}
 use Rattle.att_table.specs.ConfigRow.{bits_at, with_bits, has_entry, IsEntry}
 
 -- the bits are those of the entry at the place that is found
-pub bits_at_found : (row : List (ℕ × ℕ)) (handle place : ℕ) (d : ℕ × ℕ) → position (λ entry. entry.0 == handle) row ≡ Some place → bits_at row handle ≡ (get_or row place d).1
+pub bits_at_found : (row : Row) (handle place : ℕ) (d : Handle × ℕ) → position (λ entry. entry.0 == handle) row ≡ Some place → bits_at row handle ≡ (get_or row place d).1
 bits_at_found [] handle place d found = grind arith
 bits_at_found (entry ∷ row) handle zero d found = grind (arith, common_steps)
 bits_at_found (entry ∷ row) handle (suc place) d found = grind (arith, common_steps, bits_at_found row handle place d)
 
-pub bits_at_missing : (row : List (ℕ × ℕ)) (handle : ℕ) → position (λ entry. entry.0 == handle) row ≡ None → bits_at row handle ≡ 0
+pub bits_at_missing : (row : Row) (handle : ℕ) → position (λ entry. entry.0 == handle) row ≡ None → bits_at row handle ≡ 0
 bits_at_missing [] handle missing = refl
 bits_at_missing (entry ∷ row) handle missing = grind (arith, common_steps, bits_at_missing row handle)
 
 -- the place of an entry is found where there is one
-pub has_found : (row : List (ℕ × ℕ)) (handle place : ℕ) → position (λ entry. entry.0 == handle) row ≡ Some place → has_entry row handle ≡ true
+pub has_found : (row : Row) (handle place : ℕ) → position (λ entry. entry.0 == handle) row ≡ Some place → has_entry row handle ≡ true
 has_found [] handle place found = grind arith
 has_found (entry ∷ row) handle place found = grind (arith, common_steps, has_found row handle (place - 1))
 
-pub has_missing : (row : List (ℕ × ℕ)) (handle : ℕ) → position (λ entry. entry.0 == handle) row ≡ None → has_entry row handle ≡ false
+pub has_missing : (row : Row) (handle : ℕ) → position (λ entry. entry.0 == handle) row ≡ None → has_entry row handle ≡ false
 has_missing [] handle missing = refl
 has_missing (entry ∷ row) handle missing = grind (arith, common_steps, has_missing row handle)
 
 -- to write over the entry at the handle is to set its bits
-pub set_found : (row : List (ℕ × ℕ)) (handle bits place : ℕ) → position (λ entry. entry.0 == handle) row ≡ Some place → set row place (handle, bits) ≡ with_bits row handle bits
+pub set_found : (row : Row) (handle bits place : ℕ) → position (λ entry. entry.0 == handle) row ≡ Some place → set row place (handle, bits) ≡ with_bits row handle bits
 set_found [] handle bits place found = grind arith
 set_found (entry ∷ row) handle bits zero found = grind (arith, common_steps)
 set_found (entry ∷ row) handle bits (suc place) found = grind (arith, common_steps, set_found row handle bits place)
@@ -36,27 +37,27 @@ set_found (entry ∷ row) handle bits (suc place) found = grind (arith, common_s
 pub ruleset places = (bits_at_found, bits_at_missing, has_found, has_missing, set_found)
 
 -- so is to append an entry where the row has none at the handle
-pub append_missing : (row : List (ℕ × ℕ)) (handle bits : ℕ) → has_entry row handle ≡ false → row ++ (handle, bits) ∷ [] ≡ with_bits row handle bits
+pub append_missing : (row : Row) (handle bits : ℕ) → has_entry row handle ≡ false → row ++ (handle, bits) ∷ [] ≡ with_bits row handle bits
 append_missing [] handle bits has = refl
 append_missing (entry ∷ row) handle bits has = grind (arith, append_missing row handle bits)
 
 -- the bits at a handle are bits that an entry may have
-pub bits_at_le : (row : List (ℕ × ℕ)) (handle : ℕ) → All IsEntry row → bits_at row handle ≤ 3
+pub bits_at_le : (row : Row) (handle : ℕ) → All IsEntry row → bits_at row handle ≤ 3
 bits_at_le [] handle all = omega arith
 bits_at_le (entry ∷ row) handle all = grind (arith, All-head IsEntry entry row all, bits_at_le row handle (All-tail IsEntry entry row all))
 
 -- the bits that were set are there
-pub bits_at_written : (row : List (ℕ × ℕ)) (handle bits : ℕ) → bits_at (with_bits row handle bits) handle ≡ bits
+pub bits_at_written : (row : Row) (handle bits : ℕ) → bits_at (with_bits row handle bits) handle ≡ bits
 bits_at_written [] handle bits = grind (arith, nat_tests)
 bits_at_written (entry ∷ row) handle bits = grind (arith, nat_tests, bits_at_written row handle bits)
 
 -- and those at every other handle stay
-pub bits_at_other : (row : List (ℕ × ℕ)) (handle bits other : ℕ) → other ≢ handle → bits_at (with_bits row handle bits) other ≡ bits_at row other
+pub bits_at_other : (row : Row) (handle bits other : ℕ) → other ≢ handle → bits_at (with_bits row handle bits) other ≡ bits_at row other
 bits_at_other [] handle bits other differs = grind (arith, nat_tests)
 bits_at_other (entry ∷ row) handle bits other differs = grind (arith, nat_tests, bits_at_other row handle bits other differs)
 
 -- the entries stay entries
-pub All-with_bits : (row : List (ℕ × ℕ)) (handle bits : ℕ) → 0 < handle → bits ≤ 3 → All IsEntry row → All IsEntry (with_bits row handle bits)
+pub All-with_bits : (row : Row) (handle bits : ℕ) → 0 < handle → bits ≤ 3 → All IsEntry row → All IsEntry (with_bits row handle bits)
 All-with_bits [] handle bits used known all = All-cons IsEntry (handle, bits) [] (used, known) (All-nil IsEntry)
 All-with_bits (entry ∷ row) handle bits used known all =
     let rest = All-tail IsEntry entry row all in

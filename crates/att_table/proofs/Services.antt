@@ -4,9 +4,9 @@ use Rattle.std.proofs.lemmas.Grind.{common_steps}
 use Rattle.std.specs.Option.{option_to_list}
 use Rattle.std.specs.Prelude.{ℤ, pos, negsuc, slice_get, IsSome}
 use Rattle.att_table.specs.declared.attr.Attr.{Attr}
-use Rattle.att_table.specs.declared.include.ServiceHandles.{ServiceHandles}
-use Rattle.att_table.specs.Draft.{HaveHandlesTo}
-use Rattle.att_table.specs.Service.{followed_service, earlier_services, earlier_service}
+use Rattle.att_table.specs.declared.file.include.ServiceHandles.{ServiceHandles}
+use Rattle.att_table.specs.file.Draft.{HaveHandlesTo}
+use Rattle.att_table.specs.file.Service.{followed_service, earlier_services, earlier_service}
 use Rattle.att_table.specs.Table.{attribute_at}
 
 -- a place after the first one

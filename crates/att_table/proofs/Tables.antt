@@ -10,7 +10,7 @@ use Rattle.std.proofs.lemmas.List.Sums.{sum-map}
 use Rattle.std.proofs.lemmas.List.Elements.{All-get_or, All-set}
 use Rattle.std.proofs.lemmas.Option.{slice_get-get_or, slice_get_within, slice_get_past, slice_get-map, unwrap_or-slice_get}
 use Rattle.att_table.specs.declared.attr.Attr.{Attr}
-use Rattle.att_table.specs.Cell.{Cell, no_cell, cell_at, patched, patched_cell, with_part}
+use Rattle.att_values.specs.Cell.{Cell, no_cell, cell_at, patched, patched_cell, with_part}
 use Rattle.att_table.specs.Table.{Contents, attribute_at, value_at, with_value, is_fixed_at, room_at, values_of, IsKept}
 
 -- an attribute has its place in the list

@@ -2,42 +2,43 @@
 -- bits: Core 5.0, Vol 3 Part G, 3.3.3.3.
 use Rattle.std.specs.Prelude.{◌≡◌, ℕ, ◌<◌, ◌≤◌, All, Bool, true, false, ◌||◌, ◌==◌, nat_lt, if◌then◌else◌, List, [], ◌∷◌, length}
 use Rattle.std.specs.List.{list_any}
+use Rattle.att_numbers.specs.Types.{Handle, Row}
 use Rattle.att_table.specs.declared.attr.Attr.{Attr}
 use Rattle.att_table.specs.Table.{is_configuration_at}
 
 -- the bits at a handle: 0 where the row has no entry
-abbrev pub bits_at : List (ℕ × ℕ) → ℕ → ℕ
+abbrev pub bits_at : Row → Handle → ℕ
 bits_at [] handle = 0
 bits_at (entry ∷ row) handle = if entry.0 == handle then entry.1 else bits_at row handle
 
 -- the row with these bits at a handle, in the place of its entry, or at the end where it had none
-abbrev pub with_bits : List (ℕ × ℕ) → ℕ → ℕ → List (ℕ × ℕ)
+abbrev pub with_bits : Row → Handle → ℕ → Row
 with_bits [] handle bits = (handle, bits) ∷ []
 with_bits (entry ∷ row) handle bits =
     if entry.0 == handle then (handle, bits) ∷ row else entry ∷ with_bits row handle bits
 
 -- whether the row has an entry at a handle
-abbrev pub has_entry : List (ℕ × ℕ) → ℕ → Bool
+abbrev pub has_entry : Row → Handle → Bool
 has_entry row handle = list_any (λ entry. entry.0 == handle) row
 
 -- whether bits can be set at a handle: its entry is there, or there is room for one more
-abbrev pub has_room : List (ℕ × ℕ) → ℕ → Bool
+abbrev pub has_room : Row → Handle → Bool
 has_room row handle = has_entry row handle || nat_lt (length row) 64
 
 -- an entry is of a handle that is in use, and its bits are notify and indicate
-abbrev pub IsEntry : ℕ × ℕ → Type 0
+abbrev pub IsEntry : Handle × ℕ → Type 0
 IsEntry entry = (0 < entry.0) × (entry.1 ≤ 3)
 
 -- no handle has two entries
-abbrev pub HasOneEntryEach : List (ℕ × ℕ) → Type 0
+abbrev pub HasOneEntryEach : Row → Type 0
 HasOneEntryEach [] = Unit
 HasOneEntryEach (entry ∷ row) = (has_entry row entry.0 ≡ false) × HasOneEntryEach row
 
 -- each handle of the row is that of a configuration
-abbrev pub IsRowOf : List Attr → List (ℕ × ℕ) → Type 0
+abbrev pub IsRowOf : List Attr → Row → Type 0
 IsRowOf attributes row = All (λ entry. is_configuration_at attributes entry.0 ≡ true) row
 
 -- a row of these attributes has room for the configuration at a handle
-abbrev pub HasRowRoom : List Attr → ℕ → Type 0
+abbrev pub HasRowRoom : List Attr → Handle → Type 0
 HasRowRoom attributes handle =
-    is_configuration_at attributes handle ≡ true → (row : List (ℕ × ℕ)) → IsRowOf attributes row → HasOneEntryEach row → has_room row handle ≡ true
+    is_configuration_at attributes handle ≡ true → (row : Row) → IsRowOf attributes row → HasOneEntryEach row → has_room row handle ≡ true

@@ -15,10 +15,11 @@ pub struct ConfigRow {
 }
 
 impl Model for ConfigRow {
-    ghost use Rattle.std.specs.Prelude.{ℕ, List, All};
+    ghost use Rattle.std.specs.Prelude.{All};
+    ghost use Rattle.att_numbers.specs.Types.{Row};
     ghost use Rattle.att_table.specs.ConfigRow.{IsEntry, HasOneEntryEach};
 
-    ghost Value = { List (ℕ × ℕ) };
+    ghost Value = { Row };
 
     ghost view = { λ row. row.entries.items };
 
@@ -119,24 +120,4 @@ fn contains_handle(entries: &[(u16, u8)], handle: u16) -> bool
     ensures { result ≡ has_entry entries.now handle }
 {
     entries.iter().any(|entry| entry.0 == handle)
-}
-
-#[cfg(test)]
-mod tests {
-    use super::*;
-
-    #[test]
-    fn keeps_what_was_written_last(rt: HostRuntime) {
-        let mut row = ConfigRow::new();
-        row.set(9, 2);
-        for handle in 1..100 {
-            if row.can_set(handle) {
-                row.set(handle, 1);
-            }
-        }
-        for (handle, bits) in [(1, 1), (9, 1), (64, 1), (65, 0)] {
-            assert_eq!(rt; row.get(handle), bits);
-            assert_eq!(rt; row.can_set(handle), handle < 65);
-        }
-    }
 }

@@ -1,10 +1,10 @@
 //! The groups of a table's attributes: Core 5.0, Vol 3 Part G, 2.5.3.
 
 ghost use Rattle.std.specs.Prelude.{◌≡◌, IfOk};
-ghost use Rattle.att_table.specs.Group.{is_service_kind, is_grouping_kind, group_ends_of};
+ghost use Rattle.att_table.specs.Group.{is_service_type, is_grouping_type, group_ends_of};
 
 use crate::attr::Attr;
-use crate::kind;
+use att_numbers::attribute_type::{CHARACTERISTIC, PRIMARY_SERVICE, SECONDARY_SERVICE};
 use std::alloc::{AllocError, Global};
 
 /// The last handle of the group that each attribute begins: of a service up to the next service,
@@ -37,60 +37,14 @@ pub fn group_ends(alloc: Global, attributes: &[Attr]) -> Result<Vec<u16>, AllocE
 
 /// Whether an attribute of this type begins a service.
 pub fn is_service(kind: u128) -> bool
-    ensures { result ≡ is_service_kind kind }
+    ensures { result ≡ is_service_type kind }
 {
-    kind == kind::PRIMARY_SERVICE || kind == kind::SECONDARY_SERVICE
+    kind == PRIMARY_SERVICE || kind == SECONDARY_SERVICE
 }
 
 /// Whether an attribute of this type begins a group.
 fn is_grouping(kind: u128) -> bool
-    ensures { result ≡ is_grouping_kind kind }
+    ensures { result ≡ is_grouping_type kind }
 {
-    is_service(kind) || kind == kind::CHARACTERISTIC
-}
-
-#[cfg(test)]
-mod tests {
-    use super::*;
-    use crate::attr::Role;
-    use att_policy::{Guard, Need, Properties};
-
-    const VALUE: u128 = 0x0000_2A19_0000_1000_8000_0080_5F9B_34FB;
-
-    fn attr(handle: u16, kind: u128) -> Attr {
-        Attr {
-            handle,
-            kind,
-            largest: 16,
-            fixed: true,
-            role: Role::Declaration,
-            guard: Guard {
-                properties: Properties::READ,
-                read: Need::NONE,
-                write: Need::NONE,
-            },
-        }
-    }
-
-    /// A service of two characteristics, a service of none, and one of a characteristic.
-    #[test]
-    fn ends_of_groups(rt: HostRuntime) {
-        let attributes = [
-            attr(1, kind::PRIMARY_SERVICE),
-            attr(2, kind::INCLUDE),
-            attr(3, kind::CHARACTERISTIC),
-            attr(4, VALUE),
-            attr(5, kind::CHARACTERISTIC),
-            attr(6, VALUE),
-            attr(7, kind::SECONDARY_SERVICE),
-            attr(8, kind::PRIMARY_SERVICE),
-            attr(9, kind::CHARACTERISTIC),
-            attr(10, VALUE),
-        ];
-        let ends = group_ends(rt.alloc(), &attributes).expect(&rt, "memory");
-        assert_eq!(rt;
-            ends.as_slice(),
-            [6, 2, 4, 4, 6, 6, 7, 10, 10, 10].as_slice()
-        );
-    }
+    is_service(kind) || kind == CHARACTERISTIC
 }

@@ -1,17 +1,16 @@
 ghost use Rattle.std.specs.Prelude.{◌≡◌, ◌+◌, ◌<◌, ◌≤◌, ◌∷◌, ◌++◌, [], map, length, sum_by, vec_len, IfSome, IsSome, OnOk, OnErr};
 ghost use Rattle.std.specs.Option.{option_copied};
 ghost use Rattle.att_table.specs.declared.attr.Attr.{Attr};
-ghost use Rattle.att_table.specs.Cell.{patched};
+ghost use Rattle.att_values.specs.Cell.{patched};
 ghost use Rattle.att_table.specs.ConfigRow.{HasRowRoom};
 ghost use Rattle.att_table.specs.Group.{group_ends_of, group_end_at};
-ghost use Rattle.att_table.specs.Limits.{configurations_of};
 ghost use Rattle.att_table.specs.OfType.{handles_of_type};
-ghost use Rattle.att_table.specs.Table.{Contents, attribute_at, attributes_in, value_at, is_fixed_at, room_at, with_value, values_of, handles_by_kind, IsKept, IsWhole};
+ghost use Rattle.att_table.specs.Table.{Contents, attribute_at, attributes_in, configurations_of, value_at, is_fixed_at, room_at, with_value, values_of, handles_by_type, IsKept, IsWhole};
 
 use crate::attr::Attr;
-use crate::flat_store::FlatStore;
-use crate::kind_index;
-use crate::kind_index::Steps;
+use crate::type_index;
+use crate::type_index::Steps;
+use att_values::FlatStore;
 use std::marker::Model;
 
 /// The attributes that a server has, by handles from 1 without gaps, and their values.
@@ -34,7 +33,7 @@ impl Model for Table {
 impl Table {
     /// A table of these attributes, with their values, the ends of their groups, and their handles
     /// by type.
-    pub fn from_parts(
+    pub(crate) fn from_parts(
         attributes: Vec<Attr>,
         values: FlatStore,
         group_ends: Vec<u16>,
@@ -43,7 +42,7 @@ impl Table {
         requires kept { IsKept attributes.items values }
         requires few { configurations_of attributes.items ≤ 64 }
         requires ends { group_ends.items ≡ group_ends_of attributes.items }
-        requires types { by_type.items ≡ handles_by_kind attributes.items }
+        requires types { by_type.items ≡ handles_by_type attributes.items }
         ensures attributes { result.attributes ≡ attributes.items }
         ensures values { result.values ≡ values_of values }
     {
@@ -110,7 +109,7 @@ impl Table {
         ensures handles { result.now ≡ handles_of_type self.now.attributes kind first last }
         ensures steps { S.count steps.new ≤ S.count steps.old + 22 }
     {
-        kind_index::of_type(&self.by_type, &self.attributes, kind, first, last, steps)
+        type_index::of_type(&self.by_type, &self.attributes, kind, first, last, steps)
     }
 
     /// How many octets the value of the attribute at a handle may have: a fixed value keeps its

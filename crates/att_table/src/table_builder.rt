@@ -1,13 +1,12 @@
 //! A table that grows by one attribute at a time, until it is whole.
 
 ghost use Rattle.std.specs.Prelude.{◌≡◌, ◌+◌, ◌<◌, ◌≤◌, ◌∷◌, ◌++◌, [], length, IfOk, IsSome, OnOk, OnErr};
-ghost use Rattle.att_table.specs.Limits.{configurations_of};
-ghost use Rattle.att_table.specs.Table.{Contents, attribute_at, value_at, values_of, IsKept};
+ghost use Rattle.att_table.specs.Table.{Contents, attribute_at, configurations_of, value_at, values_of, IsKept};
 
 use crate::attr::Attr;
-use crate::flat_store::FlatStore;
 use crate::table::Table;
-use crate::{group, kind_index};
+use crate::{group, type_index};
+use att_values::FlatStore;
 use std::alloc::{AllocError, Global};
 use std::marker::Model;
 
@@ -84,7 +83,7 @@ impl TableBuilder {
         ensures { IfOk result (λ table. table ≡ self) }
     {
         let group_ends = group::group_ends(alloc, &self.attributes)?;
-        let by_type = kind_index::by_type(alloc, &self.attributes)?;
+        let by_type = type_index::by_type(alloc, &self.attributes)?;
         Ok(Table::from_parts(self.attributes, self.values, group_ends, by_type))
     }
 }

@@ -1,5 +1,5 @@
 use Rattle.std.proofs.Common.{◌≤◌, length, arith, ap}
-use Rattle.att_table.specs.Cell.{cell_at}
+use Rattle.att_values.specs.Cell.{cell_at}
 use Rattle.att_table.specs.Table.{value_at}
 use Rattle.att_table.proofs.Tables.{fits_cell, kept-patched, patched_values, value_at-cell}
 use Rattle.att_table.proofs.table.Table.patch.Goals as goal

@@ -1,0 +1,49 @@
+-- Handles in the order of their attribute types: this profile's own.
+use Rattle.std.specs.Prelude.{◌≡◌, ◌<◌, ◌≤◌, ℕ, Bool, true, ◌==◌, ◌&&◌, ◌||◌, nat_lt, if◌then◌else◌, List, [], ◌∷◌}
+use Rattle.std.specs.List.{prefix_len}
+use Rattle.att_numbers.specs.Types.{Handle, AttributeType}
+
+-- the types of attributes by their handles
+abbrev pub Types : Type 0
+Types = Handle → AttributeType
+
+-- a handle goes before the first one whose type is not below its own
+abbrev pub put : Types → Handle → List Handle → List Handle
+put type_of handle [] = handle ∷ []
+put type_of handle (next ∷ rest) = if nat_lt (type_of next) (type_of handle) then next ∷ put type_of handle rest else handle ∷ next ∷ rest
+
+-- handles by their types, and those of one type in the order that they had
+abbrev pub by_type : Types → List Handle → List Handle
+by_type type_of [] = []
+by_type type_of (handle ∷ rest) = put type_of handle (by_type type_of rest)
+
+-- whether an attribute of this type and handle stands before another type and handle: by type, and then by handle
+abbrev pub is_before : AttributeType → Handle → AttributeType → Handle → Bool
+is_before own_type own_handle kind handle = nat_lt own_type kind || ((own_type == kind) && nat_lt own_handle handle)
+
+-- how many handles at the front of an index stand before a type and handle
+abbrev pub place_from : Types → List Handle → AttributeType → Handle → ℕ
+place_from type_of index kind from = prefix_len (λ handle. is_before (type_of handle) handle kind from) index
+
+-- the same of two handles
+abbrev pub comes_before : Types → Handle → Handle → Bool
+comes_before type_of x y = is_before (type_of x) x (type_of y) y
+
+-- a handle stands before these, and they are in order
+abbrev pub AllAfter : Types → Handle → List Handle → Type 0
+AllAfter type_of x [] = Unit
+AllAfter type_of x (y ∷ ys) = (comes_before type_of x y ≡ true) × AllAfter type_of x ys
+
+abbrev pub IsOrdered : Types → List Handle → Type 0
+IsOrdered type_of [] = Unit
+IsOrdered type_of (x ∷ xs) = AllAfter type_of x xs × IsOrdered type_of xs
+
+-- each of these is above a handle, and at most the last one
+abbrev pub AllAbove : Handle → Handle → List Handle → Type 0
+AllAbove low last [] = Unit
+AllAbove low last (x ∷ xs) = (low < x) × (x ≤ last) × AllAbove low last xs
+
+-- handles up to the last one, in the order of their types
+pub record IsIndex (type_of : Types) (last : Handle) (index : List Handle) : Type 0 where
+  pub within : AllAbove 0 last index
+  pub ordered : IsOrdered type_of index

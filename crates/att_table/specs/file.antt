@@ -1,0 +1,10 @@
+pub mod Draft
+pub mod Field
+pub mod Fields
+pub mod Keys
+pub mod Limits
+pub mod Needs
+pub mod Placed
+pub mod Service
+pub mod TableFile
+pub mod TypeText

@@ -1,0 +1,18 @@
+-- What a draft keeps beside its table.
+use Rattle.std.specs.Prelude.{◌≡◌, ℕ, ◌<◌, ◌≤◌, List, [], ◌∷◌, length, IsTrue}
+use Rattle.att_numbers.specs.Types.{Handle}
+use Rattle.att_table.specs.declared.attr.Attr.{Attr}
+use Rattle.att_table.specs.Table.{configurations_of}
+use Rattle.att_table.specs.file.Limits.{octets_of, is_within}
+
+-- each attribute has a handle from 1 to the last one
+abbrev pub HaveHandlesTo : Handle → List Attr → Type 0
+HaveHandlesTo last [] = Unit
+HaveHandlesTo last (attr ∷ rest) = (0 < attr.handle) × (attr.handle ≤ last) × HaveHandlesTo last rest
+
+-- its counts are those of its attributes, which are within the limits and have their handles
+pub record IsCounted (attributes : List Attr) (configurations octets : ℕ) : Type 0 where
+  pub counted_configurations : configurations ≡ configurations_of attributes
+  pub counted_octets : octets ≡ octets_of attributes
+  pub within : IsTrue (is_within (length attributes) configurations octets)
+  pub handles : HaveHandlesTo (length attributes) attributes

@@ -1,0 +1,60 @@
+-- What the fields of a characteristic or of another descriptor say: this profile's own.
+use Rattle.std.specs.Prelude.{ℕ, ℤ, pos, negsuc, Bool, ◌==◌, ◌&&◌, ◌||◌, not, nat_le, if◌then◌else◌, List, [], ◌∷◌, length, codes, Option, Some, None, Result, Ok, Err}
+use Rattle.std.specs.Int.RustNames.{bit_and, bit_or}
+use Rattle.std.specs.List.{find}
+use Rattle.std.specs.Option.{option_map}
+use Rattle.std.specs.Str.{bytes_eq}
+use Rattle.hex.specs.Hex.{decode_of}
+use Rattle.hex.specs.declared.error.FromHexError.{FromHexError}
+use Rattle.octets.specs.Number.{Octets}
+use Rattle.att_policy.specs.declared.guard.Properties.{Properties}
+use Rattle.att_policy.specs.declared.guard.TheConstants.Properties.{READ, WRITE_WITHOUT_RESPONSE, WRITE, NOTIFY, INDICATE}
+use Rattle.att_table.specs.declared.table_fault.TableFault.{TableFault}
+use Rattle.att_table.specs.declared.table_fault.TableFault.TheVariants.{BadHex, TooLong, BadSecurity}
+
+-- the octets that were decoded, where they are at most 512
+abbrev pub value_decoded : Result Octets FromHexError → Result Octets TableFault
+value_decoded (Err _) = Err BadHex
+value_decoded (Ok octets) = if nat_le (length octets) 512 then Ok octets else Err TooLong
+
+-- the value that a text writes in hexadecimal digits
+abbrev pub value_of : Octets → Result Octets TableFault
+value_of text = value_decoded (decode_of text)
+
+-- the largest length of a value that has this length now, and may be of a fixed length: the same unless another is written
+abbrev pub largest_of : Option ℤ → Bool → ℕ → Result ℕ TableFault
+largest_of None fixed length = Ok length
+largest_of (Some (pos max)) fixed length =
+    if nat_le length max && nat_le max 512 && (not fixed || (max == length)) then Ok max else Err TooLong
+largest_of (Some (negsuc _)) fixed length = Err TooLong
+
+-- the words of the properties: Core 5.0, Vol 3 Part G, 3.3.1.1
+abbrev pub property_words : List (Octets × Properties)
+property_words =
+    (codes "read", READ) ∷ (codes "command", WRITE_WITHOUT_RESPONSE) ∷ (codes "write", WRITE)
+    ∷ (codes "notify", NOTIFY) ∷ (codes "indicate", INDICATE) ∷ []
+
+abbrev pub property_named : Octets → Option Properties
+property_named word =
+    option_map (λ (row : Octets × Properties). row.1) (find (λ (row : Octets × Properties). bytes_eq word row.0) property_words)
+
+-- properties together
+abbrev pub both_of : Properties → Properties → Properties
+both_of some others = record { 0 = bit_or some.0 others.0 }
+
+abbrev pub all_of : List Properties → Properties
+all_of [] = record { 0 = 0 }
+all_of (first ∷ rest) = both_of first (all_of rest)
+
+-- whether all of these, or any of these, are among some properties
+abbrev pub has_all : Properties → Properties → Bool
+has_all properties these = bit_and properties.0 these.0 == these.0
+
+abbrev pub has_any : Properties → Properties → Bool
+has_any properties these = not (bit_and properties.0 these.0 == 0)
+
+-- the key size that a need asks for: from 7 to 16 octets, or none
+abbrev pub key_size_of : Option ℤ → Result (Option ℕ) TableFault
+key_size_of None = Ok None
+key_size_of (Some (pos size)) = if nat_le 7 size && nat_le size 16 then Ok (Some size) else Err BadSecurity
+key_size_of (Some (negsuc _)) = Err BadSecurity

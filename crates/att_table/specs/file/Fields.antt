@@ -1,0 +1,75 @@
+-- What the tables of a characteristic and of another descriptor have in common: a value, and who may use it.
+use Rattle.std.specs.Prelude.{[], length, Result, Ok, codes}
+use Rattle.octets.specs.Number.{Octets}
+use Rattle.toml.specs.Data.{Data, Members, as_str}
+use Rattle.toml_tables.specs.Reading.{◌>>=◌, unless, required, each, text_at, integer_at, flag_at, array_at}
+use Rattle.att_numbers.specs.Types.{Handle, AttributeType}
+use Rattle.att_policy.specs.declared.guard.Properties.{Properties}
+use Rattle.att_table.specs.declared.attr.Attr.{Attr}
+use Rattle.att_table.specs.declared.attr.Role.{Role}
+use Rattle.att_table.specs.declared.file.placed.Placed.{Placed}
+use Rattle.att_table.specs.declared.table_fault.Name.TheVariants.{Uuid, Properties as PropertiesName, Value}
+use Rattle.att_table.specs.declared.table_fault.TableFault.{TableFault}
+use Rattle.att_table.specs.declared.table_fault.TableFault.TheVariants.{Missing, BadUuid, BadProperty, Shape}
+use Rattle.att_table.specs.file.Field.{value_of, largest_of, property_named, both_of, all_of, has_all}
+use Rattle.att_table.specs.file.Needs.{need_at}
+use Rattle.att_table.specs.file.TypeText.{type_named, is_type_of_value}
+
+-- the type at `uuid`, and that of a value, which is none of those that only the table itself gives
+abbrev pub type_at : Members → Result AttributeType TableFault
+type_at members = do
+  text ← required (text_at (codes "uuid") members) (Missing Uuid)
+  required (type_named text) BadUuid
+
+abbrev pub value_type_at : Members → Result AttributeType TableFault
+value_type_at members = do
+  kind ← type_at members
+  _ ← unless (is_type_of_value kind) BadUuid
+  Ok kind
+
+-- the properties that the words name, each one of those that are allowed
+abbrev pub no_properties : Properties
+no_properties = all_of []
+
+abbrev pub property_step : Properties → Properties → Data → Result Properties TableFault
+property_step allowed properties value = do
+  word ← required (as_str value) Shape
+  property ← required (property_named word) BadProperty
+  _ ← unless (has_all allowed property) BadProperty
+  Ok (both_of properties property)
+
+abbrev pub properties_at : Properties → Members → Result Properties TableFault
+properties_at allowed members = do
+  words ← required (array_at (codes "properties") members) (Missing PropertiesName)
+  each (property_step allowed) no_properties words
+
+-- the value at `value`
+abbrev pub value_read_at : Members → Result Octets TableFault
+value_read_at members = do
+  text ← required (text_at (codes "value") members) (Missing Value)
+  value_of text
+
+-- an attribute at a handle, with its value
+abbrev pub placed_of : Role → Handle → Properties → Members → Result (Attr × Octets) TableFault
+placed_of role handle allowed members = do
+  kind ← value_type_at members
+  properties ← properties_at allowed members
+  value ← value_read_at members
+  largest ← largest_of (integer_at (codes "max") members) (flag_at (codes "fixed") members) (length value)
+  read ← need_at (codes "read") members
+  write ← need_at (codes "write") members
+  Ok (
+    record {
+      handle = handle;
+      kind = kind;
+      largest = largest;
+      fixed = flag_at (codes "fixed") members;
+      role = role;
+      guard = record { properties = properties; read = read; write = write };
+    },
+    value,
+  )
+
+-- the same as the code has it
+abbrev pub placed_view : Placed → Attr × Octets
+placed_view placed = (placed.attr, placed.value.items)

@@ -1,0 +1,41 @@
+-- Attributes with their values, and how a table grows by them.
+use Rattle.std.specs.Prelude.{ℕ, ◌+◌, true, List, [], ◌∷◌, ◌++◌, length, Result, Ok}
+use Rattle.octets.specs.Number.{Octets}
+use Rattle.att_numbers.specs.Types.{Handle, AttributeType}
+use Rattle.att_policy.specs.declared.guard.TheConstants.Properties.{READ}
+use Rattle.toml_tables.specs.Reading.{◌>>=◌, unless}
+use Rattle.att_table.specs.declared.attr.Attr.{Attr}
+use Rattle.att_table.specs.declared.attr.Role.TheVariants.{Declaration}
+use Rattle.att_table.specs.declared.table_fault.TableFault.{TableFault}
+use Rattle.att_table.specs.declared.table_fault.TableFault.TheVariants.{TooMany}
+use Rattle.att_table.specs.file.Limits.{is_within_limits}
+use Rattle.att_table.specs.file.Needs.{no_need}
+use Rattle.att_table.specs.Table.{Contents}
+
+pub record Placed : Type 0 where
+  pub attr : Attr
+  pub value : Octets
+
+-- the handle of the next attribute
+abbrev pub next_handle : Contents → Handle
+next_handle table = length table.attributes + 1
+
+-- an attribute is added at the end, unless they become too many
+abbrev pub add : Contents → Attr → Octets → Result Contents TableFault
+add table attr value = do
+  _ ← unless (is_within_limits (table.attributes ++ attr ∷ [])) TooMany
+  Ok (record { attributes = table.attributes ++ attr ∷ []; values = table.values ++ value ∷ [] })
+
+-- a declaration, which anybody may read
+abbrev pub declaration : Handle → AttributeType → ℕ → Attr
+declaration handle kind length = record {
+  handle = handle;
+  kind = kind;
+  largest = length;
+  fixed = true;
+  role = Declaration;
+  guard = record { properties = READ; read = no_need; write = no_need };
+}
+
+abbrev pub declare : Contents → AttributeType → Octets → Result Contents TableFault
+declare table kind value = add table (declaration (next_handle table) kind (length value)) value

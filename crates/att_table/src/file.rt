@@ -1,0 +1,57 @@
+//! The table file: TOML that describes services, their characteristics and descriptors.
+
+ghost use Rattle.std.specs.Prelude.{◌≡◌, IsErrOf};
+ghost use Rattle.octets.specs.Memory.{Gives};
+ghost use Rattle.toml.specs.Parse.{parse_document};
+ghost use Rattle.toml.specs.View.{table_view};
+ghost use Rattle.att_table.specs.declared.table_fault.TableFault.TheVariants.{OutOfMemory};
+ghost use Rattle.att_table.specs.file.TableFile.{table_of, table_read};
+
+mod characteristic;
+mod descriptor;
+mod draft;
+mod field;
+mod include;
+mod keys;
+mod needs;
+mod part;
+mod placed;
+mod service;
+mod type_text;
+
+use crate::file::draft::Draft;
+use crate::file::service::Service;
+use crate::table::Table;
+use crate::table_fault::{Name, TableFault};
+use std::alloc::Global;
+
+impl Table {
+    /// Reads a table file, and gives the table that it describes or its first fault. Memory may be
+    /// refused at any point.
+    #[tactic(auto, using(crate::proofs::Faults::not_toml))]
+    pub fn read(alloc: Global, text: &str) -> Result<Table, TableFault>
+        ensures table { Gives OutOfMemory (table_read text.now) result }
+        ensures not_toml { IsErrOf result TableFault.NotToml → parse_document text.now ≡ None }
+    {
+        match toml::table_from_str(alloc, text) {
+            Ok(document) => read_document(alloc, &document),
+            Err(refused) if refused.is_memory() => Err(TableFault::OutOfMemory),
+            Err(_) => Err(TableFault::NotToml),
+        }
+    }
+}
+
+/// The table of a document.
+fn read_document(alloc: Global, document: &toml::Table) -> Result<Table, TableFault>
+    ensures { Gives OutOfMemory (table_of (table_view document.now)) result }
+{
+    if !toml_tables::is_shaped(document, &keys::ROOT) {
+        return Err(TableFault::Shape);
+    }
+    let services = toml_tables::array(document, "service").ok_or(TableFault::Missing(
+        Name::Service,
+    ))?;
+    let mut draft = Draft::new(alloc);
+    part::read_all::<Service>(&mut draft, services)?;
+    Ok(draft.finish(alloc)?)
+}

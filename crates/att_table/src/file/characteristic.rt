@@ -1,0 +1,123 @@
+//! The characteristics of a service in a table file.
+
+ghost use Rattle.std.specs.Prelude.{◌≡◌, ◌+◌, ◌≤◌, length};
+ghost use Rattle.octets.specs.Memory.{Leaves};
+ghost use Rattle.toml.specs.View.{table_view};
+ghost use Rattle.att_table.specs.declared.table_fault.TableFault.TheVariants.{OutOfMemory};
+ghost use Rattle.att_table.specs.file.Placed.{next_handle};
+ghost use Rattle.att_table.specs.file.TableFile.{is_announced, config_at, configure, characteristic_value, characterize, characteristic_step};
+
+use crate::attr::{Attr, Role};
+use crate::attribute_type;
+use crate::file::descriptor::Descriptor;
+use crate::file::draft::Draft;
+use crate::file::part::Part;
+use crate::file::{keys, needs, part, placed};
+use crate::table_fault::TableFault;
+use arrayvec::ArrayVec;
+use att_numbers::attribute_type::{CHARACTERISTIC, CLIENT_CHARACTERISTIC_CONFIGURATION};
+use att_policy::{Guard, Need, Properties};
+use bitflags::Flags;
+use toml::{Table, Value};
+
+/// What the properties of a characteristic may be: all of this profile.
+const ALLOWED: Properties = Properties(
+    Properties::READ.0
+        | Properties::WRITE_WITHOUT_RESPONSE.0
+        | Properties::WRITE.0
+        | Properties::NOTIFY.0
+        | Properties::INDICATE.0,
+);
+
+/// The properties of a characteristic that has a client configuration: notify and indicate.
+const ANNOUNCED: Properties = Properties(Properties::NOTIFY.0 | Properties::INDICATE.0);
+
+/// What a client configuration may be: read and written.
+const CONFIGURABLE: Properties = Properties(Properties::READ.0 | Properties::WRITE.0);
+
+/// A characteristic of a service: its declaration, its value, its client configuration where it
+/// notifies or indicates, and its descriptors. (Core 5.0, Vol 3 Part G, 3.3)
+pub struct Characteristic;
+
+impl Part for Characteristic {
+    ghost step = { characteristic_step };
+
+    fn read(draft: &mut Draft, element: &Value) -> Result<(), TableFault> {
+        let table = element.as_table().ok_or(TableFault::Shape)?;
+        if !toml_tables::is_shaped(table, &keys::CHARACTERISTIC) {
+            return Err(TableFault::Shape);
+        }
+        let placed = placed::read_placed(table, Role::Value, draft.next_handle() + 1, ALLOWED)?;
+        let need = read_config(table, placed.attr.guard.properties)?;
+        characterize(draft, placed.attr, placed.value.as_slice(), need)?;
+        part::read_all::<Descriptor>(draft, toml_tables::items(table, "descriptor"))
+    }
+}
+
+/// What writing the client configuration needs: `BadProperty` where needs are written for one that
+/// a characteristic with these properties does not have.
+fn read_config(table: &Table, properties: Properties) -> Result<Need, TableFault>
+    ensures { result ≡ config_at properties (table_view table.now) }
+{
+    let need = needs::read_need_at(table, "config")?;
+    if !is_announced(properties) && toml_tables::table(table, "config").is_some() {
+        return Err(TableFault::BadProperty);
+    }
+    Ok(need)
+}
+
+/// Whether a characteristic with these properties notifies or indicates.
+fn is_announced(properties: Properties) -> bool
+    ensures { result ≡ is_announced properties }
+{
+    properties.intersects(ANNOUNCED)
+}
+
+/// Adds the declaration, the value and the client configuration of a characteristic.
+fn characterize(draft: &mut Draft, attr: Attr, value: &[u8], need: Need) -> Result<(), TableFault>
+    requires handle { attr.handle ≡ next_handle draft.old + 1 }
+    requires fits { length value.now ≤ attr.largest }
+    requires largest { attr.largest ≤ 512 }
+    ensures { Leaves OutOfMemory (characterize draft.old attr value.now need) result draft.new }
+{
+    draft.declare(CHARACTERISTIC, characteristic_value(&attr).as_slice())?;
+    draft.add(attr, value)?;
+    configure(draft, attr.guard.properties, need)
+}
+
+/// The value of the declaration of a characteristic with this value.
+fn characteristic_value(attr: &Attr) -> ArrayVec<u8, 19>
+    ensures { result.items ≡ characteristic_value attr.now }
+{
+    let [low, high] = attr.handle.to_le_bytes();
+    let mut octets = ArrayVec::new();
+    octets.push(attr.guard.properties.0);
+    octets.push(low);
+    octets.push(high);
+    octets
+        .try_extend_from_slice(attribute_type::type_octets(attr.kind).as_slice())
+        .unwrap();
+    octets
+}
+
+/// Adds the client configuration of a characteristic with these properties, if it has one.
+fn configure(draft: &mut Draft, properties: Properties, need: Need) -> Result<(), TableFault>
+    ensures { Leaves OutOfMemory (configure draft.old properties need) result draft.new }
+{
+    if !is_announced(properties) {
+        return Ok(());
+    }
+    let attr = Attr {
+        handle: draft.next_handle(),
+        kind: CLIENT_CHARACTERISTIC_CONFIGURATION,
+        largest: 0,
+        fixed: false,
+        role: Role::Configuration,
+        guard: Guard {
+            properties: CONFIGURABLE,
+            read: Need::NONE,
+            write: need,
+        },
+    };
+    draft.add(attr, &[])
+}

@@ -1,0 +1,31 @@
+//! The descriptors of a characteristic in a table file.
+
+ghost use Rattle.std.specs.Prelude.{◌≡◌};
+ghost use Rattle.att_table.specs.file.TableFile.{descriptor_step};
+
+use crate::attr::Role;
+use crate::file::draft::Draft;
+use crate::file::part::Part;
+use crate::file::{keys, placed};
+use crate::table_fault::TableFault;
+use att_policy::Properties;
+use toml::Value;
+
+/// What the properties of a descriptor may be: read and write.
+const ALLOWED: Properties = Properties(Properties::READ.0 | Properties::WRITE.0);
+
+/// A descriptor of a characteristic, other than its client configuration.
+pub struct Descriptor;
+
+impl Part for Descriptor {
+    ghost step = { descriptor_step };
+
+    fn read(draft: &mut Draft, element: &Value) -> Result<(), TableFault> {
+        let table = element.as_table().ok_or(TableFault::Shape)?;
+        if !toml_tables::is_shaped(table, &keys::DESCRIPTOR) {
+            return Err(TableFault::Shape);
+        }
+        let placed = placed::read_placed(table, Role::Descriptor, draft.next_handle(), ALLOWED)?;
+        draft.add(placed.attr, placed.value.as_slice())
+    }
+}

@@ -1,0 +1,152 @@
+//! A table as it is read from a file: it grows by one attribute at a time, within its limits.
+
+ghost use Rattle.std.specs.Prelude.{◌≡◌, ◌≢◌, ◌+◌, ◌≤◌, ◌<◌, [], length, OnOk, IfOk, IfSome, IsSome};
+ghost use Rattle.octets.specs.Memory.{Leaves};
+ghost use Rattle.att_table.specs.declared.table_fault.TableFault.TheVariants.{OutOfMemory};
+ghost use Rattle.att_table.specs.file.Limits.{counted_octets};
+ghost use Rattle.att_table.specs.file.Placed.{next_handle, add, declare};
+ghost use Rattle.att_table.specs.file.Service.{earlier_service};
+ghost use Rattle.att_table.specs.Table.{attribute_at, is_configuration};
+
+use crate::attr::{Attr, Role};
+use crate::file::include;
+use crate::file::include::ServiceHandles;
+use crate::table::Table;
+use crate::table_builder::TableBuilder;
+use crate::table_fault::TableFault;
+use att_policy::{Guard, Need, Properties};
+use std::alloc::{AllocError, Global};
+use std::marker::Model;
+
+/// The most attributes that a table may have.
+const MAX_ATTRIBUTES: usize = 1024;
+
+/// The most client characteristic configurations that a table may have.
+const MAX_CONFIGURATIONS: usize = 64;
+
+/// The most octets that the values of a table may have together, each at its largest length.
+const MAX_OCTETS: usize = 65536;
+
+/// A table that grows, with what counts towards its limits.
+#[derive(Drop)]
+pub struct Draft {
+    table: TableBuilder,
+    configurations: usize,
+    octets: usize,
+}
+
+impl Model for Draft {
+    ghost use Rattle.att_table.specs.file.Draft.{IsCounted};
+    ghost use Rattle.att_table.specs.Table.{Contents};
+
+    ghost Value = { Contents };
+
+    ghost view = { λ draft. draft.table };
+
+    ghost invariant = { λ draft. IsCounted draft.table.attributes draft.configurations draft.octets };
+}
+
+impl Draft {
+    /// A draft with no attributes.
+    pub fn new(alloc: Global) -> Self
+        ensures attributes { result.attributes ≡ [] }
+        ensures values { result.values ≡ [] }
+    {
+        Draft {
+            table: TableBuilder::new(alloc),
+            configurations: 0,
+            octets: 0,
+        }
+    }
+
+    /// The table that was made.
+    pub fn finish(self, alloc: Global) -> Result<Table, AllocError>
+        ensures { IfOk result (λ table. table ≡ self) }
+    {
+        self.table.finish(alloc)
+    }
+
+    /// The table so far.
+    pub fn table(&self) -> &TableBuilder
+        ensures { result.now ≡ self.now }
+    {
+        &self.table
+    }
+
+    /// The service at a position, counted from 0, among those that another one follows.
+    #[tactic(auto, using(crate::proofs::Services::earlier_exists))]
+    pub fn earlier_service(&self, position: i64) -> Option<ServiceHandles>
+        ensures service { result ≡ earlier_service self.now.attributes position }
+        ensures exists { IfSome result (λ service. IsSome (attribute_at self.now.attributes service.first)) }
+    {
+        include::earlier_service(self.table.attributes(), position)
+    }
+
+    /// The handle of the next attribute.
+    pub fn next_handle(&self) -> u16
+        ensures next { result ≡ next_handle self.now }
+        ensures within { result ≤ 1025 }
+    {
+        self.table.len() as u16 + 1
+    }
+
+    /// Adds an attribute at the next handle, with its value: `TooMany` where a limit is passed.
+    pub fn add(&mut self, attr: Attr, value: &[u8]) -> Result<(), TableFault>
+        requires handle { attr.handle ≡ next_handle self.old }
+        requires fits { length value.now ≤ attr.largest }
+        requires largest { attr.largest ≤ 512 }
+        ensures added { Leaves OutOfMemory (add self.old attr value.now) result self.new }
+        ensures next { OnOk result (next_handle self.new ≡ next_handle self.old + 1) }
+    {
+        let configurations = self.configurations + usize::from(is_configuration(attr.role));
+        let octets = self.octets + usize::from(counted_octets(attr.role, attr.largest));
+        if self.table.len() == MAX_ATTRIBUTES
+            || configurations > MAX_CONFIGURATIONS
+            || octets > MAX_OCTETS
+        {
+            return Err(TableFault::TooMany);
+        }
+        self.table.push(attr, value)?;
+        self.configurations = configurations;
+        self.octets = octets;
+        Ok(())
+    }
+
+    /// Adds a declaration of this type, which anybody may read.
+    pub fn declare(&mut self, kind: u128, value: &[u8]) -> Result<(), TableFault>
+        requires { length value.now ≤ 512 }
+        ensures declared { Leaves OutOfMemory (declare self.old kind value.now) result self.new }
+        ensures next { OnOk result (next_handle self.new ≡ next_handle self.old + 1) }
+    {
+        let attr = Attr {
+            handle: self.next_handle(),
+            kind,
+            largest: value.len() as u16,
+            fixed: true,
+            role: Role::Declaration,
+            guard: Guard {
+                properties: Properties::READ,
+                read: Need::NONE,
+                write: Need::NONE,
+            },
+        };
+        self.add(attr, value)
+    }
+}
+
+/// Whether an attribute of this role is a client characteristic configuration.
+fn is_configuration(role: Role) -> bool
+    ensures { result ≡ is_configuration role }
+{
+    role == Role::Configuration
+}
+
+/// The octets that count towards the limit, of an attribute of this role.
+fn counted_octets(role: Role, largest: u16) -> u16
+    ensures { result ≡ counted_octets role largest }
+{
+    match role {
+        Role::Value | Role::Descriptor => largest,
+        Role::Declaration | Role::Configuration => 0,
+    }
+}

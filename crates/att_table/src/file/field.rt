@@ -1,0 +1,94 @@
+//! The fields of a characteristic or of another descriptor that are texts and numbers.
+
+ghost use Rattle.std.specs.Prelude.{◌≡◌, ◌≤◌, is_ok};
+ghost use Rattle.std.specs.Char.{is_ascii_hexdigit};
+ghost use Rattle.std.specs.List.{list_all};
+ghost use Rattle.std.specs.Result.{result_map_both};
+ghost use Rattle.hex.specs.Hex.{decode_of};
+ghost use Rattle.att_table.specs.file.Field.{value_of, largest_of, property_named, key_size_of};
+
+use crate::table_fault::TableFault;
+use arrayvec::ArrayVec;
+use att_policy::Properties;
+
+/// The most octets that a value may have: Core 5.0, Vol 3 Part F, 3.2.9.
+pub const MAX_VALUE: usize = 512;
+
+/// The value that a text writes, two hexadecimal digits an octet: `BadHex` where it is not an even
+/// number of digits, or else `TooLong` where it has more than 512 octets.
+pub fn read_value(text: &str) -> Result<ArrayVec<u8, 512>, TableFault>
+    ensures { result_map_both (λ octets. octets.items) (λ fault. fault) result ≡ value_of text.now }
+{
+    if !is_hex(text) {
+        return Err(TableFault::BadHex);
+    }
+    if text.len() / 2 > MAX_VALUE {
+        return Err(TableFault::TooLong);
+    }
+    let mut octets = ArrayVec::from([0; 512]);
+    octets.truncate(text.len() / 2);
+    hex::decode_to_slice(text, octets.as_mut_slice()).unwrap();
+    Ok(octets)
+}
+
+/// Whether a text is an even number of hexadecimal digits.
+fn is_hex(text: &str) -> bool
+    ensures { result ≡ is_ok (decode_of text.now) }
+{
+    text.len() % 2 == 0 && has_only_digits(text)
+}
+
+/// Whether each character of a text is a hexadecimal digit.
+fn has_only_digits(text: &str) -> bool
+    ensures { result ≡ list_all is_ascii_hexdigit text.now }
+{
+    text.bytes().all(|digit| digit.is_ascii_hexdigit())
+}
+
+/// The largest length that a value of this length may have, in octets: its length, unless `max`
+/// says another. `TooLong` where `max` is below the length or above 512, or is another length
+/// than that of a value whose length is fixed.
+pub fn read_largest(max: Option<i64>, fixed: bool, length: usize) -> Result<u16, TableFault>
+    requires { length ≤ 512 }
+    ensures { result ≡ largest_of max fixed length }
+{
+    let Some(max) = max else {
+        return Ok(length as u16);
+    };
+    let Ok(largest) = u16::try_from(max) else {
+        return Err(TableFault::TooLong);
+    };
+    let max = usize::from(largest);
+    if max < length || max > MAX_VALUE || (fixed && max != length) {
+        return Err(TableFault::TooLong);
+    }
+    Ok(largest)
+}
+
+/// The property that a word names, `None` where it names none. `command` is a write without
+/// response.
+pub fn read_property(word: &str) -> Option<Properties>
+    ensures { result ≡ property_named word.now }
+{
+    match word {
+        "read" => Some(Properties::READ),
+        "command" => Some(Properties::WRITE_WITHOUT_RESPONSE),
+        "write" => Some(Properties::WRITE),
+        "notify" => Some(Properties::NOTIFY),
+        "indicate" => Some(Properties::INDICATE),
+        _ => None,
+    }
+}
+
+/// The key size that a need asks for, in octets: `BadSecurity` unless it is from 7 to 16.
+pub fn key_size(size: Option<i64>) -> Result<Option<u8>, TableFault>
+    ensures { result ≡ key_size_of size }
+{
+    let Some(size) = size else {
+        return Ok(None);
+    };
+    match u8::try_from(size) {
+        Ok(size @ 7..=16) => Ok(Some(size)),
+        _ => Err(TableFault::BadSecurity),
+    }
+}

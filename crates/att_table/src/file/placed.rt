@@ -1,0 +1,124 @@
+//! What the tables of a characteristic and of another descriptor have in common: a value, and who
+//! may use it.
+
+ghost use Rattle.std.specs.Prelude.{◌≡◌, ◌≤◌, length, IfOk};
+ghost use Rattle.std.specs.Result.{result_map_both};
+ghost use Rattle.toml.specs.View.{view, items_view, table_view};
+ghost use Rattle.toml_tables.specs.Reading.{each};
+ghost use Rattle.att_table.specs.file.Fields.{type_at, value_type_at, no_properties, property_step, properties_at, value_read_at, placed_of, placed_view};
+
+use crate::attr::{Attr, Role};
+use crate::file::{field, needs, type_text};
+use crate::table_fault::{Name, TableFault};
+use arrayvec::ArrayVec;
+use att_policy::{Guard, Properties};
+use bitflags::Flags;
+use toml::{Table, Value};
+
+/// An attribute with its value.
+#[derive(Drop)]
+pub struct Placed {
+    /// The attribute.
+    pub attr: Attr,
+    /// Its value.
+    pub value: ArrayVec<u8, 512>,
+}
+
+/// The type at `uuid`.
+pub fn read_type(table: &Table) -> Result<u128, TableFault>
+    ensures { result ≡ type_at (table_view table.now) }
+{
+    let uuid = toml_tables::text(table, "uuid").ok_or(TableFault::Missing(Name::Uuid))?;
+    type_text::read_type(uuid).ok_or(TableFault::BadUuid)
+}
+
+/// The type at `uuid`, where a value may have it.
+fn read_value_type(table: &Table) -> Result<u128, TableFault>
+    ensures { result ≡ value_type_at (table_view table.now) }
+{
+    let kind = read_type(table)?;
+    if !type_text::is_type_of_value(kind) {
+        return Err(TableFault::BadUuid);
+    }
+    Ok(kind)
+}
+
+/// The properties at `properties`, each one of those that are allowed.
+fn read_properties(table: &Table, allowed: Properties) -> Result<Properties, TableFault>
+    ensures { result ≡ properties_at allowed (table_view table.now) }
+{
+    let words = toml_tables::array(table, "properties").ok_or(TableFault::Missing(
+        Name::Properties,
+    ))?;
+    properties_of(words, allowed)
+}
+
+/// The properties that all these words name.
+fn properties_of(words: &[Value], allowed: Properties) -> Result<Properties, TableFault>
+    ensures { result ≡ each (property_step allowed) no_properties (items_view words.now) }
+{
+    let mut properties = Properties(0);
+    'words: for word in words {
+        properties = with_property(allowed, properties, word)?;
+    }
+    Ok(properties)
+}
+
+/// The properties with the one that a word names.
+fn with_property(
+    allowed: Properties,
+    properties: Properties,
+    word: &Value,
+) -> Result<Properties, TableFault>
+    ensures { result ≡ property_step allowed properties (view word.now) }
+{
+    let word = word.as_str().ok_or(TableFault::Shape)?;
+    let property = field::read_property(word).ok_or(TableFault::BadProperty)?;
+    if !allowed.contains(property) {
+        return Err(TableFault::BadProperty);
+    }
+    Ok(properties.union(property))
+}
+
+/// The value at `value`.
+fn read_value(table: &Table) -> Result<ArrayVec<u8, 512>, TableFault>
+    ensures { result_map_both (λ octets. octets.items) (λ fault. fault) result ≡ value_read_at (table_view table.now) }
+{
+    let text = toml_tables::text(table, "value").ok_or(TableFault::Missing(Name::Value))?;
+    field::read_value(text)
+}
+
+/// The attribute with its value that a table describes, at a handle. The fields are judged in the
+/// order of the format.
+pub fn read_placed(
+    table: &Table,
+    role: Role,
+    handle: u16,
+    allowed: Properties,
+) -> Result<Placed, TableFault>
+    ensures placed { result_map_both placed_view (λ fault. fault) result ≡ placed_of role handle allowed (table_view table.now) }
+    ensures handle { IfOk result (λ placed. placed.attr.handle ≡ handle) }
+    ensures fits { IfOk result (λ placed. length placed.value.items ≤ placed.attr.largest) }
+    ensures largest { IfOk result (λ placed. placed.attr.largest ≤ 512) }
+{
+    let kind = read_value_type(table)?;
+    let properties = read_properties(table, allowed)?;
+    let value = read_value(table)?;
+    let fixed = toml_tables::flag(table, "fixed");
+    let largest = field::read_largest(toml_tables::integer(table, "max"), fixed, value.len())?;
+    let read = needs::read_need_at(table, "read")?;
+    let write = needs::read_need_at(table, "write")?;
+    let attr = Attr {
+        handle,
+        kind,
+        largest,
+        fixed,
+        role,
+        guard: Guard {
+            properties,
+            read,
+            write,
+        },
+    };
+    Ok(Placed { attr, value })
+}

@@ -1,0 +1,4 @@
+pub mod Contents
+pub mod InPlace
+pub mod Pushes
+pub mod Slots

@@ -1,0 +1,152 @@
+ghost use Rattle.std.specs.Prelude.{◌≡◌, ◌+◌, ◌≤◌, [], ◌∷◌, ◌++◌, length, OnOk, OnErr};
+ghost use Rattle.arrayvec.specs.ArrayVec.{array_vec_len};
+ghost use Rattle.att_values.specs.Cell.{IsUsed, cell_at, patched, with_part};
+
+use crate::value_store::ValueStore;
+use arrayvec::ArrayVec;
+use std::alloc::{AllocError, Global};
+use std::marker::Model;
+
+/// A value, in a buffer of its own.
+#[derive(Drop)]
+struct Slot {
+    /// The most octets that it may ever have, at most 512.
+    room: u16,
+    octets: ArrayVec<u8, 512>,
+}
+
+/// The values of attributes, each in a buffer of its own: the plain store, to test others against.
+#[derive(Drop)]
+pub struct PlainStore {
+    slots: Vec<Slot>,
+}
+
+impl Model for PlainStore {
+    ghost use Rattle.std.specs.Prelude.{List, All};
+    ghost use Rattle.att_values.specs.Cell.{Cell};
+    ghost use Rattle.att_values.specs.PlainStore.{cells_of, IsSound};
+
+    ghost Value = { List Cell };
+
+    ghost view = { λ store. cells_of store.slots.items };
+
+    ghost invariant = { λ store. All IsSound store.slots.items };
+}
+
+impl PlainStore {
+    /// A store with no value.
+    pub fn new(alloc: Global) -> Self
+        ensures { result ≡ [] }
+    {
+        PlainStore {
+            slots: Vec::new(alloc),
+        }
+    }
+
+    /// Appends a value with its room, in octets. Where memory runs out the store stays as it was.
+    pub fn push(&mut self, room: u16, octets: &[u8]) -> Result<(), AllocError>
+        requires fits { length octets.now ≤ room }
+        requires room { room ≤ 512 }
+        ensures ok { OnOk result (self.new ≡ self.old ++ record { room = room; octets = octets.now } ∷ []) }
+        ensures err { OnErr result (self.new ≡ self.old) }
+    {
+        self.slots.push(Slot {
+            room,
+            octets: copy(octets),
+        })?;
+        Ok(())
+    }
+
+    // How many values there are.
+    fn len(&self) -> usize
+        ensures { result ≡ length self.now }
+    {
+        self.slots.len()
+    }
+
+    // The room of the value at a handle, in octets.
+    fn room_at(&self, handle: u16) -> usize
+        requires { IsUsed self.now handle }
+        ensures { result ≡ (cell_at self.now handle).room }
+    {
+        usize::from(self.slots[usize::from(handle) - 1].room)
+    }
+
+    // The value at a handle.
+    fn value_at(&self, handle: u16) -> &[u8]
+        requires { IsUsed self.now handle }
+        ensures value { result.now ≡ (cell_at self.now handle).octets }
+        ensures fits { length result.now ≤ (cell_at self.now handle).room }
+    {
+        self.slots[usize::from(handle) - 1].octets.as_slice()
+    }
+
+    // Writes a part of the value at a handle, from an offset on. The value keeps the octets after
+    // the part where `keep` is set, and else ends with the part.
+    fn patch_at(&mut self, handle: u16, offset: usize, part: &[u8], keep: bool)
+        requires exists { IsUsed self.old handle }
+        requires offset { offset ≤ length (cell_at self.old handle).octets }
+        requires fits { offset + length part.now ≤ (cell_at self.old handle).room }
+        ensures { self.new ≡ with_part self.old keep handle offset part.now }
+    {
+        let slot = &mut self.slots[usize::from(handle) - 1];
+        write_part(&mut slot.octets, offset, part, keep);
+    }
+}
+
+impl ValueStore for PlainStore {
+    ghost use Rattle.att_values.specs.ValueStore.{contents_of, rooms_of};
+
+    ghost contents = { contents_of };
+
+    ghost room = { rooms_of };
+
+    #[tactic(auto, using(crate::proofs::Contents::handles))]
+    fn contains(&self, handle: u16) -> bool {
+        handle > 0 && usize::from(handle) <= self.len()
+    }
+
+    #[tactic(auto, using(crate::proofs::Contents::handles))]
+    fn room(&self, handle: u16) -> usize {
+        if self.contains(handle) {
+            self.room_at(handle)
+        } else {
+            0
+        }
+    }
+
+    #[tactic(auto, using(crate::proofs::Contents::handles))]
+    fn value(&self, handle: u16) -> &[u8] {
+        self.value_at(handle)
+    }
+
+    #[tactic(auto, using(crate::proofs::Contents::handles))]
+    fn patch(&mut self, handle: u16, offset: usize, part: &[u8], keep: bool) {
+        self.patch_at(handle, offset, part, keep);
+    }
+}
+
+// A copy of a value, in a buffer.
+fn copy(value: &[u8]) -> ArrayVec<u8, 512>
+    requires { length value.now ≤ 512 }
+    ensures { result.items ≡ value.now }
+{
+    let mut buffer = ArrayVec::new();
+    buffer.try_extend_from_slice(value).unwrap();
+    buffer
+}
+
+// Writes a part of a value in its buffer.
+fn write_part(value: &mut ArrayVec<u8, 512>, offset: usize, part: &[u8], keep: bool)
+    requires offset { offset ≤ array_vec_len value.old }
+    requires fits { offset + length part.now ≤ 512 }
+    ensures { value.new.items ≡ patched keep value.old.items offset part.now }
+{
+    let end = offset + part.len();
+    if keep && end <= value.len() {
+        value.as_mut_slice()[offset..end].copy_from_slice(part);
+    } else {
+        value.truncate(offset);
+        value.try_extend_from_slice(part).unwrap();
+    }
+}

@@ -1,0 +1,48 @@
+ghost use Rattle.std.specs.Prelude.{◌≡◌, ℕ, ◌+◌, ◌≤◌, length, is_some, IsSome, Some};
+ghost use Rattle.std.specs.FinMap as map;
+ghost use Rattle.att_numbers.specs.Types.{Handle};
+ghost use Rattle.att_values.specs.Cell.{patched};
+ghost use Rattle.att_values.specs.ValueStore.{ByHandle, value_in};
+
+/// The values of attributes, by handles from 1 without gaps. Each has a fixed room: the most octets
+/// that it may ever have, at most 512.
+pub trait ValueStore {
+    /// The value of each handle.
+    ghost contents: { Self → ByHandle };
+
+    /// The room of the value at a handle, in octets: 0 where there is none.
+    ghost room: { Self → Handle → ℕ };
+
+    /// Whether there is a value at a handle.
+    fn contains(&self, handle: u16) -> bool
+        ensures { result ≡ is_some (map.get (contents self.now) handle) };
+
+    /// The room of the value at a handle, in octets: 0 where there is none.
+    fn room(&self, handle: u16) -> usize
+        ensures { result ≡ room self.now handle };
+
+    /// The value at a handle.
+    fn value(&self, handle: u16) -> &[u8]
+        requires { IsSome (map.get (contents self.now) handle) }
+        ensures value { map.get (contents self.now) handle ≡ Some result.now }
+        ensures fits { length result.now ≤ room self.now handle };
+
+    /// Writes a part of the value at a handle, from an offset on. The value keeps the octets after
+    /// the part where `keep` is set, and else ends with the part.
+    fn patch(&mut self, handle: u16, offset: usize, part: &[u8], keep: bool)
+        requires exists { IsSome (map.get (contents self.old) handle) }
+        requires offset { offset ≤ length (value_in (contents self.old) handle) }
+        requires fits { offset + length part.now ≤ room self.old handle }
+        ensures contents { contents self.new ≡ map.insert (contents self.old) handle (patched keep (value_in (contents self.old) handle) offset part.now) }
+        ensures room { room self.new ≡ room self.old };
+
+    /// Sets the value at a handle.
+    fn set(&mut self, handle: u16, octets: &[u8])
+        requires exists { IsSome (map.get (contents self.old) handle) }
+        requires fits { length octets.now ≤ room self.old handle }
+        ensures contents { contents self.new ≡ map.insert (contents self.old) handle octets.now }
+        ensures room { room self.new ≡ room self.old }
+    {
+        self.patch(handle, 0, octets, false);
+    }
+}
