@@ -1,3 +1,4 @@
 pub mod Addresses
 pub mod Links
+pub mod Peers
 pub mod Provisioned

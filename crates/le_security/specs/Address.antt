@@ -1,25 +1,41 @@
 -- Device addresses as texts: this profile's own.
-use Rattle.std.specs.Prelude.{ℕ, ◌==◌, ◌&&◌, if◌then◌else◌, List, [], ◌∷◌, reverse, codes, Option, Some, None}
+use Rattle.std.specs.Prelude.{ℕ, Bool, ◌==◌, ◌&&◌, ◌*◌, ◌+◌, if◌then◌else◌, List, [], ◌∷◌, ◌++◌, length, take, drop, reverse, slice_index_or, codes, Option, Some, None}
+use Rattle.std.specs.List.{list_all}
 use Rattle.std.specs.Option.{option_map}
 use Rattle.std.specs.Result.{result_ok}
 use Rattle.std.specs.Str.{bytes_eq}
 use Rattle.hex.specs.Hex.{decode_sized}
+use Rattle.octets.specs.Number.{Octets}
+use Rattle.le_hci.specs.declared.peer.TheConstants.{PUBLIC_ADDRESS, RANDOM_ADDRESS}
 
 -- twelve digits, whose octets stand on the wire in the other order
-abbrev pub octets_of : List ℕ → Option (List ℕ)
+abbrev pub octets_of : Octets → Option Octets
 octets_of digits = option_map reverse (result_ok (decode_sized digits 6))
 
+-- a text has six pairs of digits, numbered from 0, and a character behind each but the last
+abbrev pub pair : Octets → ℕ → Octets
+pair text number = take 2 (drop (3 * number) text)
+
+abbrev pub behind : Octets → ℕ → ℕ
+behind text number = slice_index_or text (3 * number + 2) 0
+
+-- these characters are colons
+abbrev pub colon : ℕ
+colon = 58
+
+abbrev pub is_joined : Octets → Bool
+is_joined text = (length text == 17) && list_all (λ number. behind text number == colon) (0 ∷ 1 ∷ 2 ∷ 3 ∷ 4 ∷ [])
+
 -- six pairs of digits, joined by colons
-abbrev pub address_of : List ℕ → Option (List ℕ)
-address_of (a ∷ b ∷ p ∷ c ∷ d ∷ q ∷ e ∷ f ∷ r ∷ g ∷ h ∷ s ∷ i ∷ j ∷ t ∷ k ∷ l ∷ []) =
-    if p == 58 && q == 58 && r == 58 && s == 58 && t == 58
-    then octets_of (a ∷ b ∷ c ∷ d ∷ e ∷ f ∷ g ∷ h ∷ i ∷ j ∷ k ∷ l ∷ [])
+abbrev pub address_of : Octets → Option Octets
+address_of text =
+    if is_joined text
+    then octets_of (pair text 0 ++ pair text 1 ++ pair text 2 ++ pair text 3 ++ pair text 4 ++ pair text 5)
     else None
-address_of _ = None
 
 -- the words for the types of addresses (Core 5.0, Vol 2 Part E, 7.7.65.1)
-abbrev pub kind_of : List ℕ → Option ℕ
-kind_of word =
-    if bytes_eq word (codes "public") then Some 0x00
-    else if bytes_eq word (codes "random") then Some 0x01
+abbrev pub address_type_of : Octets → Option ℕ
+address_type_of word =
+    if bytes_eq word (codes "public") then Some PUBLIC_ADDRESS
+    else if bytes_eq word (codes "random") then Some RANDOM_ADDRESS
     else None

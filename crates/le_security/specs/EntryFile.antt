@@ -1,8 +1,9 @@
 -- The entries of a key file: each is what its element writes, or its first fault. The format is this profile's own.
-use Rattle.std.specs.Prelude.{ℕ, ℤ, pos, negsuc, Bool, ◌==◌, ◌&&◌, ◌||◌, not, nat_le, nat_lt, if◌then◌else◌, List, [], ◌∷◌, length, replicate, codes, Option, Some, None, Result, Ok, Err}
+use Rattle.std.specs.Prelude.{ℕ, ◌^◌, ℤ, pos, negsuc, Bool, ◌==◌, ◌&&◌, ◌||◌, not, nat_le, nat_lt, if◌then◌else◌, List, [], ◌∷◌, length, replicate, codes, Option, Some, None, Result, Ok, Err}
 use Rattle.std.specs.Result.{result_ok}
 use Rattle.std.specs.Str.{bytes_eq}
 use Rattle.hex.specs.Hex.{decode_sized}
+use Rattle.octets.specs.Number.{Octets}
 use Rattle.toml.specs.Data.{Data, Members, as_table}
 use Rattle.toml_tables.specs.Reading.{◌>>=◌, unless, required, text_at, integer_at, boolean_at, flag_at}
 use Rattle.toml_tables.specs.Shape.{Keys, is_shaped}
@@ -11,7 +12,7 @@ use Rattle.le_security.specs.declared.entry.Entry.{Entry}
 use Rattle.le_security.specs.declared.entry_file.Written.{Written as WrittenText}
 use Rattle.le_security.specs.declared.key_fault.KeyFault.{KeyFault}
 use Rattle.le_security.specs.declared.key_fault.KeyFault.TheVariants.{Missing, BadAddress, BadHex, BadSize, Twice, TooMany, Shape, NotZero}
-use Rattle.le_security.specs.Address.{address_of, kind_of}
+use Rattle.le_security.specs.Address.{address_of, address_type_of}
 use Rattle.le_security.specs.Keys.{has_answer}
 
 abbrev pub entry_keys : Keys
@@ -21,11 +22,11 @@ entry_keys =
 
 -- what an entry writes
 pub record Written : Type 0 where
-  pub address : List ℕ
-  pub kind : List ℕ
-  pub random_number : List ℕ
+  pub address : Octets
+  pub kind : Octets
+  pub random_number : Octets
   pub diversifier : ℕ
-  pub ltk : List ℕ
+  pub ltk : Octets
   pub size : ℤ
   pub authenticated : Bool
   pub secure : Bool
@@ -46,7 +47,7 @@ written_view written = record {
 -- a diversifier has 16 bits
 abbrev pub diversifier_of : Option ℤ → Result (Option ℕ) KeyFault
 diversifier_of None = Ok None
-diversifier_of (Some (pos diversifier)) = if nat_lt diversifier 65536 then Ok (Some diversifier) else Err Shape
+diversifier_of (Some (pos diversifier)) = if nat_lt diversifier (2 ^ 16) then Ok (Some diversifier) else Err Shape
 diversifier_of (Some (negsuc _)) = Err Shape
 
 abbrev pub written_at : Members → Result Written KeyFault
@@ -76,13 +77,13 @@ size_of (pos size) = if nat_le 7 size && nat_le size 16 then Some size else None
 size_of (negsuc _) = None
 
 -- a key of LE Secure Connections has the random number and the diversifier 0 (Core 5.0, Vol 3 Part H, 2.4.4)
-abbrev pub is_zero : List ℕ → ℕ → Bool
+abbrev pub is_zero : Octets → ℕ → Bool
 is_zero random_number diversifier = bytes_eq random_number (replicate 8 0) && (diversifier == 0)
 
 abbrev pub entry_of : Written → Result Entry KeyFault
 entry_of written = do
   address ← required (address_of written.address) BadAddress
-  kind ← required (kind_of written.kind) BadAddress
+  kind ← required (address_type_of written.kind) BadAddress
   random_number ← required (result_ok (decode_sized written.random_number 8)) BadHex
   ltk ← required (result_ok (decode_sized written.ltk 16)) BadHex
   size ← required (size_of written.size) BadSize

@@ -1,5 +1,6 @@
 -- The key file: the entries that a document gives, or its first fault, read from its beginning. The format is this profile's own.
-use Rattle.std.specs.Prelude.{ℕ, List, [], ◌∷◌, ◌++◌, codes, Result, Ok}
+use Rattle.std.specs.Prelude.{List, [], ◌∷◌, ◌++◌, codes, Result, Ok}
+use Rattle.octets.specs.Number.{Octets}
 use Rattle.toml.specs.Data.{Data, Members}
 use Rattle.toml.specs.Parse.{parse_document}
 use Rattle.toml_tables.specs.Reading.{◌>>=◌, unless, required, each, items_at}
@@ -25,7 +26,7 @@ keys_of members = do
   each key_step [] (items_at (codes "key") members)
 
 -- the entries of a text
-abbrev pub keys_read : List ℕ → Result (List Entry) KeyFault
+abbrev pub keys_read : Octets → Result (List Entry) KeyFault
 keys_read text = do
   members ← required (parse_document text) NotToml
   keys_of members

@@ -2,6 +2,7 @@
 use Rattle.std.specs.Prelude.{ℕ, ◌≤◌, Bool, List, length, slice_get, Option}
 use Rattle.std.specs.List.{find, list_any, count_by}
 use Rattle.std.specs.Option.{option_map}
+use Rattle.octets.specs.Number.{Octets}
 use Rattle.le_hci.specs.declared.peer.Peer.{Peer}
 use Rattle.le_security.specs.declared.entry.Entry.{Entry}
 use Rattle.le_security.specs.declared.entry.Key.{Key}
@@ -10,7 +11,7 @@ use Rattle.le_security.specs.Entry.{same_peer, is_for}
 -- there are at most 64 of them, and at most one for each request
 pub record AreProvisioned (entries : List Entry) : Type 0 where
   pub within : length entries ≤ 64
-  pub once : (peer : Peer) (random_number : List ℕ) (diversifier : ℕ) → count_by (is_for peer random_number diversifier) entries ≤ 1
+  pub once : (peer : Peer) (random_number : Octets) (diversifier : ℕ) → count_by (is_for peer random_number diversifier) entries ≤ 1
 
 -- whether the request that an entry answers has an answer
 abbrev pub has_answer : List Entry → Entry → Bool
@@ -21,7 +22,7 @@ abbrev pub is_known : List Entry → Peer → Bool
 is_known entries peer = list_any (λ (entry : Entry). same_peer entry.peer peer) entries
 
 -- the key that is asked for by peer, random number and diversifier
-abbrev pub answer_of : List Entry → Peer → List ℕ → ℕ → Option Key
+abbrev pub answer_of : List Entry → Peer → Octets → ℕ → Option Key
 answer_of entries peer random_number diversifier =
     option_map (λ (entry : Entry). entry.key) (find (is_for peer random_number diversifier) entries)
 

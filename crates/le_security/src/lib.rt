@@ -11,6 +11,7 @@ mod key_file;
 mod keys;
 mod link;
 
+pub use address::read_address;
 pub use entry::Key;
 pub use key_fault::KeyFault;
 pub use keys::Keys;
