@@ -4,7 +4,7 @@ use Rattle.std.specs.Prelude.{cond, nat_le, not, ◌&&◌, ◌==◌}
 use Rattle.std.specs.Option.{option_map}
 use Rattle.std.proofs.lemmas.Bool.{leb-false, lt-leb}
 use Rattle.std.proofs.lemmas.List.{length-append}
-use Rattle.le_h4.specs.Packet.{number_of}
+use Rattle.octets.specs.Number.{from_two}
 use Rattle.le_acl.specs.Frame.{Fragment, Beginning, Continuation, is_enough, is_frame, newest_run, joined, is_shortest, of_run, frame_at}
 use Rattle.le_acl.specs.Reassembler.{Assembly, nothing, assembled_of, with_more, assembled}
 
@@ -45,8 +45,8 @@ frame-long (a ∷ []) long = refl
 frame-long (a ∷ b ∷ []) long = refl
 frame-long (a ∷ b ∷ c ∷ []) long = refl
 frame-long (a ∷ b ∷ c ∷ d ∷ payload) long =
-    ap (λ (fits : Bool). (number_of a b == length payload) && fits) (lt-leb (length (a ∷ b ∷ c ∷ d ∷ payload)) 521 long)
-    ∙ and-false (number_of a b == length payload)
+    ap (λ (fits : Bool). (from_two a b == length payload) && fits) (lt-leb (length (a ∷ b ∷ c ∷ d ∷ payload)) 521 long)
+    ∙ and-false (from_two a b == length payload)
 
 long-by : (enough : Bool) (octets : List ℕ) (short : Bool) → outcome_by enough false false octets short ≡ nothing
 long-by true octets true = refl

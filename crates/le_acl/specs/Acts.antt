@@ -2,11 +2,12 @@
 use Rattle.std.specs.Prelude.{ℕ, ◌+◌, ◌-◌, min, if◌then◌else◌, List, [], ◌∷◌, ◌++◌}
 use Rattle.std.specs.List.{flat_map}
 use Rattle.std.specs.Option.{option_to_list}
+use Rattle.octets.specs.Number.{Octets}
 use Rattle.le_acl.specs.Outgoing.{Fragment, Outgoing, frame_of, fragments_of, with_pdu, next_of, may_give, after_next}
 
 -- a PDU is queued, a packet is asked for, or packets are completed
 pub data Act : Type 0 where
-  Push : (channel : ℕ) (payload : List ℕ) → Act
+  Push : (channel : ℕ) (payload : Octets) → Act
   Give : Act
   Complete : (count : ℕ) → Act
 

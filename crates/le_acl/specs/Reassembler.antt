@@ -1,30 +1,31 @@
 -- What a reassembler holds between two fragments.
-use Rattle.std.specs.Prelude.{ℕ, nat_le, if◌then◌else◌, List, [], ◌∷◌, ◌++◌, length, Option, Some, None}
+use Rattle.std.specs.Prelude.{nat_le, if◌then◌else◌, List, [], ◌∷◌, ◌++◌, length, Option, Some, None}
+use Rattle.octets.specs.Number.{Octets}
 use Rattle.le_acl.specs.declared.reassembler.State.{State}
 use Rattle.le_acl.specs.declared.reassembler.State.TheVariants.{Idle, Unfinished, Whole}
 use Rattle.le_acl.specs.Frame.{Fragment, Beginning, Continuation, is_enough, is_frame}
 
 -- the octets so far of a frame that may still become whole, and the frame that the newest fragment made whole
 pub record Assembly : Type 0 where
-  pub unfinished : Option (List ℕ)
-  pub frame : Option (List ℕ)
+  pub unfinished : Option Octets
+  pub frame : Option Octets
 
 abbrev pub nothing : Assembly
 nothing = record { unfinished = None; frame = None }
 
 -- after these octets of a run, of which fewer were not enough
-abbrev pub assembled_of : List ℕ → Assembly
+abbrev pub assembled_of : Octets → Assembly
 assembled_of octets =
     if is_enough octets
     then record { unfinished = None; frame = if is_frame octets then Some octets else None }
     else record { unfinished = if nat_le (length octets) 521 then Some octets else None; frame = None }
 
 -- after more octets of the run
-abbrev pub with_more : Option (List ℕ) → List ℕ → Assembly
+abbrev pub with_more : Option Octets → Octets → Assembly
 with_more None octets = nothing
 with_more (Some earlier) octets = assembled_of (earlier ++ octets)
 
-abbrev pub continued : Assembly → List ℕ → Assembly
+abbrev pub continued : Assembly → Octets → Assembly
 continued old octets = with_more old.unfinished octets
 
 -- after any fragments, the newest first
@@ -34,7 +35,7 @@ assembled (Beginning octets ∷ older) = assembled_of octets
 assembled (Continuation octets ∷ older) = continued (assembled older) octets
 
 -- the fields of a reassembler, as one value
-abbrev pub assembly_of : State → List ℕ → Assembly
+abbrev pub assembly_of : State → Octets → Assembly
 assembly_of Idle octets = nothing
 assembly_of Unfinished octets = record { unfinished = Some octets; frame = None }
 assembly_of Whole octets = record { unfinished = None; frame = Some octets }

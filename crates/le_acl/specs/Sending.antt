@@ -1,18 +1,19 @@
 -- The fields of a sender, as one value.
 use Rattle.std.specs.Prelude.{◌≡◌, ℕ, zero, suc, ◌+◌, ◌<◌, ◌≤◌, Bool, true, false, List, [], ◌∷◌, length, drop, map, Option, Some, None}
+use Rattle.octets.specs.Number.{Octets}
 use Rattle.le_acl.specs.Pdus.{Queued}
 use Rattle.le_acl.specs.Outgoing.{Fragment, Outgoing, continuation, pieces, frame_of, fragments_of}
 
 -- the fragments of a frame from this octet on
-abbrev pub fragments_from : ℕ → ℕ → List ℕ → List Fragment
+abbrev pub fragments_from : ℕ → ℕ → Octets → List Fragment
 fragments_from size zero frame = fragments_of size frame
 fragments_from size (suc gone) frame = map continuation (pieces size (drop (suc gone) frame))
 
-abbrev pub queue_of : ℕ → ℕ → List (ℕ × List ℕ) → List (List Fragment)
+abbrev pub queue_of : ℕ → ℕ → List (ℕ × Octets) → List (List Fragment)
 queue_of size gone [] = []
 queue_of size gone (pdu ∷ pdus) = fragments_from size gone (frame_of pdu) ∷ map (λ other. fragments_of size (frame_of other)) pdus
 
-abbrev pub room_of : Bool → List ℕ → Option (List ℕ)
+abbrev pub room_of : Bool → Octets → Option Octets
 room_of true room = Some room
 room_of false room = None
 
@@ -26,7 +27,7 @@ outgoing_of queued gone outstanding share size lent = record {
 }
 
 -- of the first PDU some fragments may be gone, but not all
-abbrev pub IsWithin : ℕ → ℕ → List (ℕ × List ℕ) → Type 0
+abbrev pub IsWithin : ℕ → ℕ → List (ℕ × Octets) → Type 0
 IsWithin size gone [] = gone ≡ 0
 IsWithin size gone (pdu ∷ pdus) = (gone < 4 + length pdu.1) × (0 < gone → size ≤ gone)
 

@@ -1,6 +1,5 @@
-ghost use Rattle.std.specs.Prelude.{◌≡◌, ◌+◌, ◌<◌, ◌≤◌, ◌↔◌, [], ◌∷◌, ◌++◌, drop, length, vec_len, slice_get, IfOk, IfSome, Some, IsNone, IsTrue};
+ghost use Rattle.std.specs.Prelude.{◌≡◌, ◌+◌, ◌<◌, ◌≤◌, ◌↔◌, [], ◌∷◌, ◌++◌, drop, length, vec_len, slice_get, IfOk, IfSome, Some, IsNone};
 ghost use Rattle.std.specs.Borrow.{sem};
-ghost use Rattle.le_acl.specs.Pdus.{empty};
 
 use arrayvec::ArrayVec;
 use std::alloc::{AllocError, Global};
@@ -36,7 +35,7 @@ pub(crate) struct Pdus {
 }
 
 impl Model for Pdus {
-    ghost use Rattle.std.specs.Prelude.{List, ◌<◌, ◌≤◌, ◌≡◌, length};
+    ghost use Rattle.std.specs.Prelude.{◌<◌, ◌≤◌, ◌≡◌, length};
     ghost use Rattle.le_acl.specs.Pdus.{Queued};
 
     ghost Value = { Queued };

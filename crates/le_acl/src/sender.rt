@@ -1,8 +1,8 @@
-ghost use Rattle.std.specs.Prelude.{◌≡◌, ℕ, List, ◌+◌, ◌-◌, ◌*◌, ◌^◌, ◌<◌, ◌≤◌, ◌↔◌, [], ◌∷◌, ◌++◌, length, take, drop, Some, None, IsSome, IsOk, IfOk};
+ghost use Rattle.std.specs.Prelude.{◌≡◌, ◌+◌, ◌-◌, ◌*◌, ◌^◌, ◌<◌, ◌≤◌, ◌↔◌, [], ◌++◌, length, take, drop, Some, None, IsSome, IsOk, IfOk};
 ghost use Rattle.std.specs.Bool.{OnTrue, OnFalse};
 ghost use Rattle.std.specs.Borrow.{sem};
-ghost use Rattle.le_acl.specs.Outgoing.{none_queued, with_pdu, next_of, may_give, after_next, frame_of, acl_octets, Gives, flag_at};
-ghost use Rattle.le_h4.specs.Packet.{two_octets};
+ghost use Rattle.le_acl.specs.Outgoing.{none_queued, with_pdu, may_give, after_next, frame_of, acl_octets, Gives, flag_at};
+ghost use Rattle.octets.specs.Number.{Octets, two_octets};
 
 use crate::pdus::{MAX_PDUS, Pdus};
 use arrayvec::ArrayVec;
@@ -87,7 +87,7 @@ impl Sender {
     /// Queues what was put into the room, as a PDU on a channel.
     pub fn push(&mut self, cid: u16)
         requires { IsSome self.old.room }
-        ensures { (payload : List ℕ) → self.old.room ≡ Some payload → self.new ≡ with_pdu self.old cid payload }
+        ensures { (payload : Octets) → self.old.room ≡ Some payload → self.new ≡ with_pdu self.old cid payload }
     {
         self.pdus.push(cid);
         self.lent = false;

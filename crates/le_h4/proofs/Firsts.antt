@@ -3,7 +3,8 @@ use Rattle.std.proofs.Common.{◌≡◌, ℕ, ◌+◌, ◌*◌, ◌/◌, ◌%◌
 use Rattle.std.specs.Prelude.{cond, nat_le, ◌==◌}
 use Rattle.std.proofs.lemmas.Bool.{leb-true, eqb-true, cases_Bool, le-leb, lt-leb}
 use Rattle.std.proofs.lemmas.List.{take-append-le, drop-append-le, take_all, length-append, length-drop}
-use Rattle.le_h4.specs.Packet.{Packet, EventPacket, ScoPacket, First, FirstPacket, NoneYet, NoPacket, first_of, acl_form, sco_form, event_form, with_data, acl_packet, number_of, Spells}
+use Rattle.le_h4.specs.Packet.{Packet, EventPacket, ScoPacket, First, FirstPacket, NoneYet, NoPacket, first_of, acl_form, sco_form, event_form, with_data, acl_packet, Spells}
+use Rattle.octets.specs.Number.{from_two}
 use Rattle.le_h4.specs.Progress.{reading}
 
 -- data that is all there, and data that is not
@@ -39,7 +40,7 @@ stays-acl more [] = tt
 stays-acl more (a ∷ []) = tt
 stays-acl more (a ∷ b ∷ []) = tt
 stays-acl more (a ∷ b ∷ c ∷ []) = tt
-stays-acl more (a ∷ b ∷ c ∷ d ∷ octets) = stays-data more (acl_packet (number_of a b)) (number_of c d) octets
+stays-acl more (a ∷ b ∷ c ∷ d ∷ octets) = stays-data more (acl_packet (from_two a b)) (from_two c d) octets
 
 stays-sco : (more octets : List ℕ) → StaysBefore more (sco_form octets) (sco_form (octets ++ more))
 stays-sco more [] = tt
@@ -90,7 +91,7 @@ fewer-acl count [] h = tt
 fewer-acl count (a ∷ []) h = tt
 fewer-acl count (a ∷ b ∷ []) h = tt
 fewer-acl count (a ∷ b ∷ c ∷ []) h = tt
-fewer-acl count (a ∷ b ∷ c ∷ d ∷ octets) h = fewer-data count (acl_packet (number_of a b)) (number_of c d) octets (omega arith)
+fewer-acl count (a ∷ b ∷ c ∷ d ∷ octets) h = fewer-data count (acl_packet (from_two a b)) (from_two c d) octets (omega arith)
 
 fewer-sco : (count : ℕ) (octets : List ℕ) → length octets < count → LeavesFewer count (sco_form octets)
 fewer-sco count [] h = tt
@@ -145,8 +146,8 @@ spelled-acl (a ∷ []) = tt
 spelled-acl (a ∷ b ∷ []) = tt
 spelled-acl (a ∷ b ∷ c ∷ []) = tt
 spelled-acl (a ∷ b ∷ c ∷ d ∷ octets) =
-    spelled-data (0x02 ∷ a ∷ b ∷ c ∷ d ∷ octets) octets (acl_packet (number_of a b)) (number_of c d)
-    (λ exact. ((a, b, c, d, refl, field_parts (number_of a b), exact), refl))
+    spelled-data (0x02 ∷ a ∷ b ∷ c ∷ d ∷ octets) octets (acl_packet (from_two a b)) (from_two c d)
+    (λ exact. ((a, b, c, d, refl, field_parts (from_two a b), exact), refl))
 
 spelled-sco : (octets : List ℕ) → IsSpelled (0x03 ∷ octets) (sco_form octets)
 spelled-sco [] = tt

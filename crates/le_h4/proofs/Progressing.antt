@@ -3,7 +3,8 @@ use Rattle.std.proofs.Common.{◌≡◌, ℕ, ◌<◌, ◌≤◌, List, [], ◌�
 use Rattle.std.specs.Prelude.{cond, nat_le, ◌==◌}
 use Rattle.std.proofs.lemmas.Bool.{cases_Bool, le-leb, lt-leb, cases_lt}
 use Rattle.std.proofs.lemmas.List.{drop_all, length-append}
-use Rattle.le_h4.specs.Packet.{Packet, EventPacket, ScoPacket, First, FirstPacket, NoneYet, NoPacket, first_of, acl_form, sco_form, event_form, with_data, acl_packet, number_of}
+use Rattle.le_h4.specs.Packet.{Packet, EventPacket, ScoPacket, First, FirstPacket, NoneYet, NoPacket, first_of, acl_form, sco_form, event_form, with_data, acl_packet}
+use Rattle.octets.specs.Number.{from_two}
 use Rattle.le_h4.specs.Progress.{progress_of, acl_progress, sco_progress, event_progress, data_progress, short_progress}
 use Rattle.le_h4.specs.Division.{after_first, division, division_past}
 use Rattle.le_h4.specs.declared.progress.Progress.{Progress}
@@ -81,26 +82,26 @@ agrees-acl all [] = (omega arith, refl, few)
     few (a ∷ []) h = tt
     few (a ∷ b ∷ []) h = tt
     few (a ∷ b ∷ c ∷ []) h = tt
-    few (a ∷ b ∷ c ∷ d ∷ more) h = ends-data (all ++ (a ∷ b ∷ c ∷ d ∷ more)) (acl_packet (number_of a b)) (number_of c d) more (omega arith)
+    few (a ∷ b ∷ c ∷ d ∷ more) h = ends-data (all ++ (a ∷ b ∷ c ∷ d ∷ more)) (acl_packet (from_two a b)) (from_two c d) more (omega arith)
 agrees-acl all (a ∷ []) = (omega arith, refl, few)
   where
     few : (more : List ℕ) → length more ≤ 3 → EndsIn (all ++ more) (acl_form (a ∷ more))
     few [] h = tt
     few (b ∷ []) h = tt
     few (b ∷ c ∷ []) h = tt
-    few (b ∷ c ∷ d ∷ more) h = ends-data (all ++ (b ∷ c ∷ d ∷ more)) (acl_packet (number_of a b)) (number_of c d) more (omega arith)
+    few (b ∷ c ∷ d ∷ more) h = ends-data (all ++ (b ∷ c ∷ d ∷ more)) (acl_packet (from_two a b)) (from_two c d) more (omega arith)
 agrees-acl all (a ∷ b ∷ []) = (omega arith, refl, few)
   where
     few : (more : List ℕ) → length more ≤ 2 → EndsIn (all ++ more) (acl_form (a ∷ b ∷ more))
     few [] h = tt
     few (c ∷ []) h = tt
-    few (c ∷ d ∷ more) h = ends-data (all ++ (c ∷ d ∷ more)) (acl_packet (number_of a b)) (number_of c d) more (omega arith)
+    few (c ∷ d ∷ more) h = ends-data (all ++ (c ∷ d ∷ more)) (acl_packet (from_two a b)) (from_two c d) more (omega arith)
 agrees-acl all (a ∷ b ∷ c ∷ []) = (omega arith, refl, few)
   where
     few : (more : List ℕ) → length more ≤ 1 → EndsIn (all ++ more) (acl_form (a ∷ b ∷ c ∷ more))
     few [] h = tt
-    few (d ∷ more) h = ends-data (all ++ (d ∷ more)) (acl_packet (number_of a b)) (number_of c d) more (omega arith)
-agrees-acl all (a ∷ b ∷ c ∷ d ∷ octets) = agrees-data all (number_of a b) (number_of c d) octets
+    few (d ∷ more) h = ends-data (all ++ (d ∷ more)) (acl_packet (from_two a b)) (from_two c d) more (omega arith)
+agrees-acl all (a ∷ b ∷ c ∷ d ∷ octets) = agrees-data all (from_two a b) (from_two c d) octets
 
 agrees-sco : (all octets : List ℕ) → Agrees all (λ more. sco_form (octets ++ more)) (sco_progress octets)
 agrees-sco all [] = (omega arith, refl, few)

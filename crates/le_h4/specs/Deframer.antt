@@ -2,6 +2,7 @@
 use Rattle.std.specs.Prelude.{◌≡◌, ℕ, List, [], ◌∷◌, ◌++◌, Option, None}
 use Rattle.std.specs.List.{flat_map}
 use Rattle.std.specs.Option.{option_to_list}
+use Rattle.octets.specs.Number.{Octets}
 use Rattle.le_h4.specs.Packet.{Packet, Spells}
 use Rattle.le_h4.specs.Division.{Division, before, division_past}
 
@@ -9,7 +10,7 @@ use Rattle.le_h4.specs.Division.{Division, before, division_past}
 -- unfinished, and the packet that the last piece ended
 pub record Deframing : Type 0 where
   pub skipping : ℕ
-  pub gathered : List ℕ
+  pub gathered : Octets
   pub marked : Option Packet
 
 -- nothing is held
@@ -21,7 +22,7 @@ abbrev pub desynced : ℕ → Deframing
 desynced indicator = record { skipping = 0; gathered = indicator ∷ []; marked = None }
 
 -- what is still to come divides so, where these octets follow
-abbrev pub still : Deframing → List ℕ → Division
+abbrev pub still : Deframing → Octets → Division
 still deframing rest = division_past deframing.skipping (deframing.gathered ++ rest)
 
 -- the packet that was marked, if there is one
@@ -29,25 +30,25 @@ abbrev pub marks : Deframing → List Packet
 marks deframing = option_to_list deframing.marked
 
 -- octets end with those of this packet
-pub record EndsWith (octets : List ℕ) (packet : Packet) : Type 0 where
-  pub earlier : List ℕ
-  pub spelling : List ℕ
+pub record EndsWith (octets : Octets) (packet : Packet) : Type 0 where
+  pub earlier : Octets
+  pub spelling : Octets
   pub parts : octets ≡ earlier ++ spelling
   pub spelled : Spells spelling packet
 
 -- a call: the octets that it took, and the packet that it marked, if there is one
 pub record Call : Type 0 where
-  pub taken : List ℕ
+  pub taken : Octets
   pub packets : List Packet
 
 -- these calls, one after another, lead from one state to another
 abbrev pub Feeds : Deframing → List Call → Deframing → Type 0
 Feeds old [] new = new ≡ old
 Feeds old (call ∷ calls) new =
-    (mid : Deframing) × ((rest : List ℕ) → still old (call.taken ++ rest) ≡ before call.packets (still mid rest)) × Feeds mid calls new
+    (mid : Deframing) × ((rest : Octets) → still old (call.taken ++ rest) ≡ before call.packets (still mid rest)) × Feeds mid calls new
 
 -- the octets and the packets of calls
-abbrev pub octets_of : List Call → List ℕ
+abbrev pub octets_of : List Call → Octets
 octets_of calls = flat_map (λ call. call.taken) calls
 
 abbrev pub packets_of : List Call → List Packet

@@ -1,5 +1,6 @@
 -- A stream from a controller, divided into packets.
 use Rattle.std.specs.Prelude.{ℕ, suc, zero, nat_lt, Bool, false, if◌then◌else◌, List, [], ◌∷◌, ◌++◌, length, nat_le, drop}
+use Rattle.octets.specs.Number.{Octets}
 use Rattle.le_h4.specs.Packet.{Packet, AclPacket, EventPacket, ScoPacket, First, FirstPacket, NoneYet, NoPacket, first_of}
 
 -- how a division ends: with less than a whole packet, or where an indicator stands that no packet has
@@ -28,20 +29,20 @@ is_long ScoPacket = false
 abbrev pub before : List Packet → Division → Division
 before packets division = record { packets = packets ++ division.packets; end = division.end }
 
-abbrev pub after_first : First → (List ℕ → Division) → Division
+abbrev pub after_first : First → (Octets → Division) → Division
 after_first (FirstPacket packet rest) divide = if is_long packet then divide rest else before (packet ∷ []) (divide rest)
 after_first NoneYet divide = unfinished
 after_first (NoPacket indicator) divide = lost indicator
 
 -- the division into at most so many packets
-unfoldable pub division_within : ℕ → List ℕ → Division
+unfoldable pub division_within : ℕ → Octets → Division
 division_within zero octets = unfinished
 division_within (suc count) octets = after_first (first_of octets) (division_within count)
 
 -- the division: a packet has at least one octet
-unfoldable pub division : List ℕ → Division
+unfoldable pub division : Octets → Division
 division octets = division_within (length octets) octets
 
 -- the division of what follows so many octets, once these are there
-abbrev pub division_past : ℕ → List ℕ → Division
+abbrev pub division_past : ℕ → Octets → Division
 division_past count octets = if nat_le count (length octets) then division (drop count octets) else unfinished

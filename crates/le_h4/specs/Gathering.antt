@@ -1,5 +1,6 @@
 -- What is gathered of one packet.
-use Rattle.std.specs.Prelude.{◌≡◌, ℕ, ◌<◌, ◌≤◌, true, false, List, [], ◌∷◌, ◌++◌, length, take, None, Result, Ok, Err}
+use Rattle.std.specs.Prelude.{◌≡◌, ℕ, ◌<◌, ◌≤◌, true, false, [], ◌∷◌, ◌++◌, length, take, None, Result, Ok, Err}
+use Rattle.octets.specs.Number.{Octets}
 use Rattle.le_h4.specs.declared.deframer.Fed.{Fed}
 use Rattle.le_h4.specs.declared.deframer.H4Fault.{H4Fault}
 use Rattle.le_h4.specs.declared.deframer.H4Fault.TheVariants.{Desync}
@@ -9,34 +10,34 @@ use Rattle.le_h4.specs.Deframer.{EndsWith}
 use Rattle.le_h4.specs.Progress.{Fits, packet_in}
 
 -- so many of these octets were taken, and end a packet
-pub record GathersPacket (skipping : ℕ) (gathered octets : List ℕ) (used left : ℕ) (holds : List ℕ) : Type 0 where
+pub record GathersPacket (skipping : ℕ) (gathered octets : Octets) (used left : ℕ) (holds : Octets) : Type 0 where
   pub packet : Packet
   pub first : first_of holds ≡ FirstPacket packet []
   pub none_left : left ≡ 0
-  pub divided : (rest : List ℕ) → division_past skipping (gathered ++ (take used octets ++ rest))
+  pub divided : (rest : Octets) → division_past skipping (gathered ++ (take used octets ++ rest))
       ≡ before (packet ∷ []) (division_past 0 rest)
   pub spelled : EndsWith (gathered ++ take used octets) packet
   pub some : 0 < used
   pub within : used ≤ length octets
 
 -- all octets were taken, and end no packet
-pub record GathersAll (skipping : ℕ) (gathered octets : List ℕ) (used left : ℕ) (holds : List ℕ) : Type 0 where
+pub record GathersAll (skipping : ℕ) (gathered octets : Octets) (used left : ℕ) (holds : Octets) : Type 0 where
   pub none : packet_in (first_of holds) ≡ None
-  pub divided : (rest : List ℕ) → division_past skipping (gathered ++ (octets ++ rest)) ≡ division_past left (holds ++ rest)
+  pub divided : (rest : Octets) → division_past skipping (gathered ++ (octets ++ rest)) ≡ division_past left (holds ++ rest)
   pub unfinished : division_past left holds ≡ unfinished
   pub fits : Fits holds
   pub passes : 0 < left → holds ≡ []
   pub all : used ≡ length octets
 
 -- an indicator was met that no packet has
-pub record GathersLost (skipping : ℕ) (gathered octets : List ℕ) (indicator left : ℕ) (holds : List ℕ) : Type 0 where
+pub record GathersLost (skipping : ℕ) (gathered octets : Octets) (indicator left : ℕ) (holds : Octets) : Type 0 where
   pub none_left : left ≡ 0
   pub holds_it : holds ≡ indicator ∷ []
   pub first : first_of holds ≡ NoPacket indicator
-  pub divided : (rest : List ℕ) → division_past skipping (gathered ++ (octets ++ rest)) ≡ lost indicator
+  pub divided : (rest : Octets) → division_past skipping (gathered ++ (octets ++ rest)) ≡ lost indicator
 
 -- what is held changes so by a piece of the stream
-abbrev pub Gathers : ℕ → List ℕ → List ℕ → Result Fed H4Fault → ℕ → List ℕ → Type 0
+abbrev pub Gathers : ℕ → Octets → Octets → Result Fed H4Fault → ℕ → Octets → Type 0
 Gathers skipping gathered octets (Ok fed) left holds =
     elim fed.packet [
       | true ↦ GathersPacket skipping gathered octets fed.used left holds

@@ -1,24 +1,25 @@
 -- The fields of a deframer, as one value.
-use Rattle.std.specs.Prelude.{◌≡◌, ℕ, ◌<◌, Bool, true, false, List, [], Option, None, IsSome}
+use Rattle.std.specs.Prelude.{◌≡◌, ℕ, ◌<◌, Bool, true, false, [], Option, None, IsSome}
+use Rattle.octets.specs.Number.{Octets}
 use Rattle.le_h4.specs.Packet.{Packet, first_of}
 use Rattle.le_h4.specs.Deframer.{Deframing}
 use Rattle.le_h4.specs.Progress.{Fits, packet_in}
 
 -- a packet that is marked is what was gathered, and nothing is gathered behind it
-abbrev pub unmarked : Bool → List ℕ → List ℕ
+abbrev pub unmarked : Bool → Octets → Octets
 unmarked true gathered = []
 unmarked false gathered = gathered
 
-abbrev pub marked_in : Bool → List ℕ → Option Packet
+abbrev pub marked_in : Bool → Octets → Option Packet
 marked_in true gathered = packet_in (first_of gathered)
 marked_in false gathered = None
 
-abbrev pub deframing_of : ℕ → List ℕ → Bool → Deframing
+abbrev pub deframing_of : ℕ → Octets → Bool → Deframing
 deframing_of skipping gathered marked =
     record { skipping = skipping; gathered = unmarked marked gathered; marked = marked_in marked gathered }
 
 -- what is gathered is one packet or less, or nothing where octets are passed over
-pub record IsHeld (skipping : ℕ) (gathered : List ℕ) (marked : Bool) : Type 0 where
+pub record IsHeld (skipping : ℕ) (gathered : Octets) (marked : Bool) : Type 0 where
   pub fits : Fits gathered
   pub passes : 0 < skipping → gathered ≡ []
   pub whole : marked ≡ true → IsSome (packet_in (first_of gathered))

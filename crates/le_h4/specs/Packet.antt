@@ -1,12 +1,13 @@
 -- The packets of the UART transport (H4) from a controller: Core 5.0, Vol 4 Part A, 2, and Vol 2 Part E, 5.4.
-use Rattle.std.specs.Prelude.{◌≡◌, ℕ, ◌+◌, ◌*◌, ◌/◌, ◌%◌, ◌^◌, ◌==◌, nat_le, if◌then◌else◌, List, [], ◌∷◌, length, take, drop}
+use Rattle.std.specs.Prelude.{◌≡◌, ℕ, ◌+◌, ◌*◌, ◌/◌, ◌%◌, ◌^◌, ◌==◌, nat_le, if◌then◌else◌, [], ◌∷◌, length, take, drop}
+use Rattle.octets.specs.Number.{Octets, from_two}
 use Rattle.le_h4.specs.declared.packet.PacketRef.{PacketRef}
 use Rattle.le_h4.specs.declared.packet.PacketRef.TheVariants.{Acl, Event, Sco}
 
 -- what a packet is: an event from its code on, and of a SCO packet nothing is kept
 pub data Packet : Type 0 where
-  AclPacket : (handle pb bc : ℕ) (octets : List ℕ) → Packet
-  EventPacket : (octets : List ℕ) → Packet
+  AclPacket : (handle pb bc : ℕ) (octets : Octets) → Packet
+  EventPacket : (octets : Octets) → Packet
   ScoPacket : Packet
 
 -- what a packet is that borrows its octets
@@ -15,45 +16,37 @@ seen (Acl handle pb bc octets) = AclPacket handle pb bc octets.now
 seen (Event octets) = EventPacket octets.now
 seen Sco = ScoPacket
 
--- a number of 16 bits that was sent, the lower octet first
-abbrev pub number_of : ℕ → ℕ → ℕ
-number_of low high = low + 256 * high
-
--- a number of 16 bits as it is sent
-abbrev pub two_octets : ℕ → List ℕ
-two_octets n = (n % 256) ∷ (n / 256) ∷ []
-
 -- an ACL packet by its first field: 12 bits of the handle, then 2 of the boundary flag and 2 of the broadcast flag
-abbrev pub acl_packet : ℕ → List ℕ → Packet
+abbrev pub acl_packet : ℕ → Octets → Packet
 acl_packet field octets = AclPacket (field % 2 ^ 12) (field / 2 ^ 12 % 4) (field / 2 ^ 14) octets
 
 -- what octets begin with: a whole packet and what follows it, less than a whole packet, or no packet at all
 pub data First : Type 0 where
-  FirstPacket : (packet : Packet) (rest : List ℕ) → First
+  FirstPacket : (packet : Packet) (rest : Octets) → First
   NoneYet : First
   NoPacket : (indicator : ℕ) → First
 
 -- the packet whose data has this size, and what follows it, once all of it is there
-abbrev pub with_data : (List ℕ → Packet) → ℕ → List ℕ → First
+abbrev pub with_data : (Octets → Packet) → ℕ → Octets → First
 with_data packet size octets =
     if nat_le size (length octets) then FirstPacket (packet (take size octets)) (drop size octets) else NoneYet
 
 -- the forms after an indicator
-abbrev pub acl_form : List ℕ → First
+abbrev pub acl_form : Octets → First
 acl_form (low ∷ high ∷ size_low ∷ size_high ∷ octets) =
-    with_data (acl_packet (number_of low high)) (number_of size_low size_high) octets
+    with_data (acl_packet (from_two low high)) (from_two size_low size_high) octets
 acl_form _ = NoneYet
 
-abbrev pub sco_form : List ℕ → First
+abbrev pub sco_form : Octets → First
 sco_form (low ∷ high ∷ size ∷ octets) = with_data (λ data_octets. ScoPacket) size octets
 sco_form _ = NoneYet
 
-abbrev pub event_form : List ℕ → First
+abbrev pub event_form : Octets → First
 event_form (code ∷ size ∷ octets) = with_data (λ parameters. EventPacket (code ∷ size ∷ parameters)) size octets
 event_form _ = NoneYet
 
 -- what octets begin with, by their indicator
-abbrev pub first_of : List ℕ → First
+abbrev pub first_of : Octets → First
 first_of [] = NoneYet
 first_of (indicator ∷ octets) =
     if indicator == 0x02 then acl_form octets
@@ -62,12 +55,12 @@ first_of (indicator ∷ octets) =
     else NoPacket indicator
 
 -- these octets are a packet's
-abbrev pub Spells : List ℕ → Packet → Type 0
+abbrev pub Spells : Octets → Packet → Type 0
 Spells spelling (AclPacket handle pb bc octets) =
     (low : ℕ) × (high : ℕ) × (size_low : ℕ) × (size_high : ℕ)
     × (spelling ≡ 0x02 ∷ low ∷ high ∷ size_low ∷ size_high ∷ octets)
-    × (number_of low high ≡ handle + 2 ^ 12 * pb + 2 ^ 14 * bc) × (number_of size_low size_high ≡ length octets)
+    × (from_two low high ≡ handle + 2 ^ 12 * pb + 2 ^ 14 * bc) × (from_two size_low size_high ≡ length octets)
 Spells spelling (EventPacket octets) =
-    (code : ℕ) × (parameters : List ℕ) × (octets ≡ code ∷ length parameters ∷ parameters) × (spelling ≡ 0x04 ∷ octets)
+    (code : ℕ) × (parameters : Octets) × (octets ≡ code ∷ length parameters ∷ parameters) × (spelling ≡ 0x04 ∷ octets)
 Spells spelling ScoPacket =
-    (low : ℕ) × (high : ℕ) × (octets : List ℕ) × (spelling ≡ 0x03 ∷ low ∷ high ∷ length octets ∷ octets)
+    (low : ℕ) × (high : ℕ) × (octets : Octets) × (spelling ≡ 0x03 ∷ low ∷ high ∷ length octets ∷ octets)

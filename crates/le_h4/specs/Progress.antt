@@ -1,8 +1,9 @@
 -- How far the octets of one packet have come.
-use Rattle.std.specs.Prelude.{◌≡◌, ℕ, ◌-◌, ◌==◌, ◌≤◌, nat_le, if◌then◌else◌, List, [], ◌∷◌, length, Option, Some, None}
+use Rattle.std.specs.Prelude.{◌≡◌, ℕ, ◌-◌, ◌==◌, ◌≤◌, nat_le, if◌then◌else◌, [], ◌∷◌, length, Option, Some, None}
 use Rattle.le_h4.specs.declared.progress.Progress.{Progress}
 use Rattle.le_h4.specs.declared.progress.Progress.TheVariants.{Lacks, Whole, Long, Desync}
-use Rattle.le_h4.specs.Packet.{Packet, EventPacket, ScoPacket, First, FirstPacket, NoneYet, NoPacket, first_of, acl_packet, number_of}
+use Rattle.le_h4.specs.Packet.{Packet, EventPacket, ScoPacket, First, FirstPacket, NoneYet, NoPacket, first_of, acl_packet}
+use Rattle.octets.specs.Number.{Octets, from_two}
 
 -- the progress of data of a size, of which so many octets are there
 abbrev pub short_progress : ℕ → ℕ → Progress
@@ -12,19 +13,19 @@ abbrev pub data_progress : ℕ → ℕ → Progress
 data_progress size count =
     if nat_le size count then Whole else if nat_le size 1024 then Lacks (size - count) else Long (size - count)
 
-abbrev pub acl_progress : List ℕ → Progress
-acl_progress (low ∷ high ∷ size_low ∷ size_high ∷ octets) = data_progress (number_of size_low size_high) (length octets)
+abbrev pub acl_progress : Octets → Progress
+acl_progress (low ∷ high ∷ size_low ∷ size_high ∷ octets) = data_progress (from_two size_low size_high) (length octets)
 acl_progress header = Lacks (4 - length header)
 
-abbrev pub sco_progress : List ℕ → Progress
+abbrev pub sco_progress : Octets → Progress
 sco_progress (low ∷ high ∷ size ∷ octets) = short_progress size (length octets)
 sco_progress header = Lacks (3 - length header)
 
-abbrev pub event_progress : List ℕ → Progress
+abbrev pub event_progress : Octets → Progress
 event_progress (code ∷ size ∷ octets) = short_progress size (length octets)
 event_progress header = Lacks (2 - length header)
 
-abbrev pub progress_of : List ℕ → Progress
+abbrev pub progress_of : Octets → Progress
 progress_of [] = Lacks 1
 progress_of (indicator ∷ octets) =
     if indicator == 0x02 then acl_progress octets
@@ -40,8 +41,8 @@ LacksAtMost room Whole = Unit {0}
 LacksAtMost room (Desync indicator) = Unit {0}
 
 -- the octets go no further than their first packet, or than an indicator that no packet has
-pub record Fits (octets : List ℕ) : Type 0 where
-  pub whole : (packet : Packet) (rest : List ℕ) → first_of octets ≡ FirstPacket packet rest → rest ≡ []
+pub record Fits (octets : Octets) : Type 0 where
+  pub whole : (packet : Packet) (rest : Octets) → first_of octets ≡ FirstPacket packet rest → rest ≡ []
   pub lost : (indicator : ℕ) → first_of octets ≡ NoPacket indicator → octets ≡ indicator ∷ []
 
 -- the packet that octets begin with, where it is whole
@@ -51,11 +52,11 @@ packet_in NoneYet = None
 packet_in (NoPacket indicator) = None
 
 -- the packet of octets that are a packet's
-abbrev pub reading : List ℕ → Packet
+abbrev pub reading : Octets → Packet
 reading (indicator ∷ octets) =
     if indicator == 0x02 then acl_reading octets else if indicator == 0x04 then EventPacket octets else ScoPacket
   where
-    acl_reading : List ℕ → Packet
-    acl_reading (low ∷ high ∷ size_low ∷ size_high ∷ octets) = acl_packet (number_of low high) octets
+    acl_reading : Octets → Packet
+    acl_reading (low ∷ high ∷ size_low ∷ size_high ∷ octets) = acl_packet (from_two low high) octets
     acl_reading _ = ScoPacket
 reading [] = ScoPacket

@@ -1,7 +1,8 @@
-ghost use Rattle.std.specs.Prelude.{◌≡◌, ℕ, ◌+◌, ◌-◌, ◌<◌, ◌≤◌, ◌↔◌, [], ◌++◌, length, take, drop, List, Some, None, IsTrue, IsSome, IsNone, IfOk, IfErr, IfSome, OnOk};
+ghost use Rattle.std.specs.Prelude.{◌≡◌, ℕ, ◌+◌, ◌-◌, ◌<◌, ◌≤◌, ◌↔◌, [], ◌++◌, length, take, drop, Some, None, IsTrue, IsSome, IsNone, IfOk, IfSome, OnOk};
+ghost use Rattle.octets.specs.Number.{Octets};
 ghost use Rattle.arrayvec.specs.ArrayVec.{array_vec_len};
 ghost use Rattle.le_h4.specs.Packet.{seen, first_of};
-ghost use Rattle.le_h4.specs.Division.{unfinished, lost, before, division_past};
+ghost use Rattle.le_h4.specs.Division.{unfinished, lost, before};
 ghost use Rattle.le_h4.specs.Deframer.{at_start, desynced, still, marks, EndsWith};
 ghost use Rattle.le_h4.specs.Progress.{Fits, packet_in};
 ghost use Rattle.le_h4.specs.Gathering.{Gathers};
@@ -71,7 +72,7 @@ impl Deframer {
     /// answers it again and changes nothing.
     pub fn feed(&mut self, octets: &[u8]) -> Result<Fed, H4Fault>
         // Whatever follows the octets that were taken, the packet that is marked comes first.
-        ensures divided { IfOk result (λ fed. (rest : List ℕ) → still self.old (take fed.used octets.now ++ rest)
+        ensures divided { IfOk result (λ fed. (rest : Octets) → still self.old (take fed.used octets.now ++ rest)
             ≡ before (marks self.new) (still self.new rest)) }
         ensures marked { IfOk result (λ fed. IsTrue fed.packet ↔ IsSome self.new.marked) }
         ensures spelled { IfOk result (λ fed. IfSome self.new.marked (EndsWith (self.old.gathered ++ take fed.used octets.now))) }

@@ -1,5 +1,5 @@
 ghost use Rattle.std.specs.Prelude.{◌≡◌, ◌+◌, ◌*◌, ◌^◌, ◌<◌, ◌≤◌, [], ◌∷◌, ◌++◌, length};
-ghost use Rattle.le_h4.specs.Packet.{two_octets};
+ghost use Rattle.octets.specs.Number.{two_octets};
 
 use crate::indicator;
 use arrayvec::ArrayVec;

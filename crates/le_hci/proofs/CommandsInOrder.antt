@@ -13,7 +13,7 @@ use Rattle.le_hci.specs.Buffers.{usable_of, shared_buffers_of}
 use Rattle.le_hci.specs.Command.{Commanded, SetEventMask, ReadBufferSize, LeSetEventMask, LeReadBufferSize, LeSetAdvertisingParameters, LeSetAdvertisingData, LeSetAdvertiseEnable}
 use Rattle.le_hci.specs.Init.{event_mask, le_event_mask, opcode_awaited, outcome_of, next_by, handed_back, next, first_state, addressed_from, after_sizing, after_shared_sizing, with_buffers}
 use Rattle.le_hci.specs.InitOrder.{address_commands, shared_commands, advertising_commands, commands_in_order, tell_shared, sent_after, commands_sent, IsPrefixOf}
-use Rattle.le_hci.specs.Octets.{number_of}
+use Rattle.octets.specs.Number.{from_two}
 
 none_sent : (commands : List Commanded) → IsPrefixOf [] commands
 none_sent commands = record { rest = commands; whole = refl }
@@ -127,7 +127,7 @@ sizing (returned ∷ answers) settings = one_more _ _ _ (sized returned)
     sized (status ∷ a ∷ b ∷ []) = after_success (Sizing settings) status (a ∷ b ∷ []) _ _ (λ following e. absurd (cc))
     sized (status ∷ a ∷ b ∷ packets ∷ more) =
         after_success (Sizing settings) status (a ∷ b ∷ packets ∷ more) (commands_sent answers) _
-        (pick (number_of a b == 0) (record { length = number_of a b; packets = packets }))
+        (pick (from_two a b == 0) (record { length = from_two a b; packets = packets }))
 
 le_masking : (answers : List (List ℕ)) (settings : Settings)
     → IsPrefixOf (commands_sent answers (LeMasking settings))

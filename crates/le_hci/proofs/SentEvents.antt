@@ -12,15 +12,15 @@ use Rattle.le_hci.specs.declared.event.Event.{Event}
 use Rattle.le_hci.specs.declared.event.BadEvent.{BadEvent}
 use Rattle.le_hci.specs.Event.{Reported, reported, DisconnectionComplete, EncryptionChange, CommandComplete, CommandStatus, HardwareError, NumberOfCompletedPackets, EncryptionKeyRefreshComplete, ConnectionComplete, LongTermKeyRequest, Other, completed_packets_of, completed_entries, disconnection_complete, encryption_change, command_complete, command_status, hardware_error, number_of_completed_packets, encryption_key_refresh_complete, connection_complete, long_term_key_request, le_meta_form, form_of, read_or_bad, event_of}
 use Rattle.le_hci.specs.EventPacket.{packet, code_of, entry_fields, fields_of, HasFields, entry_told, told, IsSentAs, IsRead}
-use Rattle.le_hci.specs.Octets.{number_of}
+use Rattle.octets.specs.Number.{from_two}
 
 abbrev AreOctets : List ℕ → Type 0
 AreOctets octets = (i : ℕ) → slice_index_or octets i 0 < 256
 
-low : (l h : ℕ) → l < 256 → number_of l h % 256 ≡ l
+low : (l h : ℕ) → l < 256 → from_two l h % 256 ≡ l
 low l h k = omega arith
 
-high : (l h : ℕ) → l < 256 → number_of l h / 256 ≡ h
+high : (l h : ℕ) → l < 256 → from_two l h / 256 ≡ h
 high l h k = omega arith
 
 -- the parameters are the fields of an event with this code, and extra octets
@@ -47,7 +47,7 @@ choose P code n x y px py = pick (code == n) refl
 
 reads_disconnection : (ps : List ℕ) → AreOctets ps → Reads ps 0x05 (disconnection_complete ps)
 reads_disconnection (s ∷ l ∷ h ∷ r ∷ rest) fits event e other = record {
-  sent = DisconnectionComplete s (number_of l h) r;
+  sent = DisconnectionComplete s (from_two l h) r;
   extra = rest;
   code_is = refl;
   fields = cc (low l h (fits 1), high l h (fits 1));
@@ -57,7 +57,7 @@ reads_disconnection _ fits event e other = absurd (cc)
 
 reads_encryption : (ps : List ℕ) → AreOctets ps → Reads ps 0x08 (encryption_change ps)
 reads_encryption (s ∷ l ∷ h ∷ r ∷ rest) fits event e other = record {
-  sent = EncryptionChange s (number_of l h) r;
+  sent = EncryptionChange s (from_two l h) r;
   extra = rest;
   code_is = refl;
   fields = cc (low l h (fits 1), high l h (fits 1));
@@ -67,7 +67,7 @@ reads_encryption _ fits event e other = absurd (cc)
 
 reads_complete : (ps : List ℕ) → AreOctets ps → Reads ps 0x0E (command_complete ps)
 reads_complete (a ∷ l ∷ h ∷ rest) fits event e other = record {
-  sent = CommandComplete a (number_of l h) rest;
+  sent = CommandComplete a (from_two l h) rest;
   extra = [];
   code_is = refl;
   fields = cc (low l h (fits 1), high l h (fits 1), append-nil rest);
@@ -77,7 +77,7 @@ reads_complete _ fits event e other = absurd (cc)
 
 reads_status : (ps : List ℕ) → AreOctets ps → Reads ps 0x0F (command_status ps)
 reads_status (s ∷ a ∷ l ∷ h ∷ rest) fits event e other = record {
-  sent = CommandStatus s a (number_of l h);
+  sent = CommandStatus s a (from_two l h);
   extra = rest;
   code_is = refl;
   fields = cc (low l h (fits 2), high l h (fits 2));
@@ -114,7 +114,7 @@ reads_entries (suc n) (a ∷ b ∷ c ∷ d ∷ rest) fits entries e =
         → AreEntries (suc n) (a ∷ b ∷ c ∷ d ∷ rest) entries
     step None e below = absurd (cc)
     step (Some es) e below =
-        let entry : CompletedPackets = record { handle = number_of a b; packets = number_of c d } in
+        let entry : CompletedPackets = record { handle = from_two a b; packets = from_two c d } in
         let under = below es refl in
         record {
           sent = entry ∷ under.sent;
@@ -149,7 +149,7 @@ reads_completed (count ∷ rest) fits event e other =
 
 reads_refresh : (ps : List ℕ) → AreOctets ps → Reads ps 0x30 (encryption_key_refresh_complete ps)
 reads_refresh (s ∷ l ∷ h ∷ rest) fits event e other = record {
-  sent = EncryptionKeyRefreshComplete s (number_of l h);
+  sent = EncryptionKeyRefreshComplete s (from_two l h);
   extra = rest;
   code_is = refl;
   fields = cc (low l h (fits 1), high l h (fits 1));
@@ -161,7 +161,7 @@ reads_connection : (ps : List ℕ) → AreOctets ps → Reads (0x01 ∷ ps) 0x3E
 reads_connection (s ∷ lo ∷ hi ∷ role ∷ kind ∷ a ∷ b ∷ c ∷ d ∷ e ∷ f ∷ i ∷ j ∷ k ∷ l ∷ m ∷ n ∷ accuracy ∷ rest) fits event is other =
     let peer : Peer = record { kind = kind; address = a ∷ b ∷ c ∷ d ∷ e ∷ f ∷ [] } in
     record {
-      sent = ConnectionComplete s (number_of lo hi) role peer (number_of i j) (number_of k l) (number_of m n) accuracy;
+      sent = ConnectionComplete s (from_two lo hi) role peer (from_two i j) (from_two k l) (from_two m n) accuracy;
       extra = rest;
       code_is = refl;
       fields = cc (low lo hi (fits 1), high lo hi (fits 1), low i j (fits 11), high i j (fits 11), low k l (fits 13), high k l (fits 13), low m n (fits 15), high m n (fits 15));
@@ -171,7 +171,7 @@ reads_connection _ fits event e other = absurd (cc)
 
 reads_request : (ps : List ℕ) → AreOctets ps → Reads (0x05 ∷ ps) 0x3E (long_term_key_request ps)
 reads_request (lo ∷ hi ∷ a ∷ b ∷ c ∷ d ∷ e ∷ f ∷ g ∷ h ∷ i ∷ j ∷ rest) fits event is other = record {
-  sent = LongTermKeyRequest (number_of lo hi) (a ∷ b ∷ c ∷ d ∷ e ∷ f ∷ g ∷ h ∷ []) (number_of i j);
+  sent = LongTermKeyRequest (from_two lo hi) (a ∷ b ∷ c ∷ d ∷ e ∷ f ∷ g ∷ h ∷ []) (from_two i j);
   extra = rest;
   code_is = refl;
   fields = cc (low lo hi (fits 0), high lo hi (fits 0), low i j (fits 10), high i j (fits 10));
@@ -220,7 +220,7 @@ is_sent (code ∷ stated ∷ ps) fits event e other = pick (length ps == stated)
           same = form.same;
         }
 
-restored : (n : ℕ) → number_of (n % 256) (n / 256) ≡ n
+restored : (n : ℕ) → from_two (n % 256) (n / 256) ≡ n
 restored n = omega arith
 
 entry_read : (entry : CompletedPackets) → completed_packets_of (entry_fields entry) ≡ entry_told entry

@@ -1,24 +1,24 @@
 -- The buffers that a controller tells: Core 5.0, Vol 2 Part E, 7.4.5 and 7.8.2.
-use Rattle.std.specs.Prelude.{ℕ, ◌==◌, ◌&&◌, nat_le, nat_lt, if◌then◌else◌, List, ◌∷◌, Option, Some, None, Result, Ok, Err}
+use Rattle.std.specs.Prelude.{◌==◌, ◌&&◌, nat_le, nat_lt, if◌then◌else◌, ◌∷◌, Option, Some, None, Result, Ok, Err}
 use Rattle.std.specs.Result.{result_map_both}
 use Rattle.le_hci.specs.declared.buffers.Buffers.{Buffers}
 use Rattle.le_hci.specs.declared.init.InitFault.{InitFault}
 use Rattle.le_hci.specs.declared.init.InitFault.TheVariants.{BadBuffers, Short}
-use Rattle.le_hci.specs.Octets.{number_of}
+use Rattle.octets.specs.Number.{Octets, from_two}
 
 -- enough for a peripheral: a length of at least 27, and a packet
 abbrev pub usable_of : Buffers → Result Buffers InitFault
 usable_of buffers = if nat_le 27 buffers.length && nat_lt 0 buffers.packets then Ok buffers else Err BadBuffers
 
 -- the return parameters of LE Read Buffer Size after the status; none where the length is 0, since the buffers are shared then
-abbrev pub le_buffers_of : List ℕ → Result (Option Buffers) InitFault
+abbrev pub le_buffers_of : Octets → Result (Option Buffers) InitFault
 le_buffers_of (length_low ∷ length_high ∷ packets ∷ _) =
-    if number_of length_low length_high == 0 then Ok None
-    else result_map_both Some (λ fault. fault) (usable_of (record { length = number_of length_low length_high; packets = packets }))
+    if from_two length_low length_high == 0 then Ok None
+    else result_map_both Some (λ fault. fault) (usable_of (record { length = from_two length_low length_high; packets = packets }))
 le_buffers_of _ = Err Short
 
 -- those of Read Buffer Size: the length of ACL data, that of SCO data, and the numbers of packets of each
-abbrev pub shared_buffers_of : List ℕ → Result Buffers InitFault
+abbrev pub shared_buffers_of : Octets → Result Buffers InitFault
 shared_buffers_of (length_low ∷ length_high ∷ sco_length ∷ packets_low ∷ packets_high ∷ sco_low ∷ sco_high ∷ _) =
-    usable_of (record { length = number_of length_low length_high; packets = number_of packets_low packets_high })
+    usable_of (record { length = from_two length_low length_high; packets = from_two packets_low packets_high })
 shared_buffers_of _ = Err Short

@@ -1,9 +1,9 @@
 -- The commands that a host sends, and the octets of each: Core 5.0, Vol 2 Part E, 5.4.1 and 7.
-use Rattle.std.specs.Prelude.{ℕ, ◌+◌, ◌-◌, ◌*◌, List, [], ◌∷◌, ◌++◌, length, replicate}
+use Rattle.std.specs.Prelude.{ℕ, ◌+◌, ◌-◌, ◌*◌, [], ◌∷◌, ◌++◌, length, replicate}
 use Rattle.std.specs.Int.{to_le_bytes, w64}
 use Rattle.le_hci.specs.declared.command.Command.{Command}
 use Rattle.le_hci.specs.declared.command.Command.TheVariants as variant
-use Rattle.le_hci.specs.Octets.{two_octets}
+use Rattle.octets.specs.Number.{Octets, two_octets}
 
 -- what a command asks for, without where its data lie
 pub data Commanded : Type 0 where
@@ -13,11 +13,11 @@ pub data Commanded : Type 0 where
   Disconnect : (handle reason : ℕ) → Commanded
   LeSetEventMask : (mask : ℕ) → Commanded
   LeReadBufferSize : Commanded
-  LeSetRandomAddress : (address : List ℕ) → Commanded
+  LeSetRandomAddress : (address : Octets) → Commanded
   LeSetAdvertisingParameters : (own_address_type : ℕ) → Commanded
-  LeSetAdvertisingData : (advertising : List ℕ) → Commanded
+  LeSetAdvertisingData : (advertising : Octets) → Commanded
   LeSetAdvertiseEnable : Commanded
-  LeLongTermKeyRequestReply : (handle : ℕ) (key : List ℕ) → Commanded
+  LeLongTermKeyRequestReply : (handle : ℕ) (key : Octets) → Commanded
   LeLongTermKeyRequestNegativeReply : (handle : ℕ) → Commanded
 
 abbrev pub commanded : Command → Commanded
@@ -54,19 +54,19 @@ opcode_of (LeLongTermKeyRequestNegativeReply handle) = opcode 0x08 0x001B
 
 -- both intervals 100 milliseconds, connectable and scannable undirected, the own address type, no peer (its
 -- address type and address), all three channels, and no filter: 7.8.5
-abbrev pub advertising_parameters : ℕ → List ℕ
+abbrev pub advertising_parameters : ℕ → Octets
 advertising_parameters own_address_type =
     two_octets 160 ++ two_octets 160 ++ 0x00 ∷ own_address_type ∷ 0x00 ∷ replicate 6 0x00 ++ 0x07 ∷ 0x00 ∷ []
 
 -- a length, and the data filled up to 31 octets: 7.8.7
-abbrev pub advertising_data : List ℕ → List ℕ
+abbrev pub advertising_data : Octets → Octets
 advertising_data advertising = length advertising ∷ advertising ++ replicate (31 - length advertising) 0x00
 
 -- a handle and a key: 7.8.25
-abbrev pub key_reply : ℕ → List ℕ → List ℕ
+abbrev pub key_reply : ℕ → Octets → Octets
 key_reply handle key = two_octets handle ++ key
 
-abbrev pub parameters_of : Commanded → List ℕ
+abbrev pub parameters_of : Commanded → Octets
 parameters_of Reset = []
 parameters_of (SetEventMask mask) = to_le_bytes w64 mask
 parameters_of ReadBufferSize = []
@@ -81,8 +81,8 @@ parameters_of (LeLongTermKeyRequestReply handle key) = key_reply handle key
 parameters_of (LeLongTermKeyRequestNegativeReply handle) = two_octets handle
 
 -- a command packet: the opcode, the length of the parameters, and the parameters
-abbrev pub packet : ℕ → List ℕ → List ℕ
+abbrev pub packet : ℕ → Octets → Octets
 packet code parameters = two_octets code ++ length parameters ∷ parameters
 
-abbrev pub packet_of : Commanded → List ℕ
+abbrev pub packet_of : Commanded → Octets
 packet_of command = packet (opcode_of command) (parameters_of command)

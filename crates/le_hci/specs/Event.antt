@@ -6,29 +6,29 @@ use Rattle.le_hci.specs.declared.event.CompletedPackets.{CompletedPackets}
 use Rattle.le_hci.specs.declared.event.BadEvent.{BadEvent}
 use Rattle.le_hci.specs.declared.event.Event.{Event}
 use Rattle.le_hci.specs.declared.event.Event.TheVariants as variant
-use Rattle.le_hci.specs.Octets.{number_of}
+use Rattle.octets.specs.Number.{Octets, from_two}
 
 -- what an event reports, without where its octets lie
 pub data Reported : Type 0 where
   DisconnectionComplete : (status handle reason : ℕ) → Reported
   EncryptionChange : (status handle enabled : ℕ) → Reported
-  CommandComplete : (allowed opcode : ℕ) (parameters : List ℕ) → Reported
+  CommandComplete : (allowed opcode : ℕ) (parameters : Octets) → Reported
   CommandStatus : (status allowed opcode : ℕ) → Reported
   HardwareError : (code : ℕ) → Reported
   NumberOfCompletedPackets : (entries : List CompletedPackets) → Reported
   EncryptionKeyRefreshComplete : (status handle : ℕ) → Reported
   ConnectionComplete : (status handle role : ℕ) (peer : Peer) (interval latency timeout clock_accuracy : ℕ) → Reported
-  LongTermKeyRequest : (handle : ℕ) (random_number : List ℕ) (diversifier : ℕ) → Reported
+  LongTermKeyRequest : (handle : ℕ) (random_number : Octets) (diversifier : ℕ) → Reported
   Other : Reported
 
 -- the handle of two octets, whose upper four bits are ignored: this profile's own
 abbrev pub handle_of : ℕ → ℕ → ℕ
-handle_of low high = number_of low high % 4096
+handle_of low high = from_two low high % 4096
 
 -- an entry of Number Of Completed Packets: 7.7.19
-abbrev pub completed_packets_of : List ℕ → CompletedPackets
+abbrev pub completed_packets_of : Octets → CompletedPackets
 completed_packets_of (handle_low ∷ handle_high ∷ packets_low ∷ packets_high ∷ []) =
-    record { handle = handle_of handle_low handle_high; packets = number_of packets_low packets_high }
+    record { handle = handle_of handle_low handle_high; packets = from_two packets_low packets_high }
 completed_packets_of _ = record { handle = 0; packets = 0 }
 
 abbrev pub reported : Event → Reported
@@ -45,66 +45,66 @@ reported (variant.LongTermKeyRequest handle random_number diversifier) = LongTer
 reported variant.Other = Other
 
 -- The forms of the parameters, each none where there are fewer octets than fields; octets after the fields are ignored.
-abbrev pub disconnection_complete : List ℕ → Option Reported
+abbrev pub disconnection_complete : Octets → Option Reported
 disconnection_complete (status ∷ low ∷ high ∷ reason ∷ _) = Some (DisconnectionComplete status (handle_of low high) reason)
 disconnection_complete _ = None
 
-abbrev pub encryption_change : List ℕ → Option Reported
+abbrev pub encryption_change : Octets → Option Reported
 encryption_change (status ∷ low ∷ high ∷ enabled ∷ _) = Some (EncryptionChange status (handle_of low high) enabled)
 encryption_change _ = None
 
-abbrev pub command_complete : List ℕ → Option Reported
-command_complete (allowed ∷ low ∷ high ∷ parameters) = Some (CommandComplete allowed (number_of low high) parameters)
+abbrev pub command_complete : Octets → Option Reported
+command_complete (allowed ∷ low ∷ high ∷ parameters) = Some (CommandComplete allowed (from_two low high) parameters)
 command_complete _ = None
 
-abbrev pub command_status : List ℕ → Option Reported
-command_status (status ∷ allowed ∷ low ∷ high ∷ _) = Some (CommandStatus status allowed (number_of low high))
+abbrev pub command_status : Octets → Option Reported
+command_status (status ∷ allowed ∷ low ∷ high ∷ _) = Some (CommandStatus status allowed (from_two low high))
 command_status _ = None
 
-abbrev pub hardware_error : List ℕ → Option Reported
+abbrev pub hardware_error : Octets → Option Reported
 hardware_error (code ∷ _) = Some (HardwareError code)
 hardware_error _ = None
 
 -- as many entries as are counted
-abbrev pub completed_entries : ℕ → List ℕ → Option (List CompletedPackets)
+abbrev pub completed_entries : ℕ → Octets → Option (List CompletedPackets)
 completed_entries zero _ = Some []
 completed_entries (suc n) (handle_low ∷ handle_high ∷ packets_low ∷ packets_high ∷ rest) =
     option_map (λ entries. completed_packets_of (handle_low ∷ handle_high ∷ packets_low ∷ packets_high ∷ []) ∷ entries)
     (completed_entries n rest)
 completed_entries (suc n) _ = None
 
-abbrev pub number_of_completed_packets : List ℕ → Option Reported
+abbrev pub number_of_completed_packets : Octets → Option Reported
 number_of_completed_packets (count ∷ rest) = option_map NumberOfCompletedPackets (completed_entries count rest)
 number_of_completed_packets _ = None
 
-abbrev pub encryption_key_refresh_complete : List ℕ → Option Reported
+abbrev pub encryption_key_refresh_complete : Octets → Option Reported
 encryption_key_refresh_complete (status ∷ low ∷ high ∷ _) = Some (EncryptionKeyRefreshComplete status (handle_of low high))
 encryption_key_refresh_complete _ = None
 
-abbrev pub connection_complete : List ℕ → Option Reported
+abbrev pub connection_complete : Octets → Option Reported
 connection_complete (status ∷ low ∷ high ∷ role ∷ kind ∷ a ∷ b ∷ c ∷ d ∷ e ∷ f ∷ i ∷ j ∷ k ∷ l ∷ m ∷ n ∷ clock_accuracy ∷ _) =
     Some (ConnectionComplete status (handle_of low high) role
     (record { kind = kind; address = a ∷ b ∷ c ∷ d ∷ e ∷ f ∷ [] })
-    (number_of i j) (number_of k l) (number_of m n) clock_accuracy)
+    (from_two i j) (from_two k l) (from_two m n) clock_accuracy)
 connection_complete _ = None
 
-abbrev pub long_term_key_request : List ℕ → Option Reported
+abbrev pub long_term_key_request : Octets → Option Reported
 long_term_key_request (low ∷ high ∷ a ∷ b ∷ c ∷ d ∷ e ∷ f ∷ g ∷ h ∷ i ∷ j ∷ _) =
-    Some (LongTermKeyRequest (handle_of low high) (a ∷ b ∷ c ∷ d ∷ e ∷ f ∷ g ∷ h ∷ []) (number_of i j))
+    Some (LongTermKeyRequest (handle_of low high) (a ∷ b ∷ c ∷ d ∷ e ∷ f ∷ g ∷ h ∷ []) (from_two i j))
 long_term_key_request _ = None
 
 -- what the code of an event, or of a subevent, leads to; others are taken whatever their parameters
-abbrev pub subevent_form : ℕ → List ℕ → Option Reported
+abbrev pub subevent_form : ℕ → Octets → Option Reported
 subevent_form code parameters =
     if code == 0x01 then connection_complete parameters
     else if code == 0x05 then long_term_key_request parameters
     else Some Other
 
-abbrev pub le_meta_form : List ℕ → Option Reported
+abbrev pub le_meta_form : Octets → Option Reported
 le_meta_form (code ∷ parameters) = subevent_form code parameters
 le_meta_form [] = None
 
-abbrev pub form_of : ℕ → List ℕ → Option Reported
+abbrev pub form_of : ℕ → Octets → Option Reported
 form_of code parameters =
     if code == 0x05 then disconnection_complete parameters
     else if code == 0x08 then encryption_change parameters
@@ -121,7 +121,7 @@ abbrev pub read_or_bad : ℕ → Option Reported → Result Reported BadEvent
 read_or_bad code None = Err (record { 0 = code })
 read_or_bad code (Some event) = Ok event
 
-abbrev pub event_of : List ℕ → Result Reported BadEvent
+abbrev pub event_of : Octets → Result Reported BadEvent
 event_of [] = Err (record { 0 = 0 })
 event_of (code ∷ []) = Err (record { 0 = code })
 event_of (code ∷ stated ∷ parameters) = read_or_bad code (if length parameters == stated then form_of code parameters else None)

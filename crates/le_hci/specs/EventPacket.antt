@@ -1,12 +1,12 @@
 -- The octets that a controller sends for an event: Core 5.0, Vol 2 Part E, 5.4.4 and 7.7.
-use Rattle.std.specs.Prelude.{◌≡◌, ◌≢◌, ℕ, ◌%◌, List, [], ◌∷◌, ◌++◌, length, map, ⊤}
+use Rattle.std.specs.Prelude.{◌≡◌, ◌≢◌, ℕ, ◌%◌, [], ◌∷◌, ◌++◌, length, map, ⊤}
 use Rattle.std.specs.List.{flat_map}
 use Rattle.le_hci.specs.declared.event.CompletedPackets.{CompletedPackets}
 use Rattle.le_hci.specs.Event.{Reported, DisconnectionComplete, EncryptionChange, CommandComplete, CommandStatus, HardwareError, NumberOfCompletedPackets, EncryptionKeyRefreshComplete, ConnectionComplete, LongTermKeyRequest, Other}
-use Rattle.le_hci.specs.Octets.{two_octets}
+use Rattle.octets.specs.Number.{Octets, two_octets}
 
 -- an event packet: its code, the length of its parameters, and the parameters
-abbrev pub packet : ℕ → List ℕ → List ℕ
+abbrev pub packet : ℕ → Octets → Octets
 packet code parameters = code ∷ length parameters ∷ parameters
 
 -- the code of an event; the last two are subevents of LE Meta. Of other events nothing is said
@@ -22,11 +22,11 @@ code_of (ConnectionComplete status handle role peer interval latency timeout clo
 code_of (LongTermKeyRequest handle random_number diversifier) = 0x3E
 code_of Other = 0x00
 
-abbrev pub entry_fields : CompletedPackets → List ℕ
+abbrev pub entry_fields : CompletedPackets → Octets
 entry_fields entry = two_octets entry.handle ++ two_octets entry.packets
 
 -- the fields of an event, in their order
-abbrev pub fields_of : Reported → List ℕ
+abbrev pub fields_of : Reported → Octets
 fields_of (DisconnectionComplete status handle reason) = status ∷ two_octets handle ++ reason ∷ []
 fields_of (EncryptionChange status handle enabled) = status ∷ two_octets handle ++ enabled ∷ []
 fields_of (CommandComplete allowed opcode parameters) = allowed ∷ two_octets opcode ++ parameters
@@ -42,7 +42,7 @@ fields_of Other = []
 
 -- what has such fields, with these extra octets after them: addresses have 6 octets and random numbers 8, return
 -- parameters take all octets, and of other events nothing is said
-abbrev pub HasFields : Reported → List ℕ → Type 0
+abbrev pub HasFields : Reported → Octets → Type 0
 HasFields (CommandComplete allowed opcode parameters) extra = extra ≡ []
 HasFields (ConnectionComplete status handle role peer interval latency timeout clock_accuracy) extra = length peer.address ≡ 6
 HasFields (LongTermKeyRequest handle random_number diversifier) extra = length random_number ≡ 8
@@ -67,12 +67,12 @@ told (LongTermKeyRequest handle random_number diversifier) = LongTermKeyRequest 
 told Other = Other
 
 -- the octets are those of an event, and of extra octets after its fields; without the ignored bits it is this event
-pub record IsSentAs (event : Reported) (octets : List ℕ) : Type 0 where
+pub record IsSentAs (event : Reported) (octets : Octets) : Type 0 where
   pub sent : Reported
-  pub extra : List ℕ
+  pub extra : Octets
   pub spelled : octets ≡ packet (code_of sent) (fields_of sent ++ extra)
   pub same : told sent ≡ event
 
 -- and so is each event that is read, but for the other ones
-abbrev pub IsRead : Reported → List ℕ → Type 0
+abbrev pub IsRead : Reported → Octets → Type 0
 IsRead event octets = event ≢ Other → IsSentAs event octets

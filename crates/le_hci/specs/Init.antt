@@ -1,6 +1,7 @@
 -- Initialisation: the command that each state awaits, and the state that follows. The order is this profile's own.
-use Rattle.std.specs.Prelude.{ℕ, ◌+◌, ◌^◌, ◌==◌, if◌then◌else◌, List, [], ◌∷◌, Option, Some, None, Result, Ok, Err}
+use Rattle.std.specs.Prelude.{ℕ, ◌+◌, ◌^◌, ◌==◌, if◌then◌else◌, [], ◌∷◌, Option, Some, None, Result, Ok, Err}
 use Rattle.std.specs.Option.{option_map_or}
+use Rattle.octets.specs.Number.{Octets}
 use Rattle.arrayvec.specs.ArrayVec.{ArrayVec}
 use Rattle.le_hci.specs.declared.buffers.Buffers.{Buffers}
 use Rattle.le_hci.specs.declared.init.Settings.{Settings}
@@ -37,11 +38,11 @@ abbrev pub opcode_awaited : Init → ℕ
 opcode_awaited state = option_map_or opcode_of (awaited state) 0
 
 -- the first state
-abbrev pub first_state : Option (List ℕ) → ArrayVec ℕ → Init
+abbrev pub first_state : Option Octets → ArrayVec ℕ → Init
 first_state address advertising = Resetting (record { address = address; advertising = advertising })
 
 -- the state once the buffers are told: a random address (type 1) is set first, and the public one (type 0) is there
-abbrev pub addressed_from : Option (List ℕ) → ArrayVec ℕ → Buffers → Init
+abbrev pub addressed_from : Option Octets → ArrayVec ℕ → Buffers → Init
 addressed_from None advertising buffers = Describing 0x00 advertising buffers
 addressed_from (Some address) advertising buffers = Addressing address advertising buffers
 
@@ -58,7 +59,7 @@ after_shared_sizing settings (Err fault) = Err fault
 after_shared_sizing settings (Ok buffers) = Ok (with_buffers settings buffers)
 
 -- the state after a command that was successful, by the values that it returned after its status
-abbrev pub next : Init → List ℕ → Result Init InitFault
+abbrev pub next : Init → Octets → Result Init InitFault
 next (Resetting settings) returned = Ok (Masking settings)
 next (Masking settings) returned = Ok (LeMasking settings)
 next (LeMasking settings) returned = Ok (Sizing settings)
@@ -71,11 +72,11 @@ next (Enabling buffers) returned = Ok (Ready buffers.length buffers.packets)
 next (Ready length packets) returned = Ok (Ready length packets)
 
 -- what the command with this opcode returned after its status, which has to be 0
-abbrev pub values_of : ℕ → List ℕ → Result (List ℕ) InitFault
+abbrev pub values_of : ℕ → Octets → Result Octets InitFault
 values_of opcode [] = Err Short
 values_of opcode (status ∷ values) = if status == 0 then Ok values else Err (Refused opcode status)
 
-abbrev pub next_by : Init → Result (List ℕ) InitFault → Result Init InitFault
+abbrev pub next_by : Init → Result Octets InitFault → Result Init InitFault
 next_by state (Ok values) = next state values
 next_by state (Err fault) = Err fault
 
@@ -85,5 +86,5 @@ handed_back state (Ok following) = Ok following
 handed_back state (Err fault) = Err (fault, state)
 
 -- what the return parameters of the awaited command lead to
-abbrev pub outcome_of : Init → List ℕ → Result Init (InitFault × Init)
+abbrev pub outcome_of : Init → Octets → Result Init (InitFault × Init)
 outcome_of state returned = handed_back state (next_by state (values_of (opcode_awaited state) returned))

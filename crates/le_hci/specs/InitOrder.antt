@@ -5,14 +5,14 @@ use Rattle.le_hci.specs.declared.init.Init.{Init}
 use Rattle.le_hci.specs.declared.init.InitFault.{InitFault}
 use Rattle.le_hci.specs.Command.{Commanded, Reset, SetEventMask, ReadBufferSize, LeSetEventMask, LeReadBufferSize, LeSetRandomAddress, LeSetAdvertisingParameters, LeSetAdvertisingData, LeSetAdvertiseEnable}
 use Rattle.le_hci.specs.Init.{event_mask, le_event_mask, awaited, outcome_of}
-use Rattle.le_hci.specs.Octets.{number_of}
+use Rattle.octets.specs.Number.{Octets, from_two}
 
 -- only where a random address is used
-abbrev pub address_commands : Option (List ℕ) → List Commanded
+abbrev pub address_commands : Option Octets → List Commanded
 address_commands None = []
 address_commands (Some address) = LeSetRandomAddress address ∷ []
 
-abbrev pub own_address_type_of : Option (List ℕ) → ℕ
+abbrev pub own_address_type_of : Option Octets → ℕ
 own_address_type_of None = 0x00
 own_address_type_of (Some address) = 0x01
 
@@ -20,20 +20,20 @@ own_address_type_of (Some address) = 0x01
 abbrev pub shared_commands : Bool → List Commanded
 shared_commands shared = if shared then ReadBufferSize ∷ [] else []
 
-abbrev pub advertising_commands : Option (List ℕ) → List ℕ → List Commanded
+abbrev pub advertising_commands : Option Octets → Octets → List Commanded
 advertising_commands address advertising =
     LeSetAdvertisingParameters (own_address_type_of address) ∷ LeSetAdvertisingData advertising ∷ LeSetAdvertiseEnable ∷ []
 
 -- all commands, for a random address or none, for advertising data, and for buffers that are shared or not
-abbrev pub commands_in_order : Option (List ℕ) → List ℕ → Bool → List Commanded
+abbrev pub commands_in_order : Option Octets → Octets → Bool → List Commanded
 commands_in_order address advertising shared =
     Reset ∷ SetEventMask event_mask ∷ LeSetEventMask le_event_mask ∷ LeReadBufferSize
     ∷ (shared_commands shared ++ (address_commands address ++ advertising_commands address advertising))
 
 -- whether the first of these answers, to LE Read Buffer Size, tells the length 0: the buffers are shared then
 -- (Core 5.0, Vol 2 Part E, 7.8.2)
-abbrev pub tell_shared : List (List ℕ) → Bool
-tell_shared ((status ∷ length_low ∷ length_high ∷ _) ∷ answers) = number_of length_low length_high == 0
+abbrev pub tell_shared : List Octets → Bool
+tell_shared ((status ∷ length_low ∷ length_high ∷ _) ∷ answers) = from_two length_low length_high == 0
 tell_shared _ = false
 
 -- the commands that are sent from a state on, where the awaited ones are answered so in turn, until one fails
@@ -41,7 +41,7 @@ abbrev pub sent_after : Result Init (InitFault × Init) → (Init → List Comma
 sent_after (Ok following) sent_from = sent_from following
 sent_after (Err fault) sent_from = []
 
-abbrev pub commands_sent : List (List ℕ) → Init → List Commanded
+abbrev pub commands_sent : List Octets → Init → List Commanded
 commands_sent [] state = option_to_list (awaited state)
 commands_sent (returned ∷ answers) state = option_to_list (awaited state) ++ sent_after (outcome_of state returned) (commands_sent answers)
 

@@ -4,4 +4,3 @@ pub mod Event
 pub mod EventPacket
 pub mod Init
 pub mod InitOrder
-pub mod Octets

@@ -1,7 +1,7 @@
 ghost use Rattle.std.specs.Prelude.{◌≡◌, ◌+◌, ◌≤◌, [], ◌∷◌, ◌++◌, ◌-◌, length, replicate};
 ghost use Rattle.arrayvec.specs.ArrayVec.{array_vec_len};
 ghost use Rattle.le_hci.specs.Command.{commanded, packet_of, packet, advertising_data, key_reply, advertising_parameters};
-ghost use Rattle.le_hci.specs.Octets.{two_octets};
+ghost use Rattle.octets.specs.Number.{two_octets};
 
 use crate::command::Command;
 use arrayvec::ArrayVec;

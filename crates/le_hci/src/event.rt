@@ -1,5 +1,6 @@
-ghost use Rattle.std.specs.Prelude.{◌≡◌, ℕ, List, ◌++◌, IfOk};
+ghost use Rattle.std.specs.Prelude.{◌≡◌, ◌++◌, IfOk};
 ghost use Rattle.std.specs.Result.{result_map_both};
+ghost use Rattle.octets.specs.Number.{Octets};
 ghost use Rattle.le_hci.specs.Event.{Reported, reported, event_of, completed_packets_of};
 ghost use Rattle.le_hci.specs.EventPacket.{packet, code_of, fields_of, HasFields, told, IsRead};
 
@@ -87,7 +88,7 @@ pub fn read_event(octets: &[u8]) -> Result<Event<'_>, BadEvent>
     ensures exact { result_map_both reported (λ bad. bad) result ≡ event_of octets.now }
     ensures sent { IfOk result (λ event. IsRead (reported event) octets.now) }
     // Nothing that is sent so is a bad event.
-    ensures accepted { (sent : Reported) (extra : List ℕ) → HasFields sent extra
+    ensures accepted { (sent : Reported) (extra : Octets) → HasFields sent extra
         → packet (code_of sent) (fields_of sent ++ extra) ≡ octets.now → event_of octets.now ≡ Ok (told sent) }
 {
     let [code, rest @ ..] = octets else {

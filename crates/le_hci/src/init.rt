@@ -1,6 +1,7 @@
 ghost use Rattle.std.specs.Prelude.{◌≡◌, ◌≢◌, List, ℕ, ◌∷◌, drop, IsSome, IfErr};
 ghost use Rattle.std.specs.Option.{option_map};
 ghost use Rattle.std.specs.Result.{result_map_both};
+ghost use Rattle.octets.specs.Number.{Octets};
 ghost use Rattle.arrayvec.specs.ArrayVec.{ArrayVec};
 ghost use Rattle.le_hci.specs.Command.{commanded};
 ghost use Rattle.le_hci.specs.InitOrder.{commands_sent, commands_in_order, tell_shared, IsPrefixOf};
@@ -84,7 +85,7 @@ impl Init {
     /// The first state, for a random address or the public one, and for advertising data.
     pub fn new(address: Option<[u8; 6]>, advertising: ArrayVec<u8, 31>) -> Init
         ensures exact { result ≡ first_state address advertising }
-        ensures in_order { (answers : List (List ℕ))
+        ensures in_order { (answers : List Octets)
             → IsPrefixOf (commands_sent answers result) (commands_in_order address advertising.items (tell_shared (drop 3 answers))) }
     {
         Init::Resetting(Settings {
@@ -130,7 +131,7 @@ impl Init {
         requires awaiting { IsSome (awaited self) }
         ensures exact { result ≡ outcome_of self parameters.now }
         ensures handed_back { IfErr result (λ e. e.1 ≡ self) }
-        ensures refused { (status : ℕ) (returned : List ℕ) → parameters.now ≡ status ∷ returned → status ≢ 0
+        ensures refused { (status : ℕ) (returned : Octets) → parameters.now ≡ status ∷ returned → status ≢ 0
             → result ≡ Err (InitFault.Refused (opcode_awaited self) status, self) }
     {
         let Some(command) = self.command() else {

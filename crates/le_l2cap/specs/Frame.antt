@@ -1,23 +1,20 @@
 -- The basic information frame: Core 5.0, Vol 3 Part A, 3.1.
-use Rattle.std.specs.Prelude.{ℕ, ◌+◌, ◌*◌, ◌/◌, ◌%◌, ◌^◌, ◌<◌, ◌==◌, if◌then◌else◌, List, [], ◌∷◌, ◌++◌, length, Result, Ok, Err}
+use Rattle.std.specs.Prelude.{ℕ, ◌+◌, ◌^◌, ◌<◌, ◌==◌, if◌then◌else◌, ◌∷◌, ◌++◌, length, Result, Ok, Err}
+use Rattle.octets.specs.Number.{Octets, two_octets, from_two}
 use Rattle.le_l2cap.specs.declared.frame.Frame.{Frame}
 use Rattle.le_l2cap.specs.declared.frame.Skip.{Skip}
 
 -- what a frame carries, and on which channel
 pub record BasicFrame : Type 0 where
   pub cid : ℕ
-  pub payload : List ℕ
+  pub payload : Octets
 
 -- the same of a frame that borrows its payload
 abbrev pub contents : Frame → BasicFrame
 contents frame = record { cid = frame.cid; payload = frame.payload.now }
 
--- a number of 16 bits as it is sent, the lower octet first
-abbrev pub two_octets : ℕ → List ℕ
-two_octets n = (n % 256) ∷ (n / 256) ∷ []
-
 -- the octets of a frame: the length of the payload, the channel, and the payload
-abbrev pub spelled : BasicFrame → List ℕ
+abbrev pub spelled : BasicFrame → Octets
 spelled frame = two_octets (length frame.payload) ++ two_octets frame.cid ++ frame.payload
 
 -- both fields of the header have 16 bits
@@ -26,8 +23,8 @@ pub record HasLengthAndChannel (frame : BasicFrame) : Type 0 where
   pub channel : frame.cid < 2 ^ 16
 
 -- the frame that octets are, whose length has to be the one that its header states
-abbrev pub frame_of : List ℕ → Result BasicFrame Skip
+abbrev pub frame_of : Octets → Result BasicFrame Skip
 frame_of (length_low ∷ length_high ∷ cid_low ∷ cid_high ∷ payload) =
-    if length payload == length_low + 256 * length_high then Ok (record { cid = cid_low + 256 * cid_high; payload = payload })
+    if length payload == from_two length_low length_high then Ok (record { cid = from_two cid_low cid_high; payload = payload })
     else Err (record {})
 frame_of _ = Err (record {})

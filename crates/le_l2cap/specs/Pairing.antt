@@ -1,11 +1,12 @@
 -- Pairing, which is not supported: Core 5.0, Vol 3 Part H, 3.3 and 3.5.5.
-use Rattle.std.specs.Prelude.{ℕ, ◌==◌, if◌then◌else◌, List, [], ◌∷◌, Option, Some, None}
+use Rattle.std.specs.Prelude.{◌==◌, if◌then◌else◌, [], ◌∷◌, Option, Some, None}
+use Rattle.octets.specs.Number.{Octets}
 
 -- Pairing Failed, with the reason Pairing Not Supported
-abbrev pub pairing_failed : List ℕ
+abbrev pub pairing_failed : Octets
 pairing_failed = 0x05 ∷ 0x05 ∷ []
 
 -- a Pairing Request is refused, and all else is ignored
-abbrev pub answer_of : List ℕ → Option (List ℕ)
+abbrev pub answer_of : Octets → Option Octets
 answer_of [] = None
 answer_of (code ∷ parameters) = if code == 0x01 then Some pairing_failed else None

@@ -1,15 +1,15 @@
 -- The commands of LE signalling: Core 5.0, Vol 3 Part A, 4.
-use Rattle.std.specs.Prelude.{◌≡◌, ◌≢◌, ℕ, ◌+◌, ◌*◌, ◌^◌, ◌<◌, Bool, false, ◌==◌, ◌&&◌, not, if◌then◌else◌, List, [], ◌∷◌, ◌++◌, length, Option, Some, None}
+use Rattle.std.specs.Prelude.{◌≡◌, ◌≢◌, ℕ, ◌+◌, ◌^◌, ◌<◌, Bool, false, ◌==◌, ◌&&◌, not, if◌then◌else◌, List, [], ◌∷◌, ◌++◌, length, Option, Some, None}
 use Rattle.std.specs.List.{list_any}
-use Rattle.le_l2cap.specs.Frame.{two_octets}
+use Rattle.octets.specs.Number.{Octets, two_octets, from_two}
 
 pub record Command : Type 0 where
   pub code : ℕ
   pub identifier : ℕ
-  pub payload : List ℕ
+  pub payload : Octets
 
 -- the octets of a command: its code, its identifier, and its data behind their length
-abbrev pub spelled : Command → List ℕ
+abbrev pub spelled : Command → Octets
 spelled command = command.code ∷ command.identifier ∷ two_octets (length command.payload) ++ command.payload
 
 -- an identifier of 8 bits that is not 0, and a length of 16 bits
@@ -26,20 +26,20 @@ abbrev pub is_ignored_code : ℕ → Bool
 is_ignored_code code = list_any (λ ignored. code == ignored) ignored_codes
 
 -- the identifier of the command that a payload is, if it is one whole command and is rejected: this profile's own
-abbrev pub rejected_identifier : List ℕ → Option ℕ
+abbrev pub rejected_identifier : Octets → Option ℕ
 rejected_identifier (code ∷ identifier ∷ length_low ∷ length_high ∷ payload) =
-    if length payload == length_low + 256 * length_high && not (identifier == 0) && not (is_ignored_code code) then Some identifier
+    if length payload == from_two length_low length_high && not (identifier == 0) && not (is_ignored_code code) then Some identifier
     else None
 rejected_identifier _ = None
 
 -- the same in other words: the payload is a command with this identifier, and no ignored one
-pub record IsRejected (payload : List ℕ) (identifier : ℕ) : Type 0 where
+pub record IsRejected (payload : Octets) (identifier : ℕ) : Type 0 where
   pub code : ℕ
-  pub parameters : List ℕ
+  pub parameters : Octets
   pub whole : payload ≡ spelled (record { code = code; identifier = identifier; payload = parameters })
   pub not_ignored : is_ignored_code code ≡ false
   pub not_zero : identifier ≢ 0
 
 -- Command Reject with the reason Command Not Understood: Core 5.0, Vol 3 Part A, 4.1
-abbrev pub command_reject : ℕ → List ℕ
+abbrev pub command_reject : ℕ → Octets
 command_reject identifier = spelled (record { code = 0x01; identifier = identifier; payload = two_octets 0x0000 })

@@ -1,19 +1,22 @@
 -- The failures of a source or a sink, as long as they are counted.
 use Rattle.std.specs.Prelude.{◌≡◌, ℕ, ◌+◌, ⊤, MatchResult, Option, Some, None, Result}
 
+-- the largest count: one of 64 bits
+abbrev pub largest_count : ℕ
+largest_count = 18446744073709551615
+
 -- the failures are as many as they were
 abbrev pub CountsNone : Option ℕ → Option ℕ → Type 0
 CountsNone (Some before) (Some now) = now ≡ before
-CountsNone None (Some now) = ⊥
-CountsNone (Some before) None = ⊤
 CountsNone None None = ⊤
+CountsNone _ _ = ⊥
 
--- the failures are one more
+-- the failures are one more, and those behind the largest count are no longer counted
 abbrev pub CountsOne : Option ℕ → Option ℕ → Type 0
 CountsOne (Some before) (Some now) = now ≡ before + 1
-CountsOne None (Some now) = ⊥
-CountsOne (Some before) None = ⊤
+CountsOne (Some before) None = before ≡ largest_count
 CountsOne None None = ⊤
+CountsOne None (Some now) = ⊥
 
 -- an error adds one to the failures, and nothing else does
 abbrev pub CountsFailure : {T E : Type 0} → Option ℕ → Option ℕ → Result T E → Type 0

@@ -1,5 +1,6 @@
 -- What a contract sees of the sources and sinks.
-use Rattle.std.specs.Prelude.{ℕ, List, Option}
+use Rattle.std.specs.Prelude.{ℕ, Option}
+use Rattle.octets.specs.Number.{Octets}
 use Rattle.octets.specs.declared.stream.Reader.{Reader}
 use Rattle.octets.specs.declared.stream.Writer.{Writer}
 use Rattle.octets.specs.declared.stream.SliceSource.{SliceSource}
@@ -20,11 +21,11 @@ abbrev pub failed_writes_of : {W : Type 0} → Writer W → Option ℕ
 failed_writes_of sink = sink.failed_writes
 
 -- the octets that a source in memory has left
-abbrev pub octets_left : SliceSource → List ℕ
+abbrev pub octets_left : SliceSource → Octets
 octets_left source = source.left.now
 
 -- the octets that a sink in memory has taken, and how many writes have failed
-abbrev pub octets_taken : {capacity : ℕ} → ArraySink capacity → List ℕ
+abbrev pub octets_taken : {capacity : ℕ} → ArraySink capacity → Octets
 octets_taken sink = sink.octets.items
 
 abbrev pub failed_array_writes : {capacity : ℕ} → ArraySink capacity → Option ℕ

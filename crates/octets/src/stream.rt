@@ -1,5 +1,6 @@
-ghost use Rattle.std.specs.Prelude.{◌≡◌, ℕ, ◌<◌, ◌≤◌, List, Option, Some, None, IfOk, [], ◌++◌, length};
+ghost use Rattle.std.specs.Prelude.{◌≡◌, ℕ, ◌<◌, ◌≤◌, Option, Some, None, IfOk, IfErr, [], length};
 ghost use Rattle.std.specs.Io.KnownBytes.{ReadConsumes, WriteAppends};
+ghost use Rattle.octets.specs.Number.{Octets};
 ghost use Rattle.octets.specs.Stream.{CountsFailure, CountsOne};
 
 use arrayvec::ArrayVec;
@@ -12,7 +13,7 @@ pub struct Failed;
 /// Where octets come from.
 pub trait Source {
     /// The octets that reads will give from here on, where they are known.
-    ghost remaining: { Self → Option (List ℕ) };
+    ghost remaining: { Self → Option Octets };
 
     /// How many reads have failed so far, as long as they are counted.
     ghost failures: { Self → Option ℕ };
@@ -28,7 +29,7 @@ pub trait Source {
 /// Where octets go to.
 pub trait Sink {
     /// The octets that writes have given so far, where they are known.
-    ghost contents: { Self → Option (List ℕ) };
+    ghost contents: { Self → Option Octets };
 
     /// How many writes have failed so far, as long as they are counted.
     ghost failures: { Self → Option ℕ };
@@ -217,11 +218,19 @@ impl<const N: usize> ArraySink<N> {
 }
 
 impl<const N: usize> Sink for ArraySink<N> {
+    ghost use Rattle.octets.specs.Streams.{octets_taken, failed_array_writes};
+
     ghost contents = { λ sink. Some sink.octets.items };
 
     ghost failures = { λ sink. sink.refused_writes };
 
-    fn write(&mut self, buf: &[u8]) -> Result<usize, Failed> {
+    fn write(&mut self, buf: &[u8]) -> Result<usize, Failed>
+        ensures bound { IfOk result (λ count. count ≤ length buf.now) }
+        ensures progress { IfOk result (λ count. 0 < length buf.now → 0 < count) }
+        ensures octets { WriteAppends (Some (octets_taken self.old)) (Some (octets_taken self.new)) result buf.now }
+        ensures failures { CountsFailure (failed_array_writes self.old) (failed_array_writes self.new) result }
+        ensures full { IfErr result (λ _. length (octets_taken self.old) ≡ N) }
+    {
         let count = buf.len().min(self.octets.remaining_capacity());
         if count == 0 && !buf.is_empty() {
             self.refused_writes = one_more(self.refused_writes);
