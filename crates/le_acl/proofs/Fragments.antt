@@ -1,9 +1,12 @@
 -- A queue of PDUs gives its fragments one by one.
 use Rattle.std.proofs.Common.{◌≡◌, ℕ, zero, suc, ◌+◌, ◌-◌, ◌<◌, ◌≤◌, List, [], ◌∷◌, length, take, drop, map, refl, sym, ap, ◌∙◌, subst, arith}
 use Rattle.std.specs.Prelude.{Some, slice_get}
+use Rattle.std.specs.Option.{option_map}
 use Rattle.std.proofs.lemmas.List.{drop-drop, length-drop, drop_all}
-use Rattle.le_acl.specs.Outgoing.{Fragment, continuation, pieces_within, pieces, frame_of, flagged, fragments_of, flag_at, without_next, acl_octets, Gives}
-use Rattle.le_acl.specs.Sending.{fragments_from, queue_of, IsWithin}
+use Rattle.le_acl.specs.Fragment.{Fragment, Beginning, Continuation}
+use Rattle.le_acl.specs.Packets.{Pdu, pieces_within, pieces, frame_of, flagged, fragments_of}
+use Rattle.le_acl.specs.Outgoing.{next_of, without_next, acl_octets}
+use Rattle.le_acl.specs.Sending.{fragment_at, fragments_from, queue_of, IsWithin}
 
 -- what fits behind a header of four octets
 pub take_header : (size a b c d : ℕ) (xs : List ℕ) → 4 ≤ size → a ∷ b ∷ c ∷ d ∷ take (size - 4) xs ≡ take size (a ∷ b ∷ c ∷ d ∷ xs)
@@ -16,9 +19,9 @@ drop_header gone a b c d xs h =
     let e : suc (suc (suc (suc (gone - 4)))) ≡ gone = omega arith in
     ap (λ (n : ℕ). drop n (a ∷ b ∷ c ∷ d ∷ xs)) e
 
-pub flag_later : (gone : ℕ) → 0 < gone → flag_at gone ≡ 1
-flag_later zero h = absurd (omega arith)
-flag_later (suc gone) h = refl
+pub fragment_later : (gone : ℕ) (octets : List ℕ) → 0 < gone → fragment_at gone octets ≡ Continuation octets
+fragment_later zero octets h = absurd (omega arith)
+fragment_later (suc gone) octets h = refl
 
 -- any count that is large enough gives the same pieces
 within_enough : (n m size : ℕ) (octets : List ℕ) → 0 < size → length octets ≤ n → length octets ≤ m → pieces_within n size octets ≡ pieces_within m size octets
@@ -46,55 +49,56 @@ pieces-none size = refl
 
 -- the fragments after a first one
 others_of : ℕ → ℕ → List ℕ → List Fragment
-others_of size gone frame = map continuation (pieces size (drop gone frame))
+others_of size gone frame = map Continuation (pieces size (drop gone frame))
 
-fragments-next : (size gone : ℕ) (frame : List ℕ) → 0 < size → gone < length frame
-    → fragments_from size gone frame ≡ record { flag = flag_at gone; octets = take size (drop gone frame) } ∷ others_of size (gone + size) frame
+fragments-next : (size gone : ℕ) (pdu : Pdu) → 0 < size → gone < length (frame_of pdu)
+    → fragments_from size gone pdu ≡ fragment_at gone (take size (drop gone (frame_of pdu))) ∷ others_of size (gone + size) (frame_of pdu)
 unfolding others_of
-fragments-next size zero frame some h =
+fragments-next size zero pdu some h =
     let e : size ≡ 0 + size = omega arith in
-    ap flagged (pieces-next size frame some h)
-    ∙ ap (λ (n : ℕ). (let first : Fragment = record { flag = 0; octets = take size frame } in first) ∷ map continuation (pieces size (drop n frame))) e
-fragments-next size (suc gone) frame some h =
-    ap (map continuation) (pieces-next size (drop (suc gone) frame) some (omega (arith, length-drop (suc gone) frame)))
-    ∙ ap (λ (xs : List ℕ). continuation (take size (drop (suc gone) frame)) ∷ map continuation (pieces size xs)) (drop-drop size (suc gone) frame)
+    ap flagged (pieces-next size (frame_of pdu) some h)
+    ∙ ap (λ (n : ℕ). Beginning (take size (frame_of pdu)) ∷ map Continuation (pieces size (drop n (frame_of pdu)))) e
+fragments-next size (suc gone) pdu some h =
+    ap (map Continuation) (pieces-next size (drop (suc gone) (frame_of pdu)) some (omega (arith, length-drop (suc gone) (frame_of pdu))))
+    ∙ ap (λ (xs : List ℕ). Continuation (take size (drop (suc gone) (frame_of pdu))) ∷ map Continuation (pieces size xs)) (drop-drop size (suc gone) (frame_of pdu))
 
 others-none : (size gone : ℕ) (frame : List ℕ) → length frame ≤ gone → others_of size gone frame ≡ []
 unfolding others_of
-others-none size gone frame h = ap (λ (xs : List ℕ). map continuation (pieces size xs)) (drop_all gone frame h) ∙ ap (map continuation) (pieces-none size)
+others-none size gone frame h = ap (λ (xs : List ℕ). map Continuation (pieces size xs)) (drop_all gone frame h) ∙ ap (map Continuation) (pieces-none size)
 
-others-from : (size gone : ℕ) (frame : List ℕ) → 0 < gone → others_of size gone frame ≡ fragments_from size gone frame
+others-from : (size gone : ℕ) (pdu : Pdu) → 0 < gone → others_of size gone (frame_of pdu) ≡ fragments_from size gone pdu
 unfolding others_of
-others-from size zero frame h = absurd (omega arith)
-others-from size (suc gone) frame h = refl
+others-from size zero pdu h = absurd (omega arith)
+others-from size (suc gone) pdu h = refl
 
 without-next-more : (first : Fragment) (others : List Fragment) (pdus : List (List Fragment)) (second : Fragment) (rest : List Fragment)
     → others ≡ second ∷ rest → without_next ((first ∷ others) ∷ pdus) ≡ others ∷ pdus
 without-next-more first others pdus second rest is =
     ap (λ (xs : List Fragment). without_next ((first ∷ xs) ∷ pdus)) is ∙ ap (λ (xs : List Fragment). xs ∷ pdus) (sym is)
 
-queue-anew : (size : ℕ) (pdus : List (ℕ × List ℕ)) → queue_of size 0 pdus ≡ map (λ other. fragments_of size (frame_of other)) pdus
+queue-anew : (size : ℕ) (pdus : List Pdu) → queue_of size 0 pdus ≡ map (fragments_of size) pdus
 queue-anew size [] = refl
 queue-anew size (pdu ∷ pdus) = refl
 
-first_and_rest : (pdus : List (ℕ × List ℕ)) (pdu : ℕ × List ℕ) → slice_get pdus 0 ≡ Some pdu → pdus ≡ pdu ∷ drop 1 pdus
+first_and_rest : (pdus : List Pdu) (pdu : Pdu) → slice_get pdus 0 ≡ Some pdu → pdus ≡ pdu ∷ drop 1 pdus
 first_and_rest [] pdu is = cc
-first_and_rest (first ∷ pdus) pdu is = ap (λ (p : ℕ × List ℕ). p ∷ pdus) (cc is)
+first_and_rest (first ∷ pdus) pdu is = ap (λ (p : Pdu). p ∷ pdus) (cc is)
 
-module _ (size gone : ℕ) (pdus : List (ℕ × List ℕ)) (pdu : ℕ × List ℕ) (front : slice_get pdus 0 ≡ Some pdu) (some : 0 < size) (left : gone < length (frame_of pdu)) where
+module _ (size gone : ℕ) (pdus : List Pdu) (pdu : Pdu) (front : slice_get pdus 0 ≡ Some pdu) (some : 0 < size) (left : gone < length (frame_of pdu)) where
   first : Fragment
-  first = record { flag = flag_at gone; octets = take size (drop gone (frame_of pdu)) }
+  first = fragment_at gone (take size (drop gone (frame_of pdu)))
 
   later : List (List Fragment)
-  later = map (λ other. fragments_of size (frame_of other)) (drop 1 pdus)
+  later = map (fragments_of size) (drop 1 pdus)
 
   queue-is : queue_of size gone pdus ≡ (first ∷ others_of size (gone + size) (frame_of pdu)) ∷ later
   unfolding first later
-  queue-is = ap (queue_of size gone) (first_and_rest pdus pdu front) ∙ ap (λ (xs : List Fragment). xs ∷ later) (fragments-next size gone (frame_of pdu) some left)
+  queue-is = ap (queue_of size gone) (first_and_rest pdus pdu front) ∙ ap (λ (xs : List Fragment). xs ∷ later) (fragments-next size gone pdu some left)
 
-  pub gives_first : (handle : ℕ) (octets : List ℕ) → octets ≡ acl_octets handle (flag_at gone) (take size (drop gone (frame_of pdu))) → Gives (queue_of size gone pdus) handle octets
+  pub gives_first : (handle : ℕ) (octets : List ℕ) → octets ≡ acl_octets handle (fragment_at gone (take size (drop gone (frame_of pdu))))
+      → option_map (acl_octets handle) (next_of (queue_of size gone pdus)) ≡ Some octets
   unfolding first
-  gives_first handle octets is = let P : List (List Fragment) → Type 0 = λ queue. Gives queue handle octets in subst P (sym queue-is) is
+  gives_first handle octets is = ap (λ (queue : List (List Fragment)). option_map (acl_octets handle) (next_of queue)) queue-is ∙ ap Some (sym is)
 
   pub queue-last : length (frame_of pdu) ≤ gone + size → queue_of size 0 (drop 1 pdus) ≡ without_next (queue_of size gone pdus)
   unfolding later
@@ -105,18 +109,18 @@ module _ (size gone : ℕ) (pdus : List (ℕ × List ℕ)) (pdu : ℕ × List �
   pub queue-more : gone + size < length (frame_of pdu) → queue_of size (gone + size) pdus ≡ without_next (queue_of size gone pdus)
   unfolding later
   queue-more more =
-      let from = others-from size (gone + size) (frame_of pdu) (omega arith) in
-      let next = fragments-next size (gone + size) (frame_of pdu) some more in
+      let from = others-from size (gone + size) pdu (omega arith) in
+      let next = fragments-next size (gone + size) pdu some more in
       ap (queue_of size (gone + size)) (first_and_rest pdus pdu front)
       ∙ ap (λ (xs : List Fragment). xs ∷ later) (sym from)
       ∙ sym (without-next-more first (others_of size (gone + size) (frame_of pdu)) later _ _ (from ∙ next))
       ∙ sym (ap without_next queue-is)
 
 -- some of the first frame is left
-pub not_all_gone : (size gone : ℕ) (pdus : List (ℕ × List ℕ)) (pdu : ℕ × List ℕ) → slice_get pdus 0 ≡ Some pdu → IsWithin size gone pdus
+pub not_all_gone : (size gone : ℕ) (pdus : List Pdu) (pdu : Pdu) → slice_get pdus 0 ≡ Some pdu → IsWithin size gone pdus
     → gone < length (frame_of pdu)
 not_all_gone size gone [] pdu is within = cc
 not_all_gone size gone (first ∷ pdus) pdu is within =
     let same : first ≡ pdu = cc is in
-    let P : ℕ × List ℕ → Type 0 = λ p. gone < length (frame_of p) in
+    let P : Pdu → Type 0 = λ p. gone < length (frame_of p) in
     subst P same (omega (arith, within.0))

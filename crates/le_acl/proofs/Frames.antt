@@ -1,11 +1,14 @@
 -- A reassembler gives the frames of the fragments that it took.
-use Rattle.std.proofs.Common.{◌≡◌, ℕ, ◌<◌, List, [], ◌∷◌, ◌++◌, length, Bool, true, false, Option, Some, None, refl, sym, ◌∙◌, ap, arith}
+use Rattle.std.proofs.Common.{◌≡◌, ℕ, zero, suc, ◌/◌, ◌%◌, ◌<◌, ◌≤◌, List, [], ◌∷◌, ◌++◌, length, take, drop, map, reverse, Bool, true, false, Option, Some, None, refl, sym, ◌∙◌, ap, ap₂, subst, arith, inl, inr, append_assoc}
 use Rattle.std.specs.Prelude.{cond, nat_le, not, ◌&&◌, ◌==◌}
 use Rattle.std.specs.Option.{option_map}
-use Rattle.std.proofs.lemmas.Bool.{leb-false, lt-leb}
-use Rattle.std.proofs.lemmas.List.{length-append}
+use Rattle.std.proofs.lemmas.Bool.{leb-false, lt-leb, le-leb, eq-eqb, cases_lt}
+use Rattle.std.proofs.lemmas.List.{append-nil, length-append, length-drop, take-append-drop}
+use Rattle.std.proofs.lemmas.Grind.{reverse_onto}
 use Rattle.octets.specs.Number.{from_two}
-use Rattle.le_acl.specs.Frame.{Fragment, Beginning, Continuation, is_enough, is_frame, newest_run, joined, is_shortest, of_run, frame_at}
+use Rattle.le_acl.specs.Fragment.{Fragment, Beginning, Continuation}
+use Rattle.le_acl.specs.Packets.{Pdu, frame_of, pieces_within, pieces, flagged, fragments_of}
+use Rattle.le_acl.specs.Frame.{is_enough, is_frame, newest_run, joined, is_shortest, frame_in, of_run, frame_at}
 use Rattle.le_acl.specs.Reassembler.{Assembly, nothing, assembled_of, with_more, assembled}
 
 -- what octets of a run lead to, where they are more than is enough already or not
@@ -45,8 +48,8 @@ frame-long (a ∷ []) long = refl
 frame-long (a ∷ b ∷ []) long = refl
 frame-long (a ∷ b ∷ c ∷ []) long = refl
 frame-long (a ∷ b ∷ c ∷ d ∷ payload) long =
-    ap (λ (fits : Bool). (from_two a b == length payload) && fits) (lt-leb (length (a ∷ b ∷ c ∷ d ∷ payload)) 521 long)
-    ∙ and-false (from_two a b == length payload)
+    ap (λ (fits : Bool). (length payload == from_two a b) && fits) (lt-leb (length (a ∷ b ∷ c ∷ d ∷ payload)) 521 long)
+    ∙ and-false (length payload == from_two a b)
 
 long-by : (enough : Bool) (octets : List ℕ) (short : Bool) → outcome_by enough false false octets short ≡ nothing
 long-by true octets true = refl
@@ -90,6 +93,105 @@ summary-frame None = refl
 summary-frame (Some run) = refl
 
 -- whatever fragments came, the newest gives the frame that it makes whole
-pub assembled-frame : (fragments : List Fragment) → (assembled fragments).frame ≡ frame_at fragments
+pub assembled_frame : (fragments : List Fragment) → (assembled fragments).frame ≡ frame_at fragments
 unfolding frame_at
-assembled-frame fragments = ap (λ (held : Assembly). held.frame) (assembled-is fragments) ∙ summary-frame (newest_run fragments)
+assembled_frame fragments = ap (λ (held : Assembly). held.frame) (assembled-is fragments) ∙ summary-frame (newest_run fragments)
+
+-- a newer one stands before the older ones
+newer : {X : Type 0} (x : X) (xs older : List X) → reverse (x ∷ xs) ++ older ≡ reverse xs ++ (x ∷ older)
+newer {X} x xs older = ap (λ (ys : List X). ys ++ older) (reverse_onto xs x []) ∙ append_assoc (reverse xs) (x ∷ []) older
+
+length-zero : (octets : List ℕ) → length octets ≡ 0 → octets ≡ []
+length-zero [] none = refl
+length-zero (x ∷ octets) none = absurd (omega arith)
+
+abbrev frame_in_by : Bool → Bool → Bool → List ℕ → Option (List ℕ)
+frame_in_by enough short frame octets = cond (enough && (short && frame)) (Some octets) None
+
+-- less than the frame of a PDU is not enough
+module _ (pdu : Pdu) where
+  too_few : (octets more : List ℕ) → octets ++ more ≡ frame_of pdu → 0 < length more → is_enough octets ≡ false
+  too_few [] more is some = refl
+  too_few (a ∷ []) more is some = refl
+  too_few (a ∷ b ∷ []) more is some = refl
+  too_few (a ∷ b ∷ c ∷ []) more is some = refl
+  too_few (a ∷ b ∷ c ∷ d ∷ payload) more is some =
+      let low : a ≡ length pdu.1 % 256 = cc is in
+      let high : b ≡ length pdu.1 / 256 = cc is in
+      lt-leb (from_two a b) (length payload) (omega (arith, ap length is, low, high, length-append payload more))
+
+  short_of : (run : List (List ℕ)) (more : List ℕ) → joined run ++ more ≡ frame_of pdu → 0 < length more → is_shortest run ≡ true
+  short_of [] more is some = refl
+  short_of (octets ∷ run) more is some =
+      let whole : joined run ++ (octets ++ more) ≡ frame_of pdu = sym (append_assoc (joined run) octets more) ∙ is in
+      let longer : 0 < length (octets ++ more) = omega (arith, length-append octets more) in
+      rw (too_few (joined run) (octets ++ more) whole longer) (short_of run (octets ++ more) whole longer)
+
+  IsRun : List (List ℕ) → Type 0
+  IsRun run = (joined run ≡ frame_of pdu) × (is_shortest run ≡ true)
+
+  -- the pieces of what is left, behind those before them
+  run_of : (count size : ℕ) (octets : List ℕ) (older : List (List ℕ)) → 0 < size → length octets ≤ count → 0 < length octets
+      → joined older ++ octets ≡ frame_of pdu → IsRun (reverse (pieces_within count size octets) ++ older)
+  unfolding IsRun
+  run_of zero size octets older h within some is = absurd (omega arith)
+  run_of (suc count) size [] older h within some is = absurd (omega arith)
+  run_of (suc count) size (x ∷ xs) older h within some is =
+      let piece : List ℕ = take size (x ∷ xs) in
+      let left : List ℕ = drop size (x ∷ xs) in
+      let both : (joined older ++ piece) ++ left ≡ frame_of pdu =
+      append_assoc (joined older) piece left ∙ ap (λ (octets : List ℕ). joined older ++ octets) (take-append-drop size (x ∷ xs)) ∙ is in
+      let fewer : length left ≤ count = omega (arith, length-drop size (x ∷ xs)) in
+      subst IsRun (sym (newer piece (pieces_within count size left) older)) (elim (cases_lt 0 (length left)) [
+        | inl more ↦ run_of count size left (piece ∷ older) h fewer more both
+        | inr none ↦
+            let ended : left ≡ [] = length-zero left (omega arith) in
+            let last : IsRun (piece ∷ older) = (
+              sym (append-nil (joined older ++ piece)) ∙ ap (λ (octets : List ℕ). (joined older ++ piece) ++ octets) (sym ended) ∙ both,
+              rw (too_few (joined older) (x ∷ xs) is (omega arith)) (short_of older (x ∷ xs) is (omega arith)),
+            ) in
+            subst (λ (octets : List ℕ). IsRun (reverse (pieces_within count size octets) ++ (piece ∷ older))) (sym ended) (alone count piece last)
+      ])
+    where
+      alone : (count : ℕ) (piece : List ℕ) → IsRun (piece ∷ older) → IsRun (reverse (pieces_within count size []) ++ (piece ∷ older))
+      alone zero piece last = last
+      alone (suc count) piece last = last
+
+  whole_frame : length pdu.1 ≤ 517 → frame_in_by (is_enough (frame_of pdu)) true (is_frame (frame_of pdu)) (frame_of pdu) ≡ Some (frame_of pdu)
+  whole_frame fits =
+      let stated : from_two (length pdu.1 % 256) (length pdu.1 / 256) ≡ length pdu.1 = omega arith in
+      rw (
+        le-leb (from_two (length pdu.1 % 256) (length pdu.1 / 256)) (length pdu.1) (omega arith),
+        eq-eqb (length pdu.1) (from_two (length pdu.1 % 256) (length pdu.1 / 256)) (sym stated),
+        le-leb (length (frame_of pdu)) 521 (omega arith),
+      ) refl
+
+  run_frame : (run : List (List ℕ)) → IsRun run → length pdu.1 ≤ 517 → frame_in run ≡ Some (frame_of pdu)
+  unfolding IsRun
+  run_frame run is fits =
+      ap₂ (λ (octets : List ℕ) (short : Bool). frame_in_by (is_enough octets) short (is_frame octets) octets) is.0 is.1 ∙ whole_frame fits
+
+newest-continued : (others : List (List ℕ)) (older : List Fragment) (run : List (List ℕ)) → newest_run older ≡ Some run
+    → newest_run (reverse (map Continuation others) ++ older) ≡ Some (reverse others ++ run)
+newest-continued [] older run is = is
+newest-continued (octets ∷ others) older run is =
+    ap newest_run (newer (Continuation octets) (map Continuation others) older)
+    ∙ newest-continued others (Continuation octets ∷ older) (octets ∷ run) (ap (option_map (λ (earlier : List (List ℕ)). octets ∷ earlier)) is)
+    ∙ ap Some (sym (newer octets others run))
+
+newest-flagged : (pieces : List (List ℕ)) (older : List Fragment) → 0 < length pieces
+    → newest_run (reverse (flagged pieces) ++ older) ≡ Some (reverse pieces ++ [])
+newest-flagged [] older some = absurd (omega arith)
+newest-flagged (piece ∷ others) older some =
+    ap newest_run (newer (Beginning piece) (map Continuation others) older)
+    ∙ newest-continued others (Beginning piece ∷ older) (piece ∷ []) refl
+    ∙ ap Some (sym (newer piece others []))
+
+-- the fragments of a PDU make its frame
+pub fragments_frame : (size : ℕ) (pdu : Pdu) (older : List Fragment) → 0 < size → length pdu.1 ≤ 517
+    → frame_at (reverse (fragments_of size pdu) ++ older) ≡ Some (frame_of pdu)
+unfolding frame_at pieces
+fragments_frame size pdu older some fits =
+    ap of_run (newest-flagged (pieces size (frame_of pdu)) older (omega arith))
+    ∙ run_frame pdu (reverse (pieces size (frame_of pdu)) ++ [])
+    (run_of pdu (length (frame_of pdu)) size (frame_of pdu) [] some (omega arith) (omega arith) refl) fits

@@ -1,4 +1,5 @@
 pub mod Fragments
 pub mod Frames
+pub mod Histories
 pub mod Rings
 pub mod Shares

@@ -1,54 +1,70 @@
--- What is done with a sender, one act after another: Core 5.0, Vol 2 Part E, 4.1.1.
-use Rattle.std.specs.Prelude.{ℕ, ◌+◌, ◌-◌, min, if◌then◌else◌, List, [], ◌∷◌, ◌++◌}
-use Rattle.std.specs.List.{flat_map}
+-- What a sender gives, whatever is done with it: this profile's own, by Core 5.0, Vol 2 Part E, 4.1.1.
+use Rattle.std.specs.Prelude.{◌≡◌, ℕ, ◌+◌, ◌-◌, ◌≤◌, min, false, if◌then◌else◌, List, [], ◌∷◌, ◌++◌, length, take}
 use Rattle.std.specs.Option.{option_to_list}
-use Rattle.octets.specs.Number.{Octets}
-use Rattle.le_acl.specs.Outgoing.{Fragment, Outgoing, frame_of, fragments_of, with_pdu, next_of, may_give, after_next}
+use Rattle.le_acl.specs.Fragment.{Fragment}
+use Rattle.le_acl.specs.Packets.{Pdu, fragments_of, joined, rest}
+use Rattle.le_acl.specs.Outgoing.{Outgoing, none_queued, with_pdu, next_of, may_give, after_next, with_completed, flushed}
 
--- a PDU is queued, a packet is asked for, or packets are completed
+-- a PDU is queued, a packet is asked for, packets are completed, the PDUs are dropped, or all begins anew
 pub data Act : Type 0 where
-  Push : (channel : ℕ) (payload : Octets) → Act
-  Give : Act
-  Complete : (count : ℕ) → Act
+  Push : (pdu : Pdu) → Act
+  Next : Act
+  Completed : (count : ℕ) → Act
+  Flush : Act
+  Reset : (share size : ℕ) → Act
 
 abbrev pub acted : Outgoing → Act → Outgoing
-acted old (Push channel payload) = with_pdu old channel payload
-acted old Give = if may_give old then after_next old else old
-acted old (Complete count) = record old { outstanding = old.outstanding - count }
+acted old (Push pdu) = with_pdu old pdu
+acted old Next = if may_give old then after_next old else old
+acted old (Completed count) = with_completed old count
+acted old Flush = flushed old
+acted old (Reset share size) = none_queued share size
 
--- the fragments that an act queues and gives, and the packets that it completes, cut to those outstanding
-abbrev pub queued_by : Outgoing → Act → List Fragment
-queued_by old (Push channel payload) = fragments_of old.size (frame_of (channel, payload))
-queued_by old Give = []
-queued_by old (Complete count) = []
+-- after any acts, of which the newest stands first
+abbrev pub after : Outgoing → List Act → Outgoing
+after start [] = start
+after start (act ∷ earlier) = acted (after start earlier) act
 
-abbrev pub given_by : Outgoing → Act → List Fragment
-given_by old (Push channel payload) = []
-given_by old Give = if may_give old then option_to_list (next_of old.queue) else []
-given_by old (Complete count) = []
-
-abbrev pub done_by : Outgoing → Act → ℕ
-done_by old (Push channel payload) = 0
-done_by old Give = 0
-done_by old (Complete count) = min count old.outstanding
-
--- the same of several acts, one after another
-abbrev pub after_all : Outgoing → List Act → Outgoing
-after_all old [] = old
-after_all old (act ∷ acts) = after_all (acted old act) acts
-
-abbrev pub queued_in : Outgoing → List Act → List Fragment
-queued_in old [] = []
-queued_in old (act ∷ acts) = queued_by old act ++ queued_in (acted old act) acts
-
+-- since the newest reset: the packets given
 abbrev pub given_in : Outgoing → List Act → List Fragment
-given_in old [] = []
-given_in old (act ∷ acts) = given_by old act ++ given_in (acted old act) acts
+given_in start [] = []
+given_in start (Push pdu ∷ earlier) = given_in start earlier
+given_in start (Next ∷ earlier) =
+    given_in start earlier ++ (if may_give (after start earlier) then option_to_list (next_of (after start earlier).queue) else [])
+given_in start (Completed count ∷ earlier) = given_in start earlier
+given_in start (Flush ∷ earlier) = given_in start earlier
+given_in start (Reset share size ∷ earlier) = []
 
+-- the packets of the PDUs queued; a flush leaves those that were given
+abbrev pub queued_in : Outgoing → List Act → List (List Fragment)
+queued_in start [] = []
+queued_in start (Push pdu ∷ earlier) = queued_in start earlier ++ fragments_of (after start earlier).size pdu ∷ []
+queued_in start (Next ∷ earlier) = queued_in start earlier
+queued_in start (Completed count ∷ earlier) = queued_in start earlier
+queued_in start (Flush ∷ earlier) = given_in start earlier ∷ []
+queued_in start (Reset share size ∷ earlier) = []
+
+-- and how many packets are done: each count is cut to those that were given and not done before
 abbrev pub done_in : Outgoing → List Act → ℕ
-done_in old [] = 0
-done_in old (act ∷ acts) = done_by old act + done_in (acted old act) acts
+done_in start [] = 0
+done_in start (Push pdu ∷ earlier) = done_in start earlier
+done_in start (Next ∷ earlier) = done_in start earlier
+done_in start (Completed count ∷ earlier) =
+    done_in start earlier + min count (length (given_in start earlier) - done_in start earlier)
+done_in start (Flush ∷ earlier) = done_in start earlier
+done_in start (Reset share size ∷ earlier) = 0
 
--- the fragments not yet given
-abbrev pub waiting : Outgoing → List Fragment
-waiting outgoing = flat_map (λ fragments. fragments) outgoing.queue
+-- the packets given are the first of those queued, and at most a share beyond those that are done; all of these, once no
+-- more may be given. What is left of the queue follows from how many they are
+pub record GivesAShare (queued : List (List Fragment)) (given : List Fragment) (done : ℕ) (now : Outgoing) : Type 0 where
+  pub first : given ≡ take (length given) (joined queued)
+  pub within : length given ≤ now.share + done
+  pub all : may_give now ≡ false → given ≡ take (now.share + done) (joined queued)
+  pub left : now.queue ≡ rest (length given) queued
+  pub outstanding : now.outstanding ≡ length given - done
+
+-- so it is after any acts with a new sender
+abbrev pub AlwaysGivesAShare : ℕ → ℕ → Type 0
+AlwaysGivesAShare share size = (acts : List Act) →
+    let start = none_queued share size in
+    GivesAShare (queued_in start acts) (given_in start acts) (done_in start acts) (after start acts)

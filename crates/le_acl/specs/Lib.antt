@@ -1,9 +1,13 @@
 pub mod Acts
+pub mod Fragment
 pub mod Frame
+pub mod History
 pub mod Outgoing
+pub mod Packets
 pub mod PayloadLends
 pub mod Pdus
 pub mod PdusLends
 pub mod Reassembler
 pub mod SenderLends
 pub mod Sending
+pub mod Shares

@@ -1,9 +1,10 @@
 -- What a reassembler holds between two fragments.
-use Rattle.std.specs.Prelude.{nat_le, if◌then◌else◌, List, [], ◌∷◌, ◌++◌, length, Option, Some, None}
+use Rattle.std.specs.Prelude.{◌≡◌, nat_le, if◌then◌else◌, List, [], ◌∷◌, ◌++◌, length, Option, Some, None}
 use Rattle.octets.specs.Number.{Octets}
 use Rattle.le_acl.specs.declared.reassembler.State.{State}
 use Rattle.le_acl.specs.declared.reassembler.State.TheVariants.{Idle, Unfinished, Whole}
-use Rattle.le_acl.specs.Frame.{Fragment, Beginning, Continuation, is_enough, is_frame}
+use Rattle.le_acl.specs.Fragment.{Fragment, Beginning, Continuation}
+use Rattle.le_acl.specs.Frame.{is_enough, is_frame, frame_at}
 
 -- the octets so far of a frame that may still become whole, and the frame that the newest fragment made whole
 pub record Assembly : Type 0 where
@@ -33,6 +34,10 @@ abbrev pub assembled : List Fragment → Assembly
 assembled [] = nothing
 assembled (Beginning octets ∷ older) = assembled_of octets
 assembled (Continuation octets ∷ older) = continued (assembled older) octets
+
+-- whatever fragments came, the newest gives the frame that it makes whole
+abbrev pub GivesFrames : Type 0
+GivesFrames = (fragments : List Fragment) → (assembled fragments).frame ≡ frame_at fragments
 
 -- the fields of a reassembler, as one value
 abbrev pub assembly_of : State → Octets → Assembly

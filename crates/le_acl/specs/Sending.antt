@@ -1,33 +1,45 @@
--- The fields of a sender, as one value.
+-- A sender: what goes out, the room that is lent, and the fields that keep both.
 use Rattle.std.specs.Prelude.{◌≡◌, ℕ, zero, suc, ◌+◌, ◌<◌, ◌≤◌, Bool, true, false, List, [], ◌∷◌, length, drop, map, Option, Some, None}
 use Rattle.octets.specs.Number.{Octets}
 use Rattle.le_acl.specs.Pdus.{Queued}
-use Rattle.le_acl.specs.Outgoing.{Fragment, Outgoing, continuation, pieces, frame_of, fragments_of}
+use Rattle.le_acl.specs.Fragment.{Fragment, Beginning, Continuation}
+use Rattle.le_acl.specs.Packets.{Pdu, pieces, frame_of, fragments_of}
+use Rattle.le_acl.specs.Outgoing.{Outgoing, none_queued}
+
+-- what stands in the room that is lent is no part of what goes out
+pub record Sending : Type 0 where
+  pub outgoing : Outgoing
+  pub room : Option Octets
+
+abbrev pub idle : ℕ → ℕ → Sending
+idle share size = record { outgoing = none_queued share size; room = None }
+
+-- a fragment of a frame by its first octet's place
+abbrev pub fragment_at : ℕ → Octets → Fragment
+fragment_at zero octets = Beginning octets
+fragment_at (suc gone) octets = Continuation octets
 
 -- the fragments of a frame from this octet on
-abbrev pub fragments_from : ℕ → ℕ → Octets → List Fragment
-fragments_from size zero frame = fragments_of size frame
-fragments_from size (suc gone) frame = map continuation (pieces size (drop (suc gone) frame))
+abbrev pub fragments_from : ℕ → ℕ → Pdu → List Fragment
+fragments_from size zero pdu = fragments_of size pdu
+fragments_from size (suc gone) pdu = map Continuation (pieces size (drop (suc gone) (frame_of pdu)))
 
-abbrev pub queue_of : ℕ → ℕ → List (ℕ × Octets) → List (List Fragment)
+abbrev pub queue_of : ℕ → ℕ → List Pdu → List (List Fragment)
 queue_of size gone [] = []
-queue_of size gone (pdu ∷ pdus) = fragments_from size gone (frame_of pdu) ∷ map (λ other. fragments_of size (frame_of other)) pdus
+queue_of size gone (pdu ∷ pdus) = fragments_from size gone pdu ∷ map (fragments_of size) pdus
 
 abbrev pub room_of : Bool → Octets → Option Octets
 room_of true room = Some room
 room_of false room = None
 
-abbrev pub outgoing_of : Queued → ℕ → ℕ → ℕ → ℕ → Bool → Outgoing
-outgoing_of queued gone outstanding share size lent = record {
-  queue = queue_of size gone queued.pdus;
-  outstanding = outstanding;
-  share = share;
-  size = size;
+abbrev pub sending_of : Queued → ℕ → ℕ → ℕ → ℕ → Bool → Sending
+sending_of queued gone outstanding share size lent = record {
+  outgoing = record { queue = queue_of size gone queued.pdus; outstanding = outstanding; share = share; size = size };
   room = room_of lent queued.room;
 }
 
 -- of the first PDU some fragments may be gone, but not all
-abbrev pub IsWithin : ℕ → ℕ → List (ℕ × Octets) → Type 0
+abbrev pub IsWithin : ℕ → ℕ → List Pdu → Type 0
 IsWithin size gone [] = gone ≡ 0
 IsWithin size gone (pdu ∷ pdus) = (gone < 4 + length pdu.1) × (0 < gone → size ≤ gone)
 

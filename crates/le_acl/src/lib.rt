@@ -6,5 +6,6 @@ mod pdus;
 mod reassembler;
 mod sender;
 
+pub use pdus::MAX_PDUS;
 pub use reassembler::{Piece, Reassembler};
 pub use sender::{Full, Sender};

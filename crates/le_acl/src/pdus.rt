@@ -5,8 +5,8 @@ use arrayvec::ArrayVec;
 use std::alloc::{AllocError, Global};
 use std::marker::Model;
 
-/// How many PDUs are queued at most.
-pub(crate) const MAX_PDUS: usize = 16;
+/// How many PDUs of one connection are queued at most.
+pub const MAX_PDUS: usize = 16;
 
 /// The payloads of PDUs, each at its place.
 #[derive(Drop)]

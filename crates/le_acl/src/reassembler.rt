@@ -1,5 +1,6 @@
 ghost use Rattle.std.specs.Prelude.{◌≡◌, ◌≤◌, ◌↔◌, ◌++◌, length, Some, IsSome};
-ghost use Rattle.le_acl.specs.Reassembler.{nothing, assembled_of, continued, assembly_of};
+ghost use Rattle.le_acl.specs.Frame.{FragmentsMakeTheirFrame};
+ghost use Rattle.le_acl.specs.Reassembler.{GivesFrames, nothing, assembled_of, continued, assembly_of};
 
 use arrayvec::ArrayVec;
 use std::cmp::Ordering;
@@ -46,8 +47,12 @@ impl Model for Reassembler {
 
 impl Reassembler {
     /// A reassembler that holds nothing.
+    #[tactic(auto, using(crate::proofs::Frames::assembled_frame, crate::proofs::Frames::fragments_frame))]
     pub fn new() -> Self
-        ensures { result ≡ nothing }
+        ensures nothing { result ≡ nothing }
+        // Whatever fragments come, `start` and `more` give the frames that they make.
+        ensures frames { GivesFrames }
+        ensures fragments { FragmentsMakeTheirFrame }
     {
         Reassembler {
             octets: ArrayVec::new(),

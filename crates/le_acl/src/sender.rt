@@ -1,7 +1,12 @@
 ghost use Rattle.std.specs.Prelude.{◌≡◌, ◌+◌, ◌-◌, ◌*◌, ◌^◌, ◌<◌, ◌≤◌, ◌↔◌, [], ◌++◌, length, take, drop, Some, None, IsSome, IsOk, IfOk};
 ghost use Rattle.std.specs.Bool.{OnTrue, OnFalse};
 ghost use Rattle.std.specs.Borrow.{sem};
-ghost use Rattle.le_acl.specs.Outgoing.{none_queued, with_pdu, may_give, after_next, frame_of, acl_octets, Gives, flag_at};
+ghost use Rattle.std.specs.Option.{option_map};
+ghost use Rattle.le_acl.specs.Packets.{frame_of};
+ghost use Rattle.le_acl.specs.Outgoing.{with_pdu, next_of, may_give, after_next, with_completed, flushed, acl_octets};
+ghost use Rattle.le_acl.specs.Acts.{AlwaysGivesAShare};
+ghost use Rattle.le_acl.specs.History.{FollowsHistory};
+ghost use Rattle.le_acl.specs.Sending.{idle, fragment_at};
 ghost use Rattle.octets.specs.Number.{Octets, two_octets};
 
 use crate::pdus::{MAX_PDUS, Pdus};
@@ -37,13 +42,13 @@ pub struct Sender {
 }
 
 impl Model for Sender {
-    ghost use Rattle.le_acl.specs.Outgoing.{Outgoing};
+    ghost use Rattle.le_acl.specs.Sending.{Sending};
 
-    ghost Value = { Outgoing };
+    ghost Value = { Sending };
 
-    ghost use Rattle.le_acl.specs.Sending.{outgoing_of, IsSending};
+    ghost use Rattle.le_acl.specs.Sending.{sending_of, IsSending};
 
-    ghost view = { λ s. outgoing_of s.pdus s.gone s.outstanding s.share s.acl_len s.lent };
+    ghost view = { λ s. sending_of s.pdus s.gone s.outstanding s.share s.acl_len s.lent };
 
     ghost invariant = { λ s. IsSending s.pdus s.gone s.acl_len s.lent };
 }
@@ -53,11 +58,15 @@ impl Sender {
 
     /// A sender that queues nothing yet. Of its packets, with at most `acl_len` octets of data, at
     /// most `share` may be outstanding.
+    #[tactic(auto, using(crate::proofs::Shares::always_gives_a_share))]
     pub fn new(alloc: Global, share: u16, acl_len: u16) -> Result<Sender, AllocError>
         requires share { 0 < share }
         requires acl_len_least { 27 ≤ acl_len }
         requires acl_len_most { acl_len ≤ 251 }
-        ensures { IfOk result (λ sender. sender ≡ none_queued share acl_len) }
+        ensures idle { IfOk result (λ sender. sender ≡ idle share acl_len) }
+        // Whatever is done with it, the packets that it gives are a share of those that are queued.
+        ensures share { AlwaysGivesAShare share acl_len }
+        ensures history { FollowsHistory share acl_len }
     {
         Ok(Sender {
             pdus: Pdus::new(alloc)?,
@@ -72,7 +81,7 @@ impl Sender {
     /// Lends an empty buffer for the payload of the next PDU.
     pub fn room(&mut self) -> Result<&mut ArrayVec<u8, 517>, Full>
         ensures* writes_back { sem 𝓛 (LendsRoom self.entry result) }
-        ensures full { IsOk result ↔ (length self.old.queue < 16) }
+        ensures full { IsOk result ↔ (length self.old.outgoing.queue < 16) }
         ensures empty { IfOk result (λ room. room.now.items ≡ []) }
     {
         if self.backlog() == MAX_PDUS {
@@ -87,7 +96,7 @@ impl Sender {
     /// Queues what was put into the room, as a PDU on a channel.
     pub fn push(&mut self, cid: u16)
         requires { IsSome self.old.room }
-        ensures { (payload : Octets) → self.old.room ≡ Some payload → self.new ≡ with_pdu self.old cid payload }
+        ensures { (payload : Octets) → self.old.room ≡ Some payload → self.new ≡ record { outgoing = with_pdu self.old.outgoing (cid, payload); room = None } }
     {
         self.pdus.push(cid);
         self.lent = false;
@@ -97,9 +106,9 @@ impl Sender {
     /// changes, where no PDU is queued or as many packets are outstanding as may be.
     pub fn next(&mut self, handle: u16, out: &mut ArrayVec<u8, 260>) -> bool
         requires { handle < 2 ^ 12 }
-        ensures gives { result ≡ may_give self.old }
-        ensures given { OnTrue result (Gives self.old.queue handle out.new.items) }
-        ensures after { OnTrue result (self.new ≡ after_next self.old) }
+        ensures gives { result ≡ may_give self.old.outgoing }
+        ensures given { OnTrue result (option_map (acl_octets handle) (next_of self.old.outgoing.queue) ≡ Some out.new.items) }
+        ensures after { OnTrue result (self.new ≡ record self.old { outgoing = after_next self.old.outgoing }) }
         ensures unchanged { OnFalse result (self.new ≡ self.old) }
         ensures out_unchanged { OnFalse result (out.new.items ≡ out.old.items) }
     {
@@ -122,14 +131,14 @@ impl Sender {
 
     /// Counts packets as completed, at most those that are outstanding.
     pub fn completed(&mut self, count: u16)
-        ensures { self.new ≡ record self.old { outstanding = self.old.outstanding - count } }
+        ensures { self.new ≡ record self.old { outgoing = with_completed self.old.outgoing count } }
     {
         self.outstanding = self.outstanding.saturating_sub(count);
     }
 
     /// Drops the PDUs. Packets stay outstanding.
     pub fn flush(&mut self)
-        ensures { self.new ≡ record self.old { queue = []; room = None } }
+        ensures { self.new ≡ record { outgoing = flushed self.old.outgoing; room = None } }
     {
         self.pdus.clear();
         self.gone = 0;
@@ -138,7 +147,7 @@ impl Sender {
 
     /// How many PDUs have a packet not yet given.
     pub fn backlog(&self) -> usize
-        ensures count { result ≡ length self.now.queue }
+        ensures count { result ≡ length self.now.outgoing.queue }
         ensures within { result ≤ 16 }
     {
         self.pdus.len()
@@ -149,7 +158,7 @@ impl Sender {
         requires share { 0 < share }
         requires acl_len_least { 27 ≤ acl_len }
         requires acl_len_most { acl_len ≤ 251 }
-        ensures { self.new ≡ none_queued share acl_len }
+        ensures { self.new ≡ idle share acl_len }
     {
         self.flush();
         self.outstanding = 0;
@@ -159,7 +168,7 @@ impl Sender {
 }
 
 /// Writes the fragment of a PDU's frame that begins with the octet `gone`.
-#[tactic(auto, using(crate::proofs::Fragments::take_header, crate::proofs::Fragments::drop_header, crate::proofs::Fragments::flag_later))]
+#[tactic(auto, using(crate::proofs::Fragments::take_header, crate::proofs::Fragments::drop_header, crate::proofs::Fragments::fragment_later))]
 fn write_fragment(
     handle: u16,
     channel: u16,
@@ -173,7 +182,7 @@ fn write_fragment(
     requires gone { 0 < gone → 4 ≤ gone }
     requires least { 4 ≤ acl_len }
     requires most { acl_len ≤ 251 }
-    ensures { out.new.items ≡ acl_octets handle (flag_at gone) (take acl_len (drop gone (frame_of (channel, payload.now)))) }
+    ensures { out.new.items ≡ acl_octets handle (fragment_at gone (take acl_len (drop gone (frame_of (channel, payload.now))))) }
 {
     if gone == 0 {
         let header = frame_header(channel, payload.len() as u16);
