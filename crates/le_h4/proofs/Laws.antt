@@ -25,9 +25,9 @@ pub division-feeds : (calls : List Call) (new : Deframing) → Feeds at_start ca
 division-feeds calls new feeds rest = sym (past_none (octets_of calls ++ rest)) ∙ still-feeds calls at_start new feeds rest
 
 -- so they depend on the octets alone, where no whole packet is held back
-pub packets-feeds : (calls : List Call) (new : Deframing) → Feeds at_start calls new → (still new []).packets ≡ []
+pub packets_feeds : (calls : List Call) (new : Deframing) → Feeds at_start calls new → (still new []).packets ≡ []
     → packets_of calls ≡ (division (octets_of calls)).packets
-packets-feeds calls new feeds none =
+packets_feeds calls new feeds none =
     sym (append-nil (packets_of calls))
     ∙ ap (λ (held : List Packet). packets_of calls ++ held) (sym none)
     ∙ ap (λ (d : Division). d.packets) (sym (division-feeds calls new feeds []))

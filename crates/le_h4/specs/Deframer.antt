@@ -4,7 +4,7 @@ use Rattle.std.specs.List.{flat_map}
 use Rattle.std.specs.Option.{option_to_list}
 use Rattle.octets.specs.Number.{Octets}
 use Rattle.le_h4.specs.Packet.{Packet, Spells}
-use Rattle.le_h4.specs.Division.{Division, before, division_past}
+use Rattle.le_h4.specs.Division.{Division, before, division, division_past}
 
 -- how many octets of a long ACL packet are still to be passed over, the octets so far of the packet that is
 -- unfinished, and the packet that the last piece ended
@@ -53,3 +53,8 @@ octets_of calls = flat_map (λ call. call.taken) calls
 
 abbrev pub packets_of : List Call → List Packet
 packets_of calls = flat_map (λ call. call.packets) calls
+
+-- however a stream is cut into calls that hold no whole packet back, the packets that they mark are those of its division
+abbrev pub MarksTheDivision : Type 0
+MarksTheDivision = (calls : List Call) (new : Deframing) → Feeds at_start calls new → (still new []).packets ≡ []
+    → packets_of calls ≡ (division (octets_of calls)).packets

@@ -3,7 +3,7 @@ ghost use Rattle.octets.specs.Number.{Octets};
 ghost use Rattle.arrayvec.specs.ArrayVec.{array_vec_len};
 ghost use Rattle.le_h4.specs.Packet.{seen, first_of};
 ghost use Rattle.le_h4.specs.Division.{unfinished, lost, before};
-ghost use Rattle.le_h4.specs.Deframer.{at_start, desynced, still, marks, EndsWith};
+ghost use Rattle.le_h4.specs.Deframer.{at_start, desynced, still, marks, EndsWith, MarksTheDivision};
 ghost use Rattle.le_h4.specs.Progress.{Fits, packet_in};
 ghost use Rattle.le_h4.specs.Gathering.{Gathers};
 ghost use Rattle.le_h4.specs.Held.{unmarked};
@@ -57,8 +57,11 @@ impl Model for Deframer {
 
 impl Deframer {
     /// A deframer at the start of a stream.
+    #[tactic(auto, using(crate::proofs::Laws::packets_feeds))]
     pub fn new() -> Self
-        ensures { result ≡ at_start }
+        ensures at_start { result ≡ at_start }
+        // However the stream is cut into pieces, the packets that `feed` marks are the same.
+        ensures division { MarksTheDivision }
     {
         Deframer {
             gathered: ArrayVec::new(),
