@@ -1,5 +1,5 @@
 -- Initialisation sends its commands in their order.
-use Rattle.std.proofs.Common.{◌≡◌, ℕ, Bool, true, false, List, [], ◌∷◌, ◌++◌, refl, ap, subst}
+use Rattle.std.proofs.Common.{◌≡◌, ℕ, Bool, true, false, List, [], ◌∷◌, ◌++◌, refl, ap, subst, sym}
 use Rattle.std.specs.Prelude.{◌==◌, ◌&&◌, nat_le, nat_lt, if◌then◌else◌, drop, Option, Some, None, Result, Ok, Err}
 use Rattle.std.specs.Result.{result_map_both}
 use Rattle.arrayvec.specs.ArrayVec.{ArrayVec}
@@ -11,7 +11,7 @@ use Rattle.le_hci.specs.declared.init.InitFault.{InitFault}
 use Rattle.le_hci.specs.declared.init.InitFault.TheVariants.{Refused, BadBuffers}
 use Rattle.le_hci.specs.Buffers.{usable_of, shared_buffers_of}
 use Rattle.le_hci.specs.Command.{Commanded, SetEventMask, ReadBufferSize, LeSetEventMask, LeReadBufferSize, LeSetAdvertisingParameters, LeSetAdvertisingData, LeSetAdvertiseEnable}
-use Rattle.le_hci.specs.Init.{event_mask, le_event_mask, opcode_awaited, outcome_of, next_by, handed_back, next, first_state, addressed_from, after_sizing, after_shared_sizing, with_buffers}
+use Rattle.le_hci.specs.Init.{event_mask, le_event_mask, opcode_awaited, outcome_by, outcome_of, next_by, handed_back, next, first_state, addressed_from, after_sizing, after_shared_sizing, with_buffers}
 use Rattle.le_hci.specs.InitOrder.{address_commands, shared_commands, advertising_commands, commands_in_order, tell_shared, sent_after, commands_sent, IsPrefixOf}
 use Rattle.octets.specs.Number.{from_two}
 
@@ -22,64 +22,68 @@ one_more : (command : Commanded) (sent commands : List Commanded) → IsPrefixOf
 one_more command sent commands p = record { rest = p.rest; whole = ap (λ (cs : List Commanded). command ∷ cs) p.whole }
 
 -- what follows on an answer is in order where what follows on a success is
-after_success : (state : Init) (status : ℕ) (values : List ℕ) (sent_from : Init → List Commanded) (commands : List Commanded)
+after_success : (state : Init) (opcode : ℕ) → opcode_awaited state ≡ Some opcode
+    → (status : ℕ) (values : List ℕ) (sent_from : Init → List Commanded) (commands : List Commanded)
     → ((following : Init) → next state values ≡ Ok following → IsPrefixOf (sent_from following) commands)
     → IsPrefixOf (sent_after (outcome_of state (status ∷ values)) sent_from) commands
-after_success state status values sent_from commands h = pick (status == 0)
+after_success state opcode awaits status values sent_from commands h =
+    let P : Option ℕ → Type 0 = λ awaited. IsPrefixOf (sent_after (outcome_by awaited state (status ∷ values)) sent_from) commands in
+    subst P (sym awaits) (pick (status == 0))
   where
     settle : (outcome : Result Init InitFault) → ((following : Init) → outcome ≡ Ok following → IsPrefixOf (sent_from following) commands)
         → IsPrefixOf (sent_after (handed_back state outcome) sent_from) commands
     settle (Ok following) k = k following refl
     settle (Err fault) k = none_sent commands
 
-    pick : (b : Bool) → IsPrefixOf (sent_after (handed_back state (next_by state (if b then Ok values else Err (Refused (opcode_awaited state) status)))) sent_from) commands
+    pick : (b : Bool) → IsPrefixOf (sent_after (handed_back state (next_by state (if b then Ok values else Err (Refused opcode status)))) sent_from) commands
     pick true = settle (next state values) h
     pick false = none_sent commands
 
-after : (state : Init) (returned : List ℕ) (sent_from : Init → List Commanded) (commands : List Commanded)
+after : (state : Init) (opcode : ℕ) → opcode_awaited state ≡ Some opcode → (returned : List ℕ) (sent_from : Init → List Commanded) (commands : List Commanded)
     → ((values : List ℕ) (following : Init) → next state values ≡ Ok following → IsPrefixOf (sent_from following) commands)
     → IsPrefixOf (sent_after (outcome_of state returned) sent_from) commands
-after state [] sent_from commands h = none_sent commands
-after state (status ∷ values) sent_from commands h = after_success state status values sent_from commands (h values)
+after state opcode awaits [] sent_from commands h =
+    let P : Option ℕ → Type 0 = λ awaited. IsPrefixOf (sent_after (outcome_by awaited state []) sent_from) commands in
+    subst P (sym awaits) (none_sent commands)
+after state opcode awaits (status ∷ values) sent_from commands h = after_success state opcode awaits status values sent_from commands (h values)
 
 -- where one state follows whatever is returned
-always : (state following : Init) → ((values : List ℕ) → next state values ≡ Ok following)
+always : (state following : Init) (opcode : ℕ) → opcode_awaited state ≡ Some opcode → ((values : List ℕ) → next state values ≡ Ok following)
     → (returned : List ℕ) (sent_from : Init → List Commanded) (commands : List Commanded)
     → IsPrefixOf (sent_from following) commands → IsPrefixOf (sent_after (outcome_of state returned) sent_from) commands
-always state following e returned sent_from commands p =
-    after state returned sent_from commands (λ values other o.
+always state following opcode awaits e returned sent_from commands p =
+    after state opcode awaits returned sent_from commands (λ values other o.
     let same : following ≡ other = cc (e values) in
     subst (λ (s : Init). IsPrefixOf (sent_from s) commands) same p)
 
 ready : (answers : List (List ℕ)) (length packets : ℕ) → IsPrefixOf (commands_sent answers (Ready length packets)) []
 ready [] length packets = none_sent []
-ready (returned ∷ answers) length packets =
-    always (Ready length packets) (Ready length packets) (λ _. refl) returned (commands_sent answers) [] (ready answers length packets)
+ready (returned ∷ answers) length packets = ready answers length packets
 
 enabling : (answers : List (List ℕ)) (buffers : Buffers) → IsPrefixOf (commands_sent answers (Enabling buffers)) (LeSetAdvertiseEnable ∷ [])
 enabling [] buffers = one_more _ _ _ (none_sent _)
 enabling (returned ∷ answers) buffers =
-    one_more _ _ _ (always (Enabling buffers) (Ready buffers.length buffers.packets) (λ _. refl) returned (commands_sent answers) _ (ready answers _ _))
+    one_more _ _ _ (always (Enabling buffers) (Ready buffers.length buffers.packets) _ refl (λ _. refl) returned (commands_sent answers) _ (ready answers _ _))
 
 filling : (answers : List (List ℕ)) (advertising : ArrayVec ℕ) (buffers : Buffers)
     → IsPrefixOf (commands_sent answers (Filling advertising buffers)) (LeSetAdvertisingData advertising.items ∷ LeSetAdvertiseEnable ∷ [])
 filling [] advertising buffers = one_more _ _ _ (none_sent _)
 filling (returned ∷ answers) advertising buffers =
-    one_more _ _ _ (always (Filling advertising buffers) (Enabling buffers) (λ _. refl) returned (commands_sent answers) _ (enabling answers buffers))
+    one_more _ _ _ (always (Filling advertising buffers) (Enabling buffers) _ refl (λ _. refl) returned (commands_sent answers) _ (enabling answers buffers))
 
 describing : (answers : List (List ℕ)) (kind : ℕ) (advertising : ArrayVec ℕ) (buffers : Buffers)
     → IsPrefixOf (commands_sent answers (Describing kind advertising buffers))
     (LeSetAdvertisingParameters kind ∷ LeSetAdvertisingData advertising.items ∷ LeSetAdvertiseEnable ∷ [])
 describing [] kind advertising buffers = one_more _ _ _ (none_sent _)
 describing (returned ∷ answers) kind advertising buffers =
-    one_more _ _ _ (always (Describing kind advertising buffers) (Filling advertising buffers) (λ _. refl) returned (commands_sent answers) _ (filling answers advertising buffers))
+    one_more _ _ _ (always (Describing kind advertising buffers) (Filling advertising buffers) _ refl (λ _. refl) returned (commands_sent answers) _ (filling answers advertising buffers))
 
 addressing : (answers : List (List ℕ)) (address : Option (List ℕ)) (advertising : ArrayVec ℕ) (buffers : Buffers)
     → IsPrefixOf (commands_sent answers (addressed_from address advertising buffers)) (address_commands address ++ advertising_commands address advertising.items)
 addressing answers None advertising buffers = describing answers 0x00 advertising buffers
 addressing [] (Some address) advertising buffers = one_more _ _ _ (none_sent _)
 addressing (returned ∷ answers) (Some address) advertising buffers =
-    one_more _ _ _ (always (Addressing address advertising buffers) (Describing 0x01 advertising buffers) (λ _. refl) returned (commands_sent answers) _ (describing answers 0x01 advertising buffers))
+    one_more _ _ _ (always (Addressing address advertising buffers) (Describing 0x01 advertising buffers) _ refl (λ _. refl) returned (commands_sent answers) _ (describing answers 0x01 advertising buffers))
 
 -- the commands after the buffers are told
 abbrev rest_of : Settings → List Commanded
@@ -88,7 +92,7 @@ rest_of settings = address_commands settings.address ++ advertising_commands set
 shared_sizing : (answers : List (List ℕ)) (settings : Settings) → IsPrefixOf (commands_sent answers (SharedSizing settings)) (ReadBufferSize ∷ rest_of settings)
 shared_sizing [] settings = one_more _ _ _ (none_sent _)
 shared_sizing (returned ∷ answers) settings =
-    one_more _ _ _ (after (SharedSizing settings) returned (commands_sent answers) (rest_of settings) (λ values following e.
+    one_more _ _ _ (after (SharedSizing settings) _ refl returned (commands_sent answers) (rest_of settings) (λ values following e.
     told (shared_buffers_of values) following e))
   where
     told : (buffers : Result Buffers InitFault) (following : Init) → after_shared_sizing settings buffers ≡ Ok following → IsPrefixOf (commands_sent answers following) (rest_of settings)
@@ -122,11 +126,11 @@ sizing (returned ∷ answers) settings = one_more _ _ _ (sized returned)
     sized : (returned : List ℕ) → IsPrefixOf (sent_after (outcome_of (Sizing settings) returned) (commands_sent answers))
         (shared_commands (tell_shared (returned ∷ answers)) ++ rest_of settings)
     sized [] = none_sent _
-    sized (status ∷ []) = after_success (Sizing settings) status [] _ _ (λ following e. absurd (cc))
-    sized (status ∷ a ∷ []) = after_success (Sizing settings) status (a ∷ []) _ _ (λ following e. absurd (cc))
-    sized (status ∷ a ∷ b ∷ []) = after_success (Sizing settings) status (a ∷ b ∷ []) _ _ (λ following e. absurd (cc))
+    sized (status ∷ []) = after_success (Sizing settings) _ refl status [] _ _ (λ following e. absurd (cc))
+    sized (status ∷ a ∷ []) = after_success (Sizing settings) _ refl status (a ∷ []) _ _ (λ following e. absurd (cc))
+    sized (status ∷ a ∷ b ∷ []) = after_success (Sizing settings) _ refl status (a ∷ b ∷ []) _ _ (λ following e. absurd (cc))
     sized (status ∷ a ∷ b ∷ packets ∷ more) =
-        after_success (Sizing settings) status (a ∷ b ∷ packets ∷ more) (commands_sent answers) _
+        after_success (Sizing settings) _ refl status (a ∷ b ∷ packets ∷ more) (commands_sent answers) _
         (pick (from_two a b == 0) (record { length = from_two a b; packets = packets }))
 
 le_masking : (answers : List (List ℕ)) (settings : Settings)
@@ -134,18 +138,18 @@ le_masking : (answers : List (List ℕ)) (settings : Settings)
     (LeSetEventMask le_event_mask ∷ LeReadBufferSize ∷ (shared_commands (tell_shared (drop 1 answers)) ++ rest_of settings))
 le_masking [] settings = one_more _ _ _ (none_sent _)
 le_masking (returned ∷ answers) settings =
-    one_more _ _ _ (always (LeMasking settings) (Sizing settings) (λ _. refl) returned (commands_sent answers) _ (sizing answers settings))
+    one_more _ _ _ (always (LeMasking settings) (Sizing settings) _ refl (λ _. refl) returned (commands_sent answers) _ (sizing answers settings))
 
 masking : (answers : List (List ℕ)) (settings : Settings)
     → IsPrefixOf (commands_sent answers (Masking settings))
     (SetEventMask event_mask ∷ LeSetEventMask le_event_mask ∷ LeReadBufferSize ∷ (shared_commands (tell_shared (drop 2 answers)) ++ rest_of settings))
 masking [] settings = one_more _ _ _ (none_sent _)
 masking (returned ∷ answers) settings =
-    one_more _ _ _ (always (Masking settings) (LeMasking settings) (λ _. refl) returned (commands_sent answers) _ (le_masking answers settings))
+    one_more _ _ _ (always (Masking settings) (LeMasking settings) _ refl (λ _. refl) returned (commands_sent answers) _ (le_masking answers settings))
 
 pub in_order : (address : Option (List ℕ)) (advertising : ArrayVec ℕ) (answers : List (List ℕ))
     → IsPrefixOf (commands_sent answers (first_state address advertising)) (commands_in_order address advertising.items (tell_shared (drop 3 answers)))
 in_order address advertising [] = one_more _ _ _ (none_sent _)
 in_order address advertising (returned ∷ answers) =
     let settings : Settings = record { address = address; advertising = advertising } in
-    one_more _ _ _ (always (Resetting settings) (Masking settings) (λ _. refl) returned (commands_sent answers) _ (masking answers settings))
+    one_more _ _ _ (always (Resetting settings) (Masking settings) _ refl (λ _. refl) returned (commands_sent answers) _ (masking answers settings))

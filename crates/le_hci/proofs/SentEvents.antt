@@ -1,5 +1,5 @@
 -- What is read from an event packet is what was sent, and what was sent is read.
-use Rattle.std.proofs.Common.{◌≡◌, ℕ, zero, suc, ◌/◌, ◌%◌, ◌<◌, Bool, true, false, List, [], ◌∷◌, ◌++◌, length, refl, ap, sym, subst, ◌∙◌, append-nil, arith, Fits, w8}
+use Rattle.std.proofs.Common.{◌≡◌, ℕ, zero, suc, ◌/◌, ◌%◌, ◌<◌, Bool, true, false, List, [], ◌∷◌, ◌++◌, length, drop, refl, ap, sym, subst, ◌∙◌, append-nil, arith, Fits, w8}
 use Rattle.std.specs.Prelude.{◌≢◌, ◌==◌, if◌then◌else◌, map, slice_index_or, Option, Some, None, Result, Ok, Err, IfOk}
 use Rattle.std.specs.List.{flat_map}
 use Rattle.std.specs.Option.{option_map}
@@ -13,6 +13,7 @@ use Rattle.le_hci.specs.declared.event.BadEvent.{BadEvent}
 use Rattle.le_hci.specs.Event.{Reported, reported, DisconnectionComplete, EncryptionChange, CommandComplete, CommandStatus, HardwareError, NumberOfCompletedPackets, EncryptionKeyRefreshComplete, ConnectionComplete, LongTermKeyRequest, Other, completed_packets_of, completed_entries, disconnection_complete, encryption_change, command_complete, command_status, hardware_error, number_of_completed_packets, encryption_key_refresh_complete, connection_complete, long_term_key_request, le_meta_form, form_of, read_or_bad, event_of}
 use Rattle.le_hci.specs.EventPacket.{packet, code_of, entry_fields, fields_of, HasFields, entry_told, told, IsSentAs, IsRead}
 use Rattle.octets.specs.Number.{from_two}
+use Rattle.le_hci.proofs.Fields.{connection_by, connection_is, request_by, request_is}
 
 abbrev AreOctets : List ℕ → Type 0
 AreOctets octets = (i : ℕ) → slice_index_or octets i 0 < 256
@@ -157,8 +158,8 @@ reads_refresh (s ∷ l ∷ h ∷ rest) fits event e other = record {
 }
 reads_refresh _ fits event e other = absurd (cc)
 
-reads_connection : (ps : List ℕ) → AreOctets ps → Reads (0x01 ∷ ps) 0x3E (connection_complete ps)
-reads_connection (s ∷ lo ∷ hi ∷ role ∷ kind ∷ a ∷ b ∷ c ∷ d ∷ e ∷ f ∷ i ∷ j ∷ k ∷ l ∷ m ∷ n ∷ accuracy ∷ rest) fits event is other =
+reads_connection_by : (ps : List ℕ) → AreOctets ps → Reads (0x01 ∷ ps) 0x3E (connection_by ps)
+reads_connection_by (s ∷ lo ∷ hi ∷ role ∷ kind ∷ a ∷ b ∷ c ∷ d ∷ e ∷ f ∷ i ∷ j ∷ k ∷ l ∷ m ∷ n ∷ accuracy ∷ rest) fits event is other =
     let peer : Peer = record { kind = kind; address = a ∷ b ∷ c ∷ d ∷ e ∷ f ∷ [] } in
     record {
       sent = ConnectionComplete s (from_two lo hi) role peer (from_two i j) (from_two k l) (from_two m n) accuracy;
@@ -167,17 +168,23 @@ reads_connection (s ∷ lo ∷ hi ∷ role ∷ kind ∷ a ∷ b ∷ c ∷ d ∷ 
       fields = cc (low lo hi (fits 1), high lo hi (fits 1), low i j (fits 11), high i j (fits 11), low k l (fits 13), high k l (fits 13), low m n (fits 15), high m n (fits 15));
       same = cc;
     }
-reads_connection _ fits event e other = absurd (cc)
+reads_connection_by _ fits event e other = absurd (cc)
 
-reads_request : (ps : List ℕ) → AreOctets ps → Reads (0x05 ∷ ps) 0x3E (long_term_key_request ps)
-reads_request (lo ∷ hi ∷ a ∷ b ∷ c ∷ d ∷ e ∷ f ∷ g ∷ h ∷ i ∷ j ∷ rest) fits event is other = record {
+reads_connection : (ps : List ℕ) → AreOctets ps → Reads (0x01 ∷ ps) 0x3E (connection_complete ps)
+reads_connection ps fits = subst (Reads (0x01 ∷ ps) 0x3E) (sym (connection_is ps)) (reads_connection_by ps fits)
+
+reads_request_by : (ps : List ℕ) → AreOctets ps → Reads (0x05 ∷ ps) 0x3E (request_by ps)
+reads_request_by (lo ∷ hi ∷ a ∷ b ∷ c ∷ d ∷ e ∷ f ∷ g ∷ h ∷ i ∷ j ∷ rest) fits event is other = record {
   sent = LongTermKeyRequest (from_two lo hi) (a ∷ b ∷ c ∷ d ∷ e ∷ f ∷ g ∷ h ∷ []) (from_two i j);
   extra = rest;
   code_is = refl;
   fields = cc (low lo hi (fits 0), high lo hi (fits 0), low i j (fits 10), high i j (fits 10));
   same = cc;
 }
-reads_request _ fits event e other = absurd (cc)
+reads_request_by _ fits event e other = absurd (cc)
+
+reads_request : (ps : List ℕ) → AreOctets ps → Reads (0x05 ∷ ps) 0x3E (long_term_key_request ps)
+reads_request ps fits = subst (Reads (0x05 ∷ ps) 0x3E) (sym (request_is ps)) (reads_request_by ps fits)
 
 reads_meta : (ps : List ℕ) → AreOctets ps → Reads ps 0x3E (le_meta_form ps)
 reads_meta [] fits = λ event e other. absurd (cc)
@@ -247,14 +254,19 @@ form_read (ConnectionComplete status handle role peer interval latency timeout a
     six : (address : List ℕ) → length address ≡ 6
         → form_of 0x3E (fields_of (ConnectionComplete status handle role (record { kind = peer.kind; address = address }) interval latency timeout accuracy) ++ extra)
         ≡ Some (ConnectionComplete status (handle % 4096) role (record { kind = peer.kind; address = address }) interval latency timeout accuracy)
-    six (a ∷ b ∷ c ∷ d ∷ e ∷ f ∷ []) l = cc (restored handle, restored interval, restored latency, restored timeout)
+    six (a ∷ b ∷ c ∷ d ∷ e ∷ f ∷ []) l =
+        let whole : Peer = record { kind = peer.kind; address = a ∷ b ∷ c ∷ d ∷ e ∷ f ∷ [] } in
+        connection_is (drop 1 (fields_of (ConnectionComplete status handle role whole interval latency timeout accuracy) ++ extra))
+        ∙ cc (restored handle, restored interval, restored latency, restored timeout)
     six (a ∷ b ∷ c ∷ d ∷ e ∷ f ∷ g ∷ rest) l = absurd (omega arith)
     six _ l = absurd (omega arith)
 form_read (LongTermKeyRequest handle random_number diversifier) extra f = eight random_number f
   where
     eight : (random : List ℕ) → length random ≡ 8
         → form_of 0x3E (fields_of (LongTermKeyRequest handle random diversifier) ++ extra) ≡ Some (LongTermKeyRequest (handle % 4096) random diversifier)
-    eight (a ∷ b ∷ c ∷ d ∷ e ∷ f ∷ g ∷ h ∷ []) l = cc (restored handle, restored diversifier)
+    eight (a ∷ b ∷ c ∷ d ∷ e ∷ f ∷ g ∷ h ∷ []) l =
+        request_is (drop 1 (fields_of (LongTermKeyRequest handle (a ∷ b ∷ c ∷ d ∷ e ∷ f ∷ g ∷ h ∷ []) diversifier) ++ extra))
+        ∙ cc (restored handle, restored diversifier)
     eight _ l = absurd (omega arith)
 form_read Other extra f = absurd f
 

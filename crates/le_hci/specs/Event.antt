@@ -1,6 +1,6 @@
 -- The events that a controller reports, and the octets that they are read from: Core 5.0, Vol 2 Part E, 5.4.4 and 7.7.
-use Rattle.std.specs.Prelude.{ℕ, zero, suc, ◌%◌, ◌==◌, if◌then◌else◌, List, [], ◌∷◌, length, map, Option, Some, None, Result, Ok, Err}
-use Rattle.std.specs.Option.{option_map}
+use Rattle.std.specs.Prelude.{ℕ, zero, suc, ◌%◌, ◌==◌, nat_le, if◌then◌else◌, List, [], ◌∷◌, length, take, drop, map, Option, Some, None, Result, Ok, Err}
+use Rattle.std.specs.Option.{option_map, option_and_then}
 use Rattle.le_hci.specs.declared.peer.Peer.{Peer}
 use Rattle.le_hci.specs.declared.event.CompletedPackets.{CompletedPackets}
 use Rattle.le_hci.specs.declared.event.BadEvent.{BadEvent}
@@ -81,17 +81,37 @@ abbrev pub encryption_key_refresh_complete : Octets → Option Reported
 encryption_key_refresh_complete (status ∷ low ∷ high ∷ _) = Some (EncryptionKeyRefreshComplete status (handle_of low high))
 encryption_key_refresh_complete _ = None
 
+-- octets as fields of these sizes, one behind the other; none where there are fewer octets
+abbrev pub fields : List ℕ → Octets → Option (List Octets)
+fields [] octets = Some []
+fields (size ∷ sizes) octets =
+    if nat_le size (length octets) then option_map (λ others. take size octets ∷ others) (fields sizes (drop size octets)) else None
+
+-- the number in a field of one octet, or of two
+abbrev pub number_in : Octets → ℕ
+number_in [] = 0
+number_in (octet ∷ []) = octet
+number_in (low ∷ high ∷ _) = from_two low high
+
+abbrev pub handle_in : Octets → ℕ
+handle_in field = number_in field % 4096
+
+abbrev pub connection_of : List Octets → Option Reported
+connection_of (status ∷ handle ∷ role ∷ kind ∷ address ∷ interval ∷ latency ∷ timeout ∷ clock_accuracy ∷ []) =
+    let peer : Peer = record { kind = number_in kind; address = address } in
+    Some (ConnectionComplete (number_in status) (handle_in handle) (number_in role) peer
+    (number_in interval) (number_in latency) (number_in timeout) (number_in clock_accuracy))
+connection_of _ = None
+
 abbrev pub connection_complete : Octets → Option Reported
-connection_complete (status ∷ low ∷ high ∷ role ∷ kind ∷ a ∷ b ∷ c ∷ d ∷ e ∷ f ∷ i ∷ j ∷ k ∷ l ∷ m ∷ n ∷ clock_accuracy ∷ _) =
-    Some (ConnectionComplete status (handle_of low high) role
-    (record { kind = kind; address = a ∷ b ∷ c ∷ d ∷ e ∷ f ∷ [] })
-    (from_two i j) (from_two k l) (from_two m n) clock_accuracy)
-connection_complete _ = None
+connection_complete octets = option_and_then connection_of (fields (1 ∷ 2 ∷ 1 ∷ 1 ∷ 6 ∷ 2 ∷ 2 ∷ 2 ∷ 1 ∷ []) octets)
+
+abbrev pub request_of : List Octets → Option Reported
+request_of (handle ∷ random_number ∷ diversifier ∷ []) = Some (LongTermKeyRequest (handle_in handle) random_number (number_in diversifier))
+request_of _ = None
 
 abbrev pub long_term_key_request : Octets → Option Reported
-long_term_key_request (low ∷ high ∷ a ∷ b ∷ c ∷ d ∷ e ∷ f ∷ g ∷ h ∷ i ∷ j ∷ _) =
-    Some (LongTermKeyRequest (handle_of low high) (a ∷ b ∷ c ∷ d ∷ e ∷ f ∷ g ∷ h ∷ []) (from_two i j))
-long_term_key_request _ = None
+long_term_key_request octets = option_and_then request_of (fields (2 ∷ 8 ∷ 2 ∷ []) octets)
 
 -- what the code of an event, or of a subevent, leads to; others are taken whatever their parameters
 abbrev pub subevent_form : ℕ → Octets → Option Reported

@@ -1,6 +1,6 @@
 -- Initialisation: the command that each state awaits, and the state that follows. The order is this profile's own.
 use Rattle.std.specs.Prelude.{ℕ, ◌+◌, ◌^◌, ◌==◌, if◌then◌else◌, [], ◌∷◌, Option, Some, None, Result, Ok, Err}
-use Rattle.std.specs.Option.{option_map_or}
+use Rattle.std.specs.Option.{option_map}
 use Rattle.octets.specs.Number.{Octets}
 use Rattle.arrayvec.specs.ArrayVec.{ArrayVec}
 use Rattle.le_hci.specs.declared.buffers.Buffers.{Buffers}
@@ -33,9 +33,9 @@ awaited (Filling advertising buffers) = Some (LeSetAdvertisingData advertising.i
 awaited (Enabling buffers) = Some LeSetAdvertiseEnable
 awaited (Ready length packets) = None
 
--- its opcode, 0 where none is awaited
-abbrev pub opcode_awaited : Init → ℕ
-opcode_awaited state = option_map_or opcode_of (awaited state) 0
+-- its opcode
+abbrev pub opcode_awaited : Init → Option ℕ
+opcode_awaited state = option_map opcode_of (awaited state)
 
 -- the first state
 abbrev pub first_state : Option Octets → ArrayVec ℕ → Init
@@ -85,6 +85,10 @@ abbrev pub handed_back : Init → Result Init InitFault → Result Init (InitFau
 handed_back state (Ok following) = Ok following
 handed_back state (Err fault) = Err (fault, state)
 
--- what the return parameters of the awaited command lead to
+-- what the return parameters of the awaited command lead to; once nothing is awaited, nothing changes
+abbrev pub outcome_by : Option ℕ → Init → Octets → Result Init (InitFault × Init)
+outcome_by None state returned = Ok state
+outcome_by (Some opcode) state returned = handed_back state (next_by state (values_of opcode returned))
+
 abbrev pub outcome_of : Init → Octets → Result Init (InitFault × Init)
-outcome_of state returned = handed_back state (next_by state (values_of (opcode_awaited state) returned))
+outcome_of state = outcome_by (opcode_awaited state) state

@@ -4,3 +4,4 @@ pub mod Event
 pub mod EventPacket
 pub mod Init
 pub mod InitOrder
+pub mod InitTold

@@ -1,10 +1,11 @@
-ghost use Rattle.std.specs.Prelude.{◌≡◌, ◌≢◌, List, ℕ, ◌∷◌, drop, IsSome, IfErr};
+ghost use Rattle.std.specs.Prelude.{◌≡◌, ◌≢◌, List, ℕ, ◌∷◌, drop, IsSome, Some, IfErr};
 ghost use Rattle.std.specs.Option.{option_map};
 ghost use Rattle.std.specs.Result.{result_map_both};
 ghost use Rattle.octets.specs.Number.{Octets};
 ghost use Rattle.arrayvec.specs.ArrayVec.{ArrayVec};
 ghost use Rattle.le_hci.specs.Command.{commanded};
 ghost use Rattle.le_hci.specs.InitOrder.{commands_sent, commands_in_order, tell_shared, IsPrefixOf};
+ghost use Rattle.le_hci.specs.InitTold.{KnowsUsable, reached};
 ghost use Rattle.le_hci.specs.Init.{awaited, opcode_awaited, outcome_of, values_of, handed_back, next, with_buffers, first_state};
 
 use crate::buffers::{Buffers, le_buffers, shared_buffers};
@@ -87,6 +88,8 @@ impl Init {
         ensures exact { result ≡ first_state address advertising }
         ensures in_order { (answers : List Octets)
             → IsPrefixOf (commands_sent answers result) (commands_in_order address advertising.items (tell_shared (drop 3 answers))) }
+        // Whatever the answers are, buffers that a state knows have 27 octets at least, and there is one.
+        ensures usable { (answers : List Octets) → KnowsUsable (reached answers result) }
     {
         Init::Resetting(Settings {
             address,
@@ -131,8 +134,8 @@ impl Init {
         requires awaiting { IsSome (awaited self) }
         ensures exact { result ≡ outcome_of self parameters.now }
         ensures handed_back { IfErr result (λ e. e.1 ≡ self) }
-        ensures refused { (status : ℕ) (returned : Octets) → parameters.now ≡ status ∷ returned → status ≢ 0
-            → result ≡ Err (InitFault.Refused (opcode_awaited self) status, self) }
+        ensures refused { (opcode status : ℕ) (returned : Octets) → opcode_awaited self ≡ Some opcode
+            → parameters.now ≡ status ∷ returned → status ≢ 0 → result ≡ Err (InitFault.Refused opcode status, self) }
     {
         let Some(command) = self.command() else {
             unreachable!()

@@ -1,7 +1,7 @@
-use Rattle.std.proofs.Common.{sym, arith, ℕ}
-use Rattle.std.proofs.lemmas.List.{length-drop, length-take}
-use Rattle.le_hci.proofs.ShortConnection.{short_connection}
+use Rattle.std.proofs.Common.{◌∙◌, sym, arith}
+use Rattle.std.proofs.lemmas.Grind.{common_steps}
+use Rattle.le_hci.proofs.Fields.{connection_is}
 use Rattle.le_hci.proofs.event_form.read_connection_complete.Goals as goal
 
-pub returns-in_default-rest-2 : goal.returns-in_default-rest-2
-returns-in_default-rest-2 c = sym (short_connection c.args.parameters.now (omega (arith, length-drop {A = ℕ}, length-take {A = ℕ}, c.in_ok-address.ensures.cases.2)))
+pub returns : goal.returns
+returns c = grind (arith, common_steps) ∙ sym (connection_is c.args.parameters.now)
