@@ -2,7 +2,7 @@
 use Rattle.std.specs.Prelude.{ℕ, ◌-◌, ◌/◌, Bool, ◌==◌, ◌&&◌, if◌then◌else◌, is_none, List, [], ◌∷◌, ◌++◌, length, map, take, drop, filter, Option, Some, None}
 use Rattle.std.specs.List.{flat_map}
 use Rattle.std.specs.Str.{bytes_eq}
-use Rattle.att_numbers.specs.AttributeType.{of_16_bits}
+use Rattle.att_numbers.specs.AttributeType.{of_16_bits, type_octets}
 use Rattle.att_numbers.specs.Types.{Handle, AttributeType, Mtu, Row}
 use Rattle.att_numbers.specs.declared.opcode.TheConstants.{FIND_INFORMATION_REQUEST, FIND_BY_TYPE_VALUE_REQUEST, READ_BY_TYPE_REQUEST, READ_REQUEST, READ_BLOB_REQUEST, READ_MULTIPLE_REQUEST, READ_BY_GROUP_TYPE_REQUEST}
 use Rattle.att_pdu.specs.Kind.{number_of}
@@ -11,7 +11,6 @@ use Rattle.att_pdu.specs.Response.{Element, element_octets, OfAttribute, OfGroup
 use Rattle.att_policy.specs.declared.standing.Standing.{Standing}
 use Rattle.att_table.specs.declared.attr.Attr.{Attr}
 use Rattle.att_table.specs.Group.{group_end_at}
-use Rattle.att_table.specs.Kind.{kind_octets}
 use Rattle.att_table.specs.OfType.{handles_of_type}
 use Rattle.att_table.specs.Table.{Contents, attributes_in}
 use Rattle.att_reads.specs.Access.{refusal_at, refusal_of, value_for}
@@ -23,7 +22,7 @@ use Rattle.octets.specs.Number.{Octets}
 
 -- Find Information Request: 3.4.3.1. It needs no permission
 abbrev pub information_of : Attr → Candidate
-information_of attr = record { refusal = None; element = OfAttribute attr.handle (kind_octets attr.kind) }
+information_of attr = record { refusal = None; element = OfAttribute attr.handle (type_octets attr.kind) }
 
 -- the format is 1 where the types have 16 bits, else 2
 abbrev pub information_format : ℕ → ℕ

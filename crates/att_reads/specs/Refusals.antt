@@ -4,7 +4,7 @@ use Rattle.att_numbers.specs.Types.{Handle, AttributeType, Opcode}
 use Rattle.att_numbers.specs.declared.error_code.TheConstants.{INVALID_HANDLE, INVALID_OFFSET, ATTRIBUTE_NOT_FOUND, UNSUPPORTED_GROUP_TYPE}
 use Rattle.att_pdu.specs.Response.{Response, ErrorResponse}
 use Rattle.att_policy.specs.Refusal.{Refusal}
-use Rattle.att_table.specs.Group.{is_service_kind}
+use Rattle.att_table.specs.Group.{is_service_type}
 use Rattle.octets.specs.Number.{Octets}
 
 -- the first of these refusals that there is answers a request, and else this
@@ -21,7 +21,7 @@ range_refusal first last =
 -- a type is none of a service, and only services are read by group: Core 5.0, Vol 3 Part G, 2.5.3
 abbrev pub group_type_refusal : Handle → AttributeType → Option Refusal
 group_type_refusal first type =
-    if is_service_kind type then None else Some (record { handle = first; code = UNSUPPORTED_GROUP_TYPE })
+    if is_service_type type then None else Some (record { handle = first; code = UNSUPPORTED_GROUP_TYPE })
 
 -- nothing is found
 abbrev pub not_found : {A : Type 0} → Handle → List A → Option Refusal

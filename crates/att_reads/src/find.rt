@@ -14,7 +14,7 @@ ghost use Rattle.att_reads.specs.Refusals.{unless_refused, not_found};
 use crate::reader::Reader;
 use att_numbers::{error_code, opcode};
 use att_pdu::PduBuf;
-use att_table::{Attr, Table, kind};
+use att_table::{Attr, Table, is_of_16_bits, type_octets};
 
 /// The formats of the answer to a Find Information Request: Core 5.0, Vol 3 Part F, 3.4.3.2.
 const SHORT_KINDS: u8 = 1;
@@ -38,7 +38,7 @@ pub fn information(attributes: &[Attr], start: u16, out: &mut PduBuf<'_>)
         );
         return;
     };
-    let (format, size) = if kind::is_short(first.kind) {
+    let (format, size) = if is_of_16_bits(first.kind) {
         (SHORT_KINDS, 4)
     } else {
         (LONG_KINDS, 18)
@@ -64,7 +64,7 @@ fn append_all(attributes: &[Attr], size: usize, out: &mut PduBuf<'_>)
 fn append_next(attr: &Attr, size: usize, out: &mut PduBuf<'_>) -> bool
     ensures { AppendsNext out.old out.new size (information_of attr.now) result }
 {
-    let octets = kind::kind_octets(attr.kind);
+    let octets = type_octets(attr.kind);
     2 + octets.len() == size && out.pair(attr.handle, octets.as_slice())
 }
 

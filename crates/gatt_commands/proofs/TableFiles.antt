@@ -3,7 +3,7 @@ use Rattle.std.proofs.Common.{◌≡◌, ℕ, List, Err, refl}
 use Rattle.std.specs.Str.{IsUtf8, is_utf8}
 use Rattle.std.proofs.lemmas.Str.{is_utf8-from_IsUtf8}
 use Rattle.att_table.specs.declared.table_fault.TableFault.TheVariants.{NotToml}
-use Rattle.att_table.specs.TableFile.{table_read}
+use Rattle.att_table.specs.file.TableFile.{table_read}
 use Rattle.gatt_commands.specs.TableFile.{table_in}
 use Rattle.gatt_commands.proofs.Texts.{no_text}
 

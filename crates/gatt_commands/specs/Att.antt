@@ -1,81 +1,80 @@
 -- What is printed for the lines of an input, where each is an Attribute PDU of one connection.
-use Rattle.std.specs.Prelude.{◌≡◌, ℕ, ◌+◌, ◌==◌, nat_lt, if◌then◌else◌, List, [], ◌∷◌, ◌++◌, length, Option, Some, None, Result}
+use Rattle.std.specs.Prelude.{◌≡◌, ℕ, ◌+◌, ◌==◌, Bool, false, is_none, nat_lt, if◌then◌else◌, List, [], ◌∷◌, ◌++◌, length, filter_map, Option, Some, None, Result}
 use Rattle.std.specs.Io.KnownBytes.{Appends}
+use Rattle.std.specs.List.{list_any, flat_map, slice_split}
 use Rattle.std.specs.Result.{result_ok, result_unwrap_or}
 use Rattle.hex.specs.Hex.{decode_of, encode_lower}
 use Rattle.gatt_commands.specs.declared.fault.ShellFault.{ShellFault}
 use Rattle.gatt_commands.specs.declared.fault.ShellFault.TheVariants.{Table, NotHex, Unreadable, Unwritten, Memory}
-use Rattle.gatt_conn.specs.Answer.{Outcome, outcome_of}
-use Rattle.gatt_conn.specs.Conn.{new_connection}
-use Rattle.gatt_conn.specs.Connection.{Connection}
+use Rattle.att_numbers.specs.Types.{Row}
+use Rattle.att_pdu.specs.Grammar.{request_of}
+use Rattle.att_pdu.specs.Response.{Response, sent}
 use Rattle.att_table.specs.declared.examples.TheConstants.{DOOR}
 use Rattle.att_table.specs.declared.table_fault.TableFault.{TableFault}
 use Rattle.att_table.specs.Table.{Contents}
-use Rattle.att_table.specs.TableFile.{table_read, no_attributes}
+use Rattle.att_table.specs.file.TableFile.{table_read, no_attributes}
+use Rattle.gatt_conn.specs.Answer.{Question, answer_to, stored_by, conn_after}
+use Rattle.gatt_conn.specs.Connection.{Connection, new_connection}
+use Rattle.octets.specs.Number.{Octets}
 
--- the lines of an input without their line feeds; the last line may lack its own
-abbrev pub onto_first : ℕ → List (List ℕ) → List (List ℕ)
-onto_first octet [] = (octet ∷ []) ∷ []
-onto_first octet (line ∷ lines) = (octet ∷ line) ∷ lines
+-- the lines of an input, without their line feeds: what stands behind the last one is a line too, which may be blank
+abbrev pub lines_of : Octets → List Octets
+lines_of input = slice_split (λ octet. octet == 10) input
 
-abbrev pub lines_of : List ℕ → List (List ℕ)
-lines_of [] = []
-lines_of (octet ∷ octets) = if octet == 10 then [] ∷ lines_of octets else onto_first octet (lines_of octets)
+-- the PDU that digits spell in hexadecimal, of at most 520 octets
+abbrev pub pdu_of : Octets → Option Octets
+pdu_of digits = if nat_lt 1040 (length digits) then None else result_ok (decode_of digits)
 
--- the PDU that a line spells in hexadecimal, of at most 520 octets
-abbrev pub pdu_of : List ℕ → Option (List ℕ)
-pdu_of line = if nat_lt 1040 (length line) then None else result_ok (decode_of line)
+-- the PDU of a line; a blank line has none
+abbrev pub pdu_in : Octets → Option Octets
+pdu_in [] = None
+pdu_in (digit ∷ digits) = pdu_of (digit ∷ digits)
 
--- what is printed for a PDU: its answer in hexadecimal, or a dash where none is due
-abbrev pub printed_answer : Option (List ℕ) → List ℕ
-printed_answer None = 45 ∷ 10 ∷ []
-printed_answer (Some answer) = encode_lower answer ++ 10 ∷ []
+-- a line is not hexadecimal
+abbrev pub is_bad : Octets → Bool
+is_bad [] = false
+is_bad (digit ∷ digits) = is_none (pdu_of (digit ∷ digits))
+
+-- the lines before the first one that is not
+abbrev pub good_lines : List Octets → List Octets
+good_lines [] = []
+good_lines (line ∷ lines) = if is_bad line then [] else line ∷ good_lines lines
+
+-- the number of that one, if there is one: lines count from 1
+abbrev pub bad_line_from : ℕ → List Octets → Option ℕ
+bad_line_from number lines = if list_any is_bad lines then Some (number + length (good_lines lines)) else None
+
+abbrev pub bad_line_of : Octets → Option ℕ
+bad_line_of input = bad_line_from 1 (lines_of input)
 
 -- a table, and the one connection that is served from it, with what its client has configured
 pub record Server : Type 0 where
   pub table : Contents
-  pub row : List (ℕ × ℕ)
+  pub row : Row
   pub conn : Connection
 
--- what a PDU leads to, and the server afterwards
-abbrev pub answer_from : Server → List ℕ → Outcome
-answer_from server pdu = outcome_of server.table server.row server.conn pdu
+-- the answer to a PDU, if one is due, and the server afterwards
+abbrev pub asked_of : Server → Octets → Question
+asked_of server pdu = request_of pdu server.conn.mtu
 
-abbrev pub server_after : Server → List ℕ → Server
+abbrev pub answer_from : Server → Octets → Option Response
+answer_from server pdu = answer_to server.table server.row server.conn (asked_of server pdu)
+
+abbrev pub server_after : Server → Octets → Server
 server_after server pdu =
-    let outcome = answer_from server pdu in
-    record { table = record server.table { values = outcome.values }; row = outcome.row; conn = outcome.conn }
+    let asked = asked_of server pdu in
+    let stored = stored_by server.table server.row server.conn asked in
+    record { table = record server.table { values = stored.values }; row = stored.row; conn = conn_after server.table.attributes server.conn asked }
 
--- what is printed in all, and the number of the first line that is not hexadecimal, with which the printing ends
-pub record Report : Type 0 where
-  pub printed : List ℕ
-  pub not_hex : Option ℕ
+-- the answers to PDUs, one after the other
+abbrev pub answers_from : Server → List Octets → List (Option Response)
+answers_from server [] = []
+answers_from server (pdu ∷ pdus) = answer_from server pdu ∷ answers_from (server_after server pdu) pdus
 
-abbrev pub nothing : Report
-nothing = record { printed = []; not_hex = None }
-
-abbrev pub ends_at : ℕ → Report
-ends_at number = record { printed = []; not_hex = Some number }
-
--- octets, and then the rest
-abbrev pub after : List ℕ → Report → Report
-after octets rest = record { printed = octets ++ rest.printed; not_hex = rest.not_hex }
-
--- the report on a line by its PDU, and on what follows it
-abbrev pub pdu_report : Server → ℕ → Option (List ℕ) → (Server → Report) → Report
-pdu_report server number None rest = ends_at number
-pdu_report server number (Some pdu) rest =
-    after (printed_answer (answer_from server pdu).answer) (rest (server_after server pdu))
-
--- the report on a line, and on what follows it: a blank line is passed over
-abbrev pub line_report : Server → ℕ → List ℕ → (Server → Report) → Report
-line_report server number [] rest = rest server
-line_report server number (digit ∷ digits) rest = pdu_report server number (pdu_of (digit ∷ digits)) rest
-
--- the report on lines that are counted from this number
-abbrev pub report : Server → ℕ → List (List ℕ) → Report
-report server number [] = nothing
-report server number (line ∷ lines) = line_report server number line (λ next. report next (number + 1) lines)
+-- what is printed for an answer: its octets in hexadecimal, or a dash where none is due
+abbrev pub printed_answer : Option Response → Octets
+printed_answer None = 45 ∷ 10 ∷ []
+printed_answer (Some answer) = encode_lower (sent answer) ++ 10 ∷ []
 
 -- the table of the example door lock, which its table file gives
 abbrev pub door_read : Result Contents TableFault
@@ -86,18 +85,21 @@ door = result_unwrap_or door_read no_attributes
 
 -- that table, and a connection that has done nothing yet
 abbrev pub door_server : Server
-door_server = record { table = door; row = []; conn = new_connection }
+door_server = record { table = door; row = []; conn = new_connection 247 }
 
--- the report on an input
-unfoldable pub report_of : List ℕ → Report
-report_of input = report door_server 1 (lines_of input)
+-- what is printed for lines: the answers to the PDUs before the first bad one
+abbrev pub printed_by : Server → List Octets → Octets
+printed_by server lines = flat_map printed_answer (answers_from server (filter_map pdu_in (good_lines lines)))
 
--- the front of what a report has was printed
-pub record PrintsFront (report : Report) (held holds : Option (List ℕ)) : Type 0 where
-  pub printed : List ℕ
+unfoldable pub printed_for : Octets → Octets
+printed_for input = printed_by door_server (lines_of input)
+
+-- the front of these octets was printed
+pub record PrintsFront (octets : Octets) (held holds : Option Octets) : Type 0 where
+  pub printed : Octets
   pub appended : Appends held holds printed
-  pub left : List ℕ
-  pub parts : report.printed ≡ printed ++ left
+  pub left : Octets
+  pub parts : octets ≡ printed ++ left
 
 -- what may end the command before the end of its input
 abbrev pub IsAttFault : ShellFault → Type 0

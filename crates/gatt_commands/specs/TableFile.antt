@@ -5,7 +5,7 @@ use Rattle.att_table.specs.declared.table_fault.TableFault.{TableFault}
 use Rattle.att_table.specs.declared.table_fault.TableFault.TheVariants.{NotToml}
 use Rattle.att_table.specs.Table.{Contents}
 use Rattle.att_table.specs.TableFault.{number_of}
-use Rattle.att_table.specs.TableFile.{table_read}
+use Rattle.att_table.specs.file.TableFile.{table_read}
 use Rattle.gatt_commands.specs.declared.fault.ShellFault.{ShellFault}
 use Rattle.gatt_commands.specs.declared.fault.ShellFault.TheVariants.{Table, Unreadable, Memory}
 

@@ -1,6 +1,6 @@
 ghost use Rattle.std.specs.Prelude.{◌≡◌, ℕ, OnOk, IfErr, IfSome, None};
 ghost use Rattle.std.specs.Io.KnownBytes.{Appends, Keeps};
-ghost use Rattle.gatt_commands.specs.Att.{door_read, report_of, PrintsFront, IsAttFault};
+ghost use Rattle.gatt_commands.specs.Att.{door_read, printed_for, bad_line_of, PrintsFront, IsAttFault};
 ghost use Rattle.gatt_commands.specs.TableFile.{IsRefusedAs};
 
 use crate::fault::ShellFault;
@@ -19,12 +19,15 @@ pub fn att_lines<R: Read, W: Write>(
 ) -> Result<(), ShellFault>
     // Where the input is known, all of it was answered, or what stands before the first bad line.
     ensures ok { OnOk result (IfSome (R.remaining reader.old) (λ input.
-        ((report_of input).not_hex ≡ None) × Appends (W.contents writer.old) (W.contents writer.new) (report_of input).printed)) }
+        (bad_line_of input ≡ None) × Appends (W.contents writer.old) (W.contents writer.new) (printed_for input))) }
     ensures not_hex { (number : ℕ) → result ≡ Err (ShellFault.NotHex number) → IfSome (R.remaining reader.old) (λ input.
-        ((report_of input).not_hex ≡ Some number) × Appends (W.contents writer.old) (W.contents writer.new) (report_of input).printed) }
-    // An input that cannot be read on leaves the front of that printed, and refused memory nothing.
+        (bad_line_of input ≡ Some number) × Appends (W.contents writer.old) (W.contents writer.new) (printed_for input)) }
+    // An input that cannot be read on, and an output that fails, leave the front of that printed, and
+    // refused memory nothing.
     ensures unreadable { result ≡ Err ShellFault.Unreadable → IfSome (R.remaining reader.old) (λ input.
-        PrintsFront (report_of input) (W.contents writer.old) (W.contents writer.new)) }
+        PrintsFront (printed_for input) (W.contents writer.old) (W.contents writer.new)) }
+    ensures unwritten { result ≡ Err ShellFault.Unwritten → IfSome (R.remaining reader.old) (λ input.
+        PrintsFront (printed_for input) (W.contents writer.old) (W.contents writer.new)) }
     ensures memory { result ≡ Err ShellFault.Memory → Keeps (W.contents writer.old) (W.contents writer.new) }
     ensures table { (number : ℕ) → result ≡ Err (ShellFault.Table number) → IsRefusedAs number door_read }
     ensures faults { IfErr result IsAttFault }

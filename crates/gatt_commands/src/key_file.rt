@@ -1,7 +1,7 @@
 //! Key files, as octets of an input.
 
 ghost use Rattle.std.specs.Prelude.{◌≡◌, ◌≢◌, ℕ, IfErr, IfOk, IfSome};
-ghost use Rattle.le_security.specs.Memory.{Gives};
+ghost use Rattle.octets.specs.Memory.{Gives};
 ghost use Rattle.gatt_commands.specs.KeyFile.{keys_in, AreRefusedAs, IsKeyFileFault};
 
 use crate::fault::ShellFault;
@@ -28,7 +28,7 @@ pub(crate) fn read_keys<R: Read>(alloc: Global, reader: &mut R) -> Result<Keys, 
 /// The keys of a file with these octets: one that is not UTF-8 is not TOML.
 #[tactic(auto, using(crate::proofs::KeyFiles::of_text, crate::proofs::KeyFiles::of_no_text))]
 fn keys_in(alloc: Global, octets: &[u8]) -> Result<Keys, KeyFault>
-    ensures { Gives (keys_in octets.now) result }
+    ensures { Gives KeyFault.OutOfMemory (keys_in octets.now) result }
 {
     match str::from_utf8(octets) {
         Ok(text) => Keys::read(alloc, text),

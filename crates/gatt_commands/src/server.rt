@@ -1,13 +1,14 @@
-ghost use Rattle.std.specs.Prelude.{◌≡◌, [], is_some, unwrap_or, IfErr, IfOk};
+ghost use Rattle.std.specs.Prelude.{◌≡◌, [], Some, None, if◌then◌else◌, IfErr, IfOk};
+ghost use Rattle.std.specs.Option.{option_map};
+ghost use Rattle.att_pdu.specs.Response.{sent};
 ghost use Rattle.gatt_commands.specs.Att.{answer_from, door, door_server, server_after};
 ghost use Rattle.gatt_commands.specs.Session.{IsStartFault};
 
 use crate::fault::ShellFault;
 use arrayvec::ArrayVec;
-use att_pdu::PduBuf;
 use att_table::examples::DOOR;
 use att_table::{ConfigRow, Table, TableFault};
-use gatt_conn::{Conn, answer};
+use gatt_conn::{Conn, answer_into};
 use std::alloc::Global;
 use std::marker::Model;
 
@@ -50,17 +51,15 @@ impl DoorServer {
 
     /// Serves a PDU: puts the answer into `octets` and tells whether one is due.
     pub(crate) fn answer(&mut self, pdu: &[u8], octets: &mut ArrayVec<u8, 517>) -> bool
-        ensures answer { octets.new.items ≡ unwrap_or (answer_from self.old pdu.now).answer [] }
-        ensures due { result ≡ is_some (answer_from self.old pdu.now).answer }
+        ensures answer { option_map sent (answer_from self.old pdu.now) ≡ (if result then Some octets.new.items else None) }
         ensures server { self.new ≡ server_after self.old pdu.now }
     {
-        let mut out = PduBuf::new(octets, self.conn.mtu());
-        let answered = answer(
+        let answered = answer_into(
             &mut self.table,
             &mut self.row,
             &mut self.conn,
             pdu,
-            &mut out,
+            octets,
         );
         answered.due
     }

@@ -1,8 +1,8 @@
-ghost use Rattle.std.specs.Prelude.{◌≡◌, ◌≢◌, ℕ, ◌+◌, ◌^◌, ◌<◌, ◌≤◌, [], ◌∷◌, ◌++◌, length, Some, None, OnOk, IfErr, IfOk};
+ghost use Rattle.std.specs.Prelude.{◌≡◌, ◌≢◌, ℕ, ◌+◌, ◌^◌, ◌<◌, ◌≤◌, [], ◌∷◌, ◌++◌, length, Some, None, OnOk, OnErr, IfErr, IfOk};
 ghost use Rattle.std.specs.Io.KnownBytes.{Appends};
 ghost use Rattle.hex.specs.Hex.{encode_lower};
-ghost use Rattle.gatt_commands.specs.Att.{pdu_of, door_server, nothing, ends_at};
-ghost use Rattle.gatt_commands.specs.Session.{IsStartFault};
+ghost use Rattle.gatt_commands.specs.Att.{pdu_of, door_server, PrintsFront};
+ghost use Rattle.gatt_commands.specs.Session.{IsStartFault, nothing, ends_at};
 
 use crate::fault::ShellFault;
 use crate::output::print;
@@ -22,7 +22,7 @@ pub(crate) struct Session {
 }
 
 impl Session {
-    ghost use Rattle.gatt_commands.specs.Session.{server_of, IsStartFault, AnswersLine, Passes, StopsAt, Ends, IsLineFault};
+    ghost use Rattle.gatt_commands.specs.Session.{server_of, IsStartFault, AnswersLine, Passes, StopsAt, Ends, BreaksOff, EndsBroken, BreaksLine, IsLineFault};
 
     pub(crate) fn new(alloc: Global) -> Result<Session, ShellFault>
         ensures server { IfOk result (λ session. server_of session ≡ door_server) }
@@ -43,6 +43,7 @@ impl Session {
         ensures passes { OnOk result (Passes self.old self.new octets.now (W.contents writer.old) (W.contents writer.new)) }
         ensures stops { (number : ℕ) → result ≡ Err (ShellFault.NotHex number)
             → StopsAt self.old octets.now number (W.contents writer.old) (W.contents writer.new) }
+        ensures breaks_off { result ≡ Err ShellFault.Unwritten → BreaksOff self.old octets.now (W.contents writer.old) (W.contents writer.new) }
         ensures faults { IfErr result IsLineFault }
         ensures counts { OnOk result (self.new.number ≤ self.old.number + length octets.now) }
     {
@@ -57,6 +58,7 @@ impl Session {
         ensures passes { OnOk result (Passes self.old self.new (octet ∷ []) (W.contents writer.old) (W.contents writer.new)) }
         ensures stops { (number : ℕ) → result ≡ Err (ShellFault.NotHex number)
             → StopsAt self.old (octet ∷ []) number (W.contents writer.old) (W.contents writer.new) }
+        ensures breaks_off { result ≡ Err ShellFault.Unwritten → BreaksOff self.old (octet ∷ []) (W.contents writer.old) (W.contents writer.new) }
         ensures faults { IfErr result IsLineFault }
         ensures counts { OnOk result (self.new.number ≤ self.old.number + 1) }
     {
@@ -79,6 +81,7 @@ impl Session {
         ensures ends { OnOk result (Ends self.old nothing (W.contents writer.old) (W.contents writer.new)) }
         ensures stops { (number : ℕ) → result ≡ Err (ShellFault.NotHex number)
             → Ends self.old (ends_at number) (W.contents writer.old) (W.contents writer.new) }
+        ensures breaks_off { result ≡ Err ShellFault.Unwritten → EndsBroken self.old (W.contents writer.old) (W.contents writer.new) }
         ensures faults { IfErr result IsLineFault }
     {
         if self.line.is_empty() {
@@ -88,10 +91,12 @@ impl Session {
     }
 
     /// Answers the line, which is not blank.
+    #[tactic(auto, using(crate::proofs::Printing::answered_line, crate::proofs::Printing::unanswered_line))]
     fn answer_line<W: Write>(&mut self, writer: &mut W) -> Result<(), ShellFault>
         ensures answered { OnOk result (AnswersLine self.old self.new (W.contents writer.old) (W.contents writer.new)) }
         ensures not_hex { (number : ℕ) → result ≡ Err (ShellFault.NotHex number)
             → (pdu_of self.old.line.items ≡ None) × (number ≡ self.old.number) × Appends (W.contents writer.old) (W.contents writer.new) [] }
+        ensures breaks_off { result ≡ Err ShellFault.Unwritten → BreaksLine self.old (W.contents writer.old) (W.contents writer.new) }
         ensures faults { IfErr result IsLineFault }
     {
         let mut octets = [0; 520];
@@ -111,6 +116,7 @@ impl Session {
 fn print_answer<W: Write>(answer: &[u8], writer: &mut W) -> Result<(), ShellFault>
     requires { length answer.now ≤ 517 }
     ensures ok { OnOk result (Appends (W.contents writer.old) (W.contents writer.new) (encode_lower answer.now ++ 10 ∷ [])) }
+    ensures front { OnErr result (PrintsFront (encode_lower answer.now ++ 10 ∷ []) (W.contents writer.old) (W.contents writer.new)) }
     ensures faults { IfErr result (λ fault. fault ≡ ShellFault.Unwritten) }
 {
     let mut text = [0; 2 * 517 + 1];

@@ -1,7 +1,7 @@
 //! Table files, as octets of an input.
 
 ghost use Rattle.std.specs.Prelude.{◌≡◌, ◌≢◌, ℕ, IfErr, IfOk, IfSome};
-ghost use Rattle.att_table.specs.Memory.{Gives};
+ghost use Rattle.octets.specs.Memory.{Gives};
 ghost use Rattle.gatt_commands.specs.TableFile.{table_in, IsRefusedAs, IsTableFileFault};
 
 use crate::fault::ShellFault;
@@ -28,7 +28,7 @@ pub(crate) fn read_table<R: Read>(alloc: Global, reader: &mut R) -> Result<Table
 /// The table of a file with these octets: one that is not UTF-8 is not TOML.
 #[tactic(auto, using(crate::proofs::TableFiles::of_text, crate::proofs::TableFiles::of_no_text))]
 fn table_in(alloc: Global, octets: &[u8]) -> Result<Table, TableFault>
-    ensures { Gives (table_in octets.now) result }
+    ensures { Gives TableFault.OutOfMemory (table_in octets.now) result }
 {
     match str::from_utf8(octets) {
         Ok(text) => Table::read(alloc, text),

@@ -1,2 +1,3 @@
+pub mod Dues
 pub mod Prepared
-pub mod PreparedWrites
+pub mod Transcripts

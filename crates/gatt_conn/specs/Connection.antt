@@ -1,18 +1,33 @@
 -- What a contract sees of a connection.
-use Rattle.std.specs.Prelude.{ℕ, min, max, Bool, true, if◌then◌else◌, List}
+use Rattle.std.specs.Prelude.{min, max, Bool, true, false, if◌then◌else◌, List, [], Option, None}
+use Rattle.att_numbers.specs.Types.{Mtu}
 use Rattle.att_policy.specs.declared.standing.Standing.{Standing}
 use Rattle.att_writes.specs.Entry.{Entry}
 
--- what the policy sees of it; its ATT_MTU; the largest PDU that the server receives; whether a client has exchanged its own for it; and its prepared writes
+-- what the policy sees of it; its ATT_MTU; the largest PDU that the server receives; whether a client has exchanged its own for it; and its prepared writes, in their order
 pub record Connection : Type 0 where
   pub standing : Standing
-  pub mtu : ℕ
-  pub rx_mtu : ℕ
+  pub mtu : Mtu
+  pub rx_mtu : Mtu
   pub exchanged : Bool
   pub queue : List Entry
 
--- the first exchange sets the ATT_MTU to what both can receive, and never below the least: Core 5.0, Vol 3 Part F, 3.4.2.2. Later ones change nothing, by this profile's own rule
-abbrev pub after_exchange : Connection → ℕ → Connection
+-- a new one to a server that receives PDUs of this many octets: the peer is unknown, the link is not encrypted, nobody is authorized, the ATT_MTU is the least (Core 5.0, Vol 3 Part G, 5.2.1), and nothing is prepared
+abbrev pub new_connection : Mtu → Connection
+new_connection rx_mtu = record {
+  standing = record { key = None; key_known = false; until = 0; now = 0 };
+  mtu = 23;
+  rx_mtu = rx_mtu;
+  exchanged = false;
+  queue = [];
+}
+
+-- the ATT_MTU is what both sides can receive, and never below the least: Core 5.0, Vol 3 Part F, 3.4.2.2
+abbrev pub mtu_between : Mtu → Mtu → Mtu
+mtu_between client_rx_mtu server_rx_mtu = max 23 (min client_rx_mtu server_rx_mtu)
+
+-- the first exchange sets it. Later ones change nothing, by this profile's own rule
+abbrev pub after_exchange : Connection → Mtu → Connection
 after_exchange conn client_rx_mtu =
     if conn.exchanged then conn
-    else record conn { mtu = max 23 (min client_rx_mtu conn.rx_mtu); exchanged = true }
+    else record conn { mtu = mtu_between client_rx_mtu conn.rx_mtu; exchanged = true }

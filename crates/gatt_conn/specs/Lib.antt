@@ -1,4 +1,4 @@
 pub mod Answer
-pub mod Conn
 pub mod Connection
-pub mod PreparedWrites
+pub mod Served
+pub mod Transcript

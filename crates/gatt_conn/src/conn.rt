@@ -3,8 +3,9 @@ ghost use Rattle.att_table.specs.ConfigRow.{IsRowOf};
 ghost use Rattle.att_writes.specs.Applied.{applied_to, written_to};
 ghost use Rattle.att_writes.specs.Outcome.{outcome_of};
 ghost use Rattle.att_writes.specs.Queue.{prepare_fault, prepared, prepare_outcome, touched_by};
-ghost use Rattle.gatt_conn.specs.Conn.{new_connection};
-ghost use Rattle.gatt_conn.specs.Connection.{after_exchange};
+ghost use Rattle.gatt_conn.specs.Answer.{entry_at};
+ghost use Rattle.gatt_conn.specs.Connection.{new_connection, after_exchange};
+ghost use Rattle.gatt_conn.specs.Transcript.{TranscriptTells};
 
 use arrayvec::ArrayVec;
 use att_pdu::MIN_MTU;
@@ -16,6 +17,14 @@ use std::marker::Model;
 
 /// The largest PDU that a server receives unless it is limited, in octets: this profile's own.
 const RX_MTU: u16 = 247;
+
+/// What the policy sees of an unknown peer over a link that is not encrypted.
+const UNKNOWN: Standing = Standing {
+    key: None,
+    key_known: false,
+    until: 0,
+    now: 0,
+};
 
 /// What the server keeps of one connection.
 #[derive(Debug, Drop)]
@@ -44,16 +53,15 @@ impl Model for Conn {
 impl Conn {
     /// A connection of an unknown peer over a link that is not encrypted, before any ATT_MTU is
     /// exchanged. All the room that it will need is made here, with `alloc`.
+    #[tactic(auto, using(crate::proofs::Transcripts::transcript_tells))]
     pub fn new(alloc: Global) -> Result<Conn, AllocError>
-        ensures { IfOk result (λ conn. conn ≡ new_connection) }
+        ensures conn { IfOk result (λ conn. conn ≡ new_connection 247) }
+        // Whatever happens to a new connection and to the table, its own transcript tells its
+        // ATT_MTU and its prepared writes.
+        ensures transcript { TranscriptTells }
     {
         Ok(Conn {
-            standing: Standing {
-                key: None,
-                key_known: false,
-                until: 0,
-                now: 0,
-            },
+            standing: UNKNOWN,
             mtu: MIN_MTU,
             rx_mtu: RX_MTU,
             exchanged: false,
@@ -112,6 +120,17 @@ impl Conn {
         }
     }
 
+    /// Makes the connection as a new one, to a server that receives PDUs of as many octets. It takes
+    /// no memory.
+    pub fn renew(&mut self)
+        ensures { self.new ≡ new_connection self.old.rx_mtu }
+    {
+        self.standing = UNKNOWN;
+        self.mtu = MIN_MTU;
+        self.exchanged = false;
+        self.cancel();
+    }
+
     /// What the policy sees of the connection.
     pub(crate) fn standing(&self) -> &Standing
         ensures { result.now ≡ self.now.standing }
@@ -127,11 +146,11 @@ impl Conn {
         offset: u16,
         part: &[u8],
     ) -> Outcome
-        ensures outcome { result ≡ prepare_outcome (record { handle = handle; offset = offset; part = part.now })
-            (prepare_fault table.now.attributes self.old.standing self.old.queue (record { handle = handle; offset = offset; part = part.now })) }
+        ensures outcome { result ≡ prepare_outcome (entry_at handle offset part.now)
+            (prepare_fault table.now.attributes self.old.standing self.old.queue (entry_at handle offset part.now)) }
         ensures conn { self.new ≡ record self.old {
-          queue = prepared self.old.queue (record { handle = handle; offset = offset; part = part.now })
-              (prepare_fault table.now.attributes self.old.standing self.old.queue (record { handle = handle; offset = offset; part = part.now }));
+          queue = prepared self.old.queue (entry_at handle offset part.now)
+              (prepare_fault table.now.attributes self.old.standing self.old.queue (entry_at handle offset part.now));
         } }
     {
         att_writes::prepare(table, &self.standing, &mut self.queue, handle, offset, part)

@@ -3,9 +3,7 @@
 
 mod answered;
 mod conn;
-#[cfg(test)]
-mod initialisation_trace;
 mod writing;
 
-pub use answered::{Answered, answer};
+pub use answered::{Answered, answer, answer_into};
 pub use conn::Conn;

@@ -1,11 +1,15 @@
 //! The requests and the command that write: Core 5.0, Vol 3 Part F, 3.4.5 and 3.4.6.
 
-ghost use Rattle.std.specs.Prelude.{◌≡◌, ◌+◌, ◌≤◌, ℕ, true, false, List, [], ◌∷◌, length, Some, None};
+ghost use Rattle.std.specs.Prelude.{◌≡◌, ◌+◌, ◌≤◌, false, [], ◌∷◌, length, Some, Ok};
 ghost use Rattle.att_pdu.specs.PduBuf.{contents, mtu_of, IsSameBuffer};
+ghost use Rattle.att_pdu.specs.Request.{WriteRequest, ExecuteWriteRequest, WriteCommandPdu};
+ghost use Rattle.att_pdu.specs.Response.{ExecuteWriteResponse};
 ghost use Rattle.att_table.specs.ConfigRow.{IsRowOf};
-ghost use Rattle.gatt_conn.specs.Answer.{answered, write_outcome, command_outcome, prepare_outcome, execute_outcome, without_queue};
+ghost use Rattle.att_writes.specs.Queue.{prepare_fault, prepared};
+ghost use Rattle.gatt_conn.specs.Answer.{entry_at, prepare_response, answer_to, stored_by, handles_by};
+ghost use Rattle.gatt_conn.specs.Served.{Serves, Stores};
 
-use crate::answered::{Answered, ignore, refuse};
+use crate::answered::{Answered, refuse, with_answer, without_answer};
 use crate::conn::Conn;
 use arrayvec::ArrayVec;
 use att_numbers::opcode;
@@ -24,22 +28,20 @@ pub(crate) fn write(
 ) -> Answered
     requires empty { contents out.old ≡ [] }
     requires row { IsRowOf table.old.attributes row.old }
-    ensures answer { Some (contents out.new) ≡ (write_outcome table.old row.old conn.now handle value.now).answer }
-    ensures due { result.due ≡ true }
+    ensures served { Serves (answer_to table.old row.old conn.now (Ok (WriteRequest handle value.now)))
+        (handles_by table.old row.old conn.now (Ok (WriteRequest handle value.now))) result (contents out.new) }
+    ensures stored { Stores (stored_by table.old row.old conn.now (Ok (WriteRequest handle value.now))) table.old table.new row.new }
     ensures confirmed { result.confirmed ≡ false }
-    ensures touched { result.touched.items ≡ (write_outcome table.old row.old conn.now handle value.now).touched }
-    ensures values { table.new.values ≡ (write_outcome table.old row.old conn.now handle value.now).values }
-    ensures row { row.new ≡ (write_outcome table.old row.old conn.now handle value.now).row }
-    ensures conn { (write_outcome table.old row.old conn.now handle value.now).conn ≡ conn.now }
-    ensures attributes { table.new.attributes ≡ table.old.attributes }
-    ensures table { IsRowOf table.new.attributes row.new }
     ensures same_buffer { IsSameBuffer out.old out.new }
 {
     match att_writes::write(table, row, conn.standing(), handle, value) {
         Outcome::Denied(opcode, handle, code) => refuse(opcode, handle, code, out),
         Outcome::Written | Outcome::Queued => {
             out.value(&[opcode::WRITE_RESPONSE]);
-            written(true, touched_alone(handle))
+            Answered {
+                touched: alone(handle),
+                ..with_answer()
+            }
         }
     }
 }
@@ -53,19 +55,17 @@ pub(crate) fn command(
     value: &[u8],
 ) -> Answered
     requires row { IsRowOf table.old.attributes row.old }
-    ensures answer { (command_outcome table.old row.old conn.now handle value.now).answer ≡ None }
-    ensures due { result.due ≡ false }
+    ensures served { Serves (answer_to table.old row.old conn.now (Ok (WriteCommandPdu handle value.now)))
+        (handles_by table.old row.old conn.now (Ok (WriteCommandPdu handle value.now))) result [] }
+    ensures stored { Stores (stored_by table.old row.old conn.now (Ok (WriteCommandPdu handle value.now))) table.old table.new row.new }
     ensures confirmed { result.confirmed ≡ false }
-    ensures touched { result.touched.items ≡ (command_outcome table.old row.old conn.now handle value.now).touched }
-    ensures values { table.new.values ≡ (command_outcome table.old row.old conn.now handle value.now).values }
-    ensures row { row.new ≡ (command_outcome table.old row.old conn.now handle value.now).row }
-    ensures conn { (command_outcome table.old row.old conn.now handle value.now).conn ≡ conn.now }
-    ensures attributes { table.new.attributes ≡ table.old.attributes }
-    ensures table { IsRowOf table.new.attributes row.new }
 {
     match att_writes::command(table, row, conn.standing(), handle, value) {
-        Outcome::Denied(..) => ignore(false),
-        Outcome::Written | Outcome::Queued => written(false, touched_alone(handle)),
+        Outcome::Denied(..) => without_answer(false),
+        Outcome::Written | Outcome::Queued => Answered {
+            touched: alone(handle),
+            ..without_answer(false)
+        },
     }
 }
 
@@ -80,11 +80,13 @@ pub(crate) fn prepare(
 ) -> Answered
     requires empty { contents out.old ≡ [] }
     requires fits { 5 + length part.now ≤ mtu_of out.old }
-    ensures outcome { (row : List (ℕ × ℕ)) → prepare_outcome table.now row conn.old (record { handle = handle; offset = offset; part = part.now })
-        ≡ answered table.now row conn.new (contents out.new) }
-    ensures due { result.due ≡ true }
+    ensures served { Serves (Some (prepare_response (entry_at handle offset part.now)
+        (prepare_fault table.now.attributes conn.old.standing conn.old.queue (entry_at handle offset part.now)))) [] result (contents out.new) }
+    ensures conn { conn.new ≡ record conn.old {
+      queue = prepared conn.old.queue (entry_at handle offset part.now)
+          (prepare_fault table.now.attributes conn.old.standing conn.old.queue (entry_at handle offset part.now));
+    } }
     ensures confirmed { result.confirmed ≡ false }
-    ensures touched { result.touched.items ≡ [] }
     ensures same_buffer { IsSameBuffer out.old out.new }
 {
     match conn.prepare(table, handle, offset, part) {
@@ -92,7 +94,7 @@ pub(crate) fn prepare(
         Outcome::Written | Outcome::Queued => {
             out.value(&[opcode::PREPARE_WRITE_RESPONSE]);
             out.part(handle, offset, part);
-            written(true, ArrayVec::new())
+            with_answer()
         }
     }
 }
@@ -100,16 +102,14 @@ pub(crate) fn prepare(
 /// Serves an Execute Write Request that drops what is prepared: Core 5.0, Vol 3 Part F, 3.4.6.3.
 pub(crate) fn cancel(conn: &mut Conn, out: &mut PduBuf<'_>) -> Answered
     requires empty { contents out.old ≡ [] }
-    ensures answer { contents out.new ≡ 0x19 ∷ [] }
-    ensures due { result.due ≡ true }
+    ensures served { Serves (Some ExecuteWriteResponse) [] result (contents out.new) }
+    ensures conn { conn.new ≡ record conn.old { queue = [] } }
     ensures confirmed { result.confirmed ≡ false }
-    ensures touched { result.touched.items ≡ [] }
-    ensures conn { conn.new ≡ without_queue conn.old }
     ensures same_buffer { IsSameBuffer out.old out.new }
 {
     conn.cancel();
     out.value(&[opcode::EXECUTE_WRITE_RESPONSE]);
-    written(true, ArrayVec::new())
+    with_answer()
 }
 
 /// Serves an Execute Write Request that writes what is prepared: Core 5.0, Vol 3 Part F, 3.4.6.3.
@@ -121,15 +121,11 @@ pub(crate) fn execute(
 ) -> Answered
     requires empty { contents out.old ≡ [] }
     requires row { IsRowOf table.old.attributes row.old }
-    ensures answer { Some (contents out.new) ≡ (execute_outcome table.old row.old conn.old ExecuteFlags.Write).answer }
-    ensures due { result.due ≡ true }
+    ensures served { Serves (answer_to table.old row.old conn.old (Ok (ExecuteWriteRequest ExecuteFlags.Write)))
+        (handles_by table.old row.old conn.old (Ok (ExecuteWriteRequest ExecuteFlags.Write))) result (contents out.new) }
+    ensures stored { Stores (stored_by table.old row.old conn.old (Ok (ExecuteWriteRequest ExecuteFlags.Write))) table.old table.new row.new }
+    ensures conn { conn.new ≡ record conn.old { queue = [] } }
     ensures confirmed { result.confirmed ≡ false }
-    ensures touched { result.touched.items ≡ (execute_outcome table.old row.old conn.old ExecuteFlags.Write).touched }
-    ensures values { table.new.values ≡ (execute_outcome table.old row.old conn.old ExecuteFlags.Write).values }
-    ensures row { row.new ≡ (execute_outcome table.old row.old conn.old ExecuteFlags.Write).row }
-    ensures conn { conn.new ≡ (execute_outcome table.old row.old conn.old ExecuteFlags.Write).conn }
-    ensures attributes { table.new.attributes ≡ table.old.attributes }
-    ensures table { IsRowOf table.new.attributes row.new }
     ensures same_buffer { IsSameBuffer out.old out.new }
 {
     let mut touched = ArrayVec::new();
@@ -137,29 +133,19 @@ pub(crate) fn execute(
         Outcome::Denied(opcode, handle, code) => refuse(opcode, handle, code, out),
         Outcome::Written | Outcome::Queued => {
             out.value(&[opcode::EXECUTE_WRITE_RESPONSE]);
-            written(true, touched)
+            Answered {
+                touched,
+                ..with_answer()
+            }
         }
     }
 }
 
 /// One handle that was written.
-fn touched_alone(handle: u16) -> ArrayVec<u16, 32>
+fn alone(handle: u16) -> ArrayVec<u16, 32>
     ensures { result.items ≡ handle ∷ [] }
 {
     let mut touched = ArrayVec::new();
     touched.push(handle);
     touched
-}
-
-/// A PDU that was served, with or without an answer.
-fn written(due: bool, touched: ArrayVec<u16, 32>) -> Answered
-    ensures due { result.due ≡ due }
-    ensures confirmed { result.confirmed ≡ false }
-    ensures touched { result.touched.items ≡ touched.items }
-{
-    Answered {
-        due,
-        confirmed: false,
-        touched,
-    }
 }

@@ -1,6 +1,6 @@
 use Rattle.std.proofs.Common.{◌<◌, length, refl, arith}
 use Rattle.std.proofs.lemmas.Result.{on_ok_weaker}
-use Rattle.gatt_commands.proofs.Sessions.{same_fault, has_read_none, has_read_more, has_read_nothing, has_read_kept, answers_input, refuses_input, prints_front}
+use Rattle.gatt_commands.proofs.Sessions.{same_fault, has_read_none, has_read_more, has_read_nothing, has_read_kept, answers_input, refuses_input, prints_front, same_unwritten, breaks_input, breaks_end}
 use Rattle.gatt_commands.proofs.att.att_lines.Goals as goal
 use Rattle.gatt_commands.proofs.att.att_lines.Goals.{in-Ok+in_ok-take-in-Ok, in-Err}
 
@@ -60,3 +60,16 @@ returns-in-Err-2-clause-unreadable g c _ =
 
 pub returns-clause-unreadable : goal.returns-clause-unreadable
 returns-clause-unreadable g c _ = prints_front _ _ _ _ _ _ c.loop-read.invariant.start c.loop-read.invariant.so_far
+
+pub returns-in-Ok-eq0-clause-unwritten : goal.returns-in-Ok-eq0-clause-unwritten
+returns-in-Ok-eq0-clause-unwritten g c h =
+    let read = rw c.in-Ok-eq0.is at c.read.ensures.bytes in
+    let so_far = has_read_nothing _ _ _ _ _ _ _ _ _ c.loop-read.invariant.so_far c.in-Ok-eq0.field-0-test read.0 in
+    let room : 0 < length c.read.new.buf = omega arith in
+    breaks_end _ _ _ _ _ _ _ c.loop-read.invariant.start so_far (read.1 c.in-Ok-eq0.field-0-test room) (c.finish.ensures.breaks_off h)
+
+pub returns-in_err-take-in-Ok-clause-unwritten : goal.returns-in_err-take-in-Ok-clause-unwritten
+returns-in_err-take-in-Ok-clause-unwritten g c h =
+    let said = same_unwritten c.take.result c.from_residual-in_err-take-in-Ok.result _ c.in_err-take-in-Ok.was c.from_residual-in_err-take-in-Ok.ensures.1 h in
+    let read = rw c.in-Ok.is at c.read.ensures.bytes in
+    breaks_input _ _ _ _ _ _ _ _ _ c.loop-read.invariant.start c.loop-read.invariant.so_far read.0 (c.take.ensures.breaks_off said)

@@ -1,7 +1,7 @@
 use Rattle.std.proofs.Common.{◌≡◌, ℕ, ◌+◌, ◌<◌, List, [], ◌∷◌, ◌++◌, length, take, drop, get_or, ap, sym, subst, ◌∙◌, arith, append_assoc}
 use Rattle.std.proofs.lemmas.List.{take_more, take-append-drop}
-use Rattle.gatt_commands.specs.Session.{StopsAt}
-use Rattle.gatt_commands.proofs.Sessions.{same_fault, passes_more, stops_after}
+use Rattle.gatt_commands.specs.Session.{StopsAt, BreaksOff}
+use Rattle.gatt_commands.proofs.Sessions.{same_fault, same_unwritten, passes_more, stops_after, break_after}
 use Rattle.gatt_commands.proofs.session.Session.take.Goals as goal
 
 -- a list, cut before and after one of its elements
@@ -18,6 +18,14 @@ returns-in_err-take_octet-clause-stops g c number h =
     let P : List ℕ → Type 0 = λ octets. StopsAt c.args.self.now octets number (g.W.Write.contents c.args.writer.now) (g.W.Write.contents c.take_octet.new.writer) in
     subst P (cut_at c.args.octets.now i c.loop-octet-test.true)
     (stops_after _ _ _ _ (drop (i + 1) c.args.octets.now) number _ _ _ c.loop-octet.invariant.passed (c.take_octet.ensures.stops number said))
+
+pub returns-in_err-take_octet-clause-breaks_off : goal.returns-in_err-take_octet-clause-breaks_off
+returns-in_err-take_octet-clause-breaks_off g c h =
+    let said = same_unwritten c.take_octet.result c.from_residual.result _ c.in_err-take_octet.was c.from_residual.ensures.1 h in
+    let i = c.loop-octet.octet-index in
+    let P : List ℕ → Type 0 = λ octets. BreaksOff c.args.self.now octets (g.W.Write.contents c.args.writer.now) (g.W.Write.contents c.take_octet.new.writer) in
+    subst P (cut_at c.args.octets.now i c.loop-octet-test.true)
+    (break_after _ _ _ _ (drop (i + 1) c.args.octets.now) _ _ _ c.loop-octet.invariant.passed (c.take_octet.ensures.breaks_off said))
 
 pub loop-octet-preserved : goal.loop-octet-preserved
 loop-octet-preserved g c = record {

@@ -1,0 +1,15 @@
+//! Tests of the attribute layers: PDUs of clients to example tables, each with its answer.
+#![tactic(auto)]
+
+#[cfg(test)]
+mod mtu;
+#[cfg(test)]
+mod peers;
+#[cfg(test)]
+mod prepared_writes;
+#[cfg(test)]
+mod reads;
+#[cfg(test)]
+mod session;
+#[cfg(test)]
+mod writes;

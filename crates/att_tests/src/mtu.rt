@@ -1,0 +1,49 @@
+use crate::session::Step::{Long, Mtu, Pdu};
+use crate::session::{Step, play, play_limited};
+use att_table::examples::DOOR;
+use std::test::Fail;
+
+const OF_247: [Step; 7] = [
+    Mtu(23),
+    Pdu("02f700", "03f700"),
+    Mtu(247),
+    Pdu("020001", "03f700"),
+    Mtu(247),
+    Pdu("021600", "03f700"),
+    Mtu(247),
+];
+
+const BELOW_THE_LEAST: [Step; 4] = [
+    Pdu("021600", "03f700"),
+    Mtu(23),
+    Pdu("02f700", "03f700"),
+    Mtu(23),
+];
+
+const OF_THE_LEAST: [Step; 2] = [Pdu("02f700", "031700"), Mtu(23)];
+
+const OF_THE_LARGEST: [Step; 2] = [Pdu("02ffff", "030502"), Mtu(517)];
+
+#[test]
+fn exchanges_of_the_mtu(rt: HostRuntime) -> Result<(), Fail> {
+    play(&rt, rt.alloc(), DOOR, &OF_247)?;
+    play(&rt, rt.alloc(), DOOR, &BELOW_THE_LEAST)?;
+    play_limited(&rt, rt.alloc(), DOOR, 23, &OF_THE_LEAST)?;
+    play_limited(&rt, rt.alloc(), DOOR, 517, &OF_THE_LARGEST)
+}
+
+/// A value of 512 octets is written and read whole at the largest ATT_MTU, and its first 253 octets
+/// are read by type. One more octet is refused.
+const THE_LARGEST_VALUE: [Step; 6] = [
+    Pdu("020502", "030502"),
+    Long("121500", 513, "011215000d", 0),
+    Pdu("0a1500", "0b"),
+    Long("121500", 512, "13", 0),
+    Long("0a1500", 0, "0b", 512),
+    Long("080100fffff4ff", 0, "09ff1500", 253),
+];
+
+#[test]
+fn the_largest_value(rt: HostRuntime) -> Result<(), Fail> {
+    play_limited(&rt, rt.alloc(), DOOR, 517, &THE_LARGEST_VALUE)
+}

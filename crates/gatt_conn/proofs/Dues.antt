@@ -1,0 +1,39 @@
+-- An answer is given exactly where one is due.
+use Rattle.std.proofs.Common.{◌≡◌, Bool, true, false, if◌then◌else◌, Option, Some, None, refl, sym, ap}
+use Rattle.std.specs.Prelude.{is_some, Ok, Err}
+use Rattle.std.specs.Option.{option_map}
+use Rattle.att_numbers.specs.Types.{Row}
+use Rattle.att_pdu.specs.declared.grammar.PduFault.TheVariants.{Ignored, Invalid, Unsupported}
+use Rattle.att_pdu.specs.Grammar.{is_due}
+use Rattle.att_pdu.specs.Request.{ExchangeMtuRequest, FindInformationRequest, FindByTypeValueRequest, ReadByTypeRequest, ReadRequest, ReadBlobRequest, ReadMultipleRequest, ReadByGroupTypeRequest, WriteRequest, PrepareWriteRequest, ExecuteWriteRequest, ConfirmationPdu, WriteCommandPdu}
+use Rattle.att_pdu.specs.Response.{Response, sent, sent_if_any}
+use Rattle.att_table.specs.Table.{Contents}
+use Rattle.gatt_conn.specs.Answer.{Question, answer_to}
+use Rattle.gatt_conn.specs.Connection.{Connection}
+use Rattle.octets.specs.Number.{Octets}
+
+pub answered_where_due : (table : Contents) (row : Row) (conn : Connection) (asked : Question) → is_some (answer_to table row conn asked) ≡ is_due asked
+answered_where_due table row conn (Ok (ExchangeMtuRequest client_rx_mtu)) = refl
+answered_where_due table row conn (Ok (FindInformationRequest first last)) = refl
+answered_where_due table row conn (Ok (FindByTypeValueRequest first last kind value)) = refl
+answered_where_due table row conn (Ok (ReadByTypeRequest first last kind)) = refl
+answered_where_due table row conn (Ok (ReadRequest handle)) = refl
+answered_where_due table row conn (Ok (ReadBlobRequest handle offset)) = refl
+answered_where_due table row conn (Ok (ReadMultipleRequest handles)) = refl
+answered_where_due table row conn (Ok (ReadByGroupTypeRequest first last kind)) = refl
+answered_where_due table row conn (Ok (WriteRequest handle value)) = refl
+answered_where_due table row conn (Ok (PrepareWriteRequest handle offset part)) = refl
+answered_where_due table row conn (Ok (ExecuteWriteRequest flags)) = refl
+answered_where_due table row conn (Ok ConfirmationPdu) = refl
+answered_where_due table row conn (Ok (WriteCommandPdu handle value)) = refl
+answered_where_due table row conn (Err Ignored) = refl
+answered_where_due table row conn (Err (Invalid opcode)) = refl
+answered_where_due table row conn (Err (Unsupported opcode)) = refl
+
+-- and then its octets are those that were put together
+pub sent_where_due : (answer : Option Response) (due : Bool) (octets : Octets) → is_some answer ≡ due → octets ≡ sent_if_any answer
+    → option_map sent answer ≡ (if due then Some octets else None)
+sent_where_due (Some answer) true octets is put = ap Some (sym put)
+sent_where_due (Some answer) false octets is put = cc is
+sent_where_due None true octets is put = cc is
+sent_where_due None false octets is put = refl

@@ -1,0 +1,105 @@
+-- What a connection has asked and was answered, newest first: it alone decides the ATT_MTU and what is prepared.
+use Rattle.std.specs.Prelude.{◌≡◌, Bool, true, false, if◌then◌else◌, is_some, List, [], ◌∷◌, ◌++◌, Option, Some, None, Ok}
+use Rattle.std.specs.Option.{option_or, option_map_or}
+use Rattle.att_numbers.specs.Types.{Mtu, Row}
+use Rattle.att_pdu.specs.Grammar.{request_of}
+use Rattle.att_pdu.specs.Request.{ExchangeMtuRequest, PrepareWriteRequest, ExecuteWriteRequest}
+use Rattle.att_pdu.specs.Response.{Response, ExchangeMtuResponse, PrepareWriteResponse}
+use Rattle.att_policy.specs.declared.standing.Standing.{Standing}
+use Rattle.att_table.specs.Table.{Contents}
+use Rattle.att_writes.specs.Entry.{Entry}
+use Rattle.gatt_conn.specs.Answer.{Question, entry_at, answer_to, conn_after}
+use Rattle.gatt_conn.specs.Connection.{Connection, new_connection, mtu_between}
+use Rattle.octets.specs.Number.{Octets}
+
+-- a PDU asked for this and had this answer, if one was due; or the server dropped what was prepared
+pub data Said : Type 0 where
+  Answered : (asked : Question) (answer : Option Response) → Said
+  Dropped : Said
+
+-- an exchange was answered, and a part accepted
+abbrev pub is_exchange : Option Response → Bool
+is_exchange (Some (ExchangeMtuResponse server_rx_mtu)) = true
+is_exchange _ = false
+
+abbrev pub is_acceptance : Option Response → Bool
+is_acceptance (Some (PrepareWriteResponse handle offset part)) = true
+is_acceptance _ = false
+
+-- the largest PDU that a client receives, where it asks to exchange it
+abbrev pub exchange_asked : Question → Option Mtu
+exchange_asked (Ok (ExchangeMtuRequest client_rx_mtu)) = Some client_rx_mtu
+exchange_asked _ = None
+
+abbrev pub exchanged_by : Said → Option Mtu
+exchanged_by (Answered asked answer) = if is_exchange answer then exchange_asked asked else None
+exchanged_by Dropped = None
+
+-- the first one that was exchanged
+abbrev pub first_exchange : List Said → Option Mtu
+first_exchange [] = None
+first_exchange (said ∷ earlier) = option_or (first_exchange earlier) (exchanged_by said)
+
+-- the ATT_MTU of a connection to a server that receives PDUs of this many octets
+abbrev pub mtu_in : Mtu → List Said → Mtu
+mtu_in rx_mtu all = option_map_or (λ client_rx_mtu. mtu_between client_rx_mtu rx_mtu) (first_exchange all) 23
+
+-- the part that a client asks to prepare
+abbrev pub part_asked : Question → List Entry
+part_asked (Ok (PrepareWriteRequest handle offset part)) = entry_at handle offset part ∷ []
+part_asked _ = []
+
+abbrev pub part_by : Said → List Entry
+part_by (Answered asked answer) = if is_acceptance answer then part_asked asked else []
+part_by Dropped = []
+
+-- nothing is left prepared: an Execute Write Request was served, whether all was written or refused. One that is malformed asks for nothing
+abbrev pub asks_execution : Question → Bool
+asks_execution (Ok (ExecuteWriteRequest flags)) = true
+asks_execution _ = false
+
+abbrev pub is_end : Said → Bool
+is_end (Answered asked answer) = asks_execution asked
+is_end Dropped = true
+
+-- the parts that were accepted since the last end
+abbrev pub prepared_in : List Said → List Entry
+prepared_in [] = []
+prepared_in (said ∷ earlier) = if is_end said then [] else prepared_in earlier ++ part_by said
+
+-- a connection is what its transcript says
+pub record Follows (conn : Connection) (all : List Said) : Type 0 where
+  pub mtu : conn.mtu ≡ mtu_in conn.rx_mtu all
+  pub exchanged : conn.exchanged ≡ is_some (first_exchange all)
+  pub queue : conn.queue ≡ prepared_in all
+
+-- what happens to a connection: it sends a PDU, to whatever the table and its row then are; what the policy sees of it changes; or its prepared writes are dropped
+pub data Act : Type 0 where
+  Sends : (table : Contents) (row : Row) (pdu : Octets) → Act
+  Stands : (standing : Standing) → Act
+  Cancels : Act
+
+abbrev pub after_act : Connection → Act → Connection
+after_act conn (Sends table row pdu) = conn_after table.attributes conn (request_of pdu conn.mtu)
+after_act conn (Stands standing) = record conn { standing = standing }
+after_act conn Cancels = record conn { queue = [] }
+
+abbrev pub said_by : Connection → Act → List Said
+said_by conn (Sends table row pdu) =
+    let asked = request_of pdu conn.mtu in Answered asked (answer_to table row conn asked) ∷ []
+said_by conn (Stands standing) = []
+said_by conn Cancels = Dropped ∷ []
+
+-- the same of any acts, the newest first
+abbrev pub after_acts : Connection → List Act → Connection
+after_acts conn [] = conn
+after_acts conn (act ∷ earlier) = after_act (after_acts conn earlier) act
+
+abbrev pub said_in : Connection → List Act → List Said
+said_in conn [] = []
+said_in conn (act ∷ earlier) = said_by (after_acts conn earlier) act ++ said_in conn earlier
+
+-- whatever happens to a new connection, and whatever others do to the table meanwhile: its own transcript tells its ATT_MTU and what it has prepared
+abbrev pub TranscriptTells : Type 0
+TranscriptTells = (rx_mtu : Mtu) (acts : List Act) →
+    Follows (after_acts (new_connection rx_mtu) acts) (said_in (new_connection rx_mtu) acts)
