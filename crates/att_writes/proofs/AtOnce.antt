@@ -2,6 +2,7 @@
 use Rattle.std.proofs.Common.{◌≡◌, ℕ, Bool, true, false, cond, List, [], ◌∷◌, length, Option, Some, None, refl, sym, ap, ◌∙◌}
 use Rattle.std.specs.Option.{option_map}
 use Rattle.std.specs.Prelude.{Ok, Err, IsSome}
+use Rattle.att_numbers.specs.Types.{Values}
 use Rattle.att_policy.specs.declared.policy.Access.{Access}
 use Rattle.att_policy.specs.declared.policy.Rule.{Rule}
 use Rattle.att_policy.specs.declared.standing.Standing.{Standing}
@@ -19,7 +20,7 @@ either_way : (test : Bool) (size : ℕ) → cond test size size ≡ size
 either_way true size = refl
 either_way false size = refl
 
-pub size_at_first : (attributes : List Attr) (values : List (List ℕ)) (handle : ℕ) → size_after attributes values handle [] ≡ length (value_at values handle)
+pub size_at_first : (attributes : List Attr) (values : Values) (handle : ℕ) → size_after attributes values handle [] ≡ length (value_at values handle)
 size_at_first attributes values handle = either_way (is_fixed_at attributes handle) (length (value_at values handle))
 
 -- an entry that is not refused has an attribute, and a form that it takes

@@ -5,6 +5,7 @@ use Rattle.std.proofs.lemmas.Grind.{common_steps}
 use Rattle.std.proofs.lemmas.List.{length-set, length-take-le, drop_all}
 use Rattle.std.specs.Prelude.{Ok, Err}
 use Rattle.std.specs.Option.{option_map_or}
+use Rattle.att_numbers.specs.Types.{Row}
 use Rattle.att_policy.specs.declared.policy.Access.{Access}
 use Rattle.att_policy.specs.declared.standing.Standing.{Standing}
 use Rattle.att_table.specs.declared.attr.Attr.{Attr}
@@ -80,7 +81,7 @@ apart : (attributes : List Attr) (handle place other : ℕ) → is_configuration
 apart attributes handle place other is not_other same = unlike attributes handle place other (place == other) is not_other same refl
 
 -- one more entry that is not refused
-values_kept : (is : Bool) (by : Stored) (row : List (ℕ × ℕ)) (handle : ℕ) (value : List ℕ)
+values_kept : (is : Bool) (by : Stored) (row : Row) (handle : ℕ) (value : List ℕ)
     → length (if is then record by { row = row } else record by { values = with_value by.values handle value }).values ≡ length by.values
 values_kept true by row handle value = refl
 values_kept false by row handle value = length-set by.values (handle - 1) value

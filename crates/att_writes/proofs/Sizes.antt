@@ -3,6 +3,7 @@ use Rattle.std.proofs.Common.{◌≡◌, ℕ, ◌+◌, ◌<◌, ◌≤◌, Bool,
 use Rattle.std.proofs.lemmas.Bool.Decides.{nat_tests}
 use Rattle.std.proofs.lemmas.Grind.{common_steps}
 use Rattle.std.specs.Prelude.{IsSome}
+use Rattle.att_numbers.specs.Types.{Values}
 use Rattle.att_table.specs.declared.attr.Attr.{Attr}
 use Rattle.att_table.specs.Cell.{patched}
 use Rattle.att_table.specs.Table.{attribute_at, is_fixed_at, value_at, with_value}
@@ -34,7 +35,7 @@ length_patched true value part offset largest in_value fits = simp (length-appen
 length_patched false value part offset largest in_value fits = simp (length-append, length-take, length-drop) (omega arith)
 
 -- the values after an entry, at any handle that is in use
-value_written : (values : List (List ℕ)) (handle other : ℕ) (value : List ℕ) → 0 < handle → handle ≤ length values → 0 < other
+value_written : (values : Values) (handle other : ℕ) (value : List ℕ) → 0 < handle → handle ≤ length values → 0 < other
     → value_at (with_value values handle value) other ≡ (if handle == other then value else value_at values other)
 value_written values handle other value is_used within other_used = grind (arith, nat_tests, common_steps)
 
@@ -42,7 +43,7 @@ either_size : (test : Bool) (size : ℕ) → cond test size size ≡ size
 either_size true size = refl
 either_size false size = refl
 
-at_handle : (attributes : List Attr) (values : List (List ℕ)) (handle other : ℕ) (written : List ℕ) (end : ℕ) (same : Bool) → (handle == other) ≡ same
+at_handle : (attributes : List Attr) (values : Values) (handle other : ℕ) (written : List ℕ) (end : ℕ) (same : Bool) → (handle == other) ≡ same
     → length written ≡ cond (is_fixed_at attributes handle) (length (value_at values handle)) end
     → length (if same then written else value_at values other) ≡ cond (is_fixed_at attributes other) (length (value_at values other)) (if same then end else length (value_at values other))
 at_handle attributes values handle other written end true is size =
@@ -51,7 +52,7 @@ at_handle attributes values handle other written end true is size =
 at_handle attributes values handle other written end false is size = sym (either_size (is_fixed_at attributes other) (length (value_at values other)))
 
 -- where an entry that fits leaves another length, it is that of the end of its part
-pub after_part : (attributes : List Attr) (values : List (List ℕ)) (entry : Entry) (other : ℕ) (largest : ℕ) → 0 < entry.handle → entry.handle ≤ length values → 0 < other
+pub after_part : (attributes : List Attr) (values : Values) (entry : Entry) (other : ℕ) (largest : ℕ) → 0 < entry.handle → entry.handle ≤ length values → 0 < other
     → entry.offset ≤ length (value_at values entry.handle)
     → entry.offset + length entry.part ≤ cond (is_fixed_at attributes entry.handle) (length (value_at values entry.handle)) largest
     → length (value_at (with_value values entry.handle (patched (is_fixed_at attributes entry.handle) (value_at values entry.handle) entry.offset entry.part)) other)

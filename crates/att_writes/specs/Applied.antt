@@ -1,5 +1,7 @@
 -- What writes change: all that they ask for, or nothing.
 use Rattle.std.specs.Prelude.{ℕ, if◌then◌else◌, List, [], ◌∷◌, length, Option, Some, None, Result, Ok, Err}
+use Rattle.att_numbers.specs.Types.{Code, Values, Row}
+use Rattle.att_policy.specs.Refusal.{Refusal}
 use Rattle.att_policy.specs.declared.policy.Access.{Access}
 use Rattle.att_policy.specs.declared.standing.Standing.{Standing}
 use Rattle.att_table.specs.declared.attr.Attr.{Attr}
@@ -7,15 +9,16 @@ use Rattle.att_table.specs.Cell.{patched}
 use Rattle.att_table.specs.ConfigRow.{with_bits}
 use Rattle.att_table.specs.Table.{Contents, is_configuration_at, is_fixed_at, value_at, with_value}
 use Rattle.att_writes.specs.Entry.{Entry}
+use Rattle.octets.specs.Number.{Octets}
 use Rattle.att_writes.specs.Fault.{fault_of}
 
 -- what a client can write: the values of the table, and its own configurations
 pub record Stored : Type 0 where
-  pub values : List (List ℕ)
-  pub row : List (ℕ × ℕ)
+  pub values : Values
+  pub row : Row
 
 -- the first octet has all bits of a configuration
-abbrev pub first_octet : List ℕ → ℕ
+abbrev pub first_octet : Octets → ℕ
 first_octet [] = 0
 first_octet (octet ∷ rest) = octet
 
@@ -29,13 +32,8 @@ after_entry attributes stored entry =
           (patched (is_fixed_at attributes entry.handle) (value_at stored.values entry.handle) entry.offset entry.part);
     }
 
--- why entries are refused: the handle of the first that is, and its error code
-pub record Refusal : Type 0 where
-  pub handle : ℕ
-  pub code : ℕ
-
--- one entry is refused, or leads to what follows it
-abbrev pub unless_refused : Entry → Option ℕ → Result Stored Refusal → Result Stored Refusal
+-- one entry is refused, with its handle, or leads to what follows it
+abbrev pub unless_refused : Entry → Option Code → Result Stored Refusal → Result Stored Refusal
 unless_refused entry (Some code) applied = Err (record { handle = entry.handle; code = code })
 unless_refused entry None applied = applied
 
@@ -52,11 +50,11 @@ stored_after stored (Ok new) = new
 stored_after stored (Err refusal) = stored
 
 -- entries that change a table and a row
-abbrev pub stored_in : Contents → List (ℕ × ℕ) → Stored
+abbrev pub stored_in : Contents → Row → Stored
 stored_in table row = record { values = table.values; row = row }
 
-abbrev pub applied_to : Access → Contents → List (ℕ × ℕ) → Standing → List Entry → Result Stored Refusal
+abbrev pub applied_to : Access → Contents → Row → Standing → List Entry → Result Stored Refusal
 applied_to access table row standing entries = applied access table.attributes standing (stored_in table row) entries
 
-abbrev pub written_to : Access → Contents → List (ℕ × ℕ) → Standing → List Entry → Stored
+abbrev pub written_to : Access → Contents → Row → Standing → List Entry → Stored
 written_to access table row standing entries = stored_after (stored_in table row) (applied_to access table row standing entries)

@@ -1,15 +1,17 @@
 -- A write into the value of one attribute.
-use Rattle.std.specs.Prelude.{ℕ, List}
+use Rattle.std.specs.Prelude.{ℕ}
+use Rattle.att_numbers.specs.Types.{Handle}
 use Rattle.att_writes.specs.declared.entry.EntryRef.{EntryRef}
+use Rattle.octets.specs.Number.{Octets}
 
 -- the handle of the attribute, the offset in its value, and the octets that are written from there on
 pub record Entry : Type 0 where
-  pub handle : ℕ
+  pub handle : Handle
   pub offset : ℕ
-  pub part : List ℕ
+  pub part : Octets
 
 -- a write of a whole value
-abbrev pub whole : ℕ → List ℕ → Entry
+abbrev pub whole : Handle → Octets → Entry
 whole handle value = record { handle = handle; offset = 0; part = value }
 
 -- a write that borrows its part

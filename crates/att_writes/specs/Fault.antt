@@ -3,6 +3,8 @@
 use Rattle.std.specs.Prelude.{ℕ, ◌+◌, ◌-◌, Bool, false, ◌==◌, ◌&&◌, not, nat_lt, if◌then◌else◌, List, [], ◌∷◌, length, Option, Some, None}
 use Rattle.std.specs.Int.RustNames.{bit_and}
 use Rattle.std.specs.Option.{option_map_or}
+use Rattle.att_numbers.specs.Types.{Handle, Code}
+use Rattle.att_numbers.specs.declared.error_code.TheConstants.{INVALID_OFFSET, INVALID_ATTRIBUTE_VALUE_LENGTH, OUT_OF_RANGE}
 use Rattle.att_policy.specs.declared.policy.Access.{Access}
 use Rattle.att_policy.specs.declared.policy.Rule.{Rule}
 use Rattle.att_policy.specs.declared.standing.Standing.{Standing}
@@ -10,50 +12,50 @@ use Rattle.att_policy.specs.Policy.{configuration_bits_of, first_broken_of}
 use Rattle.att_table.specs.declared.attr.Attr.{Attr}
 use Rattle.att_table.specs.Table.{attribute_at, guard_at, is_configuration_at, is_fixed_at}
 use Rattle.att_writes.specs.Entry.{Entry}
+use Rattle.octets.specs.Number.{Octets}
 
 -- the bits that the configuration at a handle may have: its characteristic value stands before it (Core 5.0, Vol 3 Part G, 3.3.3.3)
-abbrev pub configuration_bits_at : List Attr → ℕ → ℕ
+abbrev pub configuration_bits_at : List Attr → Handle → ℕ
 configuration_bits_at attributes handle =
     option_map_or (λ (attr : Attr). configuration_bits_of attr.guard.properties) (attribute_at attributes (handle - 1)) 0
 
 -- octets are bits that a configuration may have, the lower octet first
-abbrev pub has_bits_within : ℕ → List ℕ → Bool
+abbrev pub has_bits_within : ℕ → Octets → Bool
 has_bits_within bits (low ∷ high ∷ []) = (bit_and low bits == low) && (high == 0)
 has_bits_within bits octets = false
 
--- a configuration is written whole: Invalid Offset, Invalid Attribute Value Length, and the code
--- for a configuration that is not supported, which is this profile's own
-abbrev pub configuration_fault : List Attr → Entry → Option ℕ
+-- a configuration is written whole, by bits that it may have. The code where it may not is this profile's own
+abbrev pub configuration_fault : List Attr → Entry → Option Code
 configuration_fault attributes entry =
-    if not (entry.offset == 0) then Some 0x07
-    else if not (length entry.part == 2) then Some 0x0D
+    if not (entry.offset == 0) then Some INVALID_OFFSET
+    else if not (length entry.part == 2) then Some INVALID_ATTRIBUTE_VALUE_LENGTH
     else if has_bits_within (configuration_bits_at attributes entry.handle) entry.part then None
-    else Some 0xFF
+    else Some OUT_OF_RANGE
 
 -- how many octets a value of this length may come to have: a fixed value keeps its length
-abbrev pub room_of : List Attr → ℕ → ℕ → ℕ
+abbrev pub room_of : List Attr → Handle → ℕ → ℕ
 room_of attributes handle size =
     if is_fixed_at attributes handle then size
     else option_map_or (λ (attr : Attr). attr.largest) (attribute_at attributes handle) 0
 
--- another value of this length: Invalid Offset, then Invalid Attribute Value Length
-abbrev pub value_fault : List Attr → ℕ → Entry → Option ℕ
+-- another value, of this length: its offset goes before its length
+abbrev pub value_fault : List Attr → ℕ → Entry → Option Code
 value_fault attributes size entry =
-    if nat_lt size entry.offset then Some 0x07
-    else if nat_lt (room_of attributes entry.handle size) (entry.offset + length entry.part) then Some 0x0D
+    if nat_lt size entry.offset then Some INVALID_OFFSET
+    else if nat_lt (room_of attributes entry.handle size) (entry.offset + length entry.part) then Some INVALID_ATTRIBUTE_VALUE_LENGTH
     else None
 
-abbrev pub form_fault : List Attr → ℕ → Entry → Option ℕ
+abbrev pub form_fault : List Attr → ℕ → Entry → Option Code
 form_fault attributes size entry =
     if is_configuration_at attributes entry.handle then configuration_fault attributes entry
     else value_fault attributes size entry
 
 -- the first rule of the policy that is broken goes before the form of what is written
-abbrev pub unless_broken : Option (Rule × ℕ) → Option ℕ → Option ℕ
+abbrev pub unless_broken : Option (Rule × Code) → Option Code → Option Code
 unless_broken (Some broken) fault = Some broken.1
 unless_broken None fault = fault
 
 -- the code by which a client is refused a write, if it is, where the value has this length
-abbrev pub fault_of : Access → List Attr → Standing → ℕ → Entry → Option ℕ
+abbrev pub fault_of : Access → List Attr → Standing → ℕ → Entry → Option Code
 fault_of access attributes standing size entry =
     unless_broken (first_broken_of access (guard_at attributes entry.handle) standing) (form_fault attributes size entry)

@@ -1,10 +1,12 @@
 -- How writes end.
-use Rattle.std.specs.Prelude.{ℕ, Result, Ok, Err}
+use Rattle.std.specs.Prelude.{Result, Ok, Err}
+use Rattle.att_numbers.specs.Types.{Opcode}
 use Rattle.att_writes.specs.declared.outcome.Outcome.{Outcome}
 use Rattle.att_writes.specs.declared.outcome.Outcome.TheVariants.{Written, Denied}
-use Rattle.att_writes.specs.Applied.{Stored, Refusal}
+use Rattle.att_writes.specs.Applied.{Stored}
+use Rattle.att_policy.specs.Refusal.{Refusal}
 
 -- a request with this opcode
-abbrev pub outcome_of : ℕ → Result Stored Refusal → Outcome
+abbrev pub outcome_of : Opcode → Result Stored Refusal → Outcome
 outcome_of opcode (Ok stored) = Written
 outcome_of opcode (Err refusal) = Denied opcode refusal.handle refusal.code

@@ -1,34 +1,39 @@
 -- The prepared writes of a client: Core 5.0, Vol 3 Part F, 3.4.6.
 use Rattle.std.specs.Prelude.{◌≡◌, ℕ, ◌+◌, ◌≤◌, Bool, ◌==◌, ◌&&◌, not, nat_lt, nat_le, if◌then◌else◌, List, [], ◌∷◌, ◌++◌, length, map, take, drop, filter, sum_by, Option, Some, None, Result, Ok, Err}
+use Rattle.att_numbers.specs.Types.{Handle, Code}
+use Rattle.att_numbers.specs.declared.error_code.TheConstants.{PREPARE_QUEUE_FULL}
+use Rattle.att_numbers.specs.declared.opcode.TheConstants.{PREPARE_WRITE_REQUEST}
 use Rattle.att_policy.specs.declared.policy.Access.TheVariants.{Write}
 use Rattle.att_policy.specs.declared.policy.Rule.{Rule}
 use Rattle.att_policy.specs.declared.standing.Standing.{Standing}
 use Rattle.att_policy.specs.Policy.{first_broken_of}
 use Rattle.att_table.specs.declared.attr.Attr.{Attr}
 use Rattle.att_table.specs.Table.{guard_at}
-use Rattle.att_writes.specs.Applied.{Stored, Refusal}
+use Rattle.att_policy.specs.Refusal.{Refusal}
+use Rattle.att_writes.specs.Applied.{Stored}
 use Rattle.att_writes.specs.declared.outcome.Outcome.{Outcome}
 use Rattle.att_writes.specs.declared.outcome.Outcome.TheVariants.{Queued, Denied}
 use Rattle.att_writes.specs.declared.queue.Place.{Place}
 use Rattle.att_writes.specs.Entry.{Entry}
+use Rattle.octets.specs.Number.{Octets}
 
 -- at most 32 entries, with at most 1,024 octets of parts: this profile's own
 abbrev pub octets_of : List Entry → ℕ
 octets_of entries = sum_by (λ (entry : Entry). length entry.part) entries
 
-abbrev pub has_room : List Entry → List ℕ → Bool
+abbrev pub has_room : List Entry → Octets → Bool
 has_room entries part = nat_lt (length entries) 32 && nat_le (octets_of entries + length part) 1024
 
 -- the handles of entries, each once, in the order of their first entries
-abbrev pub once_each : List ℕ → List ℕ
+abbrev pub once_each : List Handle → List Handle
 once_each [] = []
 once_each (handle ∷ rest) = handle ∷ filter (λ other. not (other == handle)) (once_each rest)
 
-abbrev pub handles_of : List Entry → List ℕ
+abbrev pub handles_of : List Entry → List Handle
 handles_of entries = once_each (map (λ (entry : Entry). entry.handle) entries)
 
 -- entries whose parts stand one behind the other
-abbrev pub entries_in : List Place → List ℕ → List Entry
+abbrev pub entries_in : List Place → Octets → List Entry
 entries_in [] octets = []
 entries_in (place ∷ places) octets =
     record { handle = place.handle; offset = place.offset; part = take place.len octets } ∷ entries_in places (drop place.len octets)
@@ -37,7 +42,7 @@ abbrev pub sizes_of : List Place → ℕ
 sizes_of places = sum_by (λ (place : Place). place.len) places
 
 -- the parts have the lengths that their places say, within the limits, for which there is room
-pub record IsLaidOut (places : List Place) (octets : List ℕ) (place_room octet_room : ℕ) : Type 0 where
+pub record IsLaidOut (places : List Place) (octets : Octets) (place_room octet_room : ℕ) : Type 0 where
   pub sizes : sizes_of places ≡ length octets
   pub few_entries : length places ≤ 32
   pub few_octets : length octets ≤ 1024
@@ -45,24 +50,24 @@ pub record IsLaidOut (places : List Place) (octets : List ℕ) (place_room octet
   pub has_octet_room : 1024 ≤ octet_room
 
 -- why an entry is not taken, if it is not: the policy goes before the room
-abbrev pub unless_broken : Option (Rule × ℕ) → Bool → Option ℕ
+abbrev pub unless_broken : Option (Rule × Code) → Bool → Option Code
 unless_broken (Some broken) fits = Some broken.1
-unless_broken None fits = if fits then None else Some 0x09
+unless_broken None fits = if fits then None else Some PREPARE_QUEUE_FULL
 
-abbrev pub prepare_fault : List Attr → Standing → List Entry → Entry → Option ℕ
+abbrev pub prepare_fault : List Attr → Standing → List Entry → Entry → Option Code
 prepare_fault attributes standing entries entry =
     unless_broken (first_broken_of Write (guard_at attributes entry.handle) standing) (has_room entries entry.part)
 
 -- an entry is added at the end, or refused
-abbrev pub prepared : List Entry → Entry → Option ℕ → List Entry
+abbrev pub prepared : List Entry → Entry → Option Code → List Entry
 prepared entries entry (Some code) = entries
 prepared entries entry None = entries ++ entry ∷ []
 
-abbrev pub prepare_outcome : Entry → Option ℕ → Outcome
-prepare_outcome entry (Some code) = Denied 0x16 entry.handle code
+abbrev pub prepare_outcome : Entry → Option Code → Outcome
+prepare_outcome entry (Some code) = Denied PREPARE_WRITE_REQUEST entry.handle code
 prepare_outcome entry None = Queued
 
 -- the handles that an execution wrote
-abbrev pub touched_by : List Entry → Result Stored Refusal → List ℕ
+abbrev pub touched_by : List Entry → Result Stored Refusal → List Handle
 touched_by entries (Ok stored) = handles_of entries
 touched_by entries (Err refusal) = []

@@ -1,17 +1,18 @@
 -- How long a value is once entries before it are written.
 use Rattle.std.specs.Prelude.{ℕ, ◌+◌, ◌==◌, if◌then◌else◌, List, [], ◌∷◌, length}
+use Rattle.att_numbers.specs.Types.{Handle, Values}
 use Rattle.att_table.specs.declared.attr.Attr.{Attr}
 use Rattle.att_table.specs.Table.{is_fixed_at, value_at}
 use Rattle.att_writes.specs.declared.queue.Place.{Place}
 
 -- a variable value ends with the last part of it that is written
-abbrev pub size_with : ℕ → ℕ → List Place → ℕ
+abbrev pub size_with : Handle → ℕ → List Place → ℕ
 size_with handle size [] = size
 size_with handle size (place ∷ places) =
     size_with handle (if place.handle == handle then place.offset + place.len else size) places
 
 -- a fixed one keeps its length
-abbrev pub size_after : List Attr → List (List ℕ) → ℕ → List Place → ℕ
+abbrev pub size_after : List Attr → Values → Handle → List Place → ℕ
 size_after attributes values handle places =
     if is_fixed_at attributes handle then length (value_at values handle)
     else size_with handle (length (value_at values handle)) places

@@ -1,6 +1,8 @@
 //! Writes that are prepared, and made together: Core 5.0, Vol 3 Part F, 3.4.6.
 
 ghost use Rattle.std.specs.Prelude.{◌≡◌, ◌≤◌, ℕ, ◌∷◌, [], List, length, map, IfSome, IsNone, OnSome, Err, Ok, IsOk};
+ghost use Rattle.att_numbers.specs.Types.{Row};
+ghost use Rattle.att_numbers.specs.declared.opcode.TheConstants.{EXECUTE_WRITE_REQUEST};
 ghost use Rattle.att_table.specs.ConfigRow.{IsRowOf};
 ghost use Rattle.att_writes.specs.declared.queue.Place.{Place};
 ghost use Rattle.att_writes.specs.Applied.{applied_to, written_to, stored_in};
@@ -11,11 +13,11 @@ ghost use Rattle.att_writes.specs.Queue.{entries_in, sizes_of, handles_of, once_
 
 use crate::entry::EntryRef;
 use crate::fault::fault_of;
-use crate::outcome::{EXECUTE_WRITE_REQUEST, Outcome, PREPARE_WRITE_REQUEST};
+use crate::outcome::Outcome;
 use crate::queue::{Place, Queue};
 use crate::writes::put;
 use arrayvec::ArrayVec;
-use att_numbers::error_code;
+use att_numbers::{error_code, opcode};
 use att_policy::{Access, Standing, first_broken};
 use att_table::{ConfigRow, Table};
 
@@ -36,11 +38,11 @@ pub fn prepare(
 {
     let guard = table.get(handle).map(|attr| &attr.guard);
     if let Some((_, code)) = first_broken(Access::Write, guard, standing) {
-        return Outcome::Denied(PREPARE_WRITE_REQUEST, handle, code);
+        return Outcome::Denied(opcode::PREPARE_WRITE_REQUEST, handle, code);
     }
     if !queue.has_room(part) {
         return Outcome::Denied(
-            PREPARE_WRITE_REQUEST,
+            opcode::PREPARE_WRITE_REQUEST,
             handle,
             error_code::PREPARE_QUEUE_FULL,
         );
@@ -64,7 +66,7 @@ pub fn execute(
     touched: &mut ArrayVec<u16, 32>,
 ) -> Outcome
     requires row { IsRowOf table.old.attributes row.old }
-    ensures outcome { result ≡ outcome_of 0x18 (applied_to Access.Write table.old row.old standing.entry.now queue.old) }
+    ensures outcome { result ≡ outcome_of EXECUTE_WRITE_REQUEST (applied_to Access.Write table.old row.old standing.entry.now queue.old) }
     ensures values { table.new.values ≡ (written_to Access.Write table.old row.old standing.entry.now queue.old).values }
     ensures row { row.new ≡ (written_to Access.Write table.old row.old standing.entry.now queue.old).row }
     ensures touched { touched.new.items ≡ touched_by queue.old (applied_to Access.Write table.old row.old standing.entry.now queue.old) }
@@ -75,7 +77,7 @@ pub fn execute(
     touched.clear();
     let (places, octets) = queue.parts();
     let outcome = match first_refused(table, standing, places, octets) {
-        Some((handle, code)) => Outcome::Denied(EXECUTE_WRITE_REQUEST, handle, code),
+        Some((handle, code)) => Outcome::Denied(opcode::EXECUTE_WRITE_REQUEST, handle, code),
         None => {
             put_all(table, row, places, octets);
             touch_all(places, touched);
@@ -95,12 +97,12 @@ fn first_refused(
     octets: &[u8],
 ) -> Option<(u16, u8)>
     requires { sizes_of places.now ≡ length octets.now }
-    ensures refused { IfSome result (λ refusal. (row : List (ℕ × ℕ))
+    ensures refused { IfSome result (λ refusal. (row : Row)
         → applied_to Access.Write table.now row standing.entry.now (entries_in places.now octets.now) ≡ Err (record { handle = refusal.0; code = refusal.1 })) }
-    ensures written { IsNone result → (row : List (ℕ × ℕ))
+    ensures written { IsNone result → (row : Row)
         → applied_to Access.Write table.now row standing.entry.now (entries_in places.now octets.now)
         ≡ Ok (after_all table.now.attributes (stored_in table.now row) (entries_in places.now octets.now)) }
-    ensures fits { IsNone result → (row : List (ℕ × ℕ)) → AllFit table.now.attributes (stored_in table.now row) (entries_in places.now octets.now) }
+    ensures fits { IsNone result → (row : Row) → AllFit table.now.attributes (stored_in table.now row) (entries_in places.now octets.now) }
 {
     let mut rest = octets;
     for (index, place) in places.iter().enumerate() {

@@ -14,6 +14,7 @@ use att_table::{Attr, Role, Table};
 
 /// The error code by which a client is refused a write, if it is, once the entries at these earlier
 /// places are written.
+#[inline(always)]
 pub(crate) fn fault_of(
     access: Access,
     table: &Table,

@@ -1,6 +1,7 @@
 //! Writes that are made at once: Core 5.0, Vol 3 Part F, 3.4.5.
 
 ghost use Rattle.std.specs.Prelude.{◌≡◌, [], ◌∷◌};
+ghost use Rattle.att_numbers.specs.declared.opcode.TheConstants.{WRITE_REQUEST, WRITE_COMMAND};
 ghost use Rattle.att_table.specs.ConfigRow.{IsRowOf};
 ghost use Rattle.att_writes.specs.Applied.{after_entry, stored_in, applied_to, written_to};
 ghost use Rattle.att_writes.specs.Entry.{entry_of, whole};
@@ -9,7 +10,8 @@ ghost use Rattle.att_writes.specs.Outcome.{outcome_of};
 
 use crate::entry::EntryRef;
 use crate::fault::fault_of;
-use crate::outcome::{Outcome, WRITE_COMMAND, WRITE_REQUEST};
+use crate::outcome::Outcome;
+use att_numbers::opcode;
 use att_policy::{Access, Standing};
 use att_table::{ConfigRow, Role, Table};
 
@@ -24,7 +26,7 @@ pub fn write(
     value: &[u8],
 ) -> Outcome
     requires row { IsRowOf table.old.attributes row.old }
-    ensures outcome { result ≡ outcome_of 0x12 (applied_to Access.Write table.old row.old standing.entry.now (whole handle value.now ∷ [])) }
+    ensures outcome { result ≡ outcome_of WRITE_REQUEST (applied_to Access.Write table.old row.old standing.entry.now (whole handle value.now ∷ [])) }
     ensures values { table.new.values ≡ (written_to Access.Write table.old row.old standing.entry.now (whole handle value.now ∷ [])).values }
     ensures row { row.new ≡ (written_to Access.Write table.old row.old standing.entry.now (whole handle value.now ∷ [])).row }
     ensures attributes { table.new.attributes ≡ table.old.attributes }
@@ -35,7 +37,14 @@ pub fn write(
         offset: 0,
         part: value,
     };
-    write_at_once(Access::Write, WRITE_REQUEST, table, row, standing, entry)
+    write_at_once(
+        Access::Write,
+        opcode::WRITE_REQUEST,
+        table,
+        row,
+        standing,
+        entry,
+    )
 }
 
 /// The same for a Write Command, which is never answered.
@@ -47,7 +56,7 @@ pub fn command(
     value: &[u8],
 ) -> Outcome
     requires row { IsRowOf table.old.attributes row.old }
-    ensures outcome { result ≡ outcome_of 0x52 (applied_to Access.Command table.old row.old standing.entry.now (whole handle value.now ∷ [])) }
+    ensures outcome { result ≡ outcome_of WRITE_COMMAND (applied_to Access.Command table.old row.old standing.entry.now (whole handle value.now ∷ [])) }
     ensures values { table.new.values ≡ (written_to Access.Command table.old row.old standing.entry.now (whole handle value.now ∷ [])).values }
     ensures row { row.new ≡ (written_to Access.Command table.old row.old standing.entry.now (whole handle value.now ∷ [])).row }
     ensures attributes { table.new.attributes ≡ table.old.attributes }
@@ -58,10 +67,18 @@ pub fn command(
         offset: 0,
         part: value,
     };
-    write_at_once(Access::Command, WRITE_COMMAND, table, row, standing, entry)
+    write_at_once(
+        Access::Command,
+        opcode::WRITE_COMMAND,
+        table,
+        row,
+        standing,
+        entry,
+    )
 }
 
 /// Writes one entry, or refuses it under the opcode of the request that asks for it.
+#[inline(always)]
 #[tactic(auto, using(crate::proofs::AtOnce::at_once))]
 fn write_at_once(
     access: Access,

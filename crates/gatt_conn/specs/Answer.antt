@@ -15,7 +15,8 @@ use Rattle.att_policy.specs.declared.standing.Standing.{Standing}
 use Rattle.att_reads.specs.Answer.{read_answer}
 use Rattle.att_table.specs.declared.attr.Attr.{Attr}
 use Rattle.att_table.specs.Table.{Contents}
-use Rattle.att_writes.specs.Applied.{Stored, Refusal, stored_in, applied_to, written_to}
+use Rattle.att_policy.specs.Refusal.{Refusal}
+use Rattle.att_writes.specs.Applied.{Stored, stored_in, applied_to, written_to}
 use Rattle.att_writes.specs.Entry.{Entry, whole}
 use Rattle.att_writes.specs.Queue.{prepare_fault, prepared, touched_by}
 use Rattle.gatt_conn.specs.Connection.{Connection, after_exchange}
