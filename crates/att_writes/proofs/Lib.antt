@@ -1,5 +1,7 @@
 pub mod AtOnce
 pub mod Laid
+pub mod Lengths
 pub mod Reached
 pub mod Sizes
 pub mod Touched
+pub mod Untouched

@@ -42,7 +42,7 @@ begin access attributes standing stored all = record {
 }
 
 -- an entry is refused by what stands by then as it is by the lengths; where it has no attribute, whatever they are
-same_by_then : (access : Access) (attributes : List Attr) (standing : Standing) (one other : ℕ) (entry : Entry)
+pub same_by_then : (access : Access) (attributes : List Attr) (standing : Standing) (one other : ℕ) (entry : Entry)
     → (0 < entry.handle → is_configuration_at attributes entry.handle ≡ false → one ≡ other)
     → fault_of access attributes standing one entry ≡ fault_of access attributes standing other entry
 same_by_then access attributes standing one other entry same =

@@ -35,7 +35,7 @@ length_patched true value part offset largest in_value fits = simp (length-appen
 length_patched false value part offset largest in_value fits = simp (length-append, length-take, length-drop) (omega arith)
 
 -- the values after an entry, at any handle that is in use
-value_written : (values : Values) (handle other : ℕ) (value : List ℕ) → 0 < handle → handle ≤ length values → 0 < other
+pub value_written : (values : Values) (handle other : ℕ) (value : List ℕ) → 0 < handle → handle ≤ length values → 0 < other
     → value_at (with_value values handle value) other ≡ (if handle == other then value else value_at values other)
 value_written values handle other value is_used within other_used = grind (arith, nat_tests, common_steps)
 

@@ -4,4 +4,5 @@ pub mod Fault
 pub mod Fits
 pub mod Outcome
 pub mod Queue
+pub mod SameBut
 pub mod Sizes

@@ -1,0 +1,32 @@
+-- Values that differ in nothing but some of them.
+use Rattle.std.specs.Prelude.{◌≡◌, ℕ, ◌<◌, Bool, false, ◌==◌, List, length, Result, Ok, Err}
+use Rattle.std.specs.List.{list_any}
+use Rattle.att_numbers.specs.Types.{Handle, Values}
+use Rattle.att_policy.specs.Refusal.{Refusal}
+use Rattle.att_table.specs.ConfigRow.{bits_at}
+use Rattle.att_table.specs.Table.{value_at}
+use Rattle.att_writes.specs.Applied.{Stored}
+use Rattle.att_writes.specs.Entry.{Entry}
+
+-- as many values, of the same lengths, and the same ones where they are not hidden
+pub record SameBut (hidden : Handle → Bool) (some other : Values) : Type 0 where
+  pub count : length some ≡ length other
+  pub lengths : (handle : Handle) → 0 < handle → length (value_at some handle) ≡ length (value_at other handle)
+  pub shown : (handle : Handle) → 0 < handle → hidden handle ≡ false → value_at some handle ≡ value_at other handle
+
+-- the same refusal, or values that are the same so, and the same configurations
+abbrev pub SameApplied : (Handle → Bool) → Result Stored Refusal → Result Stored Refusal → Type 0
+SameApplied hidden (Ok some) (Ok other) = SameBut hidden some.values other.values × (some.row ≡ other.row)
+SameApplied hidden (Err some) (Err other) = some ≡ other
+SameApplied hidden (Ok some) (Err other) = ⊥
+SameApplied hidden (Err some) (Ok other) = ⊥
+
+-- an entry is one of this handle
+abbrev pub is_touched : List Entry → Handle → Bool
+is_touched entries handle = list_any (λ (entry : Entry). entry.handle == handle) entries
+
+-- entries left all values and configurations but their own
+pub record KeepsOthers (entries : List Entry) (old new : Stored) : Type 0 where
+  pub count : length new.values ≡ length old.values
+  pub values : (handle : Handle) → 0 < handle → is_touched entries handle ≡ false → value_at new.values handle ≡ value_at old.values handle
+  pub row : (handle : Handle) → is_touched entries handle ≡ false → bits_at new.row handle ≡ bits_at old.row handle
