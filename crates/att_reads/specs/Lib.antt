@@ -2,5 +2,4 @@ pub mod Access
 pub mod Answer
 pub mod List
 pub mod Listing
-pub mod Reader
 pub mod Refusals

@@ -14,7 +14,7 @@ ghost use Rattle.att_reads.specs.Refusals.{unless_refused, not_found};
 use crate::reader::Reader;
 use att_numbers::{error_code, opcode};
 use att_pdu::PduBuf;
-use att_table::{Attr, Table, is_of_16_bits, type_octets};
+use att_table::{Attr, Table, is_of_16_bits};
 
 /// The formats of the answer to a Find Information Request: Core 5.0, Vol 3 Part F, 3.4.3.2.
 const SHORT_KINDS: u8 = 1;
@@ -64,8 +64,11 @@ fn append_all(attributes: &[Attr], size: usize, out: &mut PduBuf<'_>)
 fn append_next(attr: &Attr, size: usize, out: &mut PduBuf<'_>) -> bool
     ensures { AppendsNext out.old out.new size (information_of attr.now) result }
 {
-    let octets = type_octets(attr.kind);
-    2 + octets.len() == size && out.pair(attr.handle, octets.as_slice())
+    if is_of_16_bits(attr.kind) {
+        size == 4 && out.pair(attr.handle, &((attr.kind >> 96) as u16).to_le_bytes())
+    } else {
+        size == 18 && out.pair(attr.handle, &attr.kind.to_le_bytes())
+    }
 }
 
 /// Answers a Find By Type Value Request of the attributes at these handles, of which all have the
@@ -127,7 +130,7 @@ fn is_match(reader: Reader<'_>, handle: u16, value: &[u8]) -> bool
     ensures exists { OnTrue result (IsSome (attribute_at reader.entry.table.now.attributes handle)) }
 {
     match reader.read(handle) {
-        Ok(own) => own.as_slice() == value,
+        Ok(own) => own == value,
         Err(_) => false,
     }
 }

@@ -86,7 +86,7 @@ pub fn answer(
     };
     match reader.read(*first) {
         Ok(value) => {
-            let front = listing.cut(value.as_slice(), out.mtu());
+            let front = listing.cut(value, out.mtu());
             begin(listing, reader.table, *first, front, out);
             let size = usize::from(listing.head()) + front.len();
             append_all(listing, reader, rest, size, out);
@@ -143,7 +143,7 @@ fn append_next(
     let Ok(value) = reader.read(handle) else {
         return false;
     };
-    let front = listing.cut(value.as_slice(), out.mtu());
+    let front = listing.cut(value, out.mtu());
     usize::from(listing.head()) + front.len() == size
         && listing.append(reader.table, handle, front, out)
 }

@@ -1,4 +1,4 @@
-ghost use Rattle.std.specs.Prelude.{◌≡◌, IfOk, IfErr, IsSome, None, Some};
+ghost use Rattle.std.specs.Prelude.{◌≡◌, ◌≤◌, ◌∷◌, [], IfOk, IfErr, IsSome, None, Some};
 ghost use Rattle.att_reads.specs.Access.{refusal_at, value_for};
 ghost use Rattle.att_table.specs.Table.{attribute_at};
 
@@ -16,38 +16,26 @@ pub struct Reader<'a> {
     pub standing: &'a Standing,
 }
 
-/// The value that a client reads.
-#[derive(Clone, Copy, Debug)]
-pub enum ReadValue<'a> {
-    /// The octets that the table keeps.
-    Stored(&'a [u8]),
-    /// The client's own configuration.
-    Configuration([u8; 2]),
-}
-
-impl ReadValue<'_> {
-    ghost use Rattle.att_reads.specs.Reader.{octets_of};
-
-    /// Its octets.
-    pub fn as_slice(&self) -> &[u8]
-        ensures { result.now ≡ octets_of self.now }
-    {
-        match self {
-            ReadValue::Stored(octets) => octets,
-            ReadValue::Configuration(octets) => octets.as_slice(),
-        }
+/// The value of a client characteristic configuration with these bits.
+fn configuration(bits: u8) -> &'static [u8]
+    requires { bits ≤ 3 }
+    ensures { result.now ≡ bits ∷ 0 ∷ [] }
+{
+    match bits {
+        0 => &[0, 0],
+        1 => &[1, 0],
+        2 => &[2, 0],
+        _ => &[3, 0],
     }
 }
 
 impl<'a> Reader<'a> {
-    ghost use Rattle.att_reads.specs.Reader.{octets_of};
-
     /// The value of the attribute at a handle, or the error code of the first rule of the policy
     /// that reading it breaks.
     #[inline(always)]
-    pub fn read(self, handle: u16) -> Result<ReadValue<'a>, u8>
+    pub fn read(self, handle: u16) -> Result<&'a [u8], u8>
         ensures permitted { IfOk result (λ value. refusal_at self.entry.table.now.attributes self.entry.standing.now handle ≡ None) }
-        ensures value { IfOk result (λ value. octets_of value ≡ value_for self.entry.table.now self.entry.row.now handle) }
+        ensures value { IfOk result (λ value. value.now ≡ value_for self.entry.table.now self.entry.row.now handle) }
         ensures exists { IfOk result (λ value. IsSome (attribute_at self.entry.table.now.attributes handle)) }
         ensures refused { IfErr result (λ code. refusal_at self.entry.table.now.attributes self.entry.standing.now handle ≡ Some code) }
     {
@@ -58,9 +46,9 @@ impl<'a> Reader<'a> {
         }
         match attr {
             Some(attr) if attr.role == Role::Configuration => {
-                Ok(ReadValue::Configuration([self.row.get(handle), 0]))
+                Ok(configuration(self.row.get(handle)))
             }
-            _ => Ok(ReadValue::Stored(self.table.value(handle))),
+            _ => Ok(self.table.value(handle)),
         }
     }
 }

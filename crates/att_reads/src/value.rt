@@ -23,7 +23,7 @@ pub fn read(reader: Reader<'_>, handle: u16, out: &mut PduBuf<'_>)
     match reader.read(handle) {
         Ok(value) => {
             out.value(&[opcode::READ_RESPONSE]);
-            out.front(value.as_slice());
+            out.front(value);
         }
         Err(code) => out.error(opcode::READ_REQUEST, handle, code),
     }
@@ -37,7 +37,7 @@ pub fn read_blob(reader: Reader<'_>, handle: u16, offset: u16, out: &mut PduBuf<
     ensures same_buffer { IsSameBuffer out.old out.new }
 {
     match reader.read(handle) {
-        Ok(value) => part(value.as_slice(), handle, offset, out),
+        Ok(value) => part(value, handle, offset, out),
         Err(code) => out.error(opcode::READ_BLOB_REQUEST, handle, code),
     }
 }
@@ -74,7 +74,7 @@ pub fn read_multiple(reader: Reader<'_>, handles: &[[u8; 2]], out: &mut PduBuf<'
     for octets in handles {
         let handle = u16::from_le_bytes(*octets);
         match reader.read(handle) {
-            Ok(value) => out.front(value.as_slice()),
+            Ok(value) => out.front(value),
             Err(code) => {
                 out.error(opcode::READ_MULTIPLE_REQUEST, handle, code);
                 return;

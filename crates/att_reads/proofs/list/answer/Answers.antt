@@ -21,7 +21,7 @@ returns-in-Ok-clause-answer c =
     let rest = take (length handles - 1) (drop 1 handles) in
     let at : handles ≡ first ∷ rest = first_and_rest handles 0 c.in-len1-up.len_at_least in
     let front : c.cut-front.result.now ≡ take (cut_of listing mtu) (value_for table row first) =
-    c.cut-front.ensures ∙ ap (λ n. take (cut_of listing n) c.as_slice.result.now) c.mtu.ensures.mtu ∙ ap (take (cut_of listing mtu)) (c.as_slice.ensures ∙ c.in-Ok.ensures.value) in
+    c.cut-front.ensures ∙ ap (λ n. take (cut_of listing n) c.in-Ok.value.now) c.mtu.ensures.mtu ∙ ap (take (cut_of listing mtu)) c.in-Ok.ensures.value in
     let size : c.from.result + length c.cut-front.result.now ≡ head_of listing + length c.cut-front.result.now =
     ap (λ n. n + length c.cut-front.result.now) (c.from.ensures ∙ c.head.ensures) in
     c.append_all.ensures.appended

@@ -33,10 +33,10 @@ loop-octets-preserved c =
     let left = map (from_le_bytes w16) (drop next c.args.handles.now) in
     let at : drop c.loop-octets.octets-index c.args.handles.now ≡ get_or c.args.handles.now c.loop-octets.octets-index [] ∷ drop next c.args.handles.now =
     drop_next c.args.handles.now c.loop-octets.octets-index [] c.loop-octets-test.true in
-    let value : c.as_slice.result.now ≡ value_for table row handle = c.as_slice.ensures ∙ c.in-Ok.ensures.value in
+    let value : c.in-Ok.value.now ≡ value_for table row handle = c.in-Ok.ensures.value in
     let appended : contents c.front.new.self ≡ filled mtu (contents out) (value_for table row handle) =
     c.front.ensures.appended
-    ∙ ap (λ most. contents out ++ take (most - length (contents out)) c.as_slice.result.now) c.loop-octets.invariant.same.mtu
+    ∙ ap (λ most. contents out ++ take (most - length (contents out)) c.in-Ok.value.now) c.loop-octets.invariant.same.mtu
     ∙ ap (filled mtu (contents out)) value in
     let handles : map (from_le_bytes w16) (drop c.loop-octets.octets-index c.args.handles.now) ≡ handle ∷ left =
     ap (map (from_le_bytes w16)) at ∙ ap (λ first. first ∷ left) (sym c.from_le_bytes-handle.ensures) in
