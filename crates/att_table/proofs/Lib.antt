@@ -1,5 +1,6 @@
 pub mod Configurations
 pub mod Digits
+pub mod Facts
 pub mod Faults
 pub mod Groups
 pub mod OfType
@@ -7,3 +8,4 @@ pub mod Parsed
 pub mod Rows
 pub mod Services
 pub mod Tables
+pub mod Values

@@ -33,7 +33,7 @@ slice_get-below [] place h = absurd (omega arith)
 slice_get-below (x ∷ xs) zero h = search rules
 slice_get-below (x ∷ xs) (suc place) h = slice_get-below xs place (omega arith)
 
-attribute_at-within : (attributes : List Attr) (handle : ℕ) → 0 < handle → handle ≤ length attributes → IsSome (attribute_at attributes handle)
+pub attribute_at-within : (attributes : List Attr) (handle : ℕ) → 0 < handle → handle ≤ length attributes → IsSome (attribute_at attributes handle)
 attribute_at-within attributes handle first last =
     let found : IsSome (slice_get attributes (handle - 1)) = slice_get-below attributes (handle - 1) (omega arith) in
     grind arith

@@ -11,7 +11,7 @@ use Rattle.std.proofs.lemmas.List.Elements.{All-get_or, All-set}
 use Rattle.std.proofs.lemmas.Option.{slice_get-get_or, slice_get_within, slice_get_past, slice_get-map, unwrap_or-slice_get}
 use Rattle.att_table.specs.declared.attr.Attr.{Attr}
 use Rattle.att_values.specs.Cell.{Cell, no_cell, cell_at, patched, patched_cell, with_part}
-use Rattle.att_table.specs.Table.{Contents, attribute_at, value_at, with_value, is_fixed_at, room_at, values_of, IsKept}
+use Rattle.att_table.specs.Table.{Contents, attribute_at, value_at, with_value, is_fixed_at, room_at, values_of, AreExact, IsKept}
 
 -- an attribute has its place in the list
 pub place_within : (attributes : List Attr) (handle : ℕ) → IsSome (attribute_at attributes handle) → (0 < handle) × (handle - 1 < length attributes)
@@ -35,7 +35,7 @@ unwrap_or-map f None = refl
 unwrap_or-map f (Some attr) = refl
 
 -- the room of a cell is the largest length of its attribute
-kept-room : (attributes : List Attr) (cells : List Cell) (handle : ℕ) → IsKept attributes cells → IsSome (attribute_at attributes handle)
+pub kept-room : (attributes : List Attr) (cells : List Cell) (handle : ℕ) → IsKept attributes cells → IsSome (attribute_at attributes handle)
     → (cell_at cells handle).room ≡ option_map_or (λ (attr : Attr). attr.largest) (attribute_at attributes handle) 0
 kept-room attributes cells handle kept found =
     sym (get_or-map_default (λ (cell : Cell). cell.room) cells (handle - 1) no_cell)
@@ -49,7 +49,7 @@ kept-room attributes cells handle kept found =
 pub value_at-cell : (cells : List Cell) (handle : ℕ) → value_at (values_of cells) handle ≡ (cell_at cells handle).octets
 value_at-cell cells handle = get_or-map_default (λ (cell : Cell). cell.octets) cells (handle - 1) no_cell
 
-cell-within : (attributes : List Attr) (cells : List Cell) (handle : ℕ) → IsKept attributes cells → length (cell_at cells handle).octets ≤ (cell_at cells handle).room
+pub cell-within : (attributes : List Attr) (cells : List Cell) (handle : ℕ) → IsKept attributes cells → length (cell_at cells handle).octets ≤ (cell_at cells handle).room
 cell-within attributes cells handle kept = elim (cases_lt (handle - 1) (length cells)) [
   | inr past ↦ rw (get_or_past cells (handle - 1) no_cell past) (omega arith)
   | inl below ↦ All-get_or (λ (cell : Cell). length cell.octets ≤ cell.room) cells (handle - 1) no_cell below kept.within
@@ -73,9 +73,13 @@ fits_cell attributes cells table handle size kept is =
 
 pub kept-patched : (attributes : List Attr) (cells : List Cell) (keep : Bool) (handle offset : ℕ) (part : List ℕ)
     → IsKept attributes cells → offset ≤ length (cell_at cells handle).octets → offset + length part ≤ (cell_at cells handle).room
+    → AreExact attributes (with_part cells keep handle offset part)
     → IsKept attributes (with_part cells keep handle offset part)
-kept-patched attributes cells keep handle offset part kept in_value fits = record {
+kept-patched attributes cells keep handle offset part kept in_value fits exact = record {
   numbered = kept.numbered;
+  largest = kept.largest;
+  behind = kept.behind;
+  exact = exact;
   rooms = kept.rooms ∙ sym (map-set_same (λ (cell : Cell). cell.room) cells (handle - 1) (patched_cell keep (cell_at cells handle) offset part) no_cell refl);
   within = All-set (λ (cell : Cell). length cell.octets ≤ cell.room) cells (handle - 1) (patched_cell keep (cell_at cells handle) offset part)
       (length-patched keep (cell_at cells handle).octets offset part (cell_at cells handle).room in_value fits (cell-within attributes cells handle kept)) kept.within;

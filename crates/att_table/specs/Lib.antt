@@ -1,4 +1,5 @@
 pub mod ConfigRow
+pub mod Facts
 pub mod Group
 pub mod OfType
 pub mod Table

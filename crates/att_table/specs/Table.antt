@@ -1,6 +1,6 @@
 -- The attribute table: the attributes by their handles, and their values, which are all that changes.
 -- Core 5.0, Vol 3 Part F, 3.2
-use Rattle.std.specs.Prelude.{◌≡◌, ◌≤◌, All, ℕ, ◌+◌, ◌-◌, ◌==◌, Bool, true, false, if◌then◌else◌, List, [], ◌∷◌, length, take, drop, map, slice_set, slice_index_or, slice_get, count_by, Option, None}
+use Rattle.std.specs.Prelude.{◌≡◌, ◌≤◌, All, ℕ, ◌+◌, ◌-◌, ◌==◌, Bool, true, false, if◌then◌else◌, List, [], ◌∷◌, length, take, drop, map, slice_set, slice_index_or, slice_get, count_by, sum_by, Option, None}
 use Rattle.std.specs.Option.{option_map, option_map_or}
 use Rattle.octets.specs.Number.{Octets}
 use Rattle.att_numbers.specs.Types.{Handle, AttributeType, Values}
@@ -39,7 +39,17 @@ is_configuration Descriptor = false
 abbrev pub configurations_of : List Attr → ℕ
 configurations_of attributes = count_by (λ (attr : Attr). is_configuration attr.role) attributes
 
+-- whether it is the value of a characteristic
+abbrev pub is_value : Role → Bool
+is_value Declaration = false
+is_value Value = true
+is_value Configuration = false
+is_value Descriptor = false
+
 -- the same of the attribute at a handle
+abbrev pub is_value_at : List Attr → Handle → Bool
+is_value_at attributes handle = option_map_or (λ (attr : Attr). is_value attr.role) (attribute_at attributes handle) false
+
 abbrev pub is_configuration_at : List Attr → Handle → Bool
 is_configuration_at attributes handle = option_map_or (λ (attr : Attr). is_configuration attr.role) (attribute_at attributes handle) false
 
@@ -55,11 +65,15 @@ with_value values handle value = slice_set values (handle - 1) value
 abbrev pub is_fixed_at : List Attr → Handle → Bool
 is_fixed_at attributes handle = option_map_or (λ (attr : Attr). attr.fixed) (attribute_at attributes handle) false
 
+-- the largest length of the value at a handle
+abbrev pub largest_at : List Attr → Handle → ℕ
+largest_at attributes handle = option_map_or (λ (attr : Attr). attr.largest) (attribute_at attributes handle) 0
+
 -- how many octets the value at a handle may have: a fixed value keeps its length
 abbrev pub room_at : Contents → Handle → ℕ
 room_at table handle =
     if is_fixed_at table.attributes handle then length (value_at table.values handle)
-    else option_map_or (λ (attr : Attr). attr.largest) (attribute_at table.attributes handle) 0
+    else largest_at table.attributes handle
 
 -- the type of the attribute at a handle
 abbrev pub type_at : List Attr → Handle → AttributeType
@@ -83,15 +97,61 @@ pub record IsNumbered (attributes : List Attr) : Type 0 where
   pub handles : HaveHandlesFrom 1 attributes
   pub most : length attributes ≤ 1024
 
+-- the most octets of a value, by the role of its attribute: a declaration has properties, a handle and a type of 16
+-- octets at most, and a configuration has none in the table (Core 5.0, Vol 3 Part F, 3.2.9, and Part G, 3.3.1)
+abbrev pub most_octets : Role → ℕ
+most_octets Declaration = 19
+most_octets Value = 512
+most_octets Configuration = 0
+most_octets Descriptor = 512
+
+-- the octets that count towards the limit of a table: those of characteristic values and descriptors
+abbrev pub counted_octets : Role → ℕ → ℕ
+counted_octets Declaration largest = 0
+counted_octets Value largest = largest
+counted_octets Configuration largest = 0
+counted_octets Descriptor largest = largest
+
+abbrev pub octets_of : List Attr → ℕ
+octets_of attributes = sum_by (λ (attr : Attr). counted_octets attr.role attr.largest) attributes
+
+-- each configuration stands behind a characteristic value, the first attribute behind one of this role
+abbrev pub StandBehind : Role → List Attr → Type 0
+StandBehind before [] = Unit
+StandBehind before (attr ∷ rest) = (is_configuration attr.role ≡ true → is_value before ≡ true) × StandBehind attr.role rest
+
+-- the role of the last attribute, behind one of this role
+abbrev pub last_role : Role → List Attr → Role
+last_role before [] = before
+last_role before (attr ∷ rest) = last_role attr.role rest
+
+-- each fixed value has its largest length
+abbrev pub AreExact : List Attr → List Cell → Type 0
+AreExact [] cells = Unit
+AreExact (attr ∷ attributes) [] = Unit
+AreExact (attr ∷ attributes) (cell ∷ cells) = (attr.fixed ≡ true → length cell.octets ≡ cell.room) × AreExact attributes cells
+
+-- what holds of an attribute that comes next, with its value
+pub record IsNext (attributes : List Attr) (attr : Attr) (value : Octets) : Type 0 where
+  pub handle : attr.handle ≡ length attributes + 1
+  pub fits : length value ≤ attr.largest
+  pub largest : attr.largest ≤ most_octets attr.role
+  pub exact : attr.fixed ≡ true → length value ≡ attr.largest
+  pub behind : is_configuration attr.role ≡ true → is_value (last_role Declaration attributes) ≡ true
+
 -- each value has the room of its attribute's largest length, and keeps within it
 pub record IsKept (attributes : List Attr) (cells : List Cell) : Type 0 where
   pub numbered : IsNumbered attributes
+  pub largest : All (λ (attr : Attr). attr.largest ≤ most_octets attr.role) attributes
+  pub behind : StandBehind Declaration attributes
+  pub exact : AreExact attributes cells
   pub rooms : map (λ (attr : Attr). attr.largest) attributes ≡ map (λ (cell : Cell). cell.room) cells
   pub within : All (λ (cell : Cell). length cell.octets ≤ cell.room) cells
 
--- at most 64 of the attributes are configurations, and the ends of the groups, and the handles by type, are those of the attributes
+-- at most 64 of the attributes are configurations, at most 65,536 octets count, and the ends of the groups, and the handles by type, are those of the attributes
 pub record IsWhole (attributes : List Attr) (cells : List Cell) (group_ends by_type : List Handle) : Type 0 where
   pub kept : IsKept attributes cells
   pub few : configurations_of attributes ≤ 64
+  pub counted : octets_of attributes ≤ 65536
   pub ends : group_ends ≡ group_ends_of attributes
   pub types : by_type ≡ handles_by_type attributes

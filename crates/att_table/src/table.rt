@@ -1,11 +1,12 @@
-ghost use Rattle.std.specs.Prelude.{◌≡◌, ◌+◌, ◌<◌, ◌≤◌, ◌∷◌, ◌++◌, [], map, length, sum_by, vec_len, IfSome, IsSome, OnOk, OnErr};
+ghost use Rattle.std.specs.Prelude.{◌≡◌, ◌+◌, ◌<◌, ◌≤◌, ◌∷◌, ◌++◌, [], true, map, length, sum_by, vec_len, IfSome, IsSome, OnOk, OnErr};
 ghost use Rattle.std.specs.Option.{option_copied};
 ghost use Rattle.att_table.specs.declared.attr.Attr.{Attr};
 ghost use Rattle.att_values.specs.Cell.{patched};
 ghost use Rattle.att_table.specs.ConfigRow.{HasRowRoom};
+ghost use Rattle.att_table.specs.Facts.{IsTable};
 ghost use Rattle.att_table.specs.Group.{group_ends_of, group_end_at};
 ghost use Rattle.att_table.specs.OfType.{handles_of_type};
-ghost use Rattle.att_table.specs.Table.{Contents, attribute_at, attributes_in, configurations_of, value_at, is_fixed_at, room_at, with_value, values_of, handles_by_type, IsKept, IsWhole};
+ghost use Rattle.att_table.specs.Table.{Contents, attribute_at, attributes_in, configurations_of, octets_of, value_at, is_fixed_at, room_at, with_value, values_of, handles_by_type, IsKept, IsWhole};
 
 use crate::attr::Attr;
 use crate::type_index;
@@ -41,6 +42,7 @@ impl Table {
     ) -> Self
         requires kept { IsKept attributes.items values }
         requires few { configurations_of attributes.items ≤ 64 }
+        requires counted { octets_of attributes.items ≤ 65536 }
         requires ends { group_ends.items ≡ group_ends_of attributes.items }
         requires types { by_type.items ≡ handles_by_type attributes.items }
         ensures attributes { result.attributes ≡ attributes.items }
@@ -62,9 +64,10 @@ impl Table {
     }
 
     /// The attribute at a handle, if there is one.
-    #[tactic(auto, using(crate::proofs::Configurations::room_in_row))]
+    #[tactic(auto, using(crate::proofs::Configurations::room_in_row, crate::proofs::Facts::facts_of))]
     pub fn get(&self, handle: u16) -> Option<&Attr>
         ensures attribute { option_copied result ≡ attribute_at self.now.attributes handle }
+        ensures table { IsTable self.now }
         // It has a value, and a client's row has room for it if it is a configuration.
         ensures value { IfSome result (λ attr. handle ≤ length self.now.values) }
         ensures used { IfSome result (λ attr. 0 < handle) }
@@ -134,10 +137,11 @@ impl Table {
         self.attributes[usize::from(handle) - 1].fixed
     }
 
-    /// Replaces the value of the attribute at a handle.
+    /// Replaces the value of the attribute at a handle, a fixed one by as many octets.
     pub fn set(&mut self, handle: u16, octets: &[u8])
         requires exists { IsSome (attribute_at self.old.attributes handle) }
         requires fits { length octets.now ≤ room_at self.old handle }
+        requires exact { is_fixed_at self.old.attributes handle ≡ true → length octets.now ≡ room_at self.old handle }
         ensures attributes { self.new.attributes ≡ self.old.attributes }
         ensures values { self.new.values ≡ with_value self.old.values handle octets.now }
     {
@@ -161,7 +165,8 @@ impl Table {
 
     /// How many octets the table keeps for its values: the sum of their largest lengths.
     pub fn octets(&self) -> usize
-        ensures { result ≡ sum_by (λ (attr : Attr). attr.largest) self.now.attributes }
+        ensures sum { result ≡ sum_by (λ (attr : Attr). attr.largest) self.now.attributes }
+        ensures most { result ≤ 84992 }
     {
         self.values.octets()
     }

@@ -1,7 +1,7 @@
 //! A table that grows by one attribute at a time, until it is whole.
 
 ghost use Rattle.std.specs.Prelude.{◌≡◌, ◌+◌, ◌<◌, ◌≤◌, ◌∷◌, ◌++◌, [], length, IfOk, IsSome, OnOk, OnErr};
-ghost use Rattle.att_table.specs.Table.{Contents, attribute_at, configurations_of, value_at, values_of, IsKept};
+ghost use Rattle.att_table.specs.Table.{Contents, attribute_at, configurations_of, octets_of, value_at, values_of, IsKept, IsNext};
 
 use crate::attr::Attr;
 use crate::table::Table;
@@ -41,9 +41,7 @@ impl TableBuilder {
     /// refused, the builder stays as it was.
     pub fn push(&mut self, attr: Attr, value: &[u8]) -> Result<(), AllocError>
         requires room { length self.old.attributes < 1024 }
-        requires handle { attr.handle ≡ length self.old.attributes + 1 }
-        requires fits { length value.now ≤ attr.largest }
-        requires largest { attr.largest ≤ 512 }
+        requires next { IsNext self.old.attributes attr value.now }
         ensures attributes { OnOk result (self.new.attributes ≡ self.old.attributes ++ attr ∷ []) }
         ensures values { OnOk result (self.new.values ≡ self.old.values ++ value.now ∷ []) }
         ensures err { OnErr result (self.new ≡ self.old) }
@@ -79,7 +77,8 @@ impl TableBuilder {
     /// The table of these attributes, of which at most 64 are client characteristic configurations,
     /// with the ends of their groups and their handles by type.
     pub fn finish(self, alloc: Global) -> Result<Table, AllocError>
-        requires { configurations_of self.attributes ≤ 64 }
+        requires few { configurations_of self.attributes ≤ 64 }
+        requires counted { octets_of self.attributes ≤ 65536 }
         ensures { IfOk result (λ table. table ≡ self) }
     {
         let group_ends = group::group_ends(alloc, &self.attributes)?;

@@ -2,8 +2,8 @@
 use Rattle.std.specs.Prelude.{◌≡◌, ℕ, ◌<◌, ◌≤◌, List, [], ◌∷◌, length, IsTrue}
 use Rattle.att_numbers.specs.Types.{Handle}
 use Rattle.att_table.specs.declared.attr.Attr.{Attr}
-use Rattle.att_table.specs.Table.{configurations_of}
-use Rattle.att_table.specs.file.Limits.{octets_of, is_within}
+use Rattle.att_table.specs.Table.{configurations_of, octets_of}
+use Rattle.att_table.specs.file.Limits.{is_within}
 
 -- each attribute has a handle from 1 to the last one
 abbrev pub HaveHandlesTo : Handle → List Attr → Type 0

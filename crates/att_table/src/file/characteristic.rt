@@ -1,9 +1,11 @@
 //! The characteristics of a service in a table file.
 
-ghost use Rattle.std.specs.Prelude.{◌≡◌, ◌+◌, ◌≤◌, length};
+ghost use Rattle.std.specs.Prelude.{◌≡◌, ◌+◌, ◌≤◌, true, length};
 ghost use Rattle.octets.specs.Memory.{Leaves};
 ghost use Rattle.toml.specs.View.{table_view};
+ghost use Rattle.att_table.specs.declared.attr.Role.TheVariants.{Declaration};
 ghost use Rattle.att_table.specs.declared.table_fault.TableFault.TheVariants.{OutOfMemory};
+ghost use Rattle.att_table.specs.Table.{is_value, last_role};
 ghost use Rattle.att_table.specs.file.Placed.{next_handle};
 ghost use Rattle.att_table.specs.file.TableFile.{is_announced, config_at, configure, characteristic_value, characterize, characteristic_step};
 
@@ -76,8 +78,10 @@ fn is_announced(properties: Properties) -> bool
 /// Adds the declaration, the value and the client configuration of a characteristic.
 fn characterize(draft: &mut Draft, attr: Attr, value: &[u8], need: Need) -> Result<(), TableFault>
     requires handle { attr.handle ≡ next_handle draft.old + 1 }
+    requires role { attr.role ≡ Role.Value }
     requires fits { length value.now ≤ attr.largest }
     requires largest { attr.largest ≤ 512 }
+    requires exact { attr.fixed ≡ true → length value.now ≡ attr.largest }
     ensures { Leaves OutOfMemory (characterize draft.old attr value.now need) result draft.new }
 {
     draft.declare(CHARACTERISTIC, characteristic_value(&attr).as_slice())?;
@@ -102,6 +106,7 @@ fn characteristic_value(attr: &Attr) -> ArrayVec<u8, 19>
 
 /// Adds the client configuration of a characteristic with these properties, if it has one.
 fn configure(draft: &mut Draft, properties: Properties, need: Need) -> Result<(), TableFault>
+    requires { is_value (last_role Declaration draft.old.attributes) ≡ true }
     ensures { Leaves OutOfMemory (configure draft.old properties need) result draft.new }
 {
     if !is_announced(properties) {

@@ -2,11 +2,11 @@
 
 ghost use Rattle.std.specs.Prelude.{◌≡◌, ◌≢◌, ◌+◌, ◌≤◌, ◌<◌, [], length, OnOk, IfOk, IfSome, IsSome};
 ghost use Rattle.octets.specs.Memory.{Leaves};
+ghost use Rattle.att_table.specs.declared.attr.Role.TheVariants.{Declaration};
 ghost use Rattle.att_table.specs.declared.table_fault.TableFault.TheVariants.{OutOfMemory};
-ghost use Rattle.att_table.specs.file.Limits.{counted_octets};
 ghost use Rattle.att_table.specs.file.Placed.{next_handle, add, declare};
 ghost use Rattle.att_table.specs.file.Service.{earlier_service};
-ghost use Rattle.att_table.specs.Table.{attribute_at, is_configuration};
+ghost use Rattle.att_table.specs.Table.{attribute_at, counted_octets, is_configuration, last_role, most_octets, IsNext};
 
 use crate::attr::{Attr, Role};
 use crate::file::include;
@@ -92,11 +92,10 @@ impl Draft {
 
     /// Adds an attribute at the next handle, with its value: `TooMany` where a limit is passed.
     pub fn add(&mut self, attr: Attr, value: &[u8]) -> Result<(), TableFault>
-        requires handle { attr.handle ≡ next_handle self.old }
-        requires fits { length value.now ≤ attr.largest }
-        requires largest { attr.largest ≤ 512 }
+        requires { IsNext self.old.attributes attr value.now }
         ensures added { Leaves OutOfMemory (add self.old attr value.now) result self.new }
         ensures next { OnOk result (next_handle self.new ≡ next_handle self.old + 1) }
+        ensures last { OnOk result (last_role Declaration self.new.attributes ≡ attr.role) }
     {
         let configurations = self.configurations + usize::from(is_configuration(attr.role));
         let octets = self.octets + usize::from(counted_octets(attr.role, attr.largest));
@@ -114,7 +113,7 @@ impl Draft {
 
     /// Adds a declaration of this type, which anybody may read.
     pub fn declare(&mut self, kind: u128, value: &[u8]) -> Result<(), TableFault>
-        requires { length value.now ≤ 512 }
+        requires { length value.now ≤ 19 }
         ensures declared { Leaves OutOfMemory (declare self.old kind value.now) result self.new }
         ensures next { OnOk result (next_handle self.new ≡ next_handle self.old + 1) }
     {

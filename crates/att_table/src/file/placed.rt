@@ -1,7 +1,7 @@
 //! What the tables of a characteristic and of another descriptor have in common: a value, and who
 //! may use it.
 
-ghost use Rattle.std.specs.Prelude.{◌≡◌, ◌≤◌, length, IfOk};
+ghost use Rattle.std.specs.Prelude.{◌≡◌, ◌≤◌, true, length, IfOk};
 ghost use Rattle.std.specs.Result.{result_map_both};
 ghost use Rattle.toml.specs.View.{view, items_view, table_view};
 ghost use Rattle.toml_tables.specs.Reading.{each};
@@ -100,6 +100,8 @@ pub fn read_placed(
     ensures handle { IfOk result (λ placed. placed.attr.handle ≡ handle) }
     ensures fits { IfOk result (λ placed. length placed.value.items ≤ placed.attr.largest) }
     ensures largest { IfOk result (λ placed. placed.attr.largest ≤ 512) }
+    ensures exact { IfOk result (λ placed. placed.attr.fixed ≡ true → length placed.value.items ≡ placed.attr.largest) }
+    ensures role { IfOk result (λ placed. placed.attr.role ≡ role) }
 {
     let kind = read_value_type(table)?;
     let properties = read_properties(table, allowed)?;
