@@ -210,6 +210,3 @@ fn part(octets: &[u8], start: usize, count: usize) -> &[u8]
     let rest = &octets[start.min(octets.len())..];
     &rest[..count.min(rest.len())]
 }
-
-#[cfg(test)]
-mod tests;

@@ -175,6 +175,3 @@ fn fill<'a>(gathered: &mut ArrayVec<u8, 1029>, missing: usize, octets: &'a [u8])
     let _ = gathered.try_extend_from_slice(now);
     later
 }
-
-#[cfg(test)]
-mod tests;

@@ -124,6 +124,3 @@ impl CompletedPackets {
         }
     }
 }
-
-#[cfg(test)]
-mod tests;

@@ -224,6 +224,3 @@ impl Settings {
         }
     }
 }
-
-#[cfg(test)]
-mod tests;

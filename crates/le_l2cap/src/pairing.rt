@@ -16,17 +16,3 @@ pub fn security(payload: &[u8]) -> Option<[u8; 2]>
         _ => None,
     }
 }
-
-#[cfg(test)]
-mod tests {
-    use super::*;
-
-    #[test]
-    fn pairing_is_not_supported(rt: HostRuntime) {
-        let request = [0x01, 0x03, 0x00, 0x01, 0x10, 0x00, 0x00];
-        assert_eq!(rt; security(&request), Some([0x05, 0x05]));
-        assert_eq!(rt; security(&[0x01]), Some([0x05, 0x05]));
-        assert_eq!(rt; security(&[0x0B, 0x01]), None);
-        assert_eq!(rt; security(&[]), None);
-    }
-}

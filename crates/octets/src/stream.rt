@@ -240,36 +240,3 @@ impl<const N: usize> Sink for ArraySink<N> {
         Ok(count)
     }
 }
-
-#[cfg(test)]
-mod tests {
-    use super::*;
-
-    #[test]
-    fn std_reader_and_writer(rt: HostRuntime) {
-        let mut source = Reader::new(b"abc".as_slice());
-        let mut buf = [0; 2];
-        assert_eq!(rt; source.read(&mut buf), Ok(2));
-        assert_eq!(rt; buf.as_slice(), b"ab".as_slice());
-        assert_eq!(rt; source.read(&mut buf), Ok(1));
-        assert_eq!(rt; source.read(&mut buf), Ok(0));
-        let mut sink = Writer::new(Vec::new(rt.alloc()));
-        assert_eq!(rt; sink.write(b"abc"), Ok(3));
-    }
-
-    #[test]
-    fn memory(rt: HostRuntime) {
-        let mut source = SliceSource::new(b"abc");
-        let mut buf = [0; 2];
-        assert_eq!(rt; source.read(&mut buf), Ok(2));
-        assert_eq!(rt; source.read(&mut buf), Ok(1));
-        assert_eq!(rt; buf.as_slice(), b"cb".as_slice());
-        assert_eq!(rt; source.read(&mut buf), Ok(0));
-        let mut sink = ArraySink::<4>::new();
-        assert_eq!(rt; sink.write(b"abc"), Ok(3));
-        assert_eq!(rt; sink.write(b"def"), Ok(1));
-        assert_eq!(rt; sink.write(b"ef"), Err(Failed));
-        assert_eq!(rt; sink.write(b""), Ok(0));
-        assert_eq!(rt; sink.octets(), b"abcd".as_slice());
-    }
-}

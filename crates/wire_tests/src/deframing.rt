@@ -1,5 +1,8 @@
-use super::*;
+//! Packets of a stream from the controller, however it is cut into pieces.
+
+use le_h4::{Deframer, Fed, H4Fault, PacketRef};
 use std::alloc::Global;
+use std::process::Abort;
 use std::test::Fail;
 
 // What a controller sends while a host sets it up, then two fragments of ACL data, a SCO packet, and
@@ -69,59 +72,94 @@ fn feed_all(deframer: &mut Deframer, piece: &[u8], seen: &mut Vec<u8>) -> Result
     Ok(())
 }
 
-#[test]
-fn pieces_cut_anywhere(rt: HostRuntime) -> Result<(), Fail> {
-    let alloc: Global = rt.alloc();
-    for cut in 0..=STREAM.len() {
-        let mut deframer = Deframer::new();
-        let mut seen = Vec::new(alloc);
-        feed_all(&mut deframer, &STREAM[..cut], &mut seen)?;
-        feed_all(&mut deframer, &STREAM[cut..], &mut seen)?;
-        assert_eq!(rt; seen.as_slice(), PACKETS.as_slice(), "cut at {cut}");
-    }
+/// The packets that these pieces of a stream have to make.
+fn assert_packets(
+    rt: &impl Abort,
+    alloc: Global,
+    pieces: &[&[u8]],
+    expected: &[u8],
+) -> Result<(), Fail> {
     let mut deframer = Deframer::new();
     let mut seen = Vec::new(alloc);
-    for octet in STREAM {
-        feed_all(&mut deframer, &[octet], &mut seen)?;
+    for piece in pieces {
+        feed_all(&mut deframer, piece, &mut seen)?;
     }
-    assert_eq!(rt; seen.as_slice(), PACKETS.as_slice());
+    assert!(rt; seen.as_slice() == expected);
     Ok(())
 }
+
+#[test]
+fn pieces_cut_anywhere(rt: HostRuntime) -> Result<(), Fail> {
+    for cut in 0..=STREAM.len() {
+        let (front, back) = STREAM.split_at(cut);
+        assert_packets(&rt, rt.alloc(), &[front, back], &PACKETS)?;
+    }
+    Ok(())
+}
+
+#[test]
+fn octet_by_octet(rt: HostRuntime) -> Result<(), Fail> {
+    let mut pieces = [[].as_slice(); 83];
+    for (piece, octet) in pieces.iter_mut().zip(STREAM.chunks(1)) {
+        *piece = octet;
+    }
+    assert_packets(&rt, rt.alloc(), &pieces, &PACKETS)
+}
+
+/// A Read Request in an ACL packet, and what is noted of it.
+const READ: [u8; 12] = [
+    0x02, 0x40, 0x20, 0x07, 0x00, 0x03, 0x00, 0x04, 0x00, 0x0A, 0x03, 0x00,
+];
+
+const READ_NOTED: [u8; 12] = [
+    2, 0x40, 0x00, 2, 0, 0x03, 0x00, 0x04, 0x00, 0x0A, 0x03, 0x00,
+];
+
+/// 1,025 octets of data are passed over.
+#[test]
+fn long_acl_packet(rt: HostRuntime) -> Result<(), Fail> {
+    let pieces = [
+        [0x02, 0x40, 0x20, 0x01, 0x04].as_slice(),
+        &[0x02; 1_025],
+        &READ,
+    ];
+    assert_packets(&rt, rt.alloc(), &pieces, &READ_NOTED)
+}
+
+/// 1,024 are kept.
+#[test]
+fn longest_acl_packet(rt: HostRuntime) -> Result<(), Fail> {
+    let mut noted = [0x55; 1_029];
+    noted[..5].copy_from_slice(&[2, 0x40, 0x00, 2, 0]);
+    let pieces = [[0x02, 0x40, 0x20, 0x00, 0x04].as_slice(), &[0x55; 1_024]];
+    assert_packets(&rt, rt.alloc(), &pieces, &noted)
+}
+
+/// What `feed` answers to pieces of a stream, one after another.
+const DESYNC: [(&[u8], Result<Fed, H4Fault>); 5] = [
+    (
+        &[],
+        Ok(Fed {
+            used: 0,
+            packet: false,
+        }),
+    ),
+    (
+        &[0x04, 0x10, 0x00, 0x07, 0x04],
+        Ok(Fed {
+            used: 3,
+            packet: true,
+        }),
+    ),
+    (&[0x07, 0x04, 0x10], Err(H4Fault::Desync(7))),
+    (&[0x04, 0x10, 0x00], Err(H4Fault::Desync(7))),
+    (&[], Err(H4Fault::Desync(7))),
+];
 
 #[test]
 fn desync_for_ever(rt: HostRuntime) {
     let mut deframer = Deframer::new();
-    let packet = Fed {
-        used: 3,
-        packet: true,
-    };
-    assert_eq!(rt; deframer.feed(&[0x04, 0x10, 0x00, 0x07, 0x04]), Ok(packet));
-    for octets in [[0x07, 0x04, 0x10], [0x04, 0x10, 0x00]] {
-        assert_eq!(rt; deframer.feed(&octets), Err(H4Fault::Desync(7)));
+    for (piece, answer) in DESYNC {
+        assert!(rt; deframer.feed(piece) == answer, "{piece:?}");
     }
-    assert_eq!(rt; deframer.feed(&[]), Err(H4Fault::Desync(7)));
-}
-
-#[test]
-fn nothing_is_fed(rt: HostRuntime) {
-    let mut deframer = Deframer::new();
-    let nothing = Fed {
-        used: 0,
-        packet: false,
-    };
-    assert_eq!(rt; deframer.feed(&[]), Ok(nothing));
-}
-
-#[test]
-fn long_acl_packets(rt: HostRuntime) -> Result<(), Fail> {
-    let mut deframer = Deframer::new();
-    let mut seen = Vec::new(rt.alloc());
-    // 1,025 octets of data are passed over, 1,024 are kept.
-    feed_all(&mut deframer, &[0x02, 0x40, 0x20, 0x01, 0x04], &mut seen)?;
-    feed_all(&mut deframer, &[0x02; 1_025], &mut seen)?;
-    assert_eq!(rt; seen.len(), 0);
-    feed_all(&mut deframer, &[0x02, 0x40, 0x20, 0x00, 0x04], &mut seen)?;
-    feed_all(&mut deframer, &[0x55; 1_024], &mut seen)?;
-    assert_eq!(rt; seen.len(), 5 + 1_024);
-    Ok(())
 }

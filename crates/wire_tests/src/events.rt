@@ -1,5 +1,7 @@
-use super::*;
-use crate::peer::RANDOM_ADDRESS;
+//! Events, and octets that are none.
+
+use le_hci::{BadEvent, CompletedPackets, Event, Peer, RANDOM_ADDRESS, read_event};
+use std::process::Abort;
 
 #[test]
 fn events_and_bad_events(rt: HostRuntime) {
@@ -10,6 +12,8 @@ fn events_and_bad_events(rt: HostRuntime) {
         (&[0x05, 0x03, 0x00, 0x40, 0x00], Err(BadEvent(0x05))),
         (&[0x05, 0x04, 0x00, 0x40, 0x00], Err(BadEvent(0x05))),
         (&[0xFF, 0x02, 0x00], Err(BadEvent(0xFF))),
+        (&[0x13, 0x00], Err(BadEvent(0x13))),
+        (&[0x13, 0x04, 0x01, 0x40, 0x00, 0x03], Err(BadEvent(0x13))),
         (&[0xFF, 0x01, 0x00], Ok(Event::Other)),
         (&[0x3E, 0x01, 0x02], Ok(Event::Other)),
         (
@@ -80,15 +84,24 @@ fn events_and_bad_events(rt: HostRuntime) {
     }
 }
 
-#[test]
-fn completed_packets(rt: HostRuntime) {
-    let packet = [
-        0x13, 0x0A, 0x02, 0x40, 0x00, 0x03, 0x01, 0x41, 0xF0, 0x00, 0x00, 0x77,
-    ];
-    let Ok(Event::NumberOfCompletedPackets { entries }) = read_event(&packet) else {
+/// Two entries, of which the second has upper bits that are ignored, and an octet that is no entry.
+const TWO_ENTRIES: [u8; 12] = [
+    0x13, 0x0A, 0x02, 0x40, 0x00, 0x03, 0x01, 0x41, 0xF0, 0x00, 0x00, 0x77,
+];
+
+fn assert_completed(rt: &impl Abort, packet: &[u8], expected: &[CompletedPackets]) {
+    let Ok(Event::NumberOfCompletedPackets { entries }) = read_event(packet) else {
         panic!(rt; "not Number Of Completed Packets");
     };
-    let expected = [
+    assert!(rt; entries.len() == expected.len());
+    for (entry, expected) in entries.iter().zip(expected) {
+        assert!(rt; CompletedPackets::read(entry) == *expected);
+    }
+}
+
+#[test]
+fn completed_packets(rt: HostRuntime) {
+    let entries = [
         CompletedPackets {
             handle: 0x0040,
             packets: 259,
@@ -98,11 +111,6 @@ fn completed_packets(rt: HostRuntime) {
             packets: 0,
         },
     ];
-    assert_eq!(rt; entries.len(), expected.len());
-    for (entry, expected) in entries.iter().zip(&expected) {
-        assert_eq!(rt; CompletedPackets::read(entry), *expected);
-    }
-    assert!(rt; read_event(&[0x13, 0x01, 0x00]).is_ok());
-    assert!(rt; read_event(&[0x13, 0x04, 0x01, 0x40, 0x00, 0x03]).is_err());
-    assert!(rt; read_event(&[0x13, 0x00]).is_err());
+    assert_completed(&rt, &TWO_ENTRIES, &entries);
+    assert_completed(&rt, &[0x13, 0x01, 0x00], &[]);
 }

@@ -1,7 +1,7 @@
 //! The octets of a whole initialisation, and of what goes wrong in one.
 
-use crate::{Event, Init, InitFault, read_event, write_command};
 use arrayvec::ArrayVec;
+use le_hci::{Event, Init, InitFault, read_event, write_command};
 use std::process::Abort;
 
 const RANDOM: [u8; 6] = [0x0A, 0x00, 0x00, 0x00, 0x00, 0xC0];

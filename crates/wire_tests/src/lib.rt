@@ -1,0 +1,26 @@
+//! The octets of the wire, tested: the streams, the transport, events and commands, frames and
+//! channels. These tests use what the layers make public, so they stand in a crate of their own.
+#![tactic(auto)]
+
+#[cfg(test)]
+mod commands;
+#[cfg(test)]
+mod deframing;
+#[cfg(test)]
+mod events;
+#[cfg(test)]
+mod frames;
+#[cfg(test)]
+mod initialisation;
+#[cfg(test)]
+mod initialisation_trace;
+#[cfg(test)]
+mod packets;
+#[cfg(test)]
+mod reassembly;
+#[cfg(test)]
+mod sending;
+#[cfg(test)]
+mod signalling;
+#[cfg(test)]
+mod streams;

@@ -1,0 +1,105 @@
+//! Frames from fragments.
+
+use le_acl::{Piece, Reassembler};
+use le_h4::{Deframer, Fed, PacketRef};
+use std::process::Abort;
+
+/// A fragment, whether it begins a frame, and the frame that it makes whole.
+type Case<'a> = (&'a [u8], bool, Option<&'a [u8]>);
+
+fn assert_frames(rt: &impl Abort, reassembler: &mut Reassembler, cases: &[Case<'_>]) {
+    for (octets, begins, expected) in cases {
+        let piece = if *begins {
+            reassembler.start(octets)
+        } else {
+            reassembler.more(octets)
+        };
+        match expected {
+            Some(frame) => {
+                assert!(rt;
+                    piece == Piece::Frame && reassembler.frame() == *frame,
+                    "{octets:?}"
+                )
+            }
+            None => assert!(rt; piece == Piece::Nothing, "{octets:?}"),
+        }
+    }
+}
+
+/// A Read Request of handle 3 in a frame.
+const READ: [u8; 7] = [0x03, 0x00, 0x04, 0x00, 0x0A, 0x03, 0x00];
+
+const THREE_FRAGMENTS: [Case<'static>; 5] = [
+    (&[0x00], false, None),
+    (&[0x03], true, None),
+    (&[0x00, 0x04, 0x00], false, None),
+    (&[0x0A, 0x03, 0x00], false, Some(&READ)),
+    (&[0x00], false, None),
+];
+
+/// A frame that is begun, and begun again.
+const TWO_BEGINNINGS: [Case<'static>; 5] = [
+    (&[0x03], true, None),
+    (&[0x00, 0x04, 0x00], false, None),
+    (&[0x03], true, None),
+    (&[0x00, 0x04, 0x00], false, None),
+    (&[0x0A, 0x03, 0x00], false, Some(&READ)),
+];
+
+#[test]
+fn a_read_in_three_fragments(rt: HostRuntime) {
+    assert_frames(&rt, &mut Reassembler::new(), &THREE_FRAGMENTS);
+}
+
+#[test]
+fn a_new_beginning(rt: HostRuntime) {
+    assert_frames(&rt, &mut Reassembler::new(), &TWO_BEGINNINGS);
+}
+
+#[test]
+fn largest_frame(rt: HostRuntime) {
+    let mut largest = [0x0B; 521];
+    largest[..4].copy_from_slice(&[0x05, 0x02, 0x04, 0x00]);
+    let cases: [Case<'_>; 5] = [
+        (&[0x05, 0x02, 0x04, 0x00], true, None),
+        (&[0x0B; 517], false, Some(&largest)),
+        (&[0x06, 0x02, 0x04, 0x00], true, None),
+        (&[0x0B; 518], false, None),
+        (&[0x01, 0x00, 0x04, 0x00, 0x0B, 0x0B], true, None),
+    ];
+    assert_frames(&rt, &mut Reassembler::new(), &cases);
+}
+
+/// The frame that an ACL packet has to make whole, or none.
+fn assert_packet(
+    rt: &impl Abort,
+    reassembler: &mut Reassembler,
+    packet: &[u8],
+    expected: Option<&[u8]>,
+) {
+    let mut deframer = Deframer::new();
+    let fed = deframer.feed(packet);
+    let Ok(Fed { packet: true, .. }) = fed else {
+        panic!(rt; "{fed:?}");
+    };
+    let PacketRef::Acl { pb, octets, .. } = deframer.packet() else {
+        panic!(rt; "no ACL data");
+    };
+    assert_frames(rt, reassembler, &[(octets, pb == 0b10, expected)]);
+}
+
+/// A whole frame in a packet that continues one, and in a packet that begins one.
+const CONTINUED_READ: [u8; 12] = [
+    0x02, 0x40, 0x10, 0x07, 0x00, 0x03, 0x00, 0x04, 0x00, 0x0A, 0x03, 0x00,
+];
+
+const WHOLE_READ: [u8; 12] = [
+    0x02, 0x40, 0x20, 0x07, 0x00, 0x03, 0x00, 0x04, 0x00, 0x0A, 0x03, 0x00,
+];
+
+#[test]
+fn a_continuation_without_a_beginning(rt: HostRuntime) {
+    let mut reassembler = Reassembler::new();
+    assert_packet(&rt, &mut reassembler, &CONTINUED_READ, None);
+    assert_packet(&rt, &mut reassembler, &WHOLE_READ, Some(&READ));
+}

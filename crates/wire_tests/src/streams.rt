@@ -1,0 +1,56 @@
+//! Octets from readers and slices, and to writers and buffers.
+
+use octets::{ArraySink, Failed, Reader, Sink, SliceSource, Source, Writer};
+use std::process::Abort;
+
+/// What is read of `abc`, two octets at a time.
+const READ: [&[u8]; 3] = [b"ab", b"c", b""];
+
+/// Reads of at most two octets, each of which has to give these.
+fn assert_reads<S: Source>(rt: &impl Abort, source: &mut S, expected: &[&[u8]]) {
+    for octets in expected {
+        let mut buf = [0; 2];
+        let read = source.read(&mut buf);
+        assert!(rt;
+            read == Ok(octets.len()) && buf.as_slice().starts_with(octets),
+            "{octets:?}"
+        );
+    }
+}
+
+/// What is written, and what the buffer of four octets answers.
+const WRITTEN: [(&[u8], Result<usize, Failed>); 4] = [
+    (b"abc", Ok(3)),
+    (b"def", Ok(1)),
+    (b"ef", Err(Failed)),
+    (b"", Ok(0)),
+];
+
+fn assert_writes<S: Sink>(rt: &impl Abort, sink: &mut S, cases: &[(&[u8], Result<usize, Failed>)]) {
+    for (octets, answer) in cases {
+        assert!(rt; sink.write(octets) == *answer, "{octets:?}");
+    }
+}
+
+#[test]
+fn std_reader(rt: HostRuntime) {
+    assert_reads(&rt, &mut Reader::new(b"abc".as_slice()), &READ);
+}
+
+#[test]
+fn std_writer(rt: HostRuntime) {
+    let mut sink = Writer::new(Vec::new(rt.alloc()));
+    assert_writes(&rt, &mut sink, &[(b"abc", Ok(3))]);
+}
+
+#[test]
+fn slice(rt: HostRuntime) {
+    assert_reads(&rt, &mut SliceSource::new(b"abc"), &READ);
+}
+
+#[test]
+fn buffer(rt: HostRuntime) {
+    let mut sink = ArraySink::<4>::new();
+    assert_writes(&rt, &mut sink, &WRITTEN);
+    assert!(rt; sink.octets() == b"abcd".as_slice());
+}
