@@ -5,7 +5,7 @@ use Rattle.std.proofs.lemmas.Grind.{common_steps}
 use Rattle.std.specs.Prelude.{IsSome}
 use Rattle.att_numbers.specs.Types.{Values}
 use Rattle.att_table.specs.declared.attr.Attr.{Attr}
-use Rattle.att_table.specs.Cell.{patched}
+use Rattle.att_values.specs.Cell.{patched}
 use Rattle.att_table.specs.Table.{attribute_at, is_fixed_at, value_at, with_value}
 use Rattle.att_writes.specs.declared.queue.Place.{Place}
 use Rattle.att_writes.specs.Entry.{Entry}

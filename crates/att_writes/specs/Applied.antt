@@ -5,7 +5,7 @@ use Rattle.att_policy.specs.Refusal.{Refusal}
 use Rattle.att_policy.specs.declared.policy.Access.{Access}
 use Rattle.att_policy.specs.declared.standing.Standing.{Standing}
 use Rattle.att_table.specs.declared.attr.Attr.{Attr}
-use Rattle.att_table.specs.Cell.{patched}
+use Rattle.att_values.specs.Cell.{patched}
 use Rattle.att_table.specs.ConfigRow.{with_bits}
 use Rattle.att_table.specs.Table.{Contents, is_configuration_at, is_fixed_at, value_at, with_value}
 use Rattle.att_writes.specs.Entry.{Entry}

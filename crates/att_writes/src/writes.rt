@@ -2,7 +2,8 @@
 
 ghost use Rattle.std.specs.Prelude.{◌≡◌, [], ◌∷◌};
 ghost use Rattle.att_numbers.specs.declared.opcode.TheConstants.{WRITE_REQUEST, WRITE_COMMAND};
-ghost use Rattle.att_table.specs.ConfigRow.{IsRowOf};
+ghost use Rattle.att_table.specs.ConfigRow.{IsRowOf, HasRowRoom};
+ghost use Rattle.att_table.specs.Table.{is_configuration_at};
 ghost use Rattle.att_writes.specs.Applied.{after_entry, stored_in, applied_to, written_to};
 ghost use Rattle.att_writes.specs.Entry.{entry_of, whole};
 ghost use Rattle.att_writes.specs.Fits.{Fits};
@@ -113,14 +114,22 @@ pub(crate) fn put(table: &mut Table, row: &mut ConfigRow, entry: EntryRef<'_>)
     ensures attributes { table.new.attributes ≡ table.old.attributes }
     ensures table { IsRowOf table.new.attributes row.new }
 {
-    let is_configuration = table
-        .get(entry.handle)
-        .is_some_and(|attr| attr.role == Role::Configuration);
-    if is_configuration {
+    if is_configuration(table, entry.handle) {
         if let Some(&bits) = entry.part.first() {
             row.set(entry.handle, bits);
         }
     } else {
         table.patch(entry.handle, entry.offset, entry.part);
     }
+}
+
+/// Whether the attribute at a handle is a client characteristic configuration.
+fn is_configuration(table: &Table, handle: u16) -> bool
+    ensures is { result ≡ is_configuration_at table.now.attributes handle }
+    // A client's row has room for it then.
+    ensures row { HasRowRoom table.now.attributes handle }
+{
+    table
+        .get(handle)
+        .is_some_and(|attr| attr.role == Role::Configuration)
 }

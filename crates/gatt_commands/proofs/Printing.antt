@@ -1,5 +1,5 @@
 -- What is printed for an answer, by its octets.
-use Rattle.std.proofs.Common.{◌≡◌, ℕ, ◌∷◌, [], ◌++◌, take, drop, Option, Some, None, refl, sym, ap, subst, ◌∙◌, append_assoc}
+use Rattle.std.proofs.Common.{◌≡◌, ℕ, Bool, true, false, if◌then◌else◌, ◌∷◌, [], ◌++◌, take, drop, Option, Some, None, refl, sym, ap, subst, ◌∙◌, append_assoc}
 use Rattle.std.specs.Io.KnownBytes.{Appends, Keeps}
 use Rattle.std.specs.Option.{option_map}
 use Rattle.std.proofs.lemmas.List.{append-nil, take-append-drop}
@@ -16,6 +16,22 @@ answered_line None octets is = cc is
 pub unanswered_line : (answer : Option Response) → option_map sent answer ≡ None → printed_answer answer ≡ 45 ∷ 10 ∷ []
 unanswered_line (Some answer) is = cc is
 unanswered_line None is = refl
+
+pub breaks_answer : (answer : Option Response) (due : Bool) (octets text : Octets) (held holds : Option Octets)
+    → option_map sent answer ≡ (if due then Some octets else None) → due ≡ true → text ≡ octets
+    → PrintsFront (encode_lower text ++ 10 ∷ []) held holds → PrintsFront (printed_answer answer) held holds
+breaks_answer answer true octets text held holds is due_is same front =
+    let line : encode_lower text ++ 10 ∷ [] ≡ printed_answer answer = ap (λ here. encode_lower here ++ 10 ∷ []) same ∙ sym (answered_line answer octets is) in
+    subst (λ octets. PrintsFront octets held holds) line front
+breaks_answer answer false octets text held holds is due_is same front = cc due_is
+
+pub breaks_dash : (answer : Option Response) (due : Bool) (octets text : Octets) (held holds : Option Octets)
+    → option_map sent answer ≡ (if due then Some octets else None) → due ≡ false → text ≡ 45 ∷ 10 ∷ []
+    → PrintsFront text held holds → PrintsFront (printed_answer answer) held holds
+breaks_dash answer true octets text held holds is due_is same front = cc due_is
+breaks_dash answer false octets text held holds is due_is same front =
+    let line : text ≡ printed_answer answer = same ∙ sym (unanswered_line answer is) in
+    subst (λ octets. PrintsFront octets held holds) line front
 
 -- of a text all but the rest is printed
 pub record HasPrinted (text rest : Octets) (held holds : Option Octets) : Type 0 where

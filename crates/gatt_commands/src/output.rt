@@ -1,6 +1,6 @@
 //! Output of the commands.
 
-ghost use Rattle.std.specs.Prelude.{◌≡◌, IfErr, OnOk, OnErr};
+ghost use Rattle.std.specs.Prelude.{◌≡◌, IfErr, OnOk};
 ghost use Rattle.std.specs.Io.KnownBytes.{Appends};
 ghost use Rattle.gatt_commands.specs.Att.{PrintsFront};
 
@@ -11,7 +11,7 @@ use std::io::{ErrorKind, Write};
 /// again.
 pub(crate) fn print<W: Write>(text: &[u8], writer: &mut W) -> Result<(), ShellFault>
     ensures ok { OnOk result (Appends (W.contents writer.old) (W.contents writer.new) text.now) }
-    ensures front { OnErr result (PrintsFront text.now (W.contents writer.old) (W.contents writer.new)) }
+    ensures front { result ≡ Err ShellFault.Unwritten → PrintsFront text.now (W.contents writer.old) (W.contents writer.new) }
     ensures faults { IfErr result (λ fault. fault ≡ ShellFault.Unwritten) }
 {
     let mut rest = text;
@@ -21,7 +21,7 @@ pub(crate) fn print<W: Write>(text: &[u8], writer: &mut W) -> Result<(), ShellFa
         }
         match writer.write(rest) {
             Ok(0) => return Err(ShellFault::Unwritten),
-            Ok(count) => rest = &rest[count..],
+            Ok(count) => rest = rest.split_at(count).1,
             Err(error) if error.kind() == ErrorKind::Interrupted => {}
             Err(_) => return Err(ShellFault::Unwritten),
         }

@@ -1,4 +1,4 @@
-ghost use Rattle.std.specs.Prelude.{◌≡◌, ◌≢◌, ℕ, ◌+◌, ◌^◌, ◌<◌, ◌≤◌, [], ◌∷◌, ◌++◌, length, Some, None, OnOk, OnErr, IfErr, IfOk};
+ghost use Rattle.std.specs.Prelude.{◌≡◌, ◌≢◌, ℕ, ◌+◌, ◌^◌, ◌<◌, ◌≤◌, [], ◌∷◌, ◌++◌, length, Some, None, OnOk, IfErr, IfOk};
 ghost use Rattle.std.specs.Io.KnownBytes.{Appends};
 ghost use Rattle.hex.specs.Hex.{encode_lower};
 ghost use Rattle.gatt_commands.specs.Att.{pdu_of, door_server, PrintsFront};
@@ -116,7 +116,8 @@ impl Session {
 fn print_answer<W: Write>(answer: &[u8], writer: &mut W) -> Result<(), ShellFault>
     requires { length answer.now ≤ 517 }
     ensures ok { OnOk result (Appends (W.contents writer.old) (W.contents writer.new) (encode_lower answer.now ++ 10 ∷ [])) }
-    ensures front { OnErr result (PrintsFront (encode_lower answer.now ++ 10 ∷ []) (W.contents writer.old) (W.contents writer.new)) }
+    ensures front { result ≡ Err ShellFault.Unwritten
+        → PrintsFront (encode_lower answer.now ++ 10 ∷ []) (W.contents writer.old) (W.contents writer.new) }
     ensures faults { IfErr result (λ fault. fault ≡ ShellFault.Unwritten) }
 {
     let mut text = [0; 2 * 517 + 1];
