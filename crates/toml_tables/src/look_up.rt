@@ -61,32 +61,3 @@ pub fn table<'a>(table: &'a Table, key: &str) -> Option<&'a Table>
 {
     get(table, key)?.as_table()
 }
-
-#[cfg(test)]
-mod tests {
-    use super::*;
-    use std::test::Fail;
-
-    #[test]
-    fn each_type_once(rt: HostRuntime) -> Result<(), Fail> {
-        let document = toml::table_from_str(
-            rt.alloc(),
-            "name = \"ada\"\nold = true\nage = 36\nsizes = [1, 2]\n[home]\nstreet = \"a\"\n",
-        )?;
-        assert_eq!(rt; text(&document, "name"), Some("ada"));
-        assert_eq!(rt; boolean(&document, "old"), Some(true));
-        assert_eq!(rt; integer(&document, "age"), Some(36));
-        assert!(rt; flag(&document, "old"));
-        assert_eq!(rt; items(&document, "sizes").len(), 2);
-        assert_eq!(rt; array(&document, "sizes").map(|sizes| sizes.len()), Some(2));
-        let home = table(&document, "home").ok_or("home")?;
-        assert_eq!(rt; text(home, "street"), Some("a"));
-
-        assert_eq!(rt; text(&document, "age"), None);
-        assert_eq!(rt; boolean(&document, "young"), None);
-        assert!(rt; !flag(&document, "young"));
-        assert_eq!(rt; items(&document, "name").len(), 0);
-        assert!(rt; table(&document, "sizes").is_none());
-        Ok(())
-    }
-}

@@ -1,0 +1,301 @@
+//! Key files, and what keys answer.
+
+use att_policy::KeyFacts;
+use le_hci::{PUBLIC_ADDRESS, Peer, RANDOM_ADDRESS};
+use le_security::examples::{KEYS, SECURE_KEY};
+use le_security::{Key, Keys, read_address};
+use std::alloc::{AllocError, Global};
+use std::process::Abort;
+
+const PHONE: Peer = Peer {
+    kind: RANDOM_ADDRESS,
+    address: [0x01, 0x00, 0x00, 0x00, 0x00, 0xc0],
+};
+
+const PUBLIC_PHONE: Peer = Peer {
+    kind: PUBLIC_ADDRESS,
+    ..PHONE
+};
+
+const TABLET: Peer = Peer {
+    kind: PUBLIC_ADDRESS,
+    address: [0x55, 0x44, 0x33, 0x22, 0x11, 0x00],
+};
+
+const WATCH: Peer = Peer {
+    kind: RANDOM_ADDRESS,
+    address: [0x02, 0x00, 0x00, 0x00, 0x00, 0xc0],
+};
+
+/// Texts of addresses.
+const ADDRESSES: [(&[u8], Option<[u8; 6]>); 7] = [
+    (b"00:11:22:33:44:5F", Some(*b"\x5f\x44\x33\x22\x11\x00")),
+    (b"c0:00:00:00:00:0a", Some(*b"\x0a\x00\x00\x00\x00\xc0")),
+    (b"", None),
+    (b"00:11:22:33:44:5", None),
+    (b"00:11:22:33:44:55:", None),
+    (b"00 11:22:33:44:55", None),
+    (b"g0:00:00:00:00:01", None),
+];
+
+/// Whole files: how many keys each has, or the number of its fault.
+const FILES: [(&str, Result<usize, u8>); 8] = [
+    (KEYS, Ok(3)),
+    ("", Ok(0)),
+    ("key = []", Ok(0)),
+    ("key = ", Err(1)),
+    ("[[key]]", Err(2)),
+    ("other = 1", Err(9)),
+    ("key = 1", Err(9)),
+    ("key = [1]", Err(9)),
+];
+
+/// The lines of the first of the keys.
+const LINES: [&str; 8] = [
+    "[[key]]\n",
+    "address = \"c0:00:00:00:00:01\"\n",
+    "kind = \"random\"\n",
+    "rand = \"0101010101010101\"\n",
+    "ediv = 257\n",
+    "ltk = \"00112233445566778899aabbccddeeff\"\n",
+    "size = 16\n",
+    "authenticated = false\n",
+];
+
+/// Files of one key, one of whose lines is another.
+const LINE_CHANGES: [(usize, &str, Result<usize, u8>); 25] = [
+    (1, "", Err(2)),
+    (1, "address = \"c0:00:00:00:01\"\n", Err(3)),
+    (1, "address = \"c0-00-00-00-00-01\"\n", Err(3)),
+    (1, "address = \"C0:00:00:00:00:0A\"\n", Ok(1)),
+    (1, "address = \"g0:00:00:00:00:01\"\n", Err(3)),
+    (2, "kind = \"static\"\n", Err(3)),
+    (2, "kind = \"public\"\n", Ok(1)),
+    (2, "kind = 1\n", Err(9)),
+    (3, "rand = \"010101010101010\"\n", Err(4)),
+    (3, "rand = \"010101010101010101\"\n", Err(4)),
+    (4, "", Err(2)),
+    (4, "ediv = 65536\n", Err(9)),
+    (4, "ediv = 65535\n", Ok(1)),
+    (4, "ediv = -1\n", Err(9)),
+    (5, "", Err(2)),
+    (5, "ltk = \"00112233445566778899aabbccddeef\"\n", Err(4)),
+    (6, "size = 6\n", Err(5)),
+    (6, "size = 7\n", Ok(1)),
+    (6, "size = 17\n", Err(5)),
+    (6, "size = 272\n", Err(5)),
+    (7, "", Err(2)),
+    (7, "authenticated = 1\n", Err(9)),
+    (7, "authenticated = true\nother = 1\n", Err(9)),
+    (7, "authenticated = true\nsecure = false\n", Ok(1)),
+    (7, "authenticated = true\nsecure = true\n", Err(10)),
+];
+
+/// The same key behind those of the door, which have it already.
+const REPEATED: [(usize, &str, Result<usize, u8>); 5] = [
+    (0, "[[key]]\n", Err(6)),
+    (4, "ediv = 65536\n", Err(9)),
+    (6, "size = 6\n", Err(5)),
+    (6, "size = 6\nsecure = true\n", Err(5)),
+    (6, "size = 16\nsecure = true\n", Err(10)),
+];
+
+/// Changes of the secure key.
+const SECURE_CHANGES: [(&str, &str, Result<usize, u8>); 3] = [
+    ("", "", Ok(1)),
+    ("ediv = 0", "ediv = 1", Err(10)),
+    ("\"0000000000000000\"", "\"0000000000000001\"", Err(10)),
+];
+
+#[test]
+fn addresses(rt: HostRuntime) {
+    check_addresses(&rt, &ADDRESSES);
+}
+
+fn check_addresses(rt: &impl Abort, cases: &[(&[u8], Option<[u8; 6]>)]) {
+    for &(text, address) in cases {
+        assert!(rt; read_address(text) == address, "{text:?}");
+    }
+}
+
+/// How many keys a text has, or the number of its fault.
+fn read(alloc: Global, text: &str) -> Result<usize, u8> {
+    match Keys::read(alloc, text) {
+        Ok(keys) => Ok(keys.count()),
+        Err(fault) => Err(fault.number()),
+    }
+}
+
+fn read_made(alloc: Global, text: Result<String, AllocError>) -> Result<usize, u8> {
+    match text {
+        Ok(text) => read(alloc, &text),
+        Err(_) => Err(8),
+    }
+}
+
+#[test]
+fn files(rt: HostRuntime) {
+    check_files(&rt, rt.alloc(), &FILES);
+}
+
+fn check_files(rt: &impl Abort, alloc: Global, cases: &[(&str, Result<usize, u8>)]) {
+    for &(text, answer) in cases {
+        assert_eq!(rt; read(alloc, text), answer, "{text}");
+    }
+}
+
+#[test]
+fn lines(rt: HostRuntime) {
+    check_lines(&rt, rt.alloc(), "", &LINE_CHANGES);
+}
+
+#[test]
+fn faults_of_a_repeated_entry(rt: HostRuntime) {
+    check_lines(&rt, rt.alloc(), KEYS, &REPEATED);
+}
+
+fn check_lines(
+    rt: &impl Abort,
+    alloc: Global,
+    before: &str,
+    cases: &[(usize, &str, Result<usize, u8>)],
+) {
+    for &(place, line, answer) in cases {
+        let told = read_made(alloc, with_line(alloc, before, place, line));
+        assert_eq!(rt; told, answer, "{line}");
+    }
+}
+
+/// A text, and behind it the lines of the first key, but for one of them.
+fn with_line(alloc: Global, before: &str, place: usize, line: &str) -> Result<String, AllocError> {
+    let mut text = String::from_str(alloc, before)?;
+    for (other, original) in LINES.iter().enumerate() {
+        text.push_str(if other == place { line } else { original })?;
+    }
+    Ok(text)
+}
+
+#[test]
+fn secure_keys(rt: HostRuntime) {
+    check_secure(&rt, rt.alloc(), &SECURE_CHANGES);
+}
+
+fn check_secure(rt: &impl Abort, alloc: Global, cases: &[(&str, &str, Result<usize, u8>)]) {
+    for &(old, new, answer) in cases {
+        let told = read_made(alloc, SECURE_KEY.replacen(alloc, old, new, 1));
+        assert_eq!(rt; told, answer, "{new}");
+    }
+}
+
+#[test]
+fn too_many(rt: HostRuntime) {
+    assert_eq!(rt; read_made(rt.alloc(), many_keys(rt.alloc(), "")), Ok(64));
+    assert_eq!(rt;
+        read_made(rt.alloc(), many_keys(rt.alloc(), "[[key]]\nother = 1\n")),
+        Err(7)
+    );
+}
+
+/// A file of 64 keys, and what stands behind them.
+fn many_keys(alloc: Global, more: &str) -> Result<String, AllocError> {
+    let mut text = String::new(alloc);
+    for diversifier in 0..64 {
+        let line = format!(in alloc; "ediv = {diversifier}\n")?;
+        text = with_line(alloc, &text, 4, &line)?;
+    }
+    text.push_str(more)?;
+    Ok(text)
+}
+
+/// A request for a key: the peer, its random number, and its diversifier.
+type Request = (Peer, [u8; 8], u16);
+
+/// The answers of the keys of the door, with the secure key behind them.
+const ANSWERS: [(Request, Option<Key>); 7] = [
+    (
+        (PHONE, [0x01; 8], 257),
+        Some(Key {
+            ltk: *b"\x00\x11\x22\x33\x44\x55\x66\x77\x88\x99\xaa\xbb\xcc\xdd\xee\xff",
+            facts: KeyFacts {
+                size: 16,
+                authenticated: false,
+                secure: false,
+            },
+        }),
+    ),
+    ((PHONE, [0x02; 8], 257), None),
+    ((PHONE, [0x01; 8], 258), None),
+    ((PUBLIC_PHONE, [0x01; 8], 257), None),
+    ((TABLET, [0x01; 8], 257), None),
+    (
+        (TABLET, [0x03; 8], 771),
+        Some(Key {
+            ltk: *b"\xa1\xa2\xa3\xa4\xa5\xa6\xa7\x00\x00\x00\x00\x00\x00\x00\x00\x00",
+            facts: KeyFacts {
+                size: 7,
+                authenticated: true,
+                secure: false,
+            },
+        }),
+    ),
+    (
+        (WATCH, [0x00; 8], 0),
+        Some(Key {
+            ltk: *b"\x0f\x0e\x0d\x0c\x0b\x0a\x09\x08\x07\x06\x05\x04\x03\x02\x01\x00",
+            facts: KeyFacts {
+                size: 16,
+                authenticated: true,
+                secure: true,
+            },
+        }),
+    ),
+];
+
+#[test]
+fn answers(rt: HostRuntime) {
+    match KEYS.replacen(rt.alloc(), "", SECURE_KEY, 1) {
+        Ok(text) => check_answers(&rt, rt.alloc(), &text, &ANSWERS),
+        Err(_) => assert!(&rt; false, "memory"),
+    }
+}
+
+fn check_answers(rt: &impl Abort, alloc: Global, text: &str, cases: &[(Request, Option<Key>)]) {
+    match Keys::read(alloc, text) {
+        Ok(keys) => check_each_answer(rt, &keys, cases),
+        Err(fault) => assert_eq!(rt; fault.number(), 0),
+    }
+}
+
+fn check_each_answer(rt: &impl Abort, keys: &Keys, cases: &[(Request, Option<Key>)]) {
+    assert_eq!(rt; keys.count(), 4);
+    for ((peer, random_number, diversifier), key) in cases {
+        assert!(rt;
+            keys.answer(peer, *random_number, *diversifier) == key.as_ref(),
+            "{diversifier}"
+        );
+    }
+}
+
+#[test]
+fn peers(rt: HostRuntime) {
+    match Keys::read(rt.alloc(), KEYS) {
+        Ok(keys) => check_peers(&rt, &keys),
+        Err(fault) => assert_eq!(&rt; fault.number(), 0),
+    }
+}
+
+fn check_peers(rt: &impl Abort, keys: &Keys) {
+    assert_eq!(rt; keys.count(), 3);
+    for (place, peer) in [(0, PHONE), (1, TABLET), (2, TABLET)] {
+        assert!(rt; keys.peer(place) == Some(&peer), "{place}");
+    }
+    assert!(rt; keys.peer(3).is_none());
+    for (peer, known) in [
+        (PHONE, true),
+        (TABLET, true),
+        (WATCH, false),
+        (PUBLIC_PHONE, false),
+    ] {
+        assert!(rt; keys.known(&peer) == known);
+    }
+}

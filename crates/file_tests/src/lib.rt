@@ -1,0 +1,19 @@
+//! Tests of the crates that keep tables and keys and read their files.
+#![tactic(auto)]
+
+#[cfg(test)]
+mod config_rows;
+#[cfg(test)]
+mod keys;
+#[cfg(test)]
+mod links;
+#[cfg(test)]
+mod look_ups;
+#[cfg(test)]
+mod stores;
+#[cfg(test)]
+mod table_faults;
+#[cfg(test)]
+mod tables;
+#[cfg(test)]
+mod types;

@@ -1,0 +1,107 @@
+//! Typed look-ups in TOML tables, and the shapes of tables.
+
+use std::alloc::Global;
+use std::process::Abort;
+use toml::Table;
+use toml_tables::{Key, Shape};
+
+const DOCUMENT: &str =
+    "name = \"ada\"\nold = true\nage = 36\nsizes = [1, 2]\n[home]\nstreet = \"a\"\n";
+
+#[test]
+fn each_type_once(rt: HostRuntime) {
+    match toml::table_from_str(rt.alloc(), DOCUMENT) {
+        Ok(document) => check_look_ups(&rt, &document),
+        Err(_) => assert!(&rt; false, "the document"),
+    }
+}
+
+fn check_look_ups(rt: &impl Abort, document: &Table) {
+    assert_eq!(rt; toml_tables::text(document, "name"), Some("ada"));
+    assert_eq!(rt; toml_tables::boolean(document, "old"), Some(true));
+    assert_eq!(rt; toml_tables::integer(document, "age"), Some(36));
+    assert!(rt; toml_tables::flag(document, "old"));
+    assert_eq!(rt; toml_tables::items(document, "sizes").len(), 2);
+    assert_eq!(rt;
+        toml_tables::array(document, "sizes").map(|sizes| sizes.len()),
+        Some(2)
+    );
+    assert_eq!(rt; street_of(document), Some("a"));
+
+    assert_eq!(rt; toml_tables::text(document, "age"), None);
+    assert_eq!(rt; toml_tables::boolean(document, "young"), None);
+    assert!(rt; !toml_tables::flag(document, "young"));
+    assert_eq!(rt; toml_tables::items(document, "name").len(), 0);
+    assert!(rt; toml_tables::table(document, "sizes").is_none());
+}
+
+fn street_of(document: &Table) -> Option<&str> {
+    toml_tables::text(toml_tables::table(document, "home")?, "street")
+}
+
+const KEYS: [Key; 7] = [
+    Key {
+        name: "text",
+        shape: Shape::Text,
+    },
+    Key {
+        name: "boolean",
+        shape: Shape::Boolean,
+    },
+    Key {
+        name: "integer",
+        shape: Shape::Integer,
+    },
+    Key {
+        name: "table",
+        shape: Shape::Table,
+    },
+    Key {
+        name: "texts",
+        shape: Shape::Texts,
+    },
+    Key {
+        name: "integers",
+        shape: Shape::Integers,
+    },
+    Key {
+        name: "tables",
+        shape: Shape::Tables,
+    },
+];
+
+/// Documents, and whether they have those keys alone, with values of their types.
+const SHAPES: [(&str, bool); 10] = [
+    ("", true),
+    (
+        "text = \"a\"\nboolean = true\ninteger = 1\ntable = { other = 1 }",
+        true,
+    ),
+    (
+        "texts = [\"a\", \"b\"]\nintegers = []\ntables = [{}, {}]",
+        true,
+    ),
+    ("other = 1", false),
+    ("text = 1", false),
+    ("texts = \"a\"", false),
+    ("texts = [\"a\", 1]", false),
+    ("integers = [1, 1.0]", false),
+    ("tables = [{}, []]", false),
+    ("integer = 1\ntext = \"a\"\nother = false", false),
+];
+
+#[test]
+fn keys_and_types(rt: HostRuntime) {
+    check_shapes(&rt, rt.alloc(), &SHAPES);
+}
+
+fn check_shapes(rt: &impl Abort, alloc: Global, cases: &[(&str, bool)]) {
+    for &(document, shaped) in cases {
+        assert_eq!(rt; is_shaped(alloc, document), Some(shaped), "{document}");
+    }
+}
+
+fn is_shaped(alloc: Global, document: &str) -> Option<bool> {
+    let table = toml::table_from_str(alloc, document).ok()?;
+    Some(toml_tables::is_shaped(&table, &KEYS))
+}

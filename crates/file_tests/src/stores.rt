@@ -1,0 +1,96 @@
+//! The two stores of values do the same.
+
+use att_values::{Change, FlatStore, PlainStore, ValueStore, run};
+use std::process::Abort;
+use std::test::Fail;
+
+/// The rooms of three values, and the values.
+const VALUES: [(u16, &[u8]); 3] = [(3, b"one"), (6, b"two"), (512, b"three")];
+
+/// Patches of the second of them, and the value after each.
+const PATCHES: [(usize, &[u8], bool, &[u8]); 7] = [
+    (0, b"abcd", false, b"abcd"),
+    (1, b"X", true, b"aXcd"),
+    (3, b"YZ", true, b"aXcYZ"),
+    (5, b"!", true, b"aXcYZ!"),
+    (2, b"", true, b"aXcYZ!"),
+    (2, b"-", false, b"aX-"),
+    (0, b"", false, b""),
+];
+
+#[test]
+fn patches_of_the_flat_store(rt: HostRuntime) -> Result<(), Fail> {
+    let mut store = FlatStore::new(rt.alloc());
+    for (room, value) in VALUES {
+        store.push(room, value)?;
+    }
+    assert_eq!(rt; (store.len(), store.octets()), (3, 521));
+    check_patches(&rt, &mut store, &PATCHES);
+    Ok(())
+}
+
+#[test]
+fn patches_of_the_plain_store(rt: HostRuntime) -> Result<(), Fail> {
+    let mut store = PlainStore::new(rt.alloc());
+    for (room, value) in VALUES {
+        store.push(room, value)?;
+    }
+    check_patches(&rt, &mut store, &PATCHES);
+    Ok(())
+}
+
+fn check_patches<S: ValueStore>(
+    rt: &impl Abort,
+    store: &mut S,
+    cases: &[(usize, &[u8], bool, &[u8])],
+) {
+    for &(offset, part, keep, wanted) in cases {
+        assert!(rt; patch(store, offset, part, keep), "{part:?} at {offset}");
+        assert!(rt; has_values(store, wanted), "{part:?} at {offset}");
+    }
+    assert!(rt; run_two(store) && has_values(store, b"abXYZ"));
+    assert!(rt; !store.contains(0) && !store.contains(4) && store.room(4) == 0);
+}
+
+/// Patches the second value, if the part fits.
+fn patch<S: ValueStore>(store: &mut S, offset: usize, part: &[u8], keep: bool) -> bool {
+    if !store.contains(2) || store.room(2) != 6 {
+        return false;
+    }
+    if offset > store.value(2).len() || part.len() > 6 || offset > 6 - part.len() {
+        return false;
+    }
+    store.patch(2, offset, part, keep);
+    true
+}
+
+/// Whether the second value is this one, and the others are as they were.
+fn has_values<S: ValueStore>(store: &S, second: &[u8]) -> bool {
+    is_value(store, 1, b"one") && is_value(store, 2, second) && is_value(store, 3, b"three")
+}
+
+fn is_value<S: ValueStore>(store: &S, handle: u16, wanted: &[u8]) -> bool {
+    store.contains(handle) && store.value(handle) == wanted
+}
+
+/// Runs two changes of the second value, if it has room for them.
+#[tactic(auto, using(att_values::proofs::Contents::changes))]
+fn run_two<S: ValueStore>(store: &mut S) -> bool {
+    if !store.contains(2) || store.room(2) != 6 {
+        return false;
+    }
+    let changes = [
+        Change::Set {
+            handle: 2,
+            octets: b"abcd",
+        },
+        Change::Patch {
+            handle: 2,
+            offset: 2,
+            part: b"XYZ",
+            keep: true,
+        },
+    ];
+    run(store, &changes);
+    true
+}

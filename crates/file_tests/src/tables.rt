@@ -1,0 +1,233 @@
+//! The tables of the example files, and tables of shapes that those have not.
+
+use att_numbers::attribute_type;
+use att_numbers::attribute_type::{
+    CHARACTERISTIC, CLIENT_CHARACTERISTIC_CONFIGURATION, INCLUDE, PRIMARY_SERVICE,
+};
+use att_table::examples::{BELL, DOOR};
+use att_table::{Counted, Role, Table};
+use std::alloc::Global;
+use std::process::Abort;
+
+/// What a table is to be.
+struct Wanted {
+    attributes: usize,
+    octets: usize,
+    /// Values by their handles.
+    values: &'static [(u16, &'static [u8])],
+    /// The last handles of the groups that attributes begin.
+    group_ends: &'static [(u16, u16)],
+    /// The handles of client characteristic configurations.
+    configurations: &'static [u16],
+    /// The handles of a type of 16 bits from a first to a last one.
+    of_types: &'static [(u16, u16, u16, &'static [u16])],
+}
+
+const WANTED_DOOR: Wanted = Wanted {
+    attributes: 21,
+    octets: 575,
+    values: &[
+        (1, b"\x00\x18"),
+        (2, b"\x02\x03\x00\x00\x2a"),
+        (3, b"Lock"),
+        (8, b"\xf0\xff"),
+        (12, b"\x0a\x0d\x00\xf2\xff"),
+        (20, b"\x0e\x15\x00\xf4\xff"),
+        (21, b""),
+    ],
+    group_ends: &[(1, 3), (2, 3), (3, 3), (4, 7), (8, 21), (9, 11), (20, 21)],
+    configurations: &[7, 11],
+    of_types: &[
+        (0xFFF3, 1, 0xFFFF, &[15, 17, 19]),
+        (0xFFF3, 16, 18, &[17]),
+        (0x2800, 2, 7, &[4]),
+        (0x2800, 0, 0xFFFF, &[1, 4, 8]),
+        (0x2803, 10, 17, &[12, 14, 16]),
+        (0x2803, 17, 10, &[]),
+        (0x2803, 3, 4, &[]),
+        (0x2802, 1, 0xFFFF, &[]),
+        (0x2902, 11, 11, &[11]),
+    ],
+};
+
+const WANTED_BELL: Wanted = Wanted {
+    attributes: 9,
+    octets: 36,
+    values: &[
+        (2, b"\x32\x03\x00\xf9\xff"),
+        (
+            5,
+            b"\x20\x06\x00\xef\xcd\xab\x89\x67\x45\x23\x01\xf0\xde\xbc\x9a\x78\x56\x34\x12",
+        ),
+        (9, b"\x01\x00\x07\x00\xf8\xff"),
+    ],
+    group_ends: &[(1, 7), (2, 4), (5, 7), (7, 7), (8, 9)],
+    configurations: &[4, 7],
+    of_types: &[
+        (0x2800, 1, 0xFFFF, &[1]),
+        (0x2801, 1, 0xFFFF, &[8]),
+        (0x2802, 9, 9, &[9]),
+    ],
+};
+
+/// A service of two characteristics, one of none, and one of an include and a characteristic.
+const GROUPS: &str = r#"
+[[service]]
+uuid = "fff0"
+[[service.characteristic]]
+uuid = "fff1"
+value = ""
+properties = []
+[[service.characteristic]]
+uuid = "fff2"
+value = ""
+properties = []
+[[service]]
+uuid = "fff3"
+secondary = true
+[[service]]
+uuid = "fff4"
+include = [1]
+[[service.characteristic]]
+uuid = "fff5"
+value = ""
+properties = []
+"#;
+
+const WANTED_GROUPS: Wanted = Wanted {
+    attributes: 10,
+    octets: 27,
+    values: &[(8, b"\x06\x00\x06\x00\xf3\xff")],
+    group_ends: &[
+        (1, 5),
+        (2, 3),
+        (3, 3),
+        (4, 5),
+        (5, 5),
+        (6, 6),
+        (7, 10),
+        (8, 8),
+        (9, 10),
+        (10, 10),
+    ],
+    configurations: &[],
+    of_types: &[],
+};
+
+#[test]
+fn door(rt: HostRuntime) {
+    check_file(&rt, rt.alloc(), DOOR, &WANTED_DOOR);
+}
+
+#[test]
+fn bell(rt: HostRuntime) {
+    check_file(&rt, rt.alloc(), BELL, &WANTED_BELL);
+}
+
+#[test]
+fn groups(rt: HostRuntime) {
+    check_file(&rt, rt.alloc(), GROUPS, &WANTED_GROUPS);
+}
+
+fn check_file(rt: &impl Abort, alloc: Global, text: &str, wanted: &Wanted) {
+    match Table::read(alloc, text) {
+        Ok(table) => check_table(rt, &table, wanted),
+        Err(fault) => assert_eq!(rt; fault.number(), 0),
+    }
+}
+
+fn check_table(rt: &impl Abort, table: &Table, wanted: &Wanted) {
+    assert_eq!(rt; table.len(), wanted.attributes);
+    assert_eq!(rt; table.octets(), wanted.octets);
+    for &(handle, value) in wanted.values {
+        assert_eq!(rt; value_of(table, handle), value, "{handle}");
+    }
+    for &(handle, last) in wanted.group_ends {
+        assert_eq!(rt; group_end_of(table, handle), last, "{handle}");
+    }
+    for handle in 1..=21 {
+        let is_configuration = table
+            .get(handle)
+            .is_some_and(|attr| attr.role == Role::Configuration);
+        assert!(rt;
+            is_configuration == wanted.configurations.contains(&handle),
+            "{handle}"
+        );
+    }
+    for &(number, first, last, handles) in wanted.of_types {
+        check_of_type(
+            rt,
+            table,
+            attribute_type::from_16_bits(number),
+            (first, last),
+            handles,
+        );
+    }
+}
+
+fn check_of_type(rt: &impl Abort, table: &Table, kind: u128, range: (u16, u16), wanted: &[u16]) {
+    let mut steps = Counted { count: 0 };
+    let (first, last) = range;
+    let handles = table.of_type(kind, first, last, &mut steps);
+    assert_eq!(rt; handles, wanted, "{kind:x} from {first} to {last}");
+    assert!(rt; steps.count <= 22);
+}
+
+fn value_of(table: &Table, handle: u16) -> &[u8] {
+    if table.get(handle).is_some() {
+        table.value(handle)
+    } else {
+        b"no attribute"
+    }
+}
+
+fn group_end_of(table: &Table, handle: u16) -> u16 {
+    if table.get(handle).is_some() {
+        table.group_end(handle)
+    } else {
+        0
+    }
+}
+
+#[test]
+fn code_of_the_door(rt: HostRuntime) {
+    match Table::read(rt.alloc(), DOOR) {
+        Ok(table) => check_code(&rt, &table),
+        Err(fault) => assert_eq!(&rt; fault.number(), 0),
+    }
+}
+
+fn check_code(rt: &impl Abort, table: &Table) {
+    let Some(code) = table.get(13) else {
+        return assert!(rt; false, "no code");
+    };
+    assert_eq!(rt; code.largest, 8);
+    assert_eq!(rt; code.guard.read.key_size, Some(16));
+    assert!(rt; code.guard.write.authorized && !code.fixed);
+}
+
+#[test]
+fn comparisons_of_a_full_table(rt: HostRuntime) {
+    match read_services(rt.alloc(), 1024) {
+        Ok(table) => check_services(&rt, &table),
+        Err(number) => assert_eq!(&rt; number, 0),
+    }
+}
+
+/// A table of so many services, or the number of its fault.
+fn read_services(alloc: Global, count: usize) -> Result<Table, u8> {
+    match "[[service]]\nuuid = \"1800\"\n".repeat(alloc, count) {
+        Ok(text) => Table::read(alloc, &text).map_err(|fault| fault.number()),
+        Err(_) => Err(10),
+    }
+}
+
+fn check_services(rt: &impl Abort, table: &Table) {
+    assert_eq!(rt; table.len(), 1024);
+    for handle in 1..=1024 {
+        check_of_type(rt, table, PRIMARY_SERVICE, (handle, handle), &[handle]);
+    }
+    for kind in [CHARACTERISTIC, INCLUDE, CLIENT_CHARACTERISTIC_CONFIGURATION] {
+        check_of_type(rt, table, kind, (1, 0xFFFF), &[]);
+    }
+}
