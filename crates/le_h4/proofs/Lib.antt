@@ -1,3 +1,4 @@
+pub mod Beginning
 pub mod Dividing
 pub mod Feeding
 pub mod Firsts

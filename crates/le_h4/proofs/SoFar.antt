@@ -1,10 +1,10 @@
 -- How gathering goes on with a piece of the stream.
-use Rattle.std.proofs.Common.{◌≡◌, ◌≢◌, ℕ, ◌-◌, ◌<◌, ◌≤◌, List, [], ◌∷◌, ◌++◌, length, take, drop, false, Some, None, refl, sym, ◌∙◌, ap, subst, arith, inl, inr, append_assoc}
+use Rattle.std.proofs.Common.{◌≡◌, ◌≢◌, ℕ, zero, suc, ◌-◌, ◌<◌, ◌≤◌, List, [], ◌∷◌, ◌++◌, length, take, drop, false, Some, None, refl, sym, ◌∙◌, ap, subst, arith, inl, inr, append_assoc}
 use Rattle.std.proofs.lemmas.Bool.{le-ltb, cases_lt}
 use Rattle.std.proofs.lemmas.List.{append-nil, length-append, length-drop, length-take, take-append-drop, take_at, drop_all}
 use Rattle.le_h4.specs.Packet.{Packet, AclPacket, EventPacket, ScoPacket, First, FirstPacket, NoneYet, NoPacket, first_of, Spells}
 use Rattle.le_h4.specs.Division.{is_long, unfinished, before, division_past}
-use Rattle.le_h4.specs.Progress.{progress_of, Fits, packet_in}
+use Rattle.le_h4.specs.Progress.{progress_of, Fits, packet_in, BeginsWith}
 use Rattle.le_h4.specs.Gathering.{GathersPacket, GathersAll, GathersLost}
 use Rattle.le_h4.specs.declared.progress.Progress.{Progress}
 use Rattle.le_h4.specs.declared.progress.Progress.TheVariants.{Lacks, Whole, Long, Desync}
@@ -250,3 +250,25 @@ filled skipping_first gathered_first octets skipping missing gathered holds rest
     let P : List ℕ → Type 0 = λ xs. SoFar skipping_first gathered_first octets skipping xs following in
     let Q : List ℕ → Type 0 = λ xs. SoFar skipping_first gathered_first octets skipping (gathered ++ take missing rest) xs in
     subst P (sym is_held) (subst Q (sym is_rest) (so_far-fill skipping_first gathered_first octets skipping missing gathered rest so_far lacks idle))
+
+-- where nothing is gathered and nothing passed over, a packet that is all there is taken at once
+pub gathers_first : (octets : List ℕ) (size : ℕ) → BeginsWith octets size → GathersPacket 0 [] octets size 0 (take size octets)
+gathers_first octets size begins =
+    let spelling : List ℕ = take size octets in
+    let spelled : Spells spelling begins.packet = (first_spelled spelling begins.packet begins.first).0 in
+    let short = short_packet 0 [] octets spelling begins.packet (omega (arith, begins.kept, length-take size octets)) spelled in
+    record {
+      packet = begins.packet;
+      first = begins.first;
+      none_left = refl;
+      divided = λ rest.
+          past_none (spelling ++ rest) ∙ division-packet spelling rest begins.packet begins.first short
+          ∙ ap (before (begins.packet ∷ [])) (sym (past_none rest));
+      spelled = record { earlier = []; spelling = spelling; parts = refl; spelled = spelled };
+      some = some_octets spelling size (λ none. absurd (let e : first_of [] ≡ FirstPacket begins.packet [] = ap first_of (sym none) ∙ begins.first in cc)) refl;
+      within = begins.within;
+    }
+  where
+    some_octets : (spelling : List ℕ) (size : ℕ) → (spelling ≡ [] → ⊥) → spelling ≡ take size octets → 0 < size
+    some_octets spelling zero some is = absurd (some is)
+    some_octets spelling (suc size) some is = omega arith

@@ -1,5 +1,5 @@
 -- How far the octets of one packet have come.
-use Rattle.std.specs.Prelude.{◌≡◌, ℕ, ◌-◌, ◌==◌, ◌≤◌, nat_le, if◌then◌else◌, [], ◌∷◌, length, Option, Some, None}
+use Rattle.std.specs.Prelude.{◌≡◌, ℕ, ◌+◌, ◌-◌, ◌==◌, ◌≤◌, nat_le, if◌then◌else◌, [], ◌∷◌, length, take, Option, Some, None}
 use Rattle.le_h4.specs.declared.progress.Progress.{Progress}
 use Rattle.le_h4.specs.declared.progress.Progress.TheVariants.{Lacks, Whole, Long, Desync}
 use Rattle.le_h4.specs.Packet.{Packet, EventPacket, ScoPacket, First, FirstPacket, NoneYet, NoPacket, first_of, acl_packet}
@@ -32,6 +32,34 @@ progress_of (indicator ∷ octets) =
     else if indicator == 0x03 then sco_progress octets
     else if indicator == 0x04 then event_progress octets
     else Desync indicator
+
+-- how many octets behind its indicator the header of a packet states, its own among them
+abbrev pub acl_size : Octets → Option ℕ
+acl_size (low ∷ high ∷ size_low ∷ size_high ∷ octets) = Some (4 + from_two size_low size_high)
+acl_size _ = None
+
+abbrev pub sco_size : Octets → Option ℕ
+sco_size (low ∷ high ∷ size ∷ octets) = Some (3 + size)
+sco_size _ = None
+
+abbrev pub event_size : Octets → Option ℕ
+event_size (code ∷ size ∷ octets) = Some (2 + size)
+event_size _ = None
+
+abbrev pub stated_size : Octets → Option ℕ
+stated_size [] = None
+stated_size (indicator ∷ octets) =
+    if indicator == 0x02 then acl_size octets
+    else if indicator == 0x03 then sco_size octets
+    else if indicator == 0x04 then event_size octets
+    else None
+
+-- these octets begin with a packet of so many, which is kept
+pub record BeginsWith (octets : Octets) (size : ℕ) : Type 0 where
+  pub packet : Packet
+  pub first : first_of (take size octets) ≡ FirstPacket packet []
+  pub within : size ≤ length octets
+  pub kept : size ≤ 1029
 
 -- what is lacking is at most so much
 abbrev pub LacksAtMost : ℕ → Progress → Type 0

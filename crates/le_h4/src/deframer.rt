@@ -9,12 +9,9 @@ ghost use Rattle.le_h4.specs.Gathering.{Gathers};
 ghost use Rattle.le_h4.specs.Held.{unmarked};
 
 use crate::packet::{PacketRef, read_packet};
-use crate::progress::{MAX_ACL_DATA, Progress, progress_at};
+use crate::progress::{Progress, progress_at, whole_packet};
 use arrayvec::ArrayVec;
 use std::marker::Model;
-
-/// The most octets of a packet that is kept: those of an ACL packet.
-const LARGEST: usize = 5 + MAX_ACL_DATA;
 
 /// How far a piece of the stream was taken.
 #[derive(Clone, Copy, Debug, PartialEq, Eq)]
@@ -118,8 +115,33 @@ fn forget(gathered: &mut ArrayVec<u8, 1029>, marked: bool)
     }
 }
 
-/// Gathers octets to the end of a packet that is kept, or all of them.
+/// Gathers octets to the end of a packet that is kept, or all of them. A packet that is all there,
+/// where nothing was gathered before, is copied at once.
 fn gather(
+    gathered: &mut ArrayVec<u8, 1029>,
+    skipping: &mut usize,
+    octets: &[u8],
+) -> Result<Fed, H4Fault>
+    requires fits { Fits gathered.old.items }
+    requires unfinished { packet_in (first_of gathered.old.items) ≡ None }
+    requires passes { 0 < skipping.old → gathered.old.items ≡ [] }
+    ensures gathers { Gathers skipping.old gathered.old.items octets.now result skipping.new gathered.new.items }
+{
+    if !gathered.is_empty() || *skipping > 0 {
+        return gather_by_parts(gathered, skipping, octets);
+    }
+    let Some(size) = whole_packet(octets) else {
+        return gather_by_parts(gathered, skipping, octets);
+    };
+    let _ = fill(gathered, size, octets);
+    Ok(Fed {
+        used: size,
+        packet: true,
+    })
+}
+
+/// The same, header and data each by what they lack.
+fn gather_by_parts(
     gathered: &mut ArrayVec<u8, 1029>,
     skipping: &mut usize,
     octets: &[u8],

@@ -1,10 +1,13 @@
-ghost use Rattle.std.specs.Prelude.{◌≡◌, ◌-◌, ◌≤◌, length};
-ghost use Rattle.le_h4.specs.Progress.{progress_of, data_progress, short_progress, LacksAtMost};
+ghost use Rattle.std.specs.Prelude.{◌≡◌, ◌-◌, ◌≤◌, length, IfSome};
+ghost use Rattle.le_h4.specs.Progress.{progress_of, data_progress, short_progress, LacksAtMost, stated_size, BeginsWith};
 
 use crate::indicator;
 
 /// The most octets of data of an ACL packet that is kept.
 pub(crate) const MAX_ACL_DATA: usize = 1_024;
+
+/// The most octets of a packet that is kept: those of an ACL packet.
+pub(crate) const LARGEST: usize = 5 + MAX_ACL_DATA;
 
 /// How far the octets of a packet have come.
 #[derive(Clone, Copy, Debug, PartialEq, Eq)]
@@ -44,6 +47,45 @@ pub(crate) fn progress_at(octets: &[u8]) -> Progress
             header => Progress::Lacks(2 - header.len()),
         },
         other => Progress::Desync(other),
+    }
+}
+
+/// How many octets the packet has that these begin with, where all of them are there and it is kept.
+#[tactic(auto, using(crate::proofs::Beginning::begins))]
+#[inline(always)]
+pub(crate) fn whole_packet(octets: &[u8]) -> Option<usize>
+    ensures { IfSome result (λ size. BeginsWith octets.now size) }
+{
+    let size = stated_size(octets)?;
+    if size < octets.len() && size < LARGEST {
+        Some(size + 1)
+    } else {
+        None
+    }
+}
+
+/// How many octets behind its indicator the header of a packet states.
+#[inline(always)]
+fn stated_size(octets: &[u8]) -> Option<usize>
+    ensures { result ≡ stated_size octets.now }
+{
+    let [indicator, rest @ ..] = octets else {
+        return None;
+    };
+    match *indicator {
+        indicator::ACL => match rest {
+            [_, _, low, high, ..] => Some(4 + usize::from(u16::from_le_bytes([*low, *high]))),
+            _ => None,
+        },
+        indicator::SCO => match rest {
+            [_, _, size, ..] => Some(3 + usize::from(*size)),
+            _ => None,
+        },
+        indicator::EVENT => match rest {
+            [_, size, ..] => Some(2 + usize::from(*size)),
+            _ => None,
+        },
+        _ => None,
     }
 }
 

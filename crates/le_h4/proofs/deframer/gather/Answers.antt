@@ -1,40 +1,16 @@
-use Rattle.std.proofs.Common.{◌≡◌, ℕ, ◌<◌, ◌≤◌, List, [], length, sym, ◌∙◌, ap, subst, arith}
+use Rattle.std.proofs.Common.{◌≡◌, ℕ, List, [], ◌++◌, take, sym, ◌∙◌, ap, subst, arith}
 use Rattle.std.proofs.lemmas.Grind.{common_steps}
-use Rattle.le_h4.specs.Progress.{progress_of}
-use Rattle.le_h4.specs.declared.progress.Progress.TheVariants.{Lacks, Whole, Long, Desync}
-use Rattle.le_h4.proofs.SoFar.{SoFar, so_far-start, so_far-long, gathers_packet, gathers_all, gathers_lost, skipped, idle_after, filled}
+use Rattle.le_h4.specs.Gathering.{GathersPacket}
+use Rattle.le_h4.proofs.SoFar.{gathers_first}
 use Rattle.le_h4.proofs.deframer.gather.Goals as goal
 
-pub packets-init : goal.packets-init
-packets-init c = so_far-start _ _ _ c.requires.fits c.requires.unfinished c.requires.passes
-
-pub returns-in-Whole : goal.returns-in-Whole
-returns-in-Whole c =
-    let at : progress_of c.packets.gathered.items ≡ Whole = ap progress_of (sym c.as_slice.ensures.value) ∙ sym c.progress_at.ensures.exact ∙ c.in-Whole.is in
-    let fits : length c.packets.gathered.items ≤ 1029 = omega (arith, ap length c.as_slice.ensures.value, c.as_slice.ensures.fits) in
-    record { gathers = gathers_packet _ _ _ _ _ _ (skipped _ _ _ _ _ _ _ _ c.packets.invariant c.skip-rest.ensures.left c.skip-rest.ensures.rest) at fits }
-
-pub returns-in-Desync : goal.returns-in-Desync
-returns-in-Desync c =
-    let at : progress_of c.packets.gathered.items ≡ Desync c.in-Desync.indicator = ap progress_of (sym c.as_slice.ensures.value) ∙ sym c.progress_at.ensures.exact ∙ c.in-Desync.is in
-    record { gathers = gathers_lost _ _ _ _ _ _ (skipped _ _ _ _ _ _ _ _ c.packets.invariant c.skip-rest.ensures.left c.skip-rest.ensures.rest) _ at }
-
-pub packets-preserved-in-Long : goal.packets-preserved-in-Long
-packets-preserved-in-Long c =
-    let at : progress_of c.packets.gathered.items ≡ Long c.in-Long.missing = ap progress_of (sym c.as_slice.ensures.value) ∙ sym c.progress_at.ensures.exact ∙ c.in-Long.is in
-    let P : List ℕ → Type 0 = λ xs. SoFar c.args.skipping.now c.args.gathered.now.items c.args.octets.now c.in-Long.missing xs c.skip-rest.result.now in
-    subst P (sym c.clear.ensures)
-    (so_far-long _ _ _ _ _ _ _ (skipped _ _ _ _ _ _ _ _ c.packets.invariant c.skip-rest.ensures.left c.skip-rest.ensures.rest) at)
-
-pub returns-in-Lacks : goal.returns-in-Lacks
-returns-in-Lacks c =
-    let at : progress_of c.packets.gathered.items ≡ Lacks c.in-Lacks.field-0 = ap progress_of (sym c.as_slice.ensures.value) ∙ sym c.progress_at.ensures.exact ∙ c.in-Lacks.is in
-    let ended : c.skip-rest.result.now ≡ [] = grind (arith, common_steps) in
-    record { gathers = gathers_all _ _ _ _ _ _ (skipped _ _ _ _ _ _ _ _ c.packets.invariant c.skip-rest.ensures.left c.skip-rest.ensures.rest) _ at ended }
-
-pub packets-preserved : goal.packets-preserved
-packets-preserved c =
-    let at : progress_of c.packets.gathered.items ≡ Lacks c.in-Lacks.field-0 = ap progress_of (sym c.as_slice.ensures.value) ∙ sym c.progress_at.ensures.exact ∙ c.in-Lacks.is in
-    let some : 0 < length c.skip-rest.result.now = grind (arith, common_steps) in
-    filled _ _ _ _ _ _ _ _ _ (skipped _ _ _ _ _ _ _ _ c.packets.invariant c.skip-rest.ensures.left c.skip-rest.ensures.rest) at
-    (idle_after _ _ _ _ c.skip-rest.ensures.left c.skip-rest.ensures.rest some) c.fill-rest.ensures.gathered c.fill-rest.ensures.rest
+pub returns : goal.returns
+returns c =
+    let taken : List ℕ = take c.in-Some.size c.args.octets.now in
+    let none : [] ≡ c.args.gathered.now.items = grind (arith, common_steps) in
+    let idle : 0 ≡ c.args.skipping.now = omega (arith, c.if-skipping-gt0.false) in
+    let held : taken ≡ c.fill.new.gathered.items = sym (c.fill.ensures.gathered ∙ ap (λ (xs : List ℕ). xs ++ taken) (sym none)) in
+    let P : ℕ → Type 0 = λ skipping. GathersPacket skipping [] c.args.octets.now c.in-Some.size skipping taken in
+    let Q : List ℕ → Type 0 = λ gathered. GathersPacket c.args.skipping.now gathered c.args.octets.now c.in-Some.size c.args.skipping.now taken in
+    let R : List ℕ → Type 0 = λ holds. GathersPacket c.args.skipping.now c.args.gathered.now.items c.args.octets.now c.in-Some.size c.args.skipping.now holds in
+    record { gathers = subst R held (subst Q none (subst P idle (gathers_first c.args.octets.now c.in-Some.size c.in-Some.ensures))) }

@@ -1,6 +1,6 @@
 use Rattle.std.proofs.Common.{◌+◌, ◌*◌, length}
 use Rattle.le_h4.proofs.SoFar.{SoFar}
-use Rattle.le_h4.proofs.deframer.gather.Given as goal
+use Rattle.le_h4.proofs.deframer.gather_by_parts.Given as goal
 
 abbrev pub invariant-packets : goal.invariant-packets
 invariant-packets l = SoFar l.fn.skipping l.fn.gathered.items l.octets l.skipping l.gathered.items l.rest
