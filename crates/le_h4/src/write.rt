@@ -18,6 +18,7 @@ pub fn write_acl(handle: u16, pb: u8, octets: &[u8], out: &mut ArrayVec<u8, 260>
 
 /// The same of data that stand in two places: at most 255 octets, those of `header` and then those
 /// of `octets`. So the header of a frame goes in front of its payload without a copy of both.
+#[inline(always)]
 pub fn write_acl_parts(
     handle: u16,
     pb: u8,
@@ -33,12 +34,15 @@ pub fn write_acl_parts(
 {
     let [low, high] = (handle | u16::from(pb) << 12).to_le_bytes();
     let [size_low, size_high] = ((header.len() + octets.len()) as u16).to_le_bytes();
-    replace(
-        out,
-        &[indicator::ACL, low, high, size_low, size_high],
-        header,
-    );
-    // There is room, so this is proved to take all of them.
+    // Octets that are pushed one by one are not read again, as those of an array would be.
+    out.clear();
+    out.push(indicator::ACL);
+    out.push(low);
+    out.push(high);
+    out.push(size_low);
+    out.push(size_high);
+    // There is room, so these are proved to take all of them.
+    let _ = out.try_extend_from_slice(header);
     let _ = out.try_extend_from_slice(octets);
 }
 
@@ -48,15 +52,7 @@ pub fn write_command(octets: &[u8], out: &mut ArrayVec<u8, 260>)
     requires { length octets.now ≤ 259 }
     ensures { out.new.items ≡ 0x01 ∷ octets.now }
 {
-    replace(out, &[indicator::COMMAND], octets);
-}
-
-/// Replaces what `out` holds by a header and what follows it.
-fn replace(out: &mut ArrayVec<u8, 260>, header: &[u8], octets: &[u8])
-    requires { length header.now + length octets.now ≤ 260 }
-    ensures { out.new.items ≡ header.now ++ octets.now }
-{
     out.clear();
-    let _ = out.try_extend_from_slice(header);
+    out.push(indicator::COMMAND);
     let _ = out.try_extend_from_slice(octets);
 }
