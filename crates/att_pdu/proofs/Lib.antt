@@ -1,3 +1,3 @@
 pub mod Accepted
 pub mod Handles
-pub mod LongKind
+pub mod LongUuid

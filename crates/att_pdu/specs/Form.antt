@@ -1,12 +1,13 @@
 -- The forms of the parameters behind each opcode: Core 5.0, Vol 3 Part F, 3.4.
-use Rattle.std.specs.Prelude.{ℕ, ◌%◌, ◌==◌, ◌&&◌, nat_le, if◌then◌else◌, List, [], ◌∷◌, length, Option, Some, None}
+use Rattle.std.specs.Prelude.{◌≡◌, ℕ, ◌%◌, ◌==◌, ◌&&◌, nat_le, if◌then◌else◌, List, [], ◌∷◌, length, Option, Some, None, IfSome}
 use Rattle.std.specs.Option.{option_map}
 use Rattle.att_numbers.specs.Types.{Handle, Opcode}
 use Rattle.att_numbers.specs.declared.opcode.TheConstants.{EXCHANGE_MTU_REQUEST, FIND_INFORMATION_REQUEST, FIND_BY_TYPE_VALUE_REQUEST, READ_BY_TYPE_REQUEST, READ_REQUEST, READ_BLOB_REQUEST, READ_MULTIPLE_REQUEST, READ_BY_GROUP_TYPE_REQUEST, WRITE_REQUEST, PREPARE_WRITE_REQUEST, EXECUTE_WRITE_REQUEST, HANDLE_VALUE_CONFIRMATION, WRITE_COMMAND}
 use Rattle.att_pdu.specs.declared.request.ExecuteFlags.TheVariants.{Cancel, Write}
-use Rattle.att_pdu.specs.Kind.{kind_form}
+use Rattle.att_pdu.specs.declared.request.Request.{Request}
+use Rattle.att_pdu.specs.Uuid.{uuid_form}
 use Rattle.octets.specs.Number.{Octets, from_two}
-use Rattle.att_pdu.specs.Request.{Asked, ExchangeMtuRequest, FindInformationRequest, FindByTypeValueRequest, ReadByTypeRequest, ReadRequest, ReadBlobRequest, ReadMultipleRequest, ReadByGroupTypeRequest, WriteRequest, PrepareWriteRequest, ExecuteWriteRequest, ConfirmationPdu, WriteCommandPdu}
+use Rattle.att_pdu.specs.Request.{Asked, asked, spelled, ExchangeMtuRequest, FindInformationRequest, FindByTypeValueRequest, ReadByTypeRequest, ReadRequest, ReadBlobRequest, ReadMultipleRequest, ReadByGroupTypeRequest, WriteRequest, PrepareWriteRequest, ExecuteWriteRequest, ConfirmationPdu, WriteCommandPdu}
 
 abbrev pub exchange_mtu_form : Octets → Option Asked
 exchange_mtu_form (low ∷ high ∷ []) = Some (ExchangeMtuRequest (from_two low high))
@@ -17,13 +18,13 @@ find_information_form (low ∷ high ∷ last_low ∷ last_high ∷ []) = Some (F
 find_information_form _ = None
 
 abbrev pub find_by_type_value_form : Octets → Option Asked
-find_by_type_value_form (low ∷ high ∷ last_low ∷ last_high ∷ kind_low ∷ kind_high ∷ value) =
-    Some (FindByTypeValueRequest (from_two low high) (from_two last_low last_high) (from_two kind_low kind_high) value)
+find_by_type_value_form (low ∷ high ∷ last_low ∷ last_high ∷ type_low ∷ type_high ∷ value) =
+    Some (FindByTypeValueRequest (from_two low high) (from_two last_low last_high) (from_two type_low type_high) value)
 find_by_type_value_form _ = None
 
 abbrev pub read_by_type_form : Octets → Option Asked
-read_by_type_form (low ∷ high ∷ last_low ∷ last_high ∷ kind) =
-    option_map (ReadByTypeRequest (from_two low high) (from_two last_low last_high)) (kind_form kind)
+read_by_type_form (low ∷ high ∷ last_low ∷ last_high ∷ uuid) =
+    option_map (ReadByTypeRequest (from_two low high) (from_two last_low last_high)) (uuid_form uuid)
 read_by_type_form _ = None
 
 abbrev pub read_form : Octets → Option Asked
@@ -46,8 +47,8 @@ read_multiple_form parameters =
     else None
 
 abbrev pub read_by_group_type_form : Octets → Option Asked
-read_by_group_type_form (low ∷ high ∷ last_low ∷ last_high ∷ kind) =
-    option_map (ReadByGroupTypeRequest (from_two low high) (from_two last_low last_high)) (kind_form kind)
+read_by_group_type_form (low ∷ high ∷ last_low ∷ last_high ∷ uuid) =
+    option_map (ReadByGroupTypeRequest (from_two low high) (from_two last_low last_high)) (uuid_form uuid)
 read_by_group_type_form _ = None
 
 abbrev pub write_form : Octets → Option Asked
@@ -94,3 +95,8 @@ form_of opcode parameters =
     else if opcode == HANDLE_VALUE_CONFIRMATION then confirmation_form parameters
     else if opcode == WRITE_COMMAND then write_command_form parameters
     else None
+
+-- what was read behind an opcode is what the parameters spell, and spells them
+pub record IsForm (opcode : Opcode) (parameters : Octets) (given : Option Asked) (request : Option Request) : Type 0 where
+  pub form : option_map asked request ≡ given
+  pub spelled : IfSome request (λ of. spelled (asked of) ≡ opcode ∷ parameters)

@@ -1,6 +1,6 @@
 pub mod Form
 pub mod Grammar
-pub mod Kind
 pub mod PduBuf
 pub mod Request
 pub mod Response
+pub mod Uuid

@@ -1,19 +1,15 @@
 //! The forms of the parameters behind each opcode.
-ghost use Rattle.std.specs.Prelude.{◌≡◌, ◌∷◌, IfSome};
-ghost use Rattle.std.specs.Option.{option_map};
 ghost use Rattle.att_numbers.specs.declared.opcode.TheConstants.{EXCHANGE_MTU_REQUEST, FIND_INFORMATION_REQUEST, FIND_BY_TYPE_VALUE_REQUEST, READ_BY_TYPE_REQUEST, READ_REQUEST, READ_BLOB_REQUEST, READ_MULTIPLE_REQUEST, READ_BY_GROUP_TYPE_REQUEST, WRITE_REQUEST, PREPARE_WRITE_REQUEST, EXECUTE_WRITE_REQUEST, HANDLE_VALUE_CONFIRMATION, WRITE_COMMAND};
-ghost use Rattle.att_pdu.specs.Request.{asked, spelled};
-ghost use Rattle.att_pdu.specs.Form.{form_of, exchange_mtu_form, find_information_form, find_by_type_value_form, read_by_type_form, read_form, read_blob_form, read_multiple_form, read_by_group_type_form, write_form, prepare_write_form, execute_write_form, confirmation_form, write_command_form};
+ghost use Rattle.att_pdu.specs.Form.{IsForm, form_of, exchange_mtu_form, find_information_form, find_by_type_value_form, read_by_type_form, read_form, read_blob_form, read_multiple_form, read_by_group_type_form, write_form, prepare_write_form, execute_write_form, confirmation_form, write_command_form};
 
-use crate::kind::Kind;
 use crate::request::{ExecuteFlags, Request};
+use crate::uuid::Uuid;
 use att_numbers::opcode;
 
 /// The request that parameters spell behind an opcode, however long they are.
 #[tactic(auto, unfolding(crate::specs::Form::form_of))]
 pub(crate) fn request(opcode: u8, parameters: &[u8]) -> Option<Request<'_>>
-    ensures form { option_map asked result ≡ form_of opcode parameters.now }
-    ensures spelled { IfSome result (λ request. spelled (asked request) ≡ opcode ∷ parameters.now) }
+    ensures { IsForm opcode parameters.now (form_of opcode parameters.now) result }
 {
     match opcode {
         opcode::EXCHANGE_MTU_REQUEST => exchange_mtu(parameters),
@@ -35,8 +31,7 @@ pub(crate) fn request(opcode: u8, parameters: &[u8]) -> Option<Request<'_>>
 
 /// Core 5.0, Vol 3 Part F, 3.4.2.1.
 fn exchange_mtu(parameters: &[u8]) -> Option<Request<'_>>
-    ensures form { option_map asked result ≡ exchange_mtu_form parameters.now }
-    ensures spelled { IfSome result (λ request. spelled (asked request) ≡ EXCHANGE_MTU_REQUEST ∷ parameters.now) }
+    ensures { IsForm EXCHANGE_MTU_REQUEST parameters.now (exchange_mtu_form parameters.now) result }
 {
     match parameters {
         [low, high] => Some(Request::ExchangeMtu {
@@ -48,8 +43,7 @@ fn exchange_mtu(parameters: &[u8]) -> Option<Request<'_>>
 
 /// Core 5.0, Vol 3 Part F, 3.4.3.1.
 fn find_information(parameters: &[u8]) -> Option<Request<'_>>
-    ensures form { option_map asked result ≡ find_information_form parameters.now }
-    ensures spelled { IfSome result (λ request. spelled (asked request) ≡ FIND_INFORMATION_REQUEST ∷ parameters.now) }
+    ensures { IsForm FIND_INFORMATION_REQUEST parameters.now (find_information_form parameters.now) result }
 {
     match parameters {
         [first_low, first_high, last_low, last_high] => Some(Request::FindInformation {
@@ -62,8 +56,7 @@ fn find_information(parameters: &[u8]) -> Option<Request<'_>>
 
 /// Core 5.0, Vol 3 Part F, 3.4.3.3.
 fn find_by_type_value(parameters: &[u8]) -> Option<Request<'_>>
-    ensures form { option_map asked result ≡ find_by_type_value_form parameters.now }
-    ensures spelled { IfSome result (λ request. spelled (asked request) ≡ FIND_BY_TYPE_VALUE_REQUEST ∷ parameters.now) }
+    ensures { IsForm FIND_BY_TYPE_VALUE_REQUEST parameters.now (find_by_type_value_form parameters.now) result }
 {
     match parameters {
         [
@@ -71,13 +64,13 @@ fn find_by_type_value(parameters: &[u8]) -> Option<Request<'_>>
             first_high,
             last_low,
             last_high,
-            kind_low,
-            kind_high,
+            type_low,
+            type_high,
             value @ ..,
         ] => Some(Request::FindByTypeValue {
             first: u16::from_le_bytes([*first_low, *first_high]),
             last: u16::from_le_bytes([*last_low, *last_high]),
-            kind: u16::from_le_bytes([*kind_low, *kind_high]),
+            attribute_type: u16::from_le_bytes([*type_low, *type_high]),
             value,
         }),
         _ => None,
@@ -86,14 +79,13 @@ fn find_by_type_value(parameters: &[u8]) -> Option<Request<'_>>
 
 /// Core 5.0, Vol 3 Part F, 3.4.4.1.
 fn read_by_type(parameters: &[u8]) -> Option<Request<'_>>
-    ensures form { option_map asked result ≡ read_by_type_form parameters.now }
-    ensures spelled { IfSome result (λ request. spelled (asked request) ≡ READ_BY_TYPE_REQUEST ∷ parameters.now) }
+    ensures { IsForm READ_BY_TYPE_REQUEST parameters.now (read_by_type_form parameters.now) result }
 {
     match parameters {
-        [first_low, first_high, last_low, last_high, kind @ ..] => Some(Request::ReadByType {
+        [first_low, first_high, last_low, last_high, uuid @ ..] => Some(Request::ReadByType {
             first: u16::from_le_bytes([*first_low, *first_high]),
             last: u16::from_le_bytes([*last_low, *last_high]),
-            kind: Kind::read(kind)?,
+            attribute_type: Uuid::read(uuid)?,
         }),
         _ => None,
     }
@@ -101,8 +93,7 @@ fn read_by_type(parameters: &[u8]) -> Option<Request<'_>>
 
 /// Core 5.0, Vol 3 Part F, 3.4.4.3.
 fn read(parameters: &[u8]) -> Option<Request<'_>>
-    ensures form { option_map asked result ≡ read_form parameters.now }
-    ensures spelled { IfSome result (λ request. spelled (asked request) ≡ READ_REQUEST ∷ parameters.now) }
+    ensures { IsForm READ_REQUEST parameters.now (read_form parameters.now) result }
 {
     match parameters {
         [low, high] => Some(Request::Read {
@@ -114,8 +105,7 @@ fn read(parameters: &[u8]) -> Option<Request<'_>>
 
 /// Core 5.0, Vol 3 Part F, 3.4.4.5.
 fn read_blob(parameters: &[u8]) -> Option<Request<'_>>
-    ensures form { option_map asked result ≡ read_blob_form parameters.now }
-    ensures spelled { IfSome result (λ request. spelled (asked request) ≡ READ_BLOB_REQUEST ∷ parameters.now) }
+    ensures { IsForm READ_BLOB_REQUEST parameters.now (read_blob_form parameters.now) result }
 {
     match parameters {
         [low, high, offset_low, offset_high] => Some(Request::ReadBlob {
@@ -129,8 +119,7 @@ fn read_blob(parameters: &[u8]) -> Option<Request<'_>>
 /// Core 5.0, Vol 3 Part F, 3.4.4.7.
 #[tactic(auto, using(crate::proofs::Handles::handles_in_pairs, crate::proofs::Handles::handles_spelled))]
 fn read_multiple(parameters: &[u8]) -> Option<Request<'_>>
-    ensures form { option_map asked result ≡ read_multiple_form parameters.now }
-    ensures spelled { IfSome result (λ request. spelled (asked request) ≡ READ_MULTIPLE_REQUEST ∷ parameters.now) }
+    ensures { IsForm READ_MULTIPLE_REQUEST parameters.now (read_multiple_form parameters.now) result }
 {
     match parameters.as_chunks::<2>() {
         (handles, []) if handles.len() >= 2 => Some(Request::ReadMultiple { handles }),
@@ -140,14 +129,13 @@ fn read_multiple(parameters: &[u8]) -> Option<Request<'_>>
 
 /// Core 5.0, Vol 3 Part F, 3.4.4.9.
 fn read_by_group_type(parameters: &[u8]) -> Option<Request<'_>>
-    ensures form { option_map asked result ≡ read_by_group_type_form parameters.now }
-    ensures spelled { IfSome result (λ request. spelled (asked request) ≡ READ_BY_GROUP_TYPE_REQUEST ∷ parameters.now) }
+    ensures { IsForm READ_BY_GROUP_TYPE_REQUEST parameters.now (read_by_group_type_form parameters.now) result }
 {
     match parameters {
-        [first_low, first_high, last_low, last_high, kind @ ..] => Some(Request::ReadByGroupType {
+        [first_low, first_high, last_low, last_high, uuid @ ..] => Some(Request::ReadByGroupType {
             first: u16::from_le_bytes([*first_low, *first_high]),
             last: u16::from_le_bytes([*last_low, *last_high]),
-            kind: Kind::read(kind)?,
+            attribute_type: Uuid::read(uuid)?,
         }),
         _ => None,
     }
@@ -155,8 +143,7 @@ fn read_by_group_type(parameters: &[u8]) -> Option<Request<'_>>
 
 /// Core 5.0, Vol 3 Part F, 3.4.5.1.
 fn write(parameters: &[u8]) -> Option<Request<'_>>
-    ensures form { option_map asked result ≡ write_form parameters.now }
-    ensures spelled { IfSome result (λ request. spelled (asked request) ≡ WRITE_REQUEST ∷ parameters.now) }
+    ensures { IsForm WRITE_REQUEST parameters.now (write_form parameters.now) result }
 {
     match parameters {
         [low, high, value @ ..] => Some(Request::Write {
@@ -169,8 +156,7 @@ fn write(parameters: &[u8]) -> Option<Request<'_>>
 
 /// Core 5.0, Vol 3 Part F, 3.4.6.1.
 fn prepare_write(parameters: &[u8]) -> Option<Request<'_>>
-    ensures form { option_map asked result ≡ prepare_write_form parameters.now }
-    ensures spelled { IfSome result (λ request. spelled (asked request) ≡ PREPARE_WRITE_REQUEST ∷ parameters.now) }
+    ensures { IsForm PREPARE_WRITE_REQUEST parameters.now (prepare_write_form parameters.now) result }
 {
     match parameters {
         [low, high, offset_low, offset_high, part @ ..] => Some(Request::PrepareWrite {
@@ -184,8 +170,7 @@ fn prepare_write(parameters: &[u8]) -> Option<Request<'_>>
 
 /// Core 5.0, Vol 3 Part F, 3.4.6.3.
 fn execute_write(parameters: &[u8]) -> Option<Request<'_>>
-    ensures form { option_map asked result ≡ execute_write_form parameters.now }
-    ensures spelled { IfSome result (λ request. spelled (asked request) ≡ EXECUTE_WRITE_REQUEST ∷ parameters.now) }
+    ensures { IsForm EXECUTE_WRITE_REQUEST parameters.now (execute_write_form parameters.now) result }
 {
     match parameters {
         [0x00] => Some(Request::ExecuteWrite {
@@ -200,8 +185,7 @@ fn execute_write(parameters: &[u8]) -> Option<Request<'_>>
 
 /// Core 5.0, Vol 3 Part F, 3.4.7.3.
 fn confirmation(parameters: &[u8]) -> Option<Request<'_>>
-    ensures form { option_map asked result ≡ confirmation_form parameters.now }
-    ensures spelled { IfSome result (λ request. spelled (asked request) ≡ HANDLE_VALUE_CONFIRMATION ∷ parameters.now) }
+    ensures { IsForm HANDLE_VALUE_CONFIRMATION parameters.now (confirmation_form parameters.now) result }
 {
     match parameters {
         [] => Some(Request::Confirmation),
@@ -211,8 +195,7 @@ fn confirmation(parameters: &[u8]) -> Option<Request<'_>>
 
 /// Core 5.0, Vol 3 Part F, 3.4.5.3.
 fn write_command(parameters: &[u8]) -> Option<Request<'_>>
-    ensures form { option_map asked result ≡ write_command_form parameters.now }
-    ensures spelled { IfSome result (λ request. spelled (asked request) ≡ WRITE_COMMAND ∷ parameters.now) }
+    ensures { IsForm WRITE_COMMAND parameters.now (write_command_form parameters.now) result }
 {
     match parameters {
         [low, high, value @ ..] => Some(Request::WriteCommand {

@@ -34,9 +34,12 @@ pub fn read_request(pdu: &[u8], mtu: u16) -> Result<Request<'_>, PduFault>
     let [opcode, parameters @ ..] = pdu else {
         return Err(PduFault::Ignored);
     };
+    if pdu.len() > usize::from(mtu) {
+        return Err(fault(*opcode));
+    }
     match form::request(*opcode, parameters) {
-        Some(request) if pdu.len() <= usize::from(mtu) => Ok(request),
-        _ => Err(fault(*opcode)),
+        Some(request) => Ok(request),
+        None => Err(fault(*opcode)),
     }
 }
 

@@ -4,11 +4,11 @@
 
 mod form;
 mod grammar;
-mod kind;
 mod pdu_buf;
 mod request;
+mod uuid;
 
 pub use grammar::{PduFault, answer_due, read_request};
-pub use kind::Kind;
 pub use pdu_buf::{MAX_MTU, MIN_MTU, PduBuf};
 pub use request::{ExecuteFlags, Request};
+pub use uuid::Uuid;

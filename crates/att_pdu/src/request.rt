@@ -1,4 +1,4 @@
-use crate::kind::Kind;
+use crate::uuid::Uuid;
 
 /// What a client asks of the server: Core 5.0, Vol 3 Part F, 3.4. Handles are as sent: a range may
 /// be empty or begin with 0, and a handle may be in no table.
@@ -17,14 +17,14 @@ pub enum Request<'a> {
     FindByTypeValue {
         first: u16,
         last: u16,
-        kind: u16,
+        attribute_type: u16,
         value: &'a [u8],
     },
     /// Read By Type Request: the values of the attributes of a type.
     ReadByType {
         first: u16,
         last: u16,
-        kind: Kind,
+        attribute_type: Uuid,
     },
     /// Read Request: the value of one attribute.
     Read {
@@ -44,7 +44,7 @@ pub enum Request<'a> {
     ReadByGroupType {
         first: u16,
         last: u16,
-        kind: Kind,
+        attribute_type: Uuid,
     },
     /// Write Request: a new value for one attribute.
     Write {

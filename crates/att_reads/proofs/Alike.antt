@@ -9,7 +9,7 @@ use Rattle.att_numbers.specs.Types.{Handle, AttributeType, Opcode, Mtu, Row, Val
 use Rattle.att_numbers.specs.declared.opcode.TheConstants.{FIND_BY_TYPE_VALUE_REQUEST, READ_BY_TYPE_REQUEST, READ_REQUEST, READ_BLOB_REQUEST, READ_MULTIPLE_REQUEST, READ_BY_GROUP_TYPE_REQUEST}
 use Rattle.att_policy.specs.declared.standing.Standing.{Standing}
 use Rattle.att_policy.specs.Refusal.{Refusal}
-use Rattle.att_pdu.specs.Kind.{number_of}
+use Rattle.att_pdu.specs.Uuid.{number_of}
 use Rattle.att_pdu.specs.Request.{Asked, ExchangeMtuRequest, WriteRequest, PrepareWriteRequest, ExecuteWriteRequest, ConfirmationPdu, WriteCommandPdu, FindInformationRequest, FindByTypeValueRequest, ReadByTypeRequest, ReadRequest, ReadBlobRequest, ReadMultipleRequest, ReadByGroupTypeRequest}
 use Rattle.att_pdu.specs.Response.{Element, Response, FindByTypeValueResponse, ReadResponse, ReadBlobResponse, ReadMultipleResponse, ReadByTypeResponse, ReadByGroupTypeResponse}
 use Rattle.att_table.specs.ConfigRow.{bits_at}

@@ -5,7 +5,7 @@ use Rattle.std.specs.Str.{bytes_eq}
 use Rattle.att_numbers.specs.AttributeType.{of_16_bits, type_octets}
 use Rattle.att_numbers.specs.Types.{Handle, AttributeType, Mtu, Row}
 use Rattle.att_numbers.specs.declared.opcode.TheConstants.{FIND_INFORMATION_REQUEST, FIND_BY_TYPE_VALUE_REQUEST, READ_BY_TYPE_REQUEST, READ_REQUEST, READ_BLOB_REQUEST, READ_MULTIPLE_REQUEST, READ_BY_GROUP_TYPE_REQUEST}
-use Rattle.att_pdu.specs.Kind.{number_of}
+use Rattle.att_pdu.specs.Uuid.{number_of}
 use Rattle.att_pdu.specs.Request.{Asked, FindInformationRequest, FindByTypeValueRequest, ReadByTypeRequest, ReadRequest, ReadBlobRequest, ReadMultipleRequest, ReadByGroupTypeRequest}
 use Rattle.att_pdu.specs.Response.{Element, element_octets, OfAttribute, OfGroup, Response, FindInformationResponse, FindByTypeValueResponse, ReadByTypeResponse, ReadResponse, ReadBlobResponse, ReadMultipleResponse, ReadByGroupTypeResponse}
 use Rattle.att_policy.specs.declared.standing.Standing.{Standing}

@@ -1,6 +1,6 @@
 ghost use Rattle.std.specs.Prelude.{◌≡◌, ◌≤◌, [], nat_lt, ◌==◌, ◌||◌, not, length};
 ghost use Rattle.att_numbers.specs.AttributeType.{of_16_bits};
-ghost use Rattle.att_pdu.specs.Kind.{number_of};
+ghost use Rattle.att_pdu.specs.Uuid.{number_of};
 ghost use Rattle.att_pdu.specs.PduBuf.{contents, mtu_of, IsSameBuffer};
 ghost use Rattle.att_pdu.specs.Request.{asked};
 ghost use Rattle.att_pdu.specs.Response.{sent, sent_if_any};
@@ -12,7 +12,7 @@ use crate::list::Listing;
 use crate::reader::Reader;
 use crate::{find, list, value};
 use att_numbers::{error_code, opcode};
-use att_pdu::{Kind, PduBuf, Request};
+use att_pdu::{PduBuf, Request, Uuid};
 use att_policy::Standing;
 use att_table::{ConfigRow, Table, Uncounted, is_service};
 
@@ -59,18 +59,22 @@ fn answer_to(reader: Reader<'_>, request: &Request<'_>, out: &mut PduBuf<'_>)
         Request::FindByTypeValue {
             first,
             last,
-            kind,
+            attribute_type,
             value,
-        } => find_by_type_value(reader, first, last, kind, value, out),
-        Request::ReadByType { first, last, kind } => {
-            read_by_type(reader, first, last, kind, out);
-        }
+        } => find_by_type_value(reader, first, last, attribute_type, value, out),
+        Request::ReadByType {
+            first,
+            last,
+            attribute_type,
+        } => read_by_type(reader, first, last, attribute_type, out),
         Request::Read { handle } => value::read(reader, handle, out),
         Request::ReadBlob { handle, offset } => value::read_blob(reader, handle, offset, out),
         Request::ReadMultiple { handles } => value::read_multiple(reader, handles, out),
-        Request::ReadByGroupType { first, last, kind } => {
-            read_by_group_type(reader, first, last, kind, out);
-        }
+        Request::ReadByGroupType {
+            first,
+            last,
+            attribute_type,
+        } => read_by_group_type(reader, first, last, attribute_type, out),
         Request::ExchangeMtu { .. }
         | Request::Write { .. }
         | Request::PrepareWrite { .. }
@@ -111,12 +115,12 @@ fn find_by_type_value(
     reader: Reader<'_>,
     first: u16,
     last: u16,
-    kind: u16,
+    attribute_type: u16,
     value: &[u8],
     out: &mut PduBuf<'_>,
 )
     requires { contents out.old ≡ [] }
-    ensures answer { contents out.new ≡ sent (found_answer reader.entry.table.now reader.entry.row.now reader.entry.standing.now (mtu_of out.old) first last (of_16_bits kind) value.now) }
+    ensures answer { contents out.new ≡ sent (found_answer reader.entry.table.now reader.entry.row.now reader.entry.standing.now (mtu_of out.old) first last (of_16_bits attribute_type) value.now) }
     ensures same_buffer { IsSameBuffer out.old out.new }
 {
     if !is_range(first, last) {
@@ -127,16 +131,24 @@ fn find_by_type_value(
         );
         return;
     }
-    let kind = Kind::Short(kind).number();
-    let handles = reader.table.of_type(kind, first, last, &mut Uncounted);
+    let attribute_type = Uuid::Short(attribute_type).number();
+    let handles = reader
+        .table
+        .of_type(attribute_type, first, last, &mut Uncounted);
     find::by_type_value(reader, handles, first, value, out);
 }
 
 /// Answers a Read By Type Request.
 #[tactic(auto, unfolding(crate::specs::Answer::values_answer))]
-fn read_by_type(reader: Reader<'_>, first: u16, last: u16, kind: Kind, out: &mut PduBuf<'_>)
+fn read_by_type(
+    reader: Reader<'_>,
+    first: u16,
+    last: u16,
+    attribute_type: Uuid,
+    out: &mut PduBuf<'_>,
+)
     requires { contents out.old ≡ [] }
-    ensures answer { contents out.new ≡ sent (values_answer reader.entry.table.now reader.entry.row.now reader.entry.standing.now (mtu_of out.old) first last (number_of kind)) }
+    ensures answer { contents out.new ≡ sent (values_answer reader.entry.table.now reader.entry.row.now reader.entry.standing.now (mtu_of out.old) first last (number_of attribute_type)) }
     ensures same_buffer { IsSameBuffer out.old out.new }
 {
     if !is_range(first, last) {
@@ -149,15 +161,21 @@ fn read_by_type(reader: Reader<'_>, first: u16, last: u16, kind: Kind, out: &mut
     }
     let handles = reader
         .table
-        .of_type(kind.number(), first, last, &mut Uncounted);
+        .of_type(attribute_type.number(), first, last, &mut Uncounted);
     list::answer(Listing::Values, reader, handles, first, out);
 }
 
 /// Answers a Read By Group Type Request: only services are groups that can be read so.
 #[tactic(auto, unfolding(crate::specs::Answer::groups_answer))]
-fn read_by_group_type(reader: Reader<'_>, first: u16, last: u16, kind: Kind, out: &mut PduBuf<'_>)
+fn read_by_group_type(
+    reader: Reader<'_>,
+    first: u16,
+    last: u16,
+    attribute_type: Uuid,
+    out: &mut PduBuf<'_>,
+)
     requires { contents out.old ≡ [] }
-    ensures answer { contents out.new ≡ sent (groups_answer reader.entry.table.now reader.entry.row.now reader.entry.standing.now (mtu_of out.old) first last (number_of kind)) }
+    ensures answer { contents out.new ≡ sent (groups_answer reader.entry.table.now reader.entry.row.now reader.entry.standing.now (mtu_of out.old) first last (number_of attribute_type)) }
     ensures same_buffer { IsSameBuffer out.old out.new }
 {
     if !is_range(first, last) {
@@ -168,8 +186,8 @@ fn read_by_group_type(reader: Reader<'_>, first: u16, last: u16, kind: Kind, out
         );
         return;
     }
-    let kind = kind.number();
-    if !is_service(kind) {
+    let attribute_type = attribute_type.number();
+    if !is_service(attribute_type) {
         out.error(
             opcode::READ_BY_GROUP_TYPE_REQUEST,
             first,
@@ -177,7 +195,9 @@ fn read_by_group_type(reader: Reader<'_>, first: u16, last: u16, kind: Kind, out
         );
         return;
     }
-    let handles = reader.table.of_type(kind, first, last, &mut Uncounted);
+    let handles = reader
+        .table
+        .of_type(attribute_type, first, last, &mut Uncounted);
     list::answer(Listing::Groups, reader, handles, first, out);
 }
 

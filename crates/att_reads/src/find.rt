@@ -17,9 +17,9 @@ use att_pdu::PduBuf;
 use att_table::{Attr, Table, is_of_16_bits};
 
 /// The formats of the answer to a Find Information Request: Core 5.0, Vol 3 Part F, 3.4.3.2.
-const SHORT_KINDS: u8 = 1;
+const SHORT_TYPES: u8 = 1;
 
-const LONG_KINDS: u8 = 2;
+const LONG_TYPES: u8 = 2;
 
 /// Answers a Find Information Request of these attributes, which begin at `start`. It needs no
 /// permission.
@@ -39,9 +39,9 @@ pub fn information(attributes: &[Attr], start: u16, out: &mut PduBuf<'_>)
         return;
     };
     let (format, size) = if is_of_16_bits(first.kind) {
-        (SHORT_KINDS, 4)
+        (SHORT_TYPES, 4)
     } else {
-        (LONG_KINDS, 18)
+        (LONG_TYPES, 18)
     };
     out.value(&[opcode::FIND_INFORMATION_RESPONSE, format]);
     append_all(attributes, size, out);

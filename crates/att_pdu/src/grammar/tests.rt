@@ -1,6 +1,6 @@
 use super::*;
-use crate::kind::Kind;
 use crate::request::ExecuteFlags;
+use crate::uuid::Uuid;
 
 /// A type of 128 bits, in a request of 21 octets.
 const LONG: [u8; 21] = [
@@ -33,7 +33,7 @@ fn requests(rt: HostRuntime) {
             Request::FindByTypeValue {
                 first: 1,
                 last: 0xFFFF,
-                kind: 0x2800,
+                attribute_type: 0x2800,
                 value: &[0x0F, 0x18],
             },
         ),
@@ -42,7 +42,7 @@ fn requests(rt: HostRuntime) {
             Request::FindByTypeValue {
                 first: 1,
                 last: 0xFFFF,
-                kind: 0x2800,
+                attribute_type: 0x2800,
                 value: &[],
             },
         ),
@@ -51,7 +51,7 @@ fn requests(rt: HostRuntime) {
             Request::ReadByType {
                 first: 1,
                 last: 0xFFFF,
-                kind: Kind::Short(0xFFF3),
+                attribute_type: Uuid::Short(0xFFF3),
             },
         ),
         (
@@ -59,7 +59,7 @@ fn requests(rt: HostRuntime) {
             Request::ReadByType {
                 first: 1,
                 last: 0xFFFF,
-                kind: Kind::Long(0x12345678_9ABC_DEF0_0123_456789ABCDEF),
+                attribute_type: Uuid::Long(0x12345678_9ABC_DEF0_0123_456789ABCDEF),
             },
         ),
         (b"\x0A\x03\x01", Request::Read { handle: 0x0103 }),
@@ -81,7 +81,7 @@ fn requests(rt: HostRuntime) {
             Request::ReadByGroupType {
                 first: 1,
                 last: 0xFFFF,
-                kind: Kind::Short(0x2800),
+                attribute_type: Uuid::Short(0x2800),
             },
         ),
         (
@@ -229,8 +229,8 @@ fn invalid_and_unsupported(rt: HostRuntime) {
 #[test]
 fn numbers_of_types(rt: HostRuntime) {
     assert_eq!(rt;
-        Kind::Short(0x2803).number(),
+        Uuid::Short(0x2803).number(),
         0x0000_2803_0000_1000_8000_0080_5F9B_34FB
     );
-    assert_eq!(rt; Kind::Long(0xFFF1).number(), 0xFFF1);
+    assert_eq!(rt; Uuid::Long(0xFFF1).number(), 0xFFF1);
 }

@@ -7,6 +7,6 @@ pub returns-in-Some-clause-accepted : goal.returns-in-Some-clause-accepted
 returns-in-Some-clause-accepted c =
     λ request fields spells. subst (λ pdu. length pdu ≤ c.args.mtu → request_of pdu c.args.mtu ≡ Ok request) spells (accepted request c.args.mtu fields)
 
-pub returns-in_default-request-clause-accepted : goal.returns-in_default-request-clause-accepted
-returns-in_default-request-clause-accepted c =
+pub returns-in-None-clause-accepted : goal.returns-in-None-clause-accepted
+returns-in-None-clause-accepted c =
     λ request fields spells. subst (λ pdu. length pdu ≤ c.args.mtu → request_of pdu c.args.mtu ≡ Ok request) spells (accepted request c.args.mtu fields)

@@ -1,7 +1,7 @@
 use Rattle.std.proofs.Common.{rules, ap, ◌∙◌}
 use Rattle.std.specs.Int.{w128, from_le_bytes}
-use Rattle.att_pdu.proofs.LongKind.{long_spelled}
-use Rattle.att_pdu.proofs.kind.Kind.read.Goals as goal
+use Rattle.att_pdu.proofs.LongUuid.{long_spelled}
+use Rattle.att_pdu.proofs.uuid.Uuid.read.Goals as goal
 
 pub returns-in-Ok-clause-spelled : goal.returns-in-Ok-clause-spelled
 returns-in-Ok-clause-spelled c =
