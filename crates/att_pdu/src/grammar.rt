@@ -91,6 +91,3 @@ pub fn answer_due(pdu: &[u8], mtu: u16) -> bool
         Err(PduFault::Invalid(_) | PduFault::Unsupported(_)) => true,
     }
 }
-
-#[cfg(test)]
-mod tests;

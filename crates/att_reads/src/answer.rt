@@ -200,6 +200,3 @@ fn read_by_group_type(
         .of_type(attribute_type, first, last, &mut Uncounted);
     list::answer(Listing::Groups, reader, handles, first, out);
 }
-
-#[cfg(test)]
-mod tests;

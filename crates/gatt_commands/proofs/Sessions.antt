@@ -187,13 +187,12 @@ end_refused old number held holds begun refused is appended = record {
 -- an answer that is printed in part
 break_report : (server : Server) (number : ℕ) (line pdu : List ℕ) (rest : Server → Report) (held holds : Option (List ℕ)) → line ≢ [] → pdu_of line ≡ Some pdu
     → (broken : PrintsFront (printed_answer (answer_from server pdu)) held holds) → IsFront broken.printed (line_report server number line rest).printed
-break_report server number line pdu rest held holds begun spelled broken =
-    (
-      broken.left ++ (rest (server_after server pdu)).printed,
-      ap (λ (r : Report). r.printed) (line_report-answered server number line pdu rest begun spelled)
+break_report server number line pdu rest held holds begun spelled broken = (
+  broken.left ++ (rest (server_after server pdu)).printed,
+  ap (λ (r : Report). r.printed) (line_report-answered server number line pdu rest begun spelled)
       ∙ ap (λ octets. octets ++ (rest (server_after server pdu)).printed) broken.parts
       ∙ append_assoc broken.printed broken.left (rest (server_after server pdu)).printed,
-    )
+)
 
 pub break_line : (old : Session) (octet : ℕ) (held holds : Option (List ℕ)) → octet ≡ 10 → old.line.items ≢ [] → BreaksLine old held holds
     → BreaksOff old (octet ∷ []) held holds
@@ -224,9 +223,9 @@ break_after first second xs ys zs held mid holds a b = record {
       let this = b.front (zs ++ rest) in (
         this.0,
         ap (λ octets. (report_from first octets).printed) (append_assoc xs (ys ++ zs) rest ∙ ap (λ more. xs ++ more) (append_assoc ys zs rest))
-        ∙ ap (λ (r : Report). r.printed) (a.left (ys ++ (zs ++ rest)))
-        ∙ ap (λ octets. a.printed ++ octets) this.1
-        ∙ sym (append_assoc a.printed b.printed this.0),
+            ∙ ap (λ (r : Report). r.printed) (a.left (ys ++ (zs ++ rest)))
+            ∙ ap (λ octets. a.printed ++ octets) this.1
+            ∙ sym (append_assoc a.printed b.printed this.0),
       );
 }
 
@@ -361,16 +360,15 @@ breaks_input start now octets (Some input) None left held holding holds is so_fa
 breaks_input start now octets (Some input) (Some rest) None held holding holds is so_far consumed broken = absurd consumed
 breaks_input start now octets (Some input) (Some rest) (Some more) held holding holds is so_far consumed broken =
     let this = broken.front more in
-    front_of input so_far.passed.printed broken.printed held holding holds
-    (
+    front_of input so_far.passed.printed broken.printed held holding holds (
       this.0,
       ap (λ (r : Report). r.printed) (
-      sym (report_from-start start input is)
-      ∙ ap (report_from start) (so_far.consumed ∙ ap (λ (left : List ℕ). so_far.seen ++ left) consumed)
-      ∙ so_far.passed.left (octets ++ more)
-      )
-      ∙ ap (λ printed. so_far.passed.printed ++ printed) this.1
-      ∙ sym (append_assoc so_far.passed.printed broken.printed this.0),
+          sym (report_from-start start input is)
+          ∙ ap (report_from start) (so_far.consumed ∙ ap (λ (left : List ℕ). so_far.seen ++ left) consumed)
+          ∙ so_far.passed.left (octets ++ more)
+          )
+          ∙ ap (λ printed. so_far.passed.printed ++ printed) this.1
+          ∙ sym (append_assoc so_far.passed.printed broken.printed this.0),
     )
     so_far.passed.appended broken.appended
 
@@ -380,15 +378,14 @@ pub breaks_end : (start now : Session) (before left held holding holds : Option 
 breaks_end start now None left held holding holds is so_far at_end broken = tt
 breaks_end start now (Some input) None held holding holds is so_far at_end broken = absurd so_far.consumed
 breaks_end start now (Some input) (Some rest) held holding holds is so_far at_end broken =
-    front_of input so_far.passed.printed broken.printed held holding holds
-    (
+    front_of input so_far.passed.printed broken.printed held holding holds (
       broken.front.0,
       ap (λ (r : Report). r.printed) (
-      sym (report_from-start start input is)
-      ∙ ap (report_from start) (so_far.consumed ∙ ap (λ (more : List ℕ). so_far.seen ++ more) at_end)
-      ∙ so_far.passed.left []
-      )
-      ∙ ap (λ printed. so_far.passed.printed ++ printed) broken.front.1
-      ∙ sym (append_assoc so_far.passed.printed broken.printed broken.front.0),
+          sym (report_from-start start input is)
+          ∙ ap (report_from start) (so_far.consumed ∙ ap (λ (more : List ℕ). so_far.seen ++ more) at_end)
+          ∙ so_far.passed.left []
+          )
+          ∙ ap (λ printed. so_far.passed.printed ++ printed) broken.front.1
+          ∙ sym (append_assoc so_far.passed.printed broken.printed broken.front.0),
     )
     so_far.passed.appended broken.appended

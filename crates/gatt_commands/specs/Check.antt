@@ -4,21 +4,22 @@ use Rattle.std.specs.Fmt.{decimal}
 use Rattle.std.specs.Io.KnownBytes.{Appends}
 use Rattle.att_table.specs.Table.{Contents}
 use Rattle.le_security.specs.declared.entry.Entry.{Entry}
+use Rattle.octets.specs.Number.{Octets}
 use Rattle.gatt_commands.specs.declared.fault.ShellFault.{ShellFault}
 use Rattle.gatt_commands.specs.declared.fault.ShellFault.TheVariants.{Table, Keys, Unreadable, Unwritten, Memory}
 use Rattle.gatt_commands.specs.KeyFile.{keys_in}
 use Rattle.gatt_commands.specs.TableFile.{table_in}
 
 -- how many attributes a table has, in a line
-abbrev pub attributes_line : Contents → List ℕ
+abbrev pub attributes_line : Contents → Octets
 attributes_line table = codes "attributes " ++ decimal (length table.attributes) ++ 10 ∷ []
 
 -- how many keys there are, in a line
-abbrev pub keys_line : List Entry → List ℕ
+abbrev pub keys_line : List Entry → Octets
 keys_line keys = codes "keys " ++ decimal (length keys) ++ 10 ∷ []
 
 -- both files have been accepted, as far as they are known, and how many attributes and keys they have was printed
-pub record AreCounted (table_file key_file held holds : Option (List ℕ)) : Type 0 where
+pub record AreCounted (table_file key_file held holds : Option Octets) : Type 0 where
   pub table : Contents
   pub keys : List Entry
   pub has_table : IfSome table_file (λ octets. table_in octets ≡ Ok table)

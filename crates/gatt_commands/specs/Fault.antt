@@ -1,10 +1,12 @@
-use Rattle.std.specs.Prelude.{ℕ, List, ◌++◌, codes}
+-- The text of each fault, and the exit status of a program that ends with it: this profile's own.
+use Rattle.std.specs.Prelude.{ℕ, ◌++◌, codes}
 use Rattle.std.specs.Fmt.{decimal}
+use Rattle.octets.specs.Number.{Octets}
 use Rattle.gatt_commands.specs.declared.fault.ShellFault.{ShellFault}
 use Rattle.gatt_commands.specs.declared.fault.ShellFault.TheVariants.{Table, Keys, Rows, Next, Script, Host, Controller, TooLong, NotHex, Unreadable, Unwritten, Listen, Memory}
 
 -- the text of a fault, without a line feed
-abbrev pub text_of : ShellFault → List ℕ
+abbrev pub text_of : ShellFault → Octets
 text_of (Table number) = codes "table: fault " ++ decimal number
 text_of (Keys number) = codes "keys: fault " ++ decimal number
 text_of (Rows number) = codes "rows: fault " ++ decimal number

@@ -44,6 +44,3 @@ pub fn att_lines<R: Read, W: Write>(
     }
     Err(ShellFault::Unreadable)
 }
-
-#[cfg(test)]
-mod tests;

@@ -8,12 +8,14 @@ ghost use Rattle.gatt_commands.specs.TableFile.{table_in, IsRefusedAs};
 
 use crate::fault::{ShellFault, push_numbered};
 use crate::key_file::read_keys;
+use crate::lazy_file::LazyFile;
 use crate::output::print;
 use crate::table_file::read_table;
 use arrayvec::ArrayVec;
 use att_table::Table;
 use le_security::Keys;
 use std::alloc::Global;
+use std::fs::Files;
 use std::io::{Read, Write};
 
 /// Judges a table file and then a key file, and prints how many attributes the table has and how
@@ -48,6 +50,22 @@ pub fn check_files<T: Read, K: Read, W: Write>(
     print(count_lines(&table, &keys).as_slice(), writer)
 }
 
+/// The same of the files at two paths. Neither is opened before its turn.
+pub fn check_paths<F: Files, W: Write>(
+    alloc: Global,
+    files: &F,
+    table: &str,
+    keys: &str,
+    writer: &mut W,
+) -> Result<(), ShellFault>
+    ensures nothing_printed { IfErr result (λ fault. fault ≢ ShellFault.Unwritten → Keeps (W.contents writer.old) (W.contents writer.new)) }
+    ensures faults { IfErr result IsCheckFault }
+{
+    let mut table = LazyFile::new(files, table);
+    let mut keys = LazyFile::new(files, keys);
+    check_files(alloc, &mut table, &mut keys, writer)
+}
+
 /// The lines that say how many attributes a table has, and how many keys there are.
 fn count_lines(table: &Table, keys: &Keys) -> ArrayVec<u8, 60>
     ensures { result.items ≡ attributes_line table.now ++ keys_line keys.now }
@@ -58,71 +76,4 @@ fn count_lines(table: &Table, keys: &Keys) -> ArrayVec<u8, 60>
     push_numbered(&mut lines, "keys ", keys.count() as u64);
     lines.push(b'\n');
     lines
-}
-
-#[cfg(test)]
-mod tests {
-    use super::*;
-    use att_table::examples::{BELL, DOOR};
-    use le_security::examples::KEYS;
-    use std::io;
-    use std::io::ErrorKind;
-
-    /// Fails at each read.
-    #[derive(Drop)]
-    struct Unreadable;
-
-    impl Read for Unreadable {
-        fn read(&mut self, _buf: &mut [u8]) -> io::Result<usize> {
-            Err(io::Error::from(ErrorKind::Other))
-        }
-    }
-
-    #[test]
-    fn counts_attributes_and_keys_or_tells_the_fault(rt: HostRuntime) {
-        let cases = [
-            (
-                DOOR.as_bytes(),
-                KEYS.as_bytes(),
-                Ok(()),
-                "attributes 21\nkeys 3\n",
-            ),
-            (BELL.as_bytes(), b"", Ok(()), "attributes 9\nkeys 0\n"),
-            (
-                b"service = []",
-                b"key = []",
-                Ok(()),
-                "attributes 0\nkeys 0\n",
-            ),
-            (b"", b"", Err(ShellFault::Table(2)), ""),
-            (b"service", b"", Err(ShellFault::Table(1)), ""),
-            (b"service = [] # \xFF", b"", Err(ShellFault::Table(1)), ""),
-            (b"bell = 1", b"bell = 1", Err(ShellFault::Table(11)), ""),
-            (b"service = []", b"key", Err(ShellFault::Keys(1)), ""),
-            (b"service = []", b"# \xFF", Err(ShellFault::Keys(1)), ""),
-            (b"service = []", b"bell = 1", Err(ShellFault::Keys(9)), ""),
-        ];
-        for (mut table, mut keys, answer, printed) in cases {
-            let mut output: Vec<u8> = Vec::new(rt.alloc());
-            let checked = check_files(rt.alloc(), &mut table, &mut keys, &mut output);
-            assert!(rt; checked == answer, "{printed}");
-            assert_eq!(rt; output.as_slice(), printed.as_bytes());
-        }
-    }
-
-    #[test]
-    fn reads_the_keys_behind_the_table(rt: HostRuntime) {
-        let mut output: Vec<u8> = Vec::new(rt.alloc());
-        let mut good = DOOR.as_bytes();
-        let checked = check_files(rt.alloc(), &mut good, &mut Unreadable, &mut output);
-        assert_eq!(rt; checked, Err(ShellFault::Unreadable));
-        let mut bad = b"".as_slice();
-        let checked = check_files(rt.alloc(), &mut bad, &mut Unreadable, &mut output);
-        assert_eq!(rt; checked, Err(ShellFault::Table(2)));
-        let mut refused = b"key".as_slice();
-        let checked = check_files(rt.alloc(), &mut Unreadable, &mut refused, &mut output);
-        assert_eq!(rt; checked, Err(ShellFault::Unreadable));
-        assert_eq!(rt; refused, b"key".as_slice());
-        assert!(rt; output.is_empty());
-    }
 }

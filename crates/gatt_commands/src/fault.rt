@@ -2,9 +2,11 @@ ghost use Rattle.std.specs.Prelude.{◌≡◌, ◌+◌, ◌≤◌, ◌++◌, len
 ghost use Rattle.std.specs.Fmt.{decimal};
 ghost use Rattle.arrayvec.specs.ArrayVec.{array_vec_len};
 ghost use Rattle.gatt_commands.specs.Fault.{text_of, status_of};
+ghost use Rattle.gatt_commands.specs.declared.fault.ShellFault.TheVariants.{Memory};
 
 use arrayvec::ArrayVec;
 use itoa::Buffer;
+use std::alloc::AllocError;
 
 /// Why a command of the program ended before its work was done.
 #[derive(Clone, Copy, Debug, PartialEq, Eq)]
@@ -35,6 +37,14 @@ pub enum ShellFault {
     Listen,
     /// Memory was refused.
     Memory,
+}
+
+impl From<AllocError> for ShellFault {
+    ghost from_gives = { λ _ fault. fault ≡ Memory };
+
+    fn from(_refused: AllocError) -> ShellFault {
+        ShellFault::Memory
+    }
 }
 
 /// Replaces what `out` holds by the text of `fault`, without a line feed.
@@ -108,42 +118,4 @@ fn push_text<const CAP: usize>(out: &mut ArrayVec<u8, CAP>, piece: &str)
     ensures len { array_vec_len out.new ≡ array_vec_len out.old + length piece.now }
 {
     out.try_extend_from_slice(piece.as_bytes()).unwrap();
-}
-
-#[cfg(test)]
-mod tests {
-    use super::*;
-
-    #[test]
-    fn says_each_fault(rt: HostRuntime) {
-        let mut out: ArrayVec<u8, 40> = ArrayVec::new();
-        for (fault, want, code) in [
-            (ShellFault::Table(3), "table: fault 3", 1),
-            (ShellFault::Keys(0), "keys: fault 0", 1),
-            (ShellFault::Rows(12), "rows: fault 12", 1),
-            (ShellFault::Next(255), "next: fault 255", 1),
-            (
-                ShellFault::Script(u64::MAX),
-                "script: line 18446744073709551615",
-                1,
-            ),
-            (ShellFault::Host(7), "host: fault 7", 2),
-            (ShellFault::Controller(100), "controller: fault 100", 2),
-            (ShellFault::TooLong, "exchange: too long", 2),
-            (ShellFault::NotHex(1), "line 1: not hex", 2),
-            (
-                ShellFault::NotHex(u64::MAX),
-                "line 18446744073709551615: not hex",
-                2,
-            ),
-            (ShellFault::Unreadable, "file: unreadable", 1),
-            (ShellFault::Unwritten, "file: unwritten", 1),
-            (ShellFault::Listen, "listen: failed", 2),
-            (ShellFault::Memory, "memory: refused", 2),
-        ] {
-            text(&fault, &mut out);
-            assert_eq!(rt; out.as_slice(), want.as_bytes(), "at {want}");
-            assert_eq!(rt; status(&fault), code, "at {want}");
-        }
-    }
 }

@@ -22,11 +22,7 @@ pub(crate) fn read_all<R: Read>(alloc: Global, reader: &mut R) -> Result<Vec<u8>
     for _read in 0..READS {
         match reader.read(&mut chunk) {
             Ok(0) => return Ok(octets),
-            Ok(count) => {
-                if octets.extend_from_slice(&chunk[..count]).is_err() {
-                    return Err(ShellFault::Memory);
-                }
-            }
+            Ok(count) => octets.extend_from_slice(&chunk[..count])?,
             Err(error) if error.kind() == ErrorKind::Interrupted => {}
             Err(_) => return Err(ShellFault::Unreadable),
         }

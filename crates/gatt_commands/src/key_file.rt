@@ -2,7 +2,7 @@
 
 ghost use Rattle.std.specs.Prelude.{◌≡◌, ◌≢◌, ℕ, IfErr, IfOk, IfSome};
 ghost use Rattle.octets.specs.Memory.{Gives};
-ghost use Rattle.gatt_commands.specs.KeyFile.{keys_in, AreRefusedAs, IsKeyFileFault};
+ghost use Rattle.gatt_commands.specs.KeyFile.{keys_in, AreRefusedAs, IsKeyRefusal, IsKeyFileFault};
 
 use crate::fault::ShellFault;
 use crate::input;
@@ -19,7 +19,16 @@ pub(crate) fn read_keys<R: Read>(alloc: Global, reader: &mut R) -> Result<Keys, 
     ensures faults { IfErr result IsKeyFileFault }
 {
     let octets = input::read_all(alloc, reader)?;
-    match keys_in(alloc, octets.as_slice()) {
+    judged_keys(alloc, octets.as_slice())
+}
+
+/// The keys of a file with these octets, or the number of the fault for which it is refused: refused
+/// memory is a fault of the file like any other.
+fn judged_keys(alloc: Global, octets: &[u8]) -> Result<Keys, ShellFault>
+    ensures keys { IfOk result (λ keys. keys_in octets.now ≡ Ok keys) }
+    ensures refused { IfErr result (IsKeyRefusal octets.now) }
+{
+    match keys_in(alloc, octets) {
         Ok(keys) => Ok(keys),
         Err(fault) => Err(ShellFault::Keys(fault.number())),
     }

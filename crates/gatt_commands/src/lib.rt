@@ -6,12 +6,13 @@ mod check;
 mod fault;
 mod input;
 mod key_file;
+mod lazy_file;
 mod output;
 mod server;
 mod session;
 mod table_file;
 
 pub use att::att_lines;
-pub use check::check_files;
+pub use check::{check_files, check_paths};
 pub use fault::{ShellFault, status, text};
 pub use input::{CHUNK, READS};

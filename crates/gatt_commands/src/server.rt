@@ -39,13 +39,10 @@ impl DoorServer {
         ensures refused { IfErr result IsStartFault }
     {
         let table = door_table(alloc)?;
-        let Ok(conn) = Conn::new(alloc) else {
-            return Err(ShellFault::Memory);
-        };
         Ok(DoorServer {
             table,
             row: ConfigRow::new(),
-            conn,
+            conn: Conn::new(alloc)?,
         })
     }
 
@@ -54,13 +51,7 @@ impl DoorServer {
         ensures answer { option_map sent (answer_from self.old pdu.now) ≡ (if result then Some octets.new.items else None) }
         ensures server { self.new ≡ server_after self.old pdu.now }
     {
-        let answered = answer_into(
-            &mut self.table,
-            &mut self.row,
-            &mut self.conn,
-            pdu,
-            octets,
-        );
+        let answered = answer_into(&mut self.table, &mut self.row, &mut self.conn, pdu, octets);
         answered.due
     }
 }

@@ -2,7 +2,7 @@
 
 ghost use Rattle.std.specs.Prelude.{◌≡◌, ◌≢◌, ℕ, IfErr, IfOk, IfSome};
 ghost use Rattle.octets.specs.Memory.{Gives};
-ghost use Rattle.gatt_commands.specs.TableFile.{table_in, IsRefusedAs, IsTableFileFault};
+ghost use Rattle.gatt_commands.specs.TableFile.{table_in, IsRefusedAs, IsTableRefusal, IsTableFileFault};
 
 use crate::fault::ShellFault;
 use crate::input;
@@ -19,7 +19,16 @@ pub(crate) fn read_table<R: Read>(alloc: Global, reader: &mut R) -> Result<Table
     ensures faults { IfErr result IsTableFileFault }
 {
     let octets = input::read_all(alloc, reader)?;
-    match table_in(alloc, octets.as_slice()) {
+    judged_table(alloc, octets.as_slice())
+}
+
+/// The table of a file with these octets, or the number of the fault for which it is refused: refused
+/// memory is a fault of the file like any other.
+fn judged_table(alloc: Global, octets: &[u8]) -> Result<Table, ShellFault>
+    ensures table { IfOk result (λ table. table_in octets.now ≡ Ok table) }
+    ensures refused { IfErr result (IsTableRefusal octets.now) }
+{
+    match table_in(alloc, octets) {
         Ok(table) => Ok(table),
         Err(fault) => Err(ShellFault::Table(fault.number())),
     }

@@ -62,17 +62,23 @@ pub fn answer(
         Ok(Request::ExchangeMtu { client_rx_mtu }) => exchange_mtu(conn, client_rx_mtu, out),
         Ok(Request::Write { handle, value }) => write(table, row, conn, handle, value, out),
         Ok(Request::WriteCommand { handle, value }) => command(table, row, conn, handle, value),
-        Ok(Request::PrepareWrite {
-            handle,
-            offset,
-            part,
-        }) => prepare(table, conn, handle, offset, part, out),
-        Ok(Request::ExecuteWrite {
-            flags: ExecuteFlags::Cancel,
-        }) => cancel(conn, out),
-        Ok(Request::ExecuteWrite {
-            flags: ExecuteFlags::Write,
-        }) => execute(table, row, conn, out),
+        Ok(
+            Request::PrepareWrite {
+                handle,
+                offset,
+                part,
+            },
+        ) => prepare(table, conn, handle, offset, part, out),
+        Ok(
+            Request::ExecuteWrite {
+                flags: ExecuteFlags::Cancel,
+            },
+        ) => cancel(conn, out),
+        Ok(
+            Request::ExecuteWrite {
+                flags: ExecuteFlags::Write,
+            },
+        ) => execute(table, row, conn, out),
         Ok(Request::Confirmation) => without_answer(true),
         Ok(
             request @ (Request::FindInformation { .. }

@@ -3,15 +3,14 @@
 #![tactic(auto)]
 
 mod help;
-mod lazy_file;
 mod words;
 
-ghost use Rattle.std.specs.Prelude.{◌≡◌, Ok, Err, true, false};
+ghost use Rattle.std.specs.Prelude.{◌≡◌, Ok, Err, IfErr, true, false};
+ghost use Rattle.gatt_commands.specs.Check.{IsCheckFault};
 ghost use Rattle.gatt_commands.specs.Fault.{status_of};
 
 use arrayvec::ArrayVec;
 use gatt_commands::ShellFault;
-use lazy_file::LazyFile;
 use std::fs::Files;
 use std::io::{ErrorKind, LineWriter, Write};
 use std::process::ExitCode;
@@ -88,10 +87,10 @@ fn run_check(
     rt: &(impl Files + Print + AllocGlobal),
     table: &str,
     keys: &str,
-) -> Result<(), ShellFault> {
-    let mut table = LazyFile::new(rt, table);
-    let mut keys = LazyFile::new(rt, keys);
-    gatt_commands::check_files(rt.alloc(), &mut table, &mut keys, &mut io::writer(rt))
+) -> Result<(), ShellFault>
+    ensures { IfErr result IsCheckFault }
+{
+    gatt_commands::check_paths(rt.alloc(), rt, table, keys, &mut io::writer(rt))
 }
 
 /// The words of the command line. One that is no text is not understood.

@@ -1,6 +1,6 @@
-use super::*;
-use crate::request::ExecuteFlags;
-use crate::uuid::Uuid;
+//! Requests from octets.
+
+use att_pdu::{ExecuteFlags, PduFault, Request, Uuid, answer_due, read_request};
 
 /// A type of 128 bits, in a request of 21 octets.
 const LONG: [u8; 21] = [

@@ -1,4 +1,7 @@
 //! Files that are opened when they are first read.
+
+ghost use Rattle.std.specs.Prelude.{◌≡◌};
+
 use std::fs::{File, Files};
 use std::io;
 use std::io::Read;
@@ -6,7 +9,7 @@ use std::io::Read;
 /// A file that is opened by its first read, which fails where it cannot be opened. So of several
 /// files none is opened before the ones in front of it are judged.
 #[derive(Drop)]
-pub struct LazyFile<'a, F: Files> {
+pub(crate) struct LazyFile<'a, F: Files> {
     files: &'a F,
     path: &'a str,
     opened: Option<F::File>,
@@ -14,7 +17,9 @@ pub struct LazyFile<'a, F: Files> {
 
 impl<'a, F: Files> LazyFile<'a, F> {
     /// The file at this path, which is not opened yet.
-    pub fn new(files: &'a F, path: &'a str) -> Self {
+    pub(crate) fn new(files: &'a F, path: &'a str) -> Self
+        ensures { result.path.now ≡ path.now }
+    {
         LazyFile {
             files,
             path,

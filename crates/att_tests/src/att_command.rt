@@ -1,6 +1,9 @@
-use super::*;
+//! The command `att`.
+
 use arrayvec::ArrayVec;
+use gatt_commands::{READS, ShellFault, att_lines};
 use std::io;
+use std::io::{ErrorKind, Read, Write};
 use std::test::Fail;
 
 const INPUT: &[u8] = b"0a0300\n0a0000\n12030041\n0a03\n20\nd20300\n";
