@@ -1,14 +1,14 @@
 -- How the handles of one type are found among those of all by type.
-use Rattle.std.proofs.Common.{◌≡◌, ℕ, zero, suc, ◌+◌, ◌-◌, ◌/◌, ◌<◌, ◌≤◌, Bool, true, false, ◌==◌, ◌&&◌, not, cond, if◌then◌else◌, List, [], ◌∷◌, ◌++◌, length, map, take, drop, get_or, refl, sym, ap, subst, ◌∙◌, inl, inr, ◌⊎◌, arith, length-append, length-drop}
+use Rattle.std.proofs.Common.{◌≡◌, ℕ, zero, suc, ◌+◌, ◌-◌, ◌/◌, ◌<◌, ◌≤◌, Bool, true, false, ◌==◌, ◌&&◌, not, cond, if◌then◌else◌, List, [], ◌∷◌, ◌++◌, length, map, take, drop, get_or, refl, sym, ap, subst, ◌∙◌, inl, inr, ◌⊎◌, rules, arith, length-append, length-drop}
 use Rattle.std.proofs.Math.Seq.{drop-nil}
 use Rattle.std.proofs.lemmas.Bool.{cases_lt}
-use Rattle.std.proofs.lemmas.List.{length-map, drop_more}
+use Rattle.std.proofs.lemmas.List.{length-map, drop_more, drop_all, length-take, same_lists, places as list_places}
 use Rattle.std.proofs.lemmas.Bool.Decides.{nat_tests}
 use Rattle.std.specs.Prelude.{nat_lt, nat_le, slice_get}
 use Rattle.std.specs.List.{filter, prefix_len, insert}
 use Rattle.std.specs.Option.{option_map_or}
 use Rattle.att_table.specs.declared.attr.Attr.{Attr}
-use Rattle.att_table.specs.TypeIndex.{put, by_type, is_before, place_from, comes_before, AllAfter, IsOrdered, AllAbove, IsIndex}
+use Rattle.att_table.specs.TypeIndex.{put, by_type, is_before, place_from, turns_for, comes_before, AllAfter, IsOrdered, AllAbove, IsIndex}
 use Rattle.att_table.specs.OfType.{handles_of_type}
 use Rattle.att_table.specs.Table.{type_at, handles_by_type, HaveHandlesFrom, IsNumbered}
 
@@ -337,28 +337,34 @@ remaining zero = 0
 remaining (suc turns) = remaining turns + remaining turns + 1
 
 -- the place is between the two, and the comparisons that are left are enough
-pub record IsNarrowed (place low high size before now : ℕ) : Type 0 where
+pub record IsNarrowed (place low high size before most now : ℕ) : Type 0 where
   pub low_side : low ≤ place
   pub high_side : place ≤ high
   pub inside : high ≤ size
   pub turns : ℕ
   pub enough : high - low ≤ remaining turns
-  pub counted : now + turns ≤ before + 11
+  pub counted : now + turns ≤ before + most
 
-pub begin : (place size count : ℕ) → place ≤ size → size ≤ 1024 → IsNarrowed place 0 size size count count
-begin place size count within most = record {
-  low_side = omega arith;
+enough_turns : (count : ℕ) → count ≤ 1024 → count ≤ remaining (turns_for count)
+enough_turns count within = elim (nat_le count 1023) as (λ few. nat_le count 1023 ≡ few → count ≤ remaining (if few then 10 else 11)) [
+  | true ↦ λ few. let at_most : count ≤ 1023 = grind (arith, nat_tests) in omega (arith, at_most)
+  | false ↦ λ many. omega (arith, within)
+] refl
+
+pub begin : (place known size count : ℕ) → known ≤ place → place ≤ size → size ≤ 1024 → IsNarrowed place known size size count (turns_for (size - known)) count
+begin place known size count from within most = record {
+  low_side = from;
   high_side = within;
   inside = omega arith;
-  turns = 11;
-  enough = omega arith;
+  turns = turns_for (size - known);
+  enough = enough_turns (size - known) (omega arith);
   counted = omega arith;
 }
 
-next_low : (place low high size before now spent middle turns : ℕ) → IsNarrowed place low high size before now → high - low ≤ remaining turns → now + turns ≤ before + 11
-    → middle ≡ low + (high - low) / 2 → low < high → spent ≤ now + 1 → middle < place → IsNarrowed place (middle + 1) high size before spent
-next_low place low high size before now spent middle zero narrowed enough counted is left ticked below = absurd (omega arith)
-next_low place low high size before now spent middle (suc turns) narrowed enough counted is left ticked below = record {
+next_low : (place low high size before most now spent middle turns : ℕ) → IsNarrowed place low high size before most now → high - low ≤ remaining turns → now + turns ≤ before + most
+    → middle ≡ low + (high - low) / 2 → low < high → spent ≤ now + 1 → middle < place → IsNarrowed place (middle + 1) high size before most spent
+next_low place low high size before most now spent middle zero narrowed enough counted is left ticked below = absurd (omega arith)
+next_low place low high size before most now spent middle (suc turns) narrowed enough counted is left ticked below = record {
   low_side = omega arith;
   high_side = narrowed.high_side;
   inside = narrowed.inside;
@@ -367,15 +373,15 @@ next_low place low high size before now spent middle (suc turns) narrowed enough
   counted = omega arith;
 }
 
-pub narrow_low : (place low high size before now spent middle : ℕ) → IsNarrowed place low high size before now
-    → middle ≡ low + (high - low) / 2 → low < high → spent ≤ now + 1 → middle < place → IsNarrowed place (middle + 1) high size before spent
-narrow_low place low high size before now spent middle narrowed =
-    next_low place low high size before now spent middle narrowed.turns narrowed narrowed.enough narrowed.counted
+pub narrow_low : (place low high size before most now spent middle : ℕ) → IsNarrowed place low high size before most now
+    → middle ≡ low + (high - low) / 2 → low < high → spent ≤ now + 1 → middle < place → IsNarrowed place (middle + 1) high size before most spent
+narrow_low place low high size before most now spent middle narrowed =
+    next_low place low high size before most now spent middle narrowed.turns narrowed narrowed.enough narrowed.counted
 
-next_high : (place low high size before now spent middle turns : ℕ) → IsNarrowed place low high size before now → high - low ≤ remaining turns → now + turns ≤ before + 11
-    → middle ≡ low + (high - low) / 2 → low < high → spent ≤ now + 1 → place ≤ middle → IsNarrowed place low middle size before spent
-next_high place low high size before now spent middle zero narrowed enough counted is left ticked above = absurd (omega arith)
-next_high place low high size before now spent middle (suc turns) narrowed enough counted is left ticked above = record {
+next_high : (place low high size before most now spent middle turns : ℕ) → IsNarrowed place low high size before most now → high - low ≤ remaining turns → now + turns ≤ before + most
+    → middle ≡ low + (high - low) / 2 → low < high → spent ≤ now + 1 → place ≤ middle → IsNarrowed place low middle size before most spent
+next_high place low high size before most now spent middle zero narrowed enough counted is left ticked above = absurd (omega arith)
+next_high place low high size before most now spent middle (suc turns) narrowed enough counted is left ticked above = record {
   low_side = narrowed.low_side;
   high_side = above;
   inside = omega (arith, narrowed.inside);
@@ -384,10 +390,10 @@ next_high place low high size before now spent middle (suc turns) narrowed enoug
   counted = omega arith;
 }
 
-pub narrow_high : (place low high size before now spent middle : ℕ) → IsNarrowed place low high size before now
-    → middle ≡ low + (high - low) / 2 → low < high → spent ≤ now + 1 → place ≤ middle → IsNarrowed place low middle size before spent
-narrow_high place low high size before now spent middle narrowed =
-    next_high place low high size before now spent middle narrowed.turns narrowed narrowed.enough narrowed.counted
+pub narrow_high : (place low high size before most now spent middle : ℕ) → IsNarrowed place low high size before most now
+    → middle ≡ low + (high - low) / 2 → low < high → spent ≤ now + 1 → place ≤ middle → IsNarrowed place low middle size before most spent
+narrow_high place low high size before most now spent middle narrowed =
+    next_high place low high size before most now spent middle narrowed.turns narrowed narrowed.enough narrowed.counted
 
 -- an entry is a handle of the table
 pub above_at : (low last : ℕ) (xs : List ℕ) (i d : ℕ) → AllAbove low last xs → i < length xs → (low < get_or xs i d) × (get_or xs i d ≤ last)
@@ -461,3 +467,70 @@ pub numbered_pushed : (attributes : List Attr) (attr : Attr) → IsNumbered attr
 numbered_pushed attributes attr numbered room next =
     let long = length-append attributes (attr ∷ []) in
     record { handles = handles_push attributes attr 1 numbered.handles next; most = omega (arith, long) }
+
+-- the first entry that does not stand before a type and handle
+at_prefix : (test : ℕ → Bool) (xs : List ℕ) (d : ℕ) → prefix_len test xs < length xs → test (get_or xs (prefix_len test xs) d) ≡ false
+at_prefix test [] d within = absurd (omega arith)
+at_prefix test (x ∷ xs) d within =
+    let goal : (b : Bool) → test x ≡ b → cond b (suc (prefix_len test xs)) 0 < length (x ∷ xs) → test (get_or (x ∷ xs) (cond b (suc (prefix_len test xs)) 0) d) ≡ false =
+    λ b. elim b as (λ b. test x ≡ b → cond b (suc (prefix_len test xs)) 0 < length (x ∷ xs) → test (get_or (x ∷ xs) (cond b (suc (prefix_len test xs)) 0) d) ≡ false) [
+      | true ↦ λ passes inside. at_prefix test xs d (omega arith)
+      | false ↦ λ fails inside. fails
+    ] in
+    let place = prefix_cons test x xs in
+    subst (λ n. test (get_or (x ∷ xs) n d) ≡ false) (sym place) (goal (test x) refl (subst (λ n. n < length (x ∷ xs)) place within))
+
+-- where it is of another type, or above the last handle, none is in the range
+fails_too : (kx x k first last : ℕ) → is_before kx x k first ≡ false → (kx == k) && nat_le x last ≡ false → is_before kx x k (last + 1) ≡ false
+fails_too kx x k first last not_before other = grind (arith, nat_tests)
+
+drop_taken : (index : List ℕ) (start end : ℕ) → end ≤ start → drop start (take end index) ≡ []
+drop_taken index start end less = drop_all start (take end index) (omega (arith, length-take end index))
+
+pub none_at : (attributes : List Attr) (index : List ℕ) (k first last start d : ℕ) → IsNumbered attributes → index ≡ handles_by_type attributes
+    → start ≡ place_from (type_at attributes) index k first → start < length index
+    → (type_at attributes (get_or index start d) == k) && nat_le (get_or index start d) last ≡ false
+    → [] ≡ handles_of_type attributes k first last
+none_at attributes index k first last start d numbered is at within other =
+    let kind = type_at attributes in
+    let here = get_or index start d in
+    let from : ℕ → Bool = λ x. is_before (kind x) x k first in
+    let to : ℕ → Bool = λ x. is_before (kind x) x k (last + 1) in
+    let not_before : from here ≡ false = subst (λ n. from (get_or index n d) ≡ false) (sym at) (at_prefix from index d (omega (arith, at, within))) in
+    let end = place_at to index start d within (fails_too (kind here) here k first last not_before other) in
+    sym (ap (λ n. drop n (take (prefix_len to index) index)) (sym at) ∙ drop_taken index start (prefix_len to index) end)
+    ∙ found attributes index k first last numbered is
+
+pub none_past : (attributes : List Attr) (index : List ℕ) (k first last start : ℕ) → IsNumbered attributes → index ≡ handles_by_type attributes
+    → start ≡ place_from (type_at attributes) index k first → length index ≤ start → [] ≡ handles_of_type attributes k first last
+none_past attributes index k first last start numbered is at past =
+    let kind = type_at attributes in
+    let to : ℕ → Bool = λ x. is_before (kind x) x k (last + 1) in
+    let end = place_within to index in
+    sym (ap (λ n. drop n (take (prefix_len to index) index)) (sym at) ∙ drop_taken index start (prefix_len to index) (omega (arith, end, past)))
+    ∙ found attributes index k first last numbered is
+
+-- where it is in the range, the end stands behind it
+up_to_passes : (kx x k last : ℕ) → (kx == k) && nat_le x last ≡ true → is_before kx x k (last + 1) ≡ true
+up_to_passes kx x k last passes = grind (arith, nat_tests)
+
+pub end_behind : (attributes : List Attr) (index : List ℕ) (k last start d : ℕ) → IsNumbered attributes → index ≡ handles_by_type attributes → start < length index
+    → (type_at attributes (get_or index start d) == k) && nat_le (get_or index start d) last ≡ true
+    → start < place_from (type_at attributes) index k (last + 1)
+end_behind attributes index k last start d numbered is within passes =
+    let kind = type_at attributes in
+    let to : ℕ → Bool = λ x. is_before (kind x) x k (last + 1) in
+    let here = get_or index start d in
+    place_below to index start d (closed kind k (last + 1) index (index_given attributes index numbered is).ordered) within (up_to_passes (kind here) here k last passes)
+
+take_of_drop : (index : List ℕ) (start end : ℕ) → start ≤ end → take (end - start) (drop start index) ≡ drop start (take end index)
+take_of_drop index start end before = same_lists _ _ (search (rules, list_places)) (λ k d h. grind (arith, list_places))
+
+pub found_between : (attributes : List Attr) (index : List ℕ) (k first last start end : ℕ) → IsNumbered attributes → index ≡ handles_by_type attributes
+    → start ≡ place_from (type_at attributes) index k first → end ≡ place_from (type_at attributes) index k (last + 1) → start ≤ end
+    → take (end - start) (drop start index) ≡ handles_of_type attributes k first last
+found_between attributes index k first last start end numbered is at to before =
+    take_of_drop index start end before
+    ∙ ap (λ n. drop n (take end index)) at
+    ∙ ap (λ n. drop (place_from (type_at attributes) index k first) (take n index)) to
+    ∙ found attributes index k first last numbered is

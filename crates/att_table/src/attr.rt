@@ -1,7 +1,7 @@
 use att_policy::Guard;
 
 /// All of an attribute that stays as it is: Core 5.0, Vol 3 Part F, 3.2.
-#[derive(Clone, Copy, Debug, PartialEq, Eq)]
+#[derive(Clone, Copy, PartialEq, Eq)]
 pub struct Attr {
     /// Its handle, from 1.
     pub handle: u16,
@@ -19,7 +19,7 @@ pub struct Attr {
 }
 
 /// What an attribute is in a service: Core 5.0, Vol 3 Part G, 3.
-#[derive(Clone, Copy, Debug, PartialEq, Eq)]
+#[derive(Clone, Copy, PartialEq, Eq)]
 pub enum Role {
     /// It declares a service, an include or a characteristic.
     Declaration,

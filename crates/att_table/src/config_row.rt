@@ -9,7 +9,7 @@ use std::marker::Model;
 
 /// What one client has written to the client characteristic configurations of a table: at most 64
 /// of them, by handle. (Core 5.0, Vol 3 Part G, 3.3.3.3)
-#[derive(Debug, Drop)]
+#[derive(Drop)]
 pub struct ConfigRow {
     entries: ArrayVec<(u16, u8), 64>,
 }

@@ -1,8 +1,8 @@
 //! The attributes of one type, found by halves among the handles of all in the order of their
 //! types: Core 5.0, Vol 3 Part F, 3.2.1.
 
-ghost use Rattle.std.specs.Prelude.{◌≡◌, ◌+◌, ◌-◌, ◌^◌, ◌<◌, ◌≤◌, ◌≢◌, min, length, IfOk};
-ghost use Rattle.att_table.specs.TypeIndex.{is_before, place_from, IsIndex};
+ghost use Rattle.std.specs.Prelude.{◌≡◌, ◌+◌, ◌-◌, ◌^◌, ◌<◌, ◌≤◌, ◌==◌, ◌&&◌, min, nat_le, length, IfOk};
+ghost use Rattle.att_table.specs.TypeIndex.{is_before, place_from, turns_for, IsIndex};
 ghost use Rattle.att_table.specs.OfType.{handles_of_type};
 ghost use Rattle.att_table.specs.Table.{type_at, handles_by_type, IsNumbered};
 
@@ -22,7 +22,7 @@ pub trait Steps {
 }
 
 /// Counts nothing.
-#[derive(Clone, Copy, Debug)]
+#[derive(Clone, Copy)]
 pub struct Uncounted;
 
 impl Steps for Uncounted {
@@ -32,7 +32,7 @@ impl Steps for Uncounted {
 }
 
 /// Counts comparisons, up to the largest number of 32 bits.
-#[derive(Clone, Copy, Debug)]
+#[derive(Clone, Copy)]
 pub struct Counted {
     /// How many there were.
     pub count: u32,
@@ -57,7 +57,7 @@ pub fn by_type(alloc: Global, attributes: &[Attr]) -> Result<Vec<u16>, AllocErro
     let mut index = Vec::with_capacity(alloc, attributes.len())?;
     for place in (0..attributes.len()).rev() {
         let attr = attributes[place];
-        let first = first_from(&index, attributes, attr.kind, 0, &mut Uncounted);
+        let first = first_from(&index, attributes, attr.kind, 0, 0, &mut Uncounted);
         index.insert(first, attr.handle)?;
     }
     Ok(index)
@@ -77,26 +77,53 @@ pub fn of_type<'a, S: Steps>(
     ensures handles { result.now ≡ handles_of_type attributes.now kind first last }
     ensures steps { S.count steps.new ≤ S.count steps.old + 22 }
 {
-    let start = first_from(index, attributes, kind, u32::from(first), steps);
-    let end = first_from(index, attributes, kind, u32::from(last) + 1, steps);
-    index[..end].get(start..).unwrap_or(&[])
+    let start = first_from(index, attributes, kind, u32::from(first), 0, steps);
+    let Some(&found) = index.get(start) else {
+        return &[];
+    };
+    steps.tick();
+    if !is_up_to(attributes, found, kind, last) {
+        return &[];
+    }
+    let end = first_from(
+        index,
+        attributes,
+        kind,
+        u32::from(last) + 1,
+        start + 1,
+        steps,
+    );
+    &index[start..end]
 }
 
-/// How many handles of the index stand before a type and handle.
+/// Whether the attribute at a handle is of a type, and its handle at most the last one.
+#[inline(always)]
+fn is_up_to(attributes: &[Attr], own: u16, kind: u128, last: u16) -> bool
+    requires first { 0 < own }
+    requires last { own ≤ length attributes.now }
+    ensures { result ≡ (type_at attributes.now own == kind) && nat_le own last }
+{
+    attributes[usize::from(own) - 1].kind == kind && own <= last
+}
+
+/// How many handles of the index stand before a type and handle, where so many are known to.
 fn first_from<S: Steps>(
     index: &[u16],
     attributes: &[Attr],
     kind: u128,
     handle: u32,
+    known: usize,
     steps: &mut S,
 ) -> usize
+    requires known { known ≤ place_from (type_at attributes.now) index.now kind handle }
     requires index { IsIndex (type_at attributes.now) (length attributes.now) index.now }
     requires most { length index.now ≤ 1024 }
     ensures place { result ≡ place_from (type_at attributes.now) index.now kind handle }
+    ensures from { known ≤ result }
     ensures within { result ≤ length index.now }
-    ensures steps { S.count steps.new ≤ S.count steps.old + 11 }
+    ensures steps { S.count steps.new ≤ S.count steps.old + turns_for (length index.now - known) }
 {
-    let mut low = 0;
+    let mut low = known;
     let mut high = index.len();
     while low < high {
         let middle = low + (high - low) / 2;

@@ -4,7 +4,7 @@ ghost use Rattle.att_values.specs.Change.{Fits, AllFit, after, contents_after};
 use crate::value_store::ValueStore;
 
 /// One change of a value.
-#[derive(Clone, Copy, Debug)]
+#[derive(Clone, Copy)]
 pub enum Change<'a> {
     /// The value at a handle becomes these octets.
     Set {

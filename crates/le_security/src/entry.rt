@@ -14,7 +14,7 @@ pub struct Key {
 }
 
 /// A key, and the request that it answers.
-#[derive(Clone, Copy, Debug, PartialEq, Eq)]
+#[derive(Clone, Copy, PartialEq, Eq)]
 pub struct Entry {
     /// The peer that has the key.
     pub peer: Peer,

@@ -55,7 +55,7 @@ const ENTRY: [Listed; 8] = [
 ];
 
 /// What an entry writes, before it is judged.
-#[derive(Clone, Copy, Debug)]
+#[derive(Clone, Copy)]
 pub struct Written<'a> {
     pub address: &'a str,
     pub kind: &'a str,

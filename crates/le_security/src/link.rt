@@ -6,7 +6,7 @@ use att_policy::KeyFacts;
 use std::marker::Model;
 
 /// What an event of encryption did to a link.
-#[derive(Clone, Copy, Debug, PartialEq, Eq)]
+#[derive(Clone, Copy, PartialEq, Eq)]
 pub enum LinkChange {
     /// It had no key, and has none.
     Same,
@@ -18,7 +18,7 @@ pub enum LinkChange {
 
 /// The security of one link: the key that it is encrypted with, as far as that is known. (Core 5.0,
 /// Vol 3 Part C, 10.2)
-#[derive(Debug, Drop)]
+#[derive(Drop)]
 pub struct Link {
     asked: Option<KeyFacts>,
     key: Option<KeyFacts>,

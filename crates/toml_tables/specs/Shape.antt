@@ -1,5 +1,6 @@
 -- The keys that a table may have, and the TOML type of each.
-use Rattle.std.specs.Prelude.{ℕ, Bool, true, false, ◌&&◌, if◌then◌else◌, List, [], ◌∷◌, map, Option, Some, None, is_some}
+use Rattle.std.specs.Prelude.{Bool, true, false, ◌&&◌, if◌then◌else◌, List, [], ◌∷◌, map, Option, Some, None, is_some}
+use Rattle.octets.specs.Number.{Octets}
 use Rattle.toml.specs.Data.{Data, Items, no_items, item, Members, no_members, member, same_key, as_str, as_bool, as_integer, as_array, as_table}
 use Rattle.toml_tables.specs.declared.shape.Key.{Key}
 use Rattle.toml_tables.specs.declared.shape.Shape.{Shape}
@@ -7,7 +8,7 @@ use Rattle.toml_tables.specs.declared.shape.Shape.TheVariants.{Text, Boolean, In
 
 -- the keys and their types
 abbrev pub Keys : Type 0
-Keys = List (List ℕ × Shape)
+Keys = List (Octets × Shape)
 
 -- those of the code's list
 abbrev pub keys_view : List Key → Keys
@@ -45,7 +46,7 @@ has_shape Integers value = all_of is_integer (as_array value)
 has_shape Tables value = all_of is_table (as_array value)
 
 -- whether a value is one that the keys list: a key that is not among them lists none
-abbrev pub is_listed : Keys → List ℕ → Data → Bool
+abbrev pub is_listed : Keys → Octets → Data → Bool
 is_listed [] key value = false
 is_listed (listed ∷ keys) key value = if same_key listed.0 key then has_shape listed.1 value else is_listed keys key value
 

@@ -6,7 +6,7 @@ ghost use Rattle.toml_tables.specs.Shape.{keys_view, is_text, is_integer, is_tab
 use toml::{Table, Value};
 
 /// A type of TOML, as far as a reader tells types apart.
-#[derive(Clone, Copy, Debug, PartialEq, Eq)]
+#[derive(Clone, Copy, PartialEq, Eq)]
 pub enum Shape {
     /// A string.
     Text,
@@ -25,7 +25,7 @@ pub enum Shape {
 }
 
 /// A key that a table may have, and the type of its value.
-#[derive(Clone, Copy, Debug, PartialEq, Eq)]
+#[derive(Clone, Copy, PartialEq, Eq)]
 pub struct Key {
     /// The key.
     pub name: &'static str,

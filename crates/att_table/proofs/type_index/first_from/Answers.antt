@@ -5,7 +5,7 @@ use Rattle.att_table.proofs.OfType.{begin, narrow_low, narrow_high, place_within
 use Rattle.att_table.proofs.type_index.first_from.Goals as goal
 
 pub loop-low-init : goal.loop-low-init
-loop-low-init g c = begin _ _ _ (place_within _ c.args.index.now) c.requires.most
+loop-low-init g c = begin _ _ _ _ c.requires.known (place_within _ c.args.index.now) c.requires.most
 
 pub is_before-requires-clause-first : goal.is_before-requires-clause-first
 is_before-requires-clause-first g c =
@@ -20,7 +20,7 @@ loop-low-preserved-then-is_before g c =
     let kind = type_at c.args.attributes.now in
     let test : ℕ → Bool = λ x. is_before (kind x) x c.args.kind c.args.handle in
     let within = middle_within _ _ _ c.loop-low-test.true c.loop-low.invariant.inside in
-    narrow_low _ _ _ _ _ _ _ _ c.loop-low.invariant refl c.loop-low-test.true c.tick.ensures.counts
+    narrow_low _ _ _ _ _ _ _ _ _ c.loop-low.invariant refl c.loop-low-test.true c.tick.ensures.counts
     (place_below test c.args.index.now _ 0 (closed kind c.args.kind c.args.handle c.args.index.now c.requires.index.ordered) within (sym c.is_before.ensures ∙ c.if-is_before.true))
 
 pub loop-low-preserved : goal.loop-low-preserved
@@ -28,5 +28,5 @@ loop-low-preserved g c =
     let kind = type_at c.args.attributes.now in
     let test : ℕ → Bool = λ x. is_before (kind x) x c.args.kind c.args.handle in
     let within = middle_within _ _ _ c.loop-low-test.true c.loop-low.invariant.inside in
-    narrow_high _ _ _ _ _ _ _ _ c.loop-low.invariant refl c.loop-low-test.true c.tick.ensures.counts
+    narrow_high _ _ _ _ _ _ _ _ _ c.loop-low.invariant refl c.loop-low-test.true c.tick.ensures.counts
     (place_at test c.args.index.now _ 0 within (sym c.is_before.ensures ∙ c.if-is_before.false))

@@ -1,5 +1,5 @@
 use Rattle.std.proofs.Common.{length, ◌-◌}
-use Rattle.att_table.specs.TypeIndex.{place_from}
+use Rattle.att_table.specs.TypeIndex.{place_from, turns_for}
 use Rattle.att_table.specs.Table.{type_at}
 use Rattle.att_table.proofs.OfType.{IsNarrowed}
 use Rattle.att_table.proofs.type_index.first_from.Given as goal
@@ -7,7 +7,7 @@ use Rattle.att_table.proofs.type_index.first_from.Given as goal
 abbrev pub invariant-loop-low : goal.invariant-loop-low
 invariant-loop-low g l =
     let count = g.S.Steps.count in
-    IsNarrowed (place_from (type_at l.attributes) l.index l.kind l.handle) l.low l.high (length l.index) (count l.fn.steps) (count l.steps)
+    IsNarrowed (place_from (type_at l.attributes) l.index l.kind l.handle) l.low l.high (length l.index) (count l.fn.steps) (turns_for (length l.index - l.known)) (count l.steps)
 
 abbrev pub decreases-loop-low : goal.decreases-loop-low
 decreases-loop-low g l = l.high - l.low
