@@ -1,3 +1,6 @@
+pub use Rattle.att_values.specs.Cell
+pub use Rattle.att_values.specs.Change
+pub use Rattle.att_values.specs.ValueStore
 pub mod ConfigRow
 pub mod Facts
 pub mod Group
