@@ -17,6 +17,7 @@ struct Payloads {
 impl Payloads {
     ghost use Rattle.le_acl.specs.PayloadLends.{LendsPayload};
 
+    #[inline(always)]
     fn at_mut(&mut self, index: usize) -> &mut ArrayVec<u8, 517>
         requires { index < vec_len self.old.items }
         ensures* writes_back { sem 𝓛 (LendsPayload self.entry index result) }
@@ -73,6 +74,7 @@ impl Pdus {
     }
 
     /// The payload of the next PDU.
+    #[inline(always)]
     pub(crate) fn room(&mut self) -> &mut ArrayVec<u8, 517>
         requires { length self.old.pdus < 16 }
         ensures* writes_back { sem 𝓛 (LendsRoom self.entry result) }
@@ -81,6 +83,7 @@ impl Pdus {
     }
 
     /// Queues what stands in the room.
+    #[inline(always)]
     pub(crate) fn push(&mut self, channel: u16)
         requires { length self.old.pdus < 16 }
         ensures { self.new.pdus ≡ self.old.pdus ++ (channel, self.old.room) ∷ [] }
@@ -90,6 +93,7 @@ impl Pdus {
     }
 
     /// The channel and the payload of the first PDU.
+    #[inline(always)]
     pub(crate) fn front(&self) -> Option<(u16, &[u8])>
         ensures none { IsNone result ↔ (self.now.pdus ≡ []) }
         ensures front { IfSome result (λ pdu. slice_get self.now.pdus 0 ≡ Some (pdu.0, pdu.1.now)) }
@@ -105,6 +109,7 @@ impl Pdus {
     }
 
     /// Drops the first PDU.
+    #[inline(always)]
     pub(crate) fn pop(&mut self)
         requires { 0 < length self.old.pdus }
         ensures pdus { self.new.pdus ≡ drop 1 self.old.pdus }

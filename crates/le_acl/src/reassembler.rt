@@ -1,8 +1,7 @@
-ghost use Rattle.std.specs.Prelude.{◌≡◌, ◌≤◌, ◌↔◌, ◌++◌, length, Some, IsSome};
+ghost use Rattle.std.specs.Prelude.{◌≡◌, ◌≤◌, ◌↔◌, ◌++◌, length, take, Some, IsSome};
 ghost use Rattle.le_acl.specs.Frame.{FragmentsMakeTheirFrame};
 ghost use Rattle.le_acl.specs.Reassembler.{GivesFrames, nothing, assembled_of, continued, assembly_of};
 
-use arrayvec::ArrayVec;
 use std::cmp::Ordering;
 use std::marker::Model;
 
@@ -26,12 +25,17 @@ enum State {
     Whole,
 }
 
+/// The most octets of a frame, its header among them.
+const LARGEST: usize = 521;
+
 /// Puts the L2CAP frames of one connection together from ACL fragments: each has a header of 4
 /// octets, whose first 2 state the length of its payload, and at most 521 octets in all. (Core 5.0,
 /// Vol 3 Part A, 3.1)
 #[derive(Drop)]
 pub struct Reassembler {
-    octets: ArrayVec<u8, 521>,
+    octets: [u8; LARGEST],
+    /// How many of the octets are held.
+    len: usize,
     state: State,
 }
 
@@ -40,9 +44,12 @@ impl Model for Reassembler {
 
     ghost Value = { Assembly };
 
+    ghost use Rattle.std.specs.Prelude.{◌≤◌, take};
     ghost use Rattle.le_acl.specs.Reassembler.{assembly_of};
 
-    ghost view = { λ r. assembly_of r.state r.octets.items };
+    ghost view = { λ r. assembly_of r.state (take r.len r.octets) };
+
+    ghost invariant = { λ r. r.len ≤ 521 };
 }
 
 impl Reassembler {
@@ -55,7 +62,8 @@ impl Reassembler {
         ensures fragments { FragmentsMakeTheirFrame }
     {
         Reassembler {
-            octets: ArrayVec::new(),
+            octets: [0; LARGEST],
+            len: 0,
             state: State::Idle,
         }
     }
@@ -65,8 +73,8 @@ impl Reassembler {
         ensures after { self.new ≡ assembled_of octets.now }
         ensures frame { (result ≡ Piece.Frame) ↔ IsSome self.new.frame }
     {
-        self.octets.clear();
-        self.state = join(&mut self.octets, octets);
+        self.len = 0;
+        self.state = join(&mut self.octets, &mut self.len, octets);
         self.piece()
     }
 
@@ -76,7 +84,7 @@ impl Reassembler {
         ensures frame { (result ≡ Piece.Frame) ↔ IsSome self.new.frame }
     {
         self.state = match self.state {
-            State::Unfinished => join(&mut self.octets, octets),
+            State::Unfinished => join(&mut self.octets, &mut self.len, octets),
             State::Idle | State::Whole => State::Idle,
         };
         self.piece()
@@ -87,7 +95,7 @@ impl Reassembler {
         requires { IsSome self.now.frame }
         ensures { self.now.frame ≡ Some result.now }
     {
-        self.octets.as_slice()
+        &self.octets[..self.len]
     }
 
     fn piece(&self) -> Piece
@@ -101,16 +109,23 @@ impl Reassembler {
 }
 
 /// Joins a fragment to the octets so far, which are less than a frame.
-fn join(octets: &mut ArrayVec<u8, 521>, fragment: &[u8]) -> State
-    ensures { assembly_of result octets.new.items ≡ assembled_of (octets.old.items ++ fragment.now) }
+#[inline(always)]
+fn join(octets: &mut [u8; LARGEST], len: &mut usize, fragment: &[u8]) -> State
+    requires { len.old ≤ 521 }
+    ensures joined { assembly_of result (take len.new octets.new) ≡ assembled_of (take len.old octets.old ++ fragment.now) }
+    ensures within { len.new ≤ 521 }
 {
-    if octets.try_extend_from_slice(fragment).is_err() {
+    if fragment.len() > LARGEST - *len {
         return State::Idle;
     }
-    state_of(octets.as_slice())
+    let end = *len + fragment.len();
+    octets[*len..end].copy_from_slice(fragment);
+    *len = end;
+    state_of(&octets[..end])
 }
 
 /// What octets of at most 521 are of a frame.
+#[inline(always)]
 fn state_of(octets: &[u8]) -> State
     requires { length octets.now ≤ 521 }
     ensures { assembly_of result octets.now ≡ assembled_of octets.now }

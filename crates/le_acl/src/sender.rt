@@ -168,6 +168,7 @@ impl Sender {
 }
 
 /// Writes the fragment of a PDU's frame that begins with the octet `gone`.
+#[inline(always)]
 #[tactic(auto, using(crate::proofs::Fragments::take_header, crate::proofs::Fragments::drop_header, crate::proofs::Fragments::fragment_later))]
 fn write_fragment(
     handle: u16,
@@ -195,6 +196,7 @@ fn write_fragment(
 }
 
 /// The header of a frame: the length of its payload, then its channel.
+#[inline(always)]
 fn frame_header(channel: u16, length: u16) -> [u8; HEADER]
     ensures { result ≡ two_octets length ++ two_octets channel }
 {
@@ -204,6 +206,7 @@ fn frame_header(channel: u16, length: u16) -> [u8; HEADER]
 }
 
 /// As many octets from `start` on as there are, and at most `count`.
+#[inline(always)]
 fn part(octets: &[u8], start: usize, count: usize) -> &[u8]
     ensures { result.now ≡ take count (drop start octets.now) }
 {

@@ -1,5 +1,5 @@
 -- A packet whose octets are all there at the beginning of a piece of the stream.
-use Rattle.std.proofs.Common.{◌≡◌, ℕ, suc, ◌+◌, ◌<◌, ◌≤◌, List, [], ◌∷◌, ◌++◌, length, take, drop, Bool, true, false, refl, sym, ◌∙◌, ap, subst, arith}
+use Rattle.std.proofs.Common.{◌≡◌, ℕ, suc, ◌+◌, ◌<◌, ◌≤◌, List, [], ◌∷◌, length, take, drop, Bool, true, false, ◌∙◌, ap, subst, arith}
 use Rattle.std.specs.Prelude.{cond, ◌==◌, Option, Some, None}
 use Rattle.std.proofs.lemmas.List.{drop_all, length-take, take_all}
 use Rattle.octets.specs.Number.{from_two}
