@@ -6,7 +6,7 @@ use std::cmp::Ordering;
 use std::marker::Model;
 
 /// What a fragment leads to.
-#[derive(Clone, Copy, Debug, PartialEq, Eq)]
+#[derive(Clone, Copy, PartialEq, Eq)]
 pub enum Piece {
     /// No frame is whole.
     Nothing,
@@ -15,7 +15,7 @@ pub enum Piece {
 }
 
 /// What is held of a frame.
-#[derive(Clone, Copy, Debug, PartialEq, Eq)]
+#[derive(Clone, Copy, PartialEq, Eq)]
 enum State {
     /// Nothing.
     Idle,

@@ -5,7 +5,7 @@ ghost use Rattle.le_h4.specs.Progress.{reading};
 use crate::indicator;
 
 /// A packet from the controller: Core 5.0, Vol 2 Part E, 5.4.
-#[derive(Clone, Copy, Debug, PartialEq, Eq)]
+#[derive(Clone, Copy, PartialEq, Eq)]
 pub enum PacketRef<'a> {
     /// ACL data: a connection handle of 12 bits, the packet boundary and broadcast flags of 2 bits
     /// each, and at most 1,024 octets of data.

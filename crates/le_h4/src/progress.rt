@@ -10,7 +10,7 @@ pub(crate) const MAX_ACL_DATA: usize = 1_024;
 pub(crate) const LARGEST: usize = 5 + MAX_ACL_DATA;
 
 /// How far the octets of a packet have come.
-#[derive(Clone, Copy, Debug, PartialEq, Eq)]
+#[derive(Clone, Copy, PartialEq, Eq)]
 pub(crate) enum Progress {
     /// At least so many more belong to it.
     Lacks(usize),

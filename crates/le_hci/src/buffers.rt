@@ -4,7 +4,7 @@ ghost use Rattle.le_hci.specs.Buffers.{le_buffers_of, shared_buffers_of, usable_
 use crate::init::InitFault;
 
 /// The buffers for ACL packets that a controller has told.
-#[derive(Clone, Copy, Debug, PartialEq, Eq)]
+#[derive(Clone, Copy, PartialEq, Eq)]
 pub struct Buffers {
     /// The largest number of octets of data in a packet.
     pub length: u16,

@@ -104,7 +104,7 @@ pub fn read_event(octets: &[u8]) -> Result<Event<'_>, BadEvent>
 }
 
 /// How many packets of one connection were completed.
-#[derive(Clone, Copy, Debug, PartialEq, Eq)]
+#[derive(Clone, Copy, PartialEq, Eq)]
 pub struct CompletedPackets {
     /// The handle of the connection, below 4,096.
     pub handle: u16,

@@ -14,7 +14,7 @@ use crate::peer::{PUBLIC_ADDRESS, RANDOM_ADDRESS};
 use arrayvec::ArrayVec;
 
 /// What a host wants of its controller.
-#[derive(Debug, Drop)]
+#[derive(Drop)]
 pub struct Settings {
     /// The random address to advertise from, its octets as on the wire, or `None` for the public
     /// one.
@@ -25,7 +25,7 @@ pub struct Settings {
 
 /// How far a controller is initialised. Each state but `Ready` awaits the completion of one
 /// command, and keeps what the later ones need.
-#[derive(Debug, Drop)]
+#[derive(Drop)]
 pub enum Init {
     /// Awaits Reset.
     Resetting(Settings),

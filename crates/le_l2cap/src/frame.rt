@@ -3,7 +3,7 @@ ghost use Rattle.std.specs.Result.{result_map_both};
 ghost use Rattle.le_l2cap.specs.Frame.{BasicFrame, contents, spelled, frame_of, HasLengthAndChannel};
 
 /// A basic information frame: Core 5.0, Vol 3 Part A, 3.1.
-#[derive(Clone, Copy, Debug, PartialEq, Eq)]
+#[derive(Clone, Copy, PartialEq, Eq)]
 pub struct Frame<'a> {
     /// The channel that it is sent on, one of `channel` or any other.
     pub cid: u16,
@@ -13,7 +13,7 @@ pub struct Frame<'a> {
 
 /// Octets that are no frame: fewer than the 4 of its header, or another number of octets after
 /// the header than the header states.
-#[derive(Clone, Copy, Debug, PartialEq, Eq)]
+#[derive(Clone, Copy, PartialEq, Eq)]
 pub struct Skip;
 
 /// Reads a whole frame: the length of the payload and the channel, each of 2 octets, and the
