@@ -2,6 +2,7 @@ pub mod Applied
 pub mod Entry
 pub mod Fault
 pub mod Fits
+pub mod Leaves
 pub mod Outcome
 pub mod Queue
 pub mod SameBut

@@ -8,6 +8,7 @@ ghost use Rattle.att_writes.specs.declared.queue.Place.{Place};
 ghost use Rattle.att_writes.specs.Applied.{applied_to, written_to, stored_in};
 ghost use Rattle.att_writes.specs.Entry.{entry_of};
 ghost use Rattle.att_writes.specs.Fits.{AllFit, after_all};
+ghost use Rattle.att_writes.specs.Leaves.{Leaves};
 ghost use Rattle.att_writes.specs.Outcome.{outcome_of};
 ghost use Rattle.att_writes.specs.Queue.{entries_in, sizes_of, handles_of, once_each, prepare_fault, prepared, prepare_outcome, touched_by};
 
@@ -67,12 +68,9 @@ pub fn execute(
 ) -> Outcome
     requires row { IsRowOf table.old.attributes row.old }
     ensures outcome { result ≡ outcome_of EXECUTE_WRITE_REQUEST (applied_to Access.Write table.old row.old standing.entry.now queue.old) }
-    ensures values { table.new.values ≡ (written_to Access.Write table.old row.old standing.entry.now queue.old).values }
-    ensures row { row.new ≡ (written_to Access.Write table.old row.old standing.entry.now queue.old).row }
     ensures touched { touched.new.items ≡ touched_by queue.old (applied_to Access.Write table.old row.old standing.entry.now queue.old) }
     ensures queue { queue.new ≡ [] }
-    ensures attributes { table.new.attributes ≡ table.old.attributes }
-    ensures table { IsRowOf table.new.attributes row.new }
+    ensures left { Leaves (written_to Access.Write table.old row.old standing.entry.now queue.old) table.old table.new row.new }
 {
     touched.clear();
     let (places, octets) = queue.parts();
@@ -121,10 +119,7 @@ fn put_all(table: &mut Table, row: &mut ConfigRow, places: &[Place], octets: &[u
     requires sizes { sizes_of places.now ≡ length octets.now }
     requires row { IsRowOf table.old.attributes row.old }
     requires fits { AllFit table.old.attributes (stored_in table.old row.old) (entries_in places.now octets.now) }
-    ensures values { table.new.values ≡ (after_all table.old.attributes (stored_in table.old row.old) (entries_in places.now octets.now)).values }
-    ensures row { row.new ≡ (after_all table.old.attributes (stored_in table.old row.old) (entries_in places.now octets.now)).row }
-    ensures attributes { table.new.attributes ≡ table.old.attributes }
-    ensures table { IsRowOf table.new.attributes row.new }
+    ensures { Leaves (after_all table.old.attributes (stored_in table.old row.old) (entries_in places.now octets.now)) table.old table.new row.new }
 {
     let mut rest = octets;
     for place in places {

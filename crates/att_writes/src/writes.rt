@@ -7,6 +7,7 @@ ghost use Rattle.att_table.specs.Table.{is_configuration_at};
 ghost use Rattle.att_writes.specs.Applied.{after_entry, stored_in, applied_to, written_to};
 ghost use Rattle.att_writes.specs.Entry.{entry_of, whole};
 ghost use Rattle.att_writes.specs.Fits.{Fits};
+ghost use Rattle.att_writes.specs.Leaves.{Leaves};
 ghost use Rattle.att_writes.specs.Outcome.{outcome_of};
 
 use crate::entry::EntryRef;
@@ -28,10 +29,7 @@ pub fn write(
 ) -> Outcome
     requires row { IsRowOf table.old.attributes row.old }
     ensures outcome { result ≡ outcome_of WRITE_REQUEST (applied_to Access.Write table.old row.old standing.entry.now (whole handle value.now ∷ [])) }
-    ensures values { table.new.values ≡ (written_to Access.Write table.old row.old standing.entry.now (whole handle value.now ∷ [])).values }
-    ensures row { row.new ≡ (written_to Access.Write table.old row.old standing.entry.now (whole handle value.now ∷ [])).row }
-    ensures attributes { table.new.attributes ≡ table.old.attributes }
-    ensures table { IsRowOf table.new.attributes row.new }
+    ensures left { Leaves (written_to Access.Write table.old row.old standing.entry.now (whole handle value.now ∷ [])) table.old table.new row.new }
 {
     let entry = EntryRef {
         handle,
@@ -58,10 +56,7 @@ pub fn command(
 ) -> Outcome
     requires row { IsRowOf table.old.attributes row.old }
     ensures outcome { result ≡ outcome_of WRITE_COMMAND (applied_to Access.Command table.old row.old standing.entry.now (whole handle value.now ∷ [])) }
-    ensures values { table.new.values ≡ (written_to Access.Command table.old row.old standing.entry.now (whole handle value.now ∷ [])).values }
-    ensures row { row.new ≡ (written_to Access.Command table.old row.old standing.entry.now (whole handle value.now ∷ [])).row }
-    ensures attributes { table.new.attributes ≡ table.old.attributes }
-    ensures table { IsRowOf table.new.attributes row.new }
+    ensures left { Leaves (written_to Access.Command table.old row.old standing.entry.now (whole handle value.now ∷ [])) table.old table.new row.new }
 {
     let entry = EntryRef {
         handle,
@@ -91,10 +86,7 @@ fn write_at_once(
 ) -> Outcome
     requires row { IsRowOf table.old.attributes row.old }
     ensures outcome { result ≡ outcome_of opcode (applied_to access table.old row.old standing.entry.now (entry_of entry.entry ∷ [])) }
-    ensures values { table.new.values ≡ (written_to access table.old row.old standing.entry.now (entry_of entry.entry ∷ [])).values }
-    ensures row { row.new ≡ (written_to access table.old row.old standing.entry.now (entry_of entry.entry ∷ [])).row }
-    ensures attributes { table.new.attributes ≡ table.old.attributes }
-    ensures table { IsRowOf table.new.attributes row.new }
+    ensures left { Leaves (written_to access table.old row.old standing.entry.now (entry_of entry.entry ∷ [])) table.old table.new row.new }
 {
     match fault_of(access, table, standing, &[], entry) {
         Some(code) => Outcome::Denied(opcode, entry.handle, code),
@@ -109,10 +101,7 @@ fn write_at_once(
 pub(crate) fn put(table: &mut Table, row: &mut ConfigRow, entry: EntryRef<'_>)
     requires row { IsRowOf table.old.attributes row.old }
     requires fits { Fits table.old.attributes (stored_in table.old row.old) (entry_of entry) }
-    ensures values { table.new.values ≡ (after_entry table.old.attributes (stored_in table.old row.old) (entry_of entry.entry)).values }
-    ensures row { row.new ≡ (after_entry table.old.attributes (stored_in table.old row.old) (entry_of entry.entry)).row }
-    ensures attributes { table.new.attributes ≡ table.old.attributes }
-    ensures table { IsRowOf table.new.attributes row.new }
+    ensures { Leaves (after_entry table.old.attributes (stored_in table.old row.old) (entry_of entry.entry)) table.old table.new row.new }
 {
     if is_configuration(table, entry.handle) {
         if let Some(&bits) = entry.part.first() {

@@ -1,4 +1,4 @@
-use Rattle.std.proofs.Common.{sym, ap, ◌∙◌}
+use Rattle.std.proofs.Common.{refl, sym, ap, ◌∙◌}
 use Rattle.att_writes.specs.Applied.{stored_in, stored_after}
 use Rattle.att_writes.specs.Entry.{entry_of}
 use Rattle.att_writes.specs.Outcome.{outcome_of}
@@ -16,14 +16,16 @@ returns-in-Some-clause-outcome c =
     (sym (refused_at_first c.args.access c.args.table.now.attributes c.args.standing.now (stored_in c.args.table.now c.args.row.now) (entry_of c.args.entry) c.in-Some.code
     (sym c.fault_of.ensures.fault ∙ c.in-Some.is)))
 
-pub returns-in-Some-clause-values : goal.returns-in-Some-clause-values
-returns-in-Some-clause-values c =
-    ap (λ applied. (stored_after (stored_in c.args.table.now c.args.row.now) applied).values)
-    (sym (refused_at_first c.args.access c.args.table.now.attributes c.args.standing.now (stored_in c.args.table.now c.args.row.now) (entry_of c.args.entry) c.in-Some.code
-    (sym c.fault_of.ensures.fault ∙ c.in-Some.is)))
-
-pub returns-in-Some-clause-row : goal.returns-in-Some-clause-row
-returns-in-Some-clause-row c =
-    ap (λ applied. (stored_after (stored_in c.args.table.now c.args.row.now) applied).row)
-    (sym (refused_at_first c.args.access c.args.table.now.attributes c.args.standing.now (stored_in c.args.table.now c.args.row.now) (entry_of c.args.entry) c.in-Some.code
-    (sym c.fault_of.ensures.fault ∙ c.in-Some.is)))
+pub returns-in-Some-clause-left : goal.returns-in-Some-clause-left
+returns-in-Some-clause-left c =
+    let table = c.args.table.now in
+    let row = c.args.row.now in
+    let refused =
+    sym (refused_at_first c.args.access table.attributes c.args.standing.now (stored_in table row) (entry_of c.args.entry) c.in-Some.code
+    (sym c.fault_of.ensures.fault ∙ c.in-Some.is)) in
+    record {
+      values = ap (λ applied. (stored_after (stored_in table row) applied).values) refused;
+      row = ap (λ applied. (stored_after (stored_in table row) applied).row) refused;
+      attributes = refl;
+      table = c.requires.row;
+    }
