@@ -7,7 +7,7 @@ use Rattle.std.proofs.lemmas.List.{append-nil}
 use Rattle.std.proofs.lemmas.List.Sums.{take_while-cons}
 use Rattle.std.specs.List.{flat_map}
 use Rattle.att_pdu.specs.Response.{element_octets}
-use Rattle.att_reads.specs.Listing.{Candidate, size_of, is_listed, listed, elements, elements_within, with_listed, HasNext, HasNoNext}
+use Rattle.att_reads.specs.Listing.{Candidate, size_of, is_listed, run_within, elements, elements_within, with_listed, HasNext, HasNoNext}
 use Rattle.octets.specs.Number.{Octets}
 
 -- the octets of those that are listed
@@ -31,7 +31,7 @@ rooms room size above fits =
     less ∙ one_more
 
 listed_first : (room size : ℕ) (candidate : Candidate) (rest : List Candidate) → 0 < size → is_listed size candidate ≡ true → size ≤ room
-    → listed room size (candidate ∷ rest) ≡ candidate ∷ listed (room - size) size rest
+    → run_within room size (candidate ∷ rest) ≡ candidate ∷ run_within (room - size) size rest
 listed_first room size candidate rest above is fits =
     let run : take_while (is_listed size) (candidate ∷ rest) ≡ candidate ∷ take_while (is_listed size) rest =
     take_while-cons (is_listed size) candidate rest ∙ ap (λ test. cond test (candidate ∷ take_while (is_listed size) rest) []) is in
@@ -48,14 +48,14 @@ listed_next mtu size old new candidate rest above next =
     let grown : length new ≡ length old + size = ap length next.appended ∙ length-append old (element_octets candidate.element) ∙ ap (λ n. length old + n) size_is in
     let fits : size ≤ mtu - length old = omega (arith, next.fits) in
     let left : mtu - length new ≡ (mtu - length old) - size = omega (arith, grown) in
-    ap (λ octets. octets ++ joined (listed (mtu - length new) size rest)) next.appended
+    ap (λ octets. octets ++ joined (run_within (mtu - length new) size rest)) next.appended
     ∙ append_assoc old (element_octets candidate.element) _
-    ∙ ap (λ room. old ++ (element_octets candidate.element ++ joined (listed room size rest))) left
+    ∙ ap (λ room. old ++ (element_octets candidate.element ++ joined (run_within room size rest))) left
     ∙ ap (λ candidates. old ++ joined candidates) (sym (listed_first (mtu - length old) size candidate rest above next.listed fits))
 
 -- and one that is not listed ends the list
 none_listed : (room size : ℕ) (candidate : Candidate) (rest : List Candidate) (test : Bool) → 0 < size → is_listed size candidate ≡ test
-    → (test ≡ true → room < size) → listed room size (candidate ∷ rest) ≡ []
+    → (test ≡ true → room < size) → run_within room size (candidate ∷ rest) ≡ []
 none_listed room size candidate rest true above is short =
     ap (λ count. take count (take_while (is_listed size) (candidate ∷ rest))) (div-eq_of_lt (short refl))
 none_listed room size candidate rest false above is short =
@@ -69,7 +69,7 @@ no_room mtu size held short above = omega (arith, short)
 pub listed_stop : (mtu size : ℕ) (old new : List ℕ) (candidate : Candidate) (rest : List Candidate) → HasNoNext mtu size candidate old new → 0 < size
     → new ≡ with_listed mtu size old (candidate ∷ rest)
 listed_stop mtu size old new candidate rest stop above =
-    let none : listed (mtu - length old) size (candidate ∷ rest) ≡ [] =
+    let none : run_within (mtu - length old) size (candidate ∷ rest) ≡ [] =
     none_listed (mtu - length old) size candidate rest (is_listed size candidate) above refl (λ is. no_room mtu size (length old) (stop.not_listed is) above) in
     stop.unchanged ∙ sym (ap (λ candidates. old ++ joined candidates) none ∙ append-nil old)
 

@@ -21,8 +21,8 @@ abbrev pub is_listed : ℕ → Candidate → Bool
 is_listed size candidate = is_none candidate.refusal && (size_of candidate == size)
 
 -- the longest run of candidates, from the first on, that are not refused, have this size, and fit into the room
-abbrev pub listed : ℕ → ℕ → List Candidate → List Candidate
-listed room size candidates = take (room / size) (take_while (is_listed size) candidates)
+abbrev pub run_within : ℕ → ℕ → List Candidate → List Candidate
+run_within room size candidates = take (room / size) (take_while (is_listed size) candidates)
 
 -- the first of them has the size of all
 abbrev pub size_of_first : List Candidate → ℕ
@@ -38,11 +38,11 @@ abbrev pub elements : List Candidate → List Element
 elements candidates = map (λ (candidate : Candidate). candidate.element) candidates
 
 abbrev pub elements_within : Mtu → List Candidate → List Element
-elements_within mtu candidates = elements (listed (mtu - 2) (size_of_first candidates) candidates)
+elements_within mtu candidates = elements (run_within (mtu - 2) (size_of_first candidates) candidates)
 
 -- octets, and the elements that are listed behind them
 abbrev pub with_listed : Mtu → ℕ → Octets → List Candidate → Octets
-with_listed mtu size octets candidates = octets ++ flat_map element_octets (elements (listed (mtu - length octets) size candidates))
+with_listed mtu size octets candidates = octets ++ flat_map element_octets (elements (run_within (mtu - length octets) size candidates))
 
 -- a candidate was listed next
 pub record HasNext (mtu : Mtu) (size : ℕ) (candidate : Candidate) (old new : Octets) : Type 0 where

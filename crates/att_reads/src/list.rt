@@ -14,7 +14,7 @@ use att_pdu::PduBuf;
 use att_table::Table;
 
 /// What is listed.
-#[derive(Clone, Copy, Debug, PartialEq, Eq)]
+#[derive(Clone, Copy)]
 pub enum Listing {
     /// The attributes of a type, each by its handle and its value.
     Values,

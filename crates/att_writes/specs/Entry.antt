@@ -4,7 +4,7 @@ use Rattle.att_numbers.specs.Types.{Handle}
 use Rattle.att_writes.specs.declared.entry.EntryRef.{EntryRef}
 use Rattle.octets.specs.Number.{Octets}
 
--- the handle of the attribute, the offset in its value, and the octets that are written from there on
+-- one write, made at once or prepared: the handle of the attribute, the offset in its value, and the octets that are written from there on
 pub record Entry : Type 0 where
   pub handle : Handle
   pub offset : ℕ

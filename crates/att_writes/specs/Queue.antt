@@ -17,14 +17,14 @@ use Rattle.att_writes.specs.declared.queue.Place.{Place}
 use Rattle.att_writes.specs.Entry.{Entry}
 use Rattle.octets.specs.Number.{Octets}
 
--- at most 32 entries, with at most 1,024 octets of parts: this profile's own
+-- at most 32 prepared writes, with at most 1,024 octets of parts: this profile's own
 abbrev pub octets_of : List Entry → ℕ
 octets_of entries = sum_by (λ (entry : Entry). length entry.part) entries
 
 abbrev pub has_room : List Entry → Octets → Bool
 has_room entries part = nat_lt (length entries) 32 && nat_le (octets_of entries + length part) 1024
 
--- the handles of entries, each once, in the order of their first entries
+-- the handles that writes are of, each once, in the order of their first writes
 abbrev pub once_each : List Handle → List Handle
 once_each [] = []
 once_each (handle ∷ rest) = handle ∷ filter (λ other. not (other == handle)) (once_each rest)
@@ -32,7 +32,7 @@ once_each (handle ∷ rest) = handle ∷ filter (λ other. not (other == handle)
 abbrev pub handles_of : List Entry → List Handle
 handles_of entries = once_each (map (λ (entry : Entry). entry.handle) entries)
 
--- entries whose parts stand one behind the other
+-- prepared writes whose parts stand one behind the other
 abbrev pub entries_in : List Place → Octets → List Entry
 entries_in [] octets = []
 entries_in (place ∷ places) octets =
@@ -49,7 +49,7 @@ pub record IsLaidOut (places : List Place) (octets : Octets) (place_room octet_r
   pub has_place_room : 32 ≤ place_room
   pub has_octet_room : 1024 ≤ octet_room
 
--- why an entry is not taken, if it is not: the policy goes before the room
+-- why a write is not prepared, if it is not: the policy goes before the room
 abbrev pub unless_broken : Option (Rule × Code) → Bool → Option Code
 unless_broken (Some broken) fits = Some broken.1
 unless_broken None fits = if fits then None else Some PREPARE_QUEUE_FULL
@@ -58,7 +58,7 @@ abbrev pub prepare_fault : List Attr → Standing → List Entry → Entry → O
 prepare_fault attributes standing entries entry =
     unless_broken (first_broken_of Write (guard_at attributes entry.handle) standing) (has_room entries entry.part)
 
--- an entry is added at the end, or refused
+-- a prepared write is added at the end, or refused
 abbrev pub prepared : List Entry → Entry → Option Code → List Entry
 prepared entries entry (Some code) = entries
 prepared entries entry None = entries ++ entry ∷ []

@@ -1,5 +1,5 @@
 /// A write into the value of one attribute.
-#[derive(Clone, Copy, Debug)]
+#[derive(Clone, Copy)]
 pub(crate) struct EntryRef<'a> {
     /// The handle of the attribute.
     pub handle: u16,
