@@ -2,9 +2,10 @@
 
 use arrayvec::ArrayVec;
 use gatt_commands::{READS, ShellFault, att_lines};
+use std::alloc::Global;
 use std::io;
 use std::io::{ErrorKind, Read, Write};
-use std::test::Fail;
+use std::process::Abort;
 
 const INPUT: &[u8] = b"0a0300\n0a0000\n12030041\n0a03\n20\nd20300\n";
 
@@ -66,103 +67,106 @@ impl Write for Room {
     }
 }
 
-#[test]
-fn answers_however_the_input_is_cut(rt: HostRuntime) -> Result<(), Fail> {
-    for piece in 1..40 {
-        let mut printed = Vec::new(rt.alloc());
-        let answered = att_lines(rt.alloc(), &mut in_pieces(INPUT, piece), &mut printed);
-        assert_eq!(rt; answered, Ok(()));
-        assert_eq!(rt; printed.as_slice(), OUTPUT);
-    }
-    Ok(())
+/// Runs the command over an input, and compares how it ends and what it has printed.
+fn answers<R: Read>(
+    rt: &impl Abort,
+    alloc: Global,
+    input: &mut R,
+    output: &[u8],
+    ended: Result<(), ShellFault>,
+) {
+    let mut printed = Vec::new(alloc);
+    assert_eq!(rt; att_lines(alloc, input, &mut printed), ended);
+    assert_eq!(rt; printed.as_slice(), output);
+}
+
+/// The same of an input that cannot be read to its end: the front of the output is printed.
+fn breaks_off<R: Read>(rt: &impl Abort, alloc: Global, input: &mut R, output: &[u8]) {
+    let mut printed = Vec::new(alloc);
+    let ended = att_lines(alloc, input, &mut printed);
+    assert_eq!(rt; ended, Err(ShellFault::Unreadable));
+    assert!(rt; output.starts_with(printed.as_slice()));
 }
 
 #[test]
-fn ends_at_the_first_bad_line(rt: HostRuntime) -> Result<(), Fail> {
-    let cases: [(&[u8], &[u8], Result<(), ShellFault>); 8] = [
-        (b"", b"", Ok(())),
-        (b"\n\n", b"", Ok(())),
-        (b"0a0300", b"0b4c6f636b\n", Ok(())),
-        (b"0A0300\n", b"0b4c6f636b\n", Ok(())),
-        (b"0a0", b"", Err(ShellFault::NotHex(1))),
-        (
-            b"\n0a0300\n\n0a030g\n20\n",
-            b"0b4c6f636b\n",
-            Err(ShellFault::NotHex(4)),
-        ),
-        (b"0a0300\r\n", b"", Err(ShellFault::NotHex(1))),
-        (b"20\n 20\n", b"0120000006\n", Err(ShellFault::NotHex(2))),
-    ];
-    for (mut input, output, ended) in cases {
-        let mut printed = Vec::new(rt.alloc());
-        assert_eq!(rt; att_lines(rt.alloc(), &mut input, &mut printed), ended);
-        assert_eq!(rt; printed.as_slice(), output);
+fn answers_however_the_input_is_cut(rt: HostRuntime) {
+    for piece in 1..40 {
+        let mut input = in_pieces(INPUT, piece);
+        answers(&rt, rt.alloc(), &mut input, OUTPUT, Ok(()));
     }
-    Ok(())
+}
+
+/// Inputs, what is printed for them, and how the command ends.
+const ENDS: [(&[u8], &[u8], Result<(), ShellFault>); 8] = [
+    (b"", b"", Ok(())),
+    (b"\n\n", b"", Ok(())),
+    (b"0a0300", b"0b4c6f636b\n", Ok(())),
+    (b"0A0300\n", b"0b4c6f636b\n", Ok(())),
+    (b"0a0", b"", Err(ShellFault::NotHex(1))),
+    (
+        b"\n0a0300\n\n0a030g\n20\n",
+        b"0b4c6f636b\n",
+        Err(ShellFault::NotHex(4)),
+    ),
+    (b"0a0300\r\n", b"", Err(ShellFault::NotHex(1))),
+    (b"20\n 20\n", b"0120000006\n", Err(ShellFault::NotHex(2))),
+];
+
+#[test]
+fn ends_at_the_first_bad_line(rt: HostRuntime) {
+    for (mut input, output, ended) in ENDS {
+        answers(&rt, rt.alloc(), &mut input, output, ended);
+    }
 }
 
 /// A value is written in two parts, and read before and after.
+const LONG_WRITE: &[u8] = b"1615000000426f6c7420776f726e2e2053656e64206120\n\
+    16150012006e6577206f6e652e\n0a1500\n1801\n0a1500\n0c15001600\n";
+
+const LONG_WRITE_ANSWERS: &[u8] = b"1715000000426f6c7420776f726e2e2053656e64206120\n\
+    17150012006e6577206f6e652e\n0b\n19\n\
+    0b426f6c7420776f726e2e2053656e642061206e657720\n0d6f6e652e\n";
+
 #[test]
-fn answers_a_long_write(rt: HostRuntime) -> Result<(), Fail> {
-    let mut input: &[u8] = b"1615000000426f6c7420776f726e2e2053656e64206120\n\
-        16150012006e6577206f6e652e\n0a1500\n1801\n0a1500\n0c15001600\n";
-    let output: &[u8] = b"1715000000426f6c7420776f726e2e2053656e64206120\n\
-        17150012006e6577206f6e652e\n0b\n19\n\
-        0b426f6c7420776f726e2e2053656e642061206e657720\n0d6f6e652e\n";
-    let mut printed = Vec::new(rt.alloc());
-    assert_eq!(rt; att_lines(rt.alloc(), &mut input, &mut printed), Ok(()));
-    assert_eq!(rt; printed.as_slice(), output);
-    Ok(())
+fn answers_a_long_write(rt: HostRuntime) {
+    let mut input = LONG_WRITE;
+    answers(&rt, rt.alloc(), &mut input, LONG_WRITE_ANSWERS, Ok(()));
 }
 
 #[test]
-fn takes_lines_of_1040_digits(rt: HostRuntime) -> Result<(), Fail> {
+fn takes_lines_of_1040_digits(rt: HostRuntime) {
     let digits = [b'0'; 1041];
-    let mut printed = Vec::new(rt.alloc());
     let mut longest = &digits[..1040];
-    assert_eq!(rt; att_lines(rt.alloc(), &mut longest, &mut printed), Ok(()));
-    assert_eq!(rt; printed.as_slice(), b"0100000006\n".as_slice());
+    answers(&rt, rt.alloc(), &mut longest, b"0100000006\n", Ok(()));
     let mut longer = digits.as_slice();
-    let ended = att_lines(rt.alloc(), &mut longer, &mut printed);
-    assert_eq!(rt; ended, Err(ShellFault::NotHex(1)));
-    Ok(())
+    let ended = Err(ShellFault::NotHex(1));
+    answers(&rt, rt.alloc(), &mut longer, b"", ended);
 }
 
 #[test]
-fn tells_a_failed_read(rt: HostRuntime) -> Result<(), Fail> {
+fn tells_a_failed_read(rt: HostRuntime) {
     for reads in 0..39 {
         let mut input = in_pieces(INPUT, 1);
         input.reads = reads;
-        let mut printed = Vec::new(rt.alloc());
-        let ended = att_lines(rt.alloc(), &mut input, &mut printed);
-        assert_eq!(rt; ended, Err(ShellFault::Unreadable));
-        assert!(rt; OUTPUT.starts_with(printed.as_slice()));
+        breaks_off(&rt, rt.alloc(), &mut input, OUTPUT);
     }
-    Ok(())
 }
 
 #[test]
-fn reads_on_after_an_interruption(rt: HostRuntime) -> Result<(), Fail> {
+fn reads_on_after_an_interruption(rt: HostRuntime) {
     for reads in 0..39 {
         let mut input = in_pieces(INPUT, 1);
         input.reads = reads;
         input.error = ErrorKind::Interrupted;
-        let mut printed = Vec::new(rt.alloc());
-        assert_eq!(rt; att_lines(rt.alloc(), &mut input, &mut printed), Ok(()));
-        assert_eq!(rt; printed.as_slice(), OUTPUT);
+        answers(&rt, rt.alloc(), &mut input, OUTPUT, Ok(()));
     }
-    Ok(())
 }
 
 #[test]
-fn gives_up_an_input_without_end(rt: HostRuntime) -> Result<(), Fail> {
+fn gives_up_an_input_without_end(rt: HostRuntime) {
     let mut input = in_pieces(io::repeat(b'\n'), 1);
-    let mut printed = Vec::new(rt.alloc());
-    let ended = att_lines(rt.alloc(), &mut input, &mut printed);
-    assert_eq!(rt; ended, Err(ShellFault::Unreadable));
-    assert!(rt; printed.is_empty());
+    breaks_off(&rt, rt.alloc(), &mut input, b"");
     assert_eq!(rt; input.reads, u64::MAX - READS);
-    Ok(())
 }
 
 #[test]

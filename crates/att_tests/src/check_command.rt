@@ -4,6 +4,7 @@ use att_table::examples::{BELL, DOOR};
 use gatt_commands::{ShellFault, check_files, check_paths};
 use le_security::examples::KEYS;
 use std::io::{ErrorKind, Read};
+use std::process::Abort;
 use std::test::Fail;
 use std::{fs, io};
 
@@ -17,91 +18,90 @@ impl Read for Unreadable {
     }
 }
 
+/// Judges two inputs, and compares how that ends and what it has printed.
+fn judges<T: Read, K: Read>(
+    rt: &impl Abort,
+    alloc: Global,
+    table: &mut T,
+    keys: &mut K,
+    answer: Result<(), ShellFault>,
+    printed: &str,
+) {
+    let mut output: Vec<u8> = Vec::new(alloc);
+    assert_eq!(rt; check_files(alloc, table, keys, &mut output), answer);
+    assert_eq!(rt; output.as_slice(), printed.as_bytes());
+}
+
+/// Tables and keys, how `check` ends, and what it prints.
+const TEXTS: [(&str, &str, Result<(), ShellFault>, &str); 8] = [
+    (DOOR, KEYS, Ok(()), "attributes 21\nkeys 3\n"),
+    (BELL, "", Ok(()), "attributes 9\nkeys 0\n"),
+    ("service = []", "key = []", Ok(()), "attributes 0\nkeys 0\n"),
+    ("", "", Err(ShellFault::Table(2)), ""),
+    ("service", "", Err(ShellFault::Table(1)), ""),
+    ("bell = 1", "bell = 1", Err(ShellFault::Table(11)), ""),
+    ("service = []", "key", Err(ShellFault::Keys(1)), ""),
+    ("service = []", "bell = 1", Err(ShellFault::Keys(9)), ""),
+];
+
+/// The same of octets that are no text.
+const OCTETS: [(&[u8], &[u8], Result<(), ShellFault>); 2] = [
+    (b"service = [] # \xFF", b"", Err(ShellFault::Table(1))),
+    (b"service = []", b"# \xFF", Err(ShellFault::Keys(1))),
+];
+
 #[test]
 fn counts_attributes_and_keys_or_tells_the_fault(rt: HostRuntime) {
-    let cases = [
-        (
-            DOOR.as_bytes(),
-            KEYS.as_bytes(),
-            Ok(()),
-            "attributes 21\nkeys 3\n",
-        ),
-        (BELL.as_bytes(), b"", Ok(()), "attributes 9\nkeys 0\n"),
-        (
-            b"service = []",
-            b"key = []",
-            Ok(()),
-            "attributes 0\nkeys 0\n",
-        ),
-        (b"", b"", Err(ShellFault::Table(2)), ""),
-        (b"service", b"", Err(ShellFault::Table(1)), ""),
-        (b"service = [] # \xFF", b"", Err(ShellFault::Table(1)), ""),
-        (b"bell = 1", b"bell = 1", Err(ShellFault::Table(11)), ""),
-        (b"service = []", b"key", Err(ShellFault::Keys(1)), ""),
-        (b"service = []", b"# \xFF", Err(ShellFault::Keys(1)), ""),
-        (b"service = []", b"bell = 1", Err(ShellFault::Keys(9)), ""),
-    ];
-    for (mut table, mut keys, answer, printed) in cases {
-        let mut output: Vec<u8> = Vec::new(rt.alloc());
-        let checked = check_files(rt.alloc(), &mut table, &mut keys, &mut output);
-        assert!(rt; checked == answer, "{printed}");
-        assert_eq!(rt; output.as_slice(), printed.as_bytes());
+    for (table, keys, answer, printed) in TEXTS {
+        let (mut table, mut keys) = (table.as_bytes(), keys.as_bytes());
+        judges(&rt, rt.alloc(), &mut table, &mut keys, answer, printed);
+    }
+    for (mut table, mut keys, answer) in OCTETS {
+        judges(&rt, rt.alloc(), &mut table, &mut keys, answer, "");
     }
 }
 
 #[test]
 fn reads_the_keys_behind_the_table(rt: HostRuntime) {
-    let mut output: Vec<u8> = Vec::new(rt.alloc());
+    let unreadable = Err(ShellFault::Unreadable);
     let mut good = DOOR.as_bytes();
-    let checked = check_files(rt.alloc(), &mut good, &mut Unreadable, &mut output);
-    assert_eq!(rt; checked, Err(ShellFault::Unreadable));
+    judges(&rt, rt.alloc(), &mut good, &mut Unreadable, unreadable, "");
     let mut bad = b"".as_slice();
-    let checked = check_files(rt.alloc(), &mut bad, &mut Unreadable, &mut output);
-    assert_eq!(rt; checked, Err(ShellFault::Table(2)));
-    let mut refused = b"key".as_slice();
-    let checked = check_files(rt.alloc(), &mut Unreadable, &mut refused, &mut output);
-    assert_eq!(rt; checked, Err(ShellFault::Unreadable));
-    assert_eq!(rt; refused, b"key".as_slice());
-    assert!(rt; output.is_empty());
+    let refused = Err(ShellFault::Table(2));
+    judges(&rt, rt.alloc(), &mut bad, &mut Unreadable, refused, "");
+    let mut keys = b"key".as_slice();
+    judges(&rt, rt.alloc(), &mut Unreadable, &mut keys, unreadable, "");
+    assert_eq!(rt; keys, b"key".as_slice());
 }
+
+/// Judges the files at two paths.
+fn judges_paths(
+    rt: &(impl Abort + AllocGlobal + Files),
+    table: &str,
+    keys: &str,
+    answer: Result<(), ShellFault>,
+    printed: &str,
+) {
+    let mut output: Vec<u8> = Vec::new(rt.alloc());
+    let checked = check_paths(rt.alloc(), rt, table, keys, &mut output);
+    assert_eq!(rt; checked, answer);
+    assert_eq!(rt; output.as_slice(), printed.as_bytes());
+}
+
+const TABLE: &str = "check_table.toml";
+
+const PEERS: &str = "check_keys.toml";
 
 /// The first path is that of the table, and the second that of the keys. One that leads nowhere is
 /// told once it is its turn.
 #[test]
 fn takes_the_files_in_their_order(rt: HostRuntime) -> Result<(), Fail> {
-    fs::write(&rt, "check_table.toml", BELL)?;
-    fs::write(&rt, "check_keys.toml", KEYS)?;
-    let cases = [
-        (
-            "check_table.toml",
-            "check_keys.toml",
-            Ok(()),
-            "attributes 9\nkeys 3\n",
-        ),
-        (
-            "check_keys.toml",
-            "check_table.toml",
-            Err(ShellFault::Table(11)),
-            "",
-        ),
-        (
-            "check_table.toml",
-            "check_table.toml",
-            Err(ShellFault::Keys(9)),
-            "",
-        ),
-        (
-            "check_table.toml",
-            "check_nothing.toml",
-            Err(ShellFault::Unreadable),
-            "",
-        ),
-    ];
-    for (table, keys, answer, printed) in cases {
-        let mut output: Vec<u8> = Vec::new(rt.alloc());
-        let checked = check_paths(rt.alloc(), &rt, table, keys, &mut output);
-        assert!(rt; checked == answer, "{table} {keys}");
-        assert_eq!(rt; output.as_slice(), printed.as_bytes());
-    }
+    fs::write(&rt, TABLE, BELL)?;
+    fs::write(&rt, PEERS, KEYS)?;
+    judges_paths(&rt, TABLE, PEERS, Ok(()), "attributes 9\nkeys 3\n");
+    judges_paths(&rt, PEERS, TABLE, Err(ShellFault::Table(11)), "");
+    judges_paths(&rt, TABLE, TABLE, Err(ShellFault::Keys(9)), "");
+    let nowhere = "check_nothing.toml";
+    judges_paths(&rt, TABLE, nowhere, Err(ShellFault::Unreadable), "");
     Ok(())
 }

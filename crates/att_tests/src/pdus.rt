@@ -2,37 +2,72 @@
 
 use arrayvec::ArrayVec;
 use att_pdu::PduBuf;
+use std::process::Abort;
+
+/// What is appended to a PDU, or replaces it.
+#[derive(Clone, Copy)]
+enum Part {
+    Value(&'static [u8]),
+    Pair(u16, &'static [u8]),
+    Group(u16, u16, &'static [u8]),
+    Part(u16, u16, &'static [u8]),
+    Error(u8, u16, u8),
+}
+
+/// Puts a PDU of 23 octets at most together, of parts that fit or do not, and compares its octets.
+fn put(rt: &impl Abort, parts: &[(Part, bool)], wanted: &[u8]) {
+    let mut octets = ArrayVec::new();
+    let mut pdu = PduBuf::new(&mut octets, 23);
+    for &(part, fits) in parts {
+        assert_eq!(rt; append(&mut pdu, part), fits);
+    }
+    assert_eq!(rt; octets.as_slice(), wanted);
+}
+
+/// Appends a part, and tells whether it fits.
+fn append(pdu: &mut PduBuf<'_>, part: Part) -> bool {
+    match part {
+        Part::Value(octets) => pdu.value(octets),
+        Part::Pair(handle, octets) => pdu.pair(handle, octets),
+        Part::Group(first, last, octets) => pdu.group(first, last, octets),
+        Part::Part(handle, offset, octets) => pdu.part(handle, offset, octets),
+        Part::Error(opcode, handle, code) => {
+            pdu.error(opcode, handle, code);
+            true
+        }
+    }
+}
+
+const TO_THE_MTU: [(Part, bool); 4] = [
+    (Part::Value(&[0x0B]), true),
+    (Part::Value(&[0x41; 22]), true),
+    (Part::Value(&[0x42]), false),
+    (Part::Error(0x0A, 0x0102, 0x05), true),
+];
 
 #[test]
 fn fills_to_the_mtu(rt: HostRuntime) {
-    let mut octets = ArrayVec::new();
-    let mut pdu = PduBuf::new(&mut octets, 23);
-    assert!(rt; pdu.value(&[0x0B]));
-    assert!(rt; pdu.value(&[0x41; 22]));
-    assert!(rt; !pdu.value(&[0x42]));
-    pdu.error(0x0A, 0x0102, 0x05);
-    assert_eq!(rt;
-        octets.as_slice(),
-        [0x01, 0x0A, 0x02, 0x01, 0x05].as_slice()
-    );
+    put(&rt, &TO_THE_MTU, &[0x01, 0x0A, 0x02, 0x01, 0x05]);
 }
 
+/// Behind the first four 17 octets stand, and 6 are left.
+const ELEMENTS: [(Part, bool); 9] = [
+    (Part::Value(&[0x11, 0x06]), true),
+    (Part::Group(1, 0x0203, &[0x00, 0x18]), true),
+    (Part::Pair(0x0405, &[0x41]), true),
+    (Part::Part(0x15, 0x0100, b"ab"), true),
+    (Part::Pair(7, b"abcde"), false),
+    (Part::Group(7, 8, b"abc"), false),
+    (Part::Part(7, 8, b"abc"), false),
+    (Part::Pair(0x16, b"cdef"), true),
+    (Part::Pair(0x16, &[]), false),
+];
+
 #[test]
-fn appends_whole_entries(rt: HostRuntime) {
-    let mut octets = ArrayVec::new();
-    let mut pdu = PduBuf::new(&mut octets, 23);
-    assert!(rt; pdu.value(&[0x11, 0x06]));
-    assert!(rt; pdu.group(1, 0x0203, &[0x00, 0x18]));
-    assert!(rt; pdu.pair(0x0405, &[0x41]));
-    assert!(rt; pdu.part(0x15, 0x0100, b"ab"));
-    // 17 octets stand, and 6 are left.
-    assert!(rt; !pdu.pair(7, b"abcde"));
-    assert!(rt; !pdu.group(7, 8, b"abc"));
-    assert!(rt; !pdu.part(7, 8, b"abc"));
-    assert!(rt; pdu.pair(0x16, b"cdef"));
-    assert!(rt; !pdu.pair(0x16, &[]));
-    assert_eq!(rt;
-        octets.as_slice(),
-        b"\x11\x06\x01\x00\x03\x02\x00\x18\x05\x04\x41\x15\x00\x00\x01ab\x16\x00cdef".as_slice()
+fn appends_whole_elements(rt: HostRuntime) {
+    put(
+        &rt,
+        &ELEMENTS,
+        b"\x11\x06\x01\x00\x03\x02\x00\x18\x05\x04\x41\x15\x00\x00\x01ab\x16\x00cdef",
     );
 }
