@@ -56,18 +56,19 @@ impl Table {
         }
     }
 
-    /// How many attributes the table has.
+    /// How many attributes the table has. Whoever asks knows what holds of each table.
+    #[tactic(auto, using(crate::proofs::Facts::facts_of))]
     pub fn len(&self) -> usize
-        ensures { result ≡ length self.now.attributes }
+        ensures count { result ≡ length self.now.attributes }
+        ensures table { IsTable self.now }
     {
         self.attributes.len()
     }
 
     /// The attribute at a handle, if there is one.
-    #[tactic(auto, using(crate::proofs::Configurations::room_in_row, crate::proofs::Facts::facts_of))]
+    #[tactic(auto, using(crate::proofs::Configurations::room_in_row))]
     pub fn get(&self, handle: u16) -> Option<&Attr>
         ensures attribute { option_copied result ≡ attribute_at self.now.attributes handle }
-        ensures table { IsTable self.now }
         // It has a value, and a client's row has room for it if it is a configuration.
         ensures value { IfSome result (λ attr. handle ≤ length self.now.values) }
         ensures used { IfSome result (λ attr. 0 < handle) }
