@@ -2,18 +2,20 @@
 use Rattle.std.specs.Prelude.{◌≡◌, ℕ, ◌+◌, ◌%◌, ◌<◌, ◌≤◌, List, [], ◌++◌, length, take, drop, map, get_or}
 use Rattle.std.specs.List.{zip}
 use Rattle.arrayvec.specs.ArrayVec.{ArrayVec}
+use Rattle.octets.specs.Number.{Octets}
+use Rattle.le_acl.specs.Packets.{Pdu}
 
 -- the PDUs by channel and payload, and what stands in the room for the next
 pub record Queued : Type 0 where
-  pub pdus : List (ℕ × List ℕ)
-  pub room : List ℕ
+  pub pdus : List Pdu
+  pub room : Octets
 
 -- an empty payload
 abbrev pub empty : ArrayVec ℕ
 empty = record { items = [] }
 
 -- the octets of a payload
-abbrev pub octets_of : ArrayVec ℕ → List ℕ
+abbrev pub octets_of : ArrayVec ℕ → Octets
 octets_of payload = payload.items
 
 -- count slots from first on, around the end

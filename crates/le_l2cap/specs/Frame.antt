@@ -1,5 +1,5 @@
 -- The basic information frame: Core 5.0, Vol 3 Part A, 3.1.
-use Rattle.std.specs.Prelude.{ℕ, ◌+◌, ◌^◌, ◌<◌, ◌==◌, if◌then◌else◌, ◌∷◌, ◌++◌, length, Result, Ok, Err}
+use Rattle.std.specs.Prelude.{ℕ, ◌^◌, ◌<◌, ◌==◌, if◌then◌else◌, ◌∷◌, ◌++◌, length, Result, Ok, Err}
 use Rattle.octets.specs.Number.{Octets, two_octets, from_two}
 use Rattle.le_l2cap.specs.declared.frame.Frame.{Frame}
 use Rattle.le_l2cap.specs.declared.frame.Skip.{Skip}
