@@ -5,3 +5,4 @@ pub mod Information
 pub mod Listed
 pub mod Lists
 pub mod Multiple
+pub mod Within

@@ -38,7 +38,7 @@ listed_first room size candidate rest above is fits =
     ap (λ candidates. take (room / size) candidates) run
     ∙ ap (λ count. take count (candidate ∷ take_while (is_listed size) rest)) (rooms room size above fits)
 
-listed_size : (size : ℕ) (candidate : Candidate) → is_listed size candidate ≡ true → length (element_octets candidate.element) ≡ size
+pub listed_size : (size : ℕ) (candidate : Candidate) → is_listed size candidate ≡ true → length (element_octets candidate.element) ≡ size
 listed_size size candidate is = grind (arith, common_steps, is)
 
 pub listed_next : (mtu size : ℕ) (old new : List ℕ) (candidate : Candidate) (rest : List Candidate) → 0 < size → HasNext mtu size candidate old new
