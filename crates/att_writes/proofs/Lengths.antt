@@ -20,7 +20,7 @@ use Rattle.att_writes.proofs.Sizes.{used, value_written}
 use Rattle.octets.specs.Number.{Octets}
 
 -- a value that is stored behind the end of the list changes nothing
-behind : (values : Values) (handle : Handle) (value : Octets) → length values < handle → with_value values handle value ≡ values
+pub behind : (values : Values) (handle : Handle) (value : Octets) → length values < handle → with_value values handle value ≡ values
 behind values handle value over = grind (arith, nat_tests, common_steps)
 
 -- the lengths of what a part leaves

@@ -1,10 +1,10 @@
 -- Values that differ in nothing but some of them.
-use Rattle.std.specs.Prelude.{◌≡◌, ℕ, ◌<◌, Bool, false, ◌==◌, List, length, Result, Ok, Err}
+use Rattle.std.specs.Prelude.{◌≡◌, ℕ, ◌<◌, Bool, false, ◌==◌, List, [], ◌∷◌, length, Result, Ok, Err}
 use Rattle.std.specs.List.{list_any}
 use Rattle.att_numbers.specs.Types.{Handle, Values}
 use Rattle.att_policy.specs.Refusal.{Refusal}
 use Rattle.att_table.specs.ConfigRow.{bits_at}
-use Rattle.att_table.specs.Table.{value_at}
+use Rattle.att_table.specs.Table.{value_at, with_value}
 use Rattle.att_writes.specs.Applied.{Stored}
 use Rattle.att_writes.specs.Entry.{Entry}
 
@@ -30,3 +30,8 @@ pub record KeepsOthers (entries : List Entry) (old new : Stored) : Type 0 where
   pub count : length new.values ≡ length old.values
   pub values : (handle : Handle) → 0 < handle → is_touched entries handle ≡ false → value_at new.values handle ≡ value_at old.values handle
   pub row : (handle : Handle) → is_touched entries handle ≡ false → bits_at new.row handle ≡ bits_at old.row handle
+
+-- the values of one list stored in another at these handles
+abbrev pub values_put : List Handle → Values → Values → Values
+values_put [] from into = into
+values_put (handle ∷ rest) from into = values_put rest from (with_value into handle (value_at from handle))
