@@ -3,6 +3,8 @@
 use att_table::examples::{BELL, DOOR};
 use gatt_commands::{ShellFault, check_files, check_paths};
 use le_security::examples::KEYS;
+use std::alloc::Global;
+use std::fs::Files;
 use std::io::{ErrorKind, Read};
 use std::process::Abort;
 use std::test::Fail;
