@@ -1,11 +1,14 @@
 -- Values that differ in nothing but some of them.
-use Rattle.std.specs.Prelude.{◌≡◌, ℕ, ◌<◌, Bool, false, ◌==◌, List, [], ◌∷◌, length, Result, Ok, Err}
+use Rattle.std.specs.Prelude.{◌≡◌, ℕ, ◌<◌, Bool, false, ◌==◌, List, [], ◌∷◌, length, map, Result, Ok, Err}
 use Rattle.std.specs.List.{list_any}
 use Rattle.att_numbers.specs.Types.{Handle, Values}
 use Rattle.att_policy.specs.Refusal.{Refusal}
 use Rattle.att_table.specs.ConfigRow.{bits_at}
 use Rattle.att_table.specs.Table.{value_at, with_value}
-use Rattle.att_writes.specs.Applied.{Stored}
+use Rattle.att_policy.specs.declared.policy.Access.{Access}
+use Rattle.att_policy.specs.declared.standing.Standing.{Standing}
+use Rattle.att_table.specs.declared.attr.Attr.{Attr}
+use Rattle.att_writes.specs.Applied.{Stored, applied}
 use Rattle.att_writes.specs.Entry.{Entry}
 
 -- as many values, of the same lengths, and the same ones where they are not hidden
@@ -35,3 +38,19 @@ pub record KeepsOthers (entries : List Entry) (old new : Stored) : Type 0 where
 abbrev pub values_put : List Handle → Values → Values → Values
 values_put [] from into = into
 values_put (handle ∷ rest) from into = values_put rest from (with_value into handle (value_at from handle))
+
+-- whether entries are refused, and with which code, depends on the lengths of values and never on their octets
+abbrev pub JudgesByLengths : Type 0
+JudgesByLengths = (hidden : Handle → Bool) (access : Access) (attributes : List Attr) (standing : Standing) (entries : List Entry) (some other : Stored)
+    → SameBut hidden some.values other.values → some.row ≡ other.row
+    → SameApplied hidden (applied access attributes standing some entries) (applied access attributes standing other entries)
+
+-- entries that are written leave all else as it was
+abbrev pub LeavesOthers : Type 0
+LeavesOthers = (access : Access) (attributes : List Attr) (standing : Standing) (entries : List Entry) (stored new : Stored)
+    → applied access attributes standing stored entries ≡ Ok new → KeepsOthers entries stored new
+
+-- and the old values with those of their handles stored
+abbrev pub StoresTouched : Type 0
+StoresTouched = (access : Access) (attributes : List Attr) (standing : Standing) (entries : List Entry) (stored new : Stored)
+    → applied access attributes standing stored entries ≡ Ok new → new.values ≡ values_put (map (λ (entry : Entry). entry.handle) entries) new.values stored.values
