@@ -2,6 +2,7 @@ pub mod AtOnce
 pub mod Laid
 pub mod Lengths
 pub mod Put
+pub mod PutBits
 pub mod Reached
 pub mod Sizes
 pub mod Touched

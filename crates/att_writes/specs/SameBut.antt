@@ -1,9 +1,9 @@
 -- Values that differ in nothing but some of them.
 use Rattle.std.specs.Prelude.{◌≡◌, ℕ, ◌<◌, Bool, false, ◌==◌, List, [], ◌∷◌, length, map, Result, Ok, Err}
 use Rattle.std.specs.List.{list_any}
-use Rattle.att_numbers.specs.Types.{Handle, Values}
+use Rattle.att_numbers.specs.Types.{Handle, Values, Row}
 use Rattle.att_policy.specs.Refusal.{Refusal}
-use Rattle.att_table.specs.ConfigRow.{bits_at}
+use Rattle.att_table.specs.ConfigRow.{bits_at, with_bits}
 use Rattle.att_table.specs.Table.{value_at, with_value}
 use Rattle.att_policy.specs.declared.policy.Access.{Access}
 use Rattle.att_policy.specs.declared.standing.Standing.{Standing}
@@ -38,6 +38,11 @@ pub record KeepsOthers (entries : List Entry) (old new : Stored) : Type 0 where
 abbrev pub values_put : List Handle → Values → Values → Values
 values_put [] from into = into
 values_put (handle ∷ rest) from into = values_put rest from (with_value into handle (value_at from handle))
+
+-- the bits of one row set in another at these handles
+abbrev pub bits_put : List Handle → Row → Row → Row
+bits_put [] from into = into
+bits_put (handle ∷ rest) from into = bits_put rest from (with_bits into handle (bits_at from handle))
 
 -- whether entries are refused, and with which code, depends on the lengths of values and never on their octets
 abbrev pub JudgesByLengths : Type 0
