@@ -1,10 +1,10 @@
 -- Values that differ in nothing but some of them.
-use Rattle.std.specs.Prelude.{◌≡◌, ℕ, ◌<◌, Bool, false, ◌==◌, List, [], ◌∷◌, length, map, Result, Ok, Err}
+use Rattle.std.specs.Prelude.{◌≡◌, ℕ, ◌<◌, Bool, false, ◌==◌, List, [], ◌∷◌, length, map, filter, Result, Ok, Err}
 use Rattle.std.specs.List.{list_any}
 use Rattle.att_numbers.specs.Types.{Handle, Values, Row}
 use Rattle.att_policy.specs.Refusal.{Refusal}
 use Rattle.att_table.specs.ConfigRow.{bits_at, with_bits}
-use Rattle.att_table.specs.Table.{value_at, with_value}
+use Rattle.att_table.specs.Table.{is_configuration_at, value_at, with_value}
 use Rattle.att_policy.specs.declared.policy.Access.{Access}
 use Rattle.att_policy.specs.declared.standing.Standing.{Standing}
 use Rattle.att_table.specs.declared.attr.Attr.{Attr}
@@ -59,3 +59,9 @@ LeavesOthers = (access : Access) (attributes : List Attr) (standing : Standing) 
 abbrev pub StoresTouched : Type 0
 StoresTouched = (access : Access) (attributes : List Attr) (standing : Standing) (entries : List Entry) (stored new : Stored)
     → applied access attributes standing stored entries ≡ Ok new → new.values ≡ values_put (map (λ (entry : Entry). entry.handle) entries) new.values stored.values
+
+-- and the old row with the bits of their configurations set
+abbrev pub SetsTouched : Type 0
+SetsTouched = (access : Access) (attributes : List Attr) (standing : Standing) (entries : List Entry) (stored new : Stored)
+    → applied access attributes standing stored entries ≡ Ok new
+    → new.row ≡ bits_put (filter (is_configuration_at attributes) (map (λ (entry : Entry). entry.handle) entries)) new.row stored.row

@@ -1,7 +1,7 @@
 ghost use Rattle.std.specs.Prelude.{◌≡◌, ◌+◌, ◌<◌, ◌≤◌, [], ◌∷◌, ◌++◌, length, vec_capacity, IfOk, IsTrue};
 ghost use Rattle.att_writes.specs.Entry.{entry_of};
 ghost use Rattle.att_writes.specs.Queue.{entries_in, sizes_of, has_room};
-ghost use Rattle.att_writes.specs.SameBut.{JudgesByLengths, LeavesOthers, StoresTouched};
+ghost use Rattle.att_writes.specs.SameBut.{JudgesByLengths, LeavesOthers, StoresTouched, SetsTouched};
 
 use crate::entry::EntryRef;
 use std::alloc::{AllocError, Global};
@@ -60,13 +60,14 @@ impl Model for Queue {
 
 impl Queue {
     /// An empty queue, with all the room that it will need.
-    #[tactic(auto, using(crate::proofs::Lengths::applied_both, crate::proofs::Put::stored_touched))]
+    #[tactic(auto, using(crate::proofs::Lengths::applied_both, crate::proofs::Put::stored_touched, crate::proofs::PutBits::row_touched))]
     pub fn new(alloc: Global) -> Result<Queue, AllocError>
         ensures empty { IfOk result (λ queue. queue ≡ []) }
         // What holds of all writes, prepared or not.
         ensures lengths { JudgesByLengths }
         ensures others { LeavesOthers }
         ensures stored { StoresTouched }
+        ensures configured { SetsTouched }
     {
         Ok(Queue {
             places: Vec::with_capacity(alloc, MAX_ENTRIES)?,

@@ -1,10 +1,7 @@
 -- How a PDU was served, beside what is written and the connection afterwards.
 use Rattle.std.specs.Prelude.{◌≡◌, is_some, List, Option}
-use Rattle.att_numbers.specs.Types.{Handle, Row}
+use Rattle.att_numbers.specs.Types.{Handle}
 use Rattle.att_pdu.specs.Response.{Response, sent_if_any}
-use Rattle.att_table.specs.ConfigRow.{IsRowOf}
-use Rattle.att_table.specs.Table.{Contents}
-use Rattle.att_writes.specs.Applied.{Stored}
 use Rattle.gatt_conn.specs.declared.answered.Answered.{Answered}
 use Rattle.octets.specs.Number.{Octets}
 
@@ -13,10 +10,3 @@ pub record Serves (answer : Option Response) (handles : List Handle) (result : A
   pub content : octets ≡ sent_if_any answer
   pub due : result.due ≡ is_some answer
   pub touched : result.touched.items ≡ handles
-
--- the values of a table and a row of it became these, and nothing else of the table changed
-pub record Stores (stored : Stored) (old new : Contents) (row : Row) : Type 0 where
-  pub values : new.values ≡ stored.values
-  pub configured : row ≡ stored.row
-  pub attributes : new.attributes ≡ old.attributes
-  pub of_table : IsRowOf new.attributes row

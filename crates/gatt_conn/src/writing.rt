@@ -5,9 +5,10 @@ ghost use Rattle.att_pdu.specs.PduBuf.{contents, mtu_of, IsSameBuffer};
 ghost use Rattle.att_pdu.specs.Request.{WriteRequest, ExecuteWriteRequest, WriteCommandPdu};
 ghost use Rattle.att_pdu.specs.Response.{ExecuteWriteResponse};
 ghost use Rattle.att_table.specs.ConfigRow.{IsRowOf};
+ghost use Rattle.att_writes.specs.Leaves.{Leaves};
 ghost use Rattle.att_writes.specs.Queue.{prepare_fault, prepared};
 ghost use Rattle.gatt_conn.specs.Answer.{entry_at, prepare_response, answer_to, stored_by, handles_by};
-ghost use Rattle.gatt_conn.specs.Served.{Serves, Stores};
+ghost use Rattle.gatt_conn.specs.Served.{Serves};
 
 use crate::answered::{Answered, refuse, with_answer, without_answer};
 use crate::conn::Conn;
@@ -30,7 +31,7 @@ pub(crate) fn write(
     requires row { IsRowOf table.old.attributes row.old }
     ensures served { Serves (answer_to table.old row.old conn.now (Ok (WriteRequest handle value.now)))
         (handles_by table.old row.old conn.now (Ok (WriteRequest handle value.now))) result (contents out.new) }
-    ensures stored { Stores (stored_by table.old row.old conn.now (Ok (WriteRequest handle value.now))) table.old table.new row.new }
+    ensures left { Leaves (stored_by table.old row.old conn.now (Ok (WriteRequest handle value.now))) table.old table.new row.new }
     ensures confirmed { result.confirmed ≡ false }
     ensures same_buffer { IsSameBuffer out.old out.new }
 {
@@ -57,7 +58,7 @@ pub(crate) fn command(
     requires row { IsRowOf table.old.attributes row.old }
     ensures served { Serves (answer_to table.old row.old conn.now (Ok (WriteCommandPdu handle value.now)))
         (handles_by table.old row.old conn.now (Ok (WriteCommandPdu handle value.now))) result [] }
-    ensures stored { Stores (stored_by table.old row.old conn.now (Ok (WriteCommandPdu handle value.now))) table.old table.new row.new }
+    ensures left { Leaves (stored_by table.old row.old conn.now (Ok (WriteCommandPdu handle value.now))) table.old table.new row.new }
     ensures confirmed { result.confirmed ≡ false }
 {
     match att_writes::command(table, row, conn.standing(), handle, value) {
@@ -123,20 +124,17 @@ pub(crate) fn execute(
     requires row { IsRowOf table.old.attributes row.old }
     ensures served { Serves (answer_to table.old row.old conn.old (Ok (ExecuteWriteRequest ExecuteFlags.Write)))
         (handles_by table.old row.old conn.old (Ok (ExecuteWriteRequest ExecuteFlags.Write))) result (contents out.new) }
-    ensures stored { Stores (stored_by table.old row.old conn.old (Ok (ExecuteWriteRequest ExecuteFlags.Write))) table.old table.new row.new }
+    ensures left { Leaves (stored_by table.old row.old conn.old (Ok (ExecuteWriteRequest ExecuteFlags.Write))) table.old table.new row.new }
     ensures conn { conn.new ≡ record conn.old { queue = [] } }
     ensures confirmed { result.confirmed ≡ false }
     ensures same_buffer { IsSameBuffer out.old out.new }
 {
-    let mut touched = ArrayVec::new();
-    match conn.execute(table, row, &mut touched) {
+    let mut answered = with_answer();
+    match conn.execute(table, row, &mut answered.touched) {
         Outcome::Denied(opcode, handle, code) => refuse(opcode, handle, code, out),
         Outcome::Written | Outcome::Queued => {
             out.value(&[opcode::EXECUTE_WRITE_RESPONSE]);
-            Answered {
-                touched,
-                ..with_answer()
-            }
+            answered
         }
     }
 }
