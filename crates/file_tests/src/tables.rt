@@ -70,13 +70,14 @@ const WANTED_BELL: Wanted = Wanted {
     ],
 };
 
-/// A service of two characteristics, one of none, and one of an include and a characteristic.
+/// A service of two characteristics, one of none, and one of an include and a characteristic. The
+/// digits of a value are of both cases.
 const GROUPS: &str = r#"
 [[service]]
 uuid = "fff0"
 [[service.characteristic]]
 uuid = "fff1"
-value = ""
+value = "4c6F636B"
 properties = []
 [[service.characteristic]]
 uuid = "fff2"
@@ -96,8 +97,8 @@ properties = []
 
 const WANTED_GROUPS: Wanted = Wanted {
     attributes: 10,
-    octets: 27,
-    values: &[(8, b"\x06\x00\x06\x00\xf3\xff")],
+    octets: 31,
+    values: &[(3, b"Lock"), (8, b"\x06\x00\x06\x00\xf3\xff")],
     group_ends: &[
         (1, 5),
         (2, 3),
