@@ -1,7 +1,7 @@
 //! The command `check`.
 
 use att_table::examples::{BELL, DOOR};
-use gatt_commands::{ShellFault, check_files, check_paths};
+use gatt_commands::{KeysPath, ShellFault, TablePath, check_files, check_paths};
 use le_security::examples::KEYS;
 use std::alloc::Global;
 use std::fs::Files;
@@ -85,7 +85,13 @@ fn judges_paths(
     printed: &str,
 ) {
     let mut output: Vec<u8> = Vec::new(rt.alloc());
-    let checked = check_paths(rt.alloc(), rt, table, keys, &mut output);
+    let checked = check_paths(
+        rt.alloc(),
+        rt,
+        TablePath(table),
+        KeysPath(keys),
+        &mut output,
+    );
     assert_eq!(rt; checked, answer);
     assert_eq!(rt; output.as_slice(), printed.as_bytes());
 }

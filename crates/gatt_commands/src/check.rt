@@ -50,19 +50,27 @@ pub fn check_files<T: Read, K: Read, W: Write>(
     print(count_lines(&table, &keys).as_slice(), writer)
 }
 
+/// The path of a table file.
+#[derive(Clone, Copy)]
+pub struct TablePath<'a>(pub &'a str);
+
+/// The path of a key file.
+#[derive(Clone, Copy)]
+pub struct KeysPath<'a>(pub &'a str);
+
 /// The same of the files at two paths. Neither is opened before its turn.
 pub fn check_paths<F: Files, W: Write>(
     alloc: Global,
     files: &F,
-    table: &str,
-    keys: &str,
+    table: TablePath<'_>,
+    keys: KeysPath<'_>,
     writer: &mut W,
 ) -> Result<(), ShellFault>
     ensures nothing_printed { IfErr result (λ fault. fault ≢ ShellFault.Unwritten → Keeps (W.contents writer.old) (W.contents writer.new)) }
     ensures faults { IfErr result IsCheckFault }
 {
-    let mut table = LazyFile::new(files, table);
-    let mut keys = LazyFile::new(files, keys);
+    let mut table = LazyFile::new(files, table.0);
+    let mut keys = LazyFile::new(files, keys.0);
     check_files(alloc, &mut table, &mut keys, writer)
 }
 

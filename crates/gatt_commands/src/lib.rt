@@ -13,6 +13,6 @@ mod session;
 mod table_file;
 
 pub use att::att_lines;
-pub use check::{check_files, check_paths};
+pub use check::{KeysPath, TablePath, check_files, check_paths};
 pub use fault::{ShellFault, status, text};
 pub use input::{CHUNK, READS};

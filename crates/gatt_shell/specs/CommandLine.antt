@@ -37,7 +37,7 @@ name_of (Check table keys) = codes "check"
 abbrev pub HasFilesOf : List Row → Choice → Type 0
 HasFilesOf arguments Att = Unit {0}
 HasFilesOf arguments (Check table keys) =
-    (first_of (codes "TABLE") arguments ≡ Some table.now) × (first_of (codes "KEYS") arguments ≡ Some keys.now)
+    (first_of (codes "TABLE") arguments ≡ Some table.0.now) × (first_of (codes "KEYS") arguments ≡ Some keys.0.now)
 
 -- the same of a command that is named with its arguments
 abbrev pub HasFiles : Option (Text × List Row) → Choice → Type 0

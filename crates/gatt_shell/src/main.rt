@@ -10,7 +10,7 @@ ghost use Rattle.gatt_commands.specs.Check.{IsCheckFault};
 ghost use Rattle.gatt_commands.specs.Fault.{status_of};
 
 use arrayvec::ArrayVec;
-use gatt_commands::ShellFault;
+use gatt_commands::{KeysPath, ShellFault, TablePath};
 use std::fs::Files;
 use std::io::{ErrorKind, LineWriter, Write};
 use std::process::ExitCode;
@@ -85,8 +85,8 @@ fn run_att(rt: &(impl Input + Print + AllocGlobal)) -> Result<(), ShellFault> {
 /// Neither is opened before its turn.
 fn run_check(
     rt: &(impl Files + Print + AllocGlobal),
-    table: &str,
-    keys: &str,
+    table: TablePath<'_>,
+    keys: KeysPath<'_>,
 ) -> Result<(), ShellFault>
     ensures { IfErr result IsCheckFault }
 {

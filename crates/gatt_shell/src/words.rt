@@ -12,19 +12,20 @@ ghost use Rattle.gatt_shell.specs.Refusal.{ShowsUnlessMemory, refusal_for};
 use crate::help;
 use clap::error::ErrorKind;
 use clap::{Arg, ArgAction, ArgMatches, Command, Error};
+use gatt_commands::{KeysPath, TablePath};
 use std::alloc::{AllocError, Global};
 
 /// The command that the words choose.
-#[derive(Clone, Copy, Debug, PartialEq, Eq)]
+#[derive(Clone, Copy)]
 pub enum Choice<'a> {
     /// Answers ATT PDUs from standard input.
     Att,
     /// Judges files, which are named by their paths.
     Check {
         /// The table file.
-        table: &'a str,
+        table: TablePath<'a>,
         /// The key file.
-        keys: &'a str,
+        keys: KeysPath<'a>,
     },
 }
 
@@ -79,7 +80,10 @@ fn checking<'a>(arguments: &ArgMatches<'a>) -> Option<Choice<'a>>
 {
     let table = arguments.get_str(help::TABLE)?;
     let keys = arguments.get_str(help::KEYS)?;
-    Some(Choice::Check { table, keys })
+    Some(Choice::Check {
+        table: TablePath(table),
+        keys: KeysPath(keys),
+    })
 }
 
 /// What is told where the parser refuses the words: its text only where help or the version was
