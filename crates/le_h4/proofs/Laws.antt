@@ -10,7 +10,7 @@ before-before : (xs ys : List Packet) (rest : Division) → before xs (before ys
 before-before xs ys rest = ap (λ (packets : List Packet). record { packets = packets; end = rest.end }) (sym (append_assoc xs ys rest.packets))
 
 -- after any calls the rest divides as from where they led
-pub still-feeds : (calls : List Call) (old new : Deframing) → Feeds old calls new → (rest : List ℕ)
+still-feeds : (calls : List Call) (old new : Deframing) → Feeds old calls new → (rest : List ℕ)
     → still old (octets_of calls ++ rest) ≡ before (packets_of calls) (still new rest)
 still-feeds [] old new feeds rest = ap (λ (d : Deframing). still d rest) (sym feeds)
 still-feeds (call ∷ calls) old new feeds rest =
@@ -20,7 +20,7 @@ still-feeds (call ∷ calls) old new feeds rest =
     ∙ before-before call.packets (packets_of calls) (still new rest)
 
 -- from the start of a stream, the packets so far come before the division of the rest
-pub division-feeds : (calls : List Call) (new : Deframing) → Feeds at_start calls new → (rest : List ℕ)
+division-feeds : (calls : List Call) (new : Deframing) → Feeds at_start calls new → (rest : List ℕ)
     → division (octets_of calls ++ rest) ≡ before (packets_of calls) (still new rest)
 division-feeds calls new feeds rest = sym (past_none (octets_of calls ++ rest)) ∙ still-feeds calls at_start new feeds rest
 
