@@ -2,7 +2,6 @@
 use Rattle.std.proofs.Common.{◌≡◌, ◌≢◌, ℕ, ◌+◌, ◌<◌, List, [], ◌∷◌, ◌++◌, length, Option, Some, None, refl, sym, ◌∙◌, ap, subst, take, arith, append_assoc}
 use Rattle.std.specs.Prelude.{IfSome, Result, Ok, Err, IsErrAnd}
 use Rattle.gatt_commands.specs.declared.fault.ShellFault.{ShellFault}
-use Rattle.gatt_commands.specs.declared.fault.ShellFault.TheVariants.{NotHex, Unwritten}
 use Rattle.std.specs.Io.KnownBytes.{Appends, Consumes, Keeps, IsAtEnd}
 use Rattle.std.proofs.lemmas.Grind.{common_steps}
 use Rattle.std.proofs.lemmas.List.{append-nil}
@@ -15,15 +14,10 @@ use Rattle.gatt_commands.proofs.Reports.{printed-report, bad_line-report}
 use Rattle.gatt_commands.specs.Session.{Report, report, line_report, after, ends_at, nothing, onto, server_of, report_from, Passes, StopsAt, Ends, AnswersLine, IsFront, BreaksOff, EndsBroken, BreaksLine}
 
 -- a `?` passes on the fault that it was given
-pub same_fault : {T U : Type 0} (inner : Result T ShellFault) (outer : Result U ShellFault) (fault : ShellFault) (number : ℕ)
-    → inner ≡ Err fault → IsErrAnd outer (λ passed_on. passed_on ≡ fault) → outer ≡ Err (NotHex number) → inner ≡ Err (NotHex number)
-same_fault inner (Ok x) fault number was is h = absurd is
-same_fault inner (Err passed_on) fault number was is h = cc
-
-pub same_unwritten : {T U : Type 0} (inner : Result T ShellFault) (outer : Result U ShellFault) (fault : ShellFault)
-    → inner ≡ Err fault → IsErrAnd outer (λ passed_on. passed_on ≡ fault) → outer ≡ Err Unwritten → inner ≡ Err Unwritten
-same_unwritten inner (Ok x) fault was is h = absurd is
-same_unwritten inner (Err passed_on) fault was is h = cc
+pub same_fault : {T U : Type 0} (inner : Result T ShellFault) (outer : Result U ShellFault) (fault wanted : ShellFault)
+    → inner ≡ Err fault → IsErrAnd outer (λ passed_on. passed_on ≡ fault) → outer ≡ Err wanted → inner ≡ Err wanted
+same_fault inner (Ok x) fault wanted was is h = absurd is
+same_fault inner (Err passed_on) fault wanted was is h = cc
 
 after-after : (xs ys : List ℕ) (rest : Report) → after xs (after ys rest) ≡ after (xs ++ ys) rest
 after-after xs ys rest = simp append_assoc

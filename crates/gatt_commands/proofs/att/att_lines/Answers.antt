@@ -1,6 +1,7 @@
 use Rattle.std.proofs.Common.{◌<◌, length, refl, arith}
 use Rattle.std.proofs.lemmas.Result.{on_ok_weaker}
-use Rattle.gatt_commands.proofs.Sessions.{same_fault, has_read_none, has_read_more, has_read_nothing, has_read_kept, answers_input, refuses_input, prints_front, same_unwritten, breaks_input, breaks_end}
+use Rattle.gatt_commands.specs.declared.fault.ShellFault.TheVariants.{NotHex, Unwritten}
+use Rattle.gatt_commands.proofs.Sessions.{same_fault, has_read_none, has_read_more, has_read_nothing, has_read_kept, answers_input, refuses_input, prints_front, breaks_input, breaks_end}
 use Rattle.gatt_commands.proofs.att.att_lines.Goals as goal
 use Rattle.gatt_commands.proofs.att.att_lines.Goals.{in-Ok+in_ok-take-in-Ok, in-Err}
 
@@ -22,7 +23,7 @@ returns-in-Ok-eq0-clause-not_hex g c number h =
 
 pub returns-in_err-take-in-Ok-clause-not_hex : goal.returns-in_err-take-in-Ok-clause-not_hex
 returns-in_err-take-in-Ok-clause-not_hex g c number h =
-    let said = same_fault c.take.result c.from_residual-in_err-take-in-Ok.result _ number c.in_err-take-in-Ok.was c.from_residual-in_err-take-in-Ok.ensures.1 h in
+    let said = same_fault c.take.result c.from_residual-in_err-take-in-Ok.result _ (NotHex number) c.in_err-take-in-Ok.was c.from_residual-in_err-take-in-Ok.ensures.1 h in
     let read = rw c.in-Ok.is at c.read.ensures.bytes in
     refuses_input _ _ _ _ _ _ _ _ _ _ c.loop-read.invariant.start c.loop-read.invariant.so_far read.0 (c.take.ensures.stops number said)
 
@@ -70,6 +71,6 @@ returns-in-Ok-eq0-clause-unwritten g c h =
 
 pub returns-in_err-take-in-Ok-clause-unwritten : goal.returns-in_err-take-in-Ok-clause-unwritten
 returns-in_err-take-in-Ok-clause-unwritten g c h =
-    let said = same_unwritten c.take.result c.from_residual-in_err-take-in-Ok.result _ c.in_err-take-in-Ok.was c.from_residual-in_err-take-in-Ok.ensures.1 h in
+    let said = same_fault c.take.result c.from_residual-in_err-take-in-Ok.result _ Unwritten c.in_err-take-in-Ok.was c.from_residual-in_err-take-in-Ok.ensures.1 h in
     let read = rw c.in-Ok.is at c.read.ensures.bytes in
     breaks_input _ _ _ _ _ _ _ _ _ c.loop-read.invariant.start c.loop-read.invariant.so_far read.0 (c.take.ensures.breaks_off said)

@@ -1,7 +1,8 @@
 use Rattle.std.proofs.Common.{◌≡◌, ℕ, ◌+◌, ◌<◌, List, [], ◌∷◌, ◌++◌, length, take, drop, get_or, ap, sym, subst, ◌∙◌, arith, append_assoc}
 use Rattle.std.proofs.lemmas.List.{take_more, take-append-drop}
 use Rattle.gatt_commands.specs.Session.{StopsAt, BreaksOff}
-use Rattle.gatt_commands.proofs.Sessions.{same_fault, same_unwritten, passes_more, stops_after, break_after}
+use Rattle.gatt_commands.specs.declared.fault.ShellFault.TheVariants.{NotHex, Unwritten}
+use Rattle.gatt_commands.proofs.Sessions.{same_fault, passes_more, stops_after, break_after}
 use Rattle.gatt_commands.proofs.session.Session.take.Goals as goal
 
 -- a list, cut before and after one of its elements
@@ -13,7 +14,7 @@ cut_at xs i below =
 
 pub returns-in_err-take_octet-clause-stops : goal.returns-in_err-take_octet-clause-stops
 returns-in_err-take_octet-clause-stops g c number h =
-    let said = same_fault c.take_octet.result c.from_residual.result _ number c.in_err-take_octet.was c.from_residual.ensures.1 h in
+    let said = same_fault c.take_octet.result c.from_residual.result _ (NotHex number) c.in_err-take_octet.was c.from_residual.ensures.1 h in
     let i = c.loop-octet.octet-index in
     let P : List ℕ → Type 0 = λ octets. StopsAt c.args.self.now octets number (g.W.Write.contents c.args.writer.now) (g.W.Write.contents c.take_octet.new.writer) in
     subst P (cut_at c.args.octets.now i c.loop-octet-test.true)
@@ -21,7 +22,7 @@ returns-in_err-take_octet-clause-stops g c number h =
 
 pub returns-in_err-take_octet-clause-breaks_off : goal.returns-in_err-take_octet-clause-breaks_off
 returns-in_err-take_octet-clause-breaks_off g c h =
-    let said = same_unwritten c.take_octet.result c.from_residual.result _ c.in_err-take_octet.was c.from_residual.ensures.1 h in
+    let said = same_fault c.take_octet.result c.from_residual.result _ Unwritten c.in_err-take_octet.was c.from_residual.ensures.1 h in
     let i = c.loop-octet.octet-index in
     let P : List ℕ → Type 0 = λ octets. BreaksOff c.args.self.now octets (g.W.Write.contents c.args.writer.now) (g.W.Write.contents c.take_octet.new.writer) in
     subst P (cut_at c.args.octets.now i c.loop-octet-test.true)

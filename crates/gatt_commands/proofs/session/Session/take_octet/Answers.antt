@@ -1,7 +1,8 @@
 use Rattle.std.proofs.Common.{◌≡◌, ◌≢◌, arith, [], ◌+◌, refl, ap}
 use Rattle.std.proofs.lemmas.Grind.{common_steps}
 use Rattle.gatt_commands.specs.Session.{server_of}
-use Rattle.gatt_commands.proofs.Sessions.{same_fault, pass_octet, stop_long, pass_blank, pass_line, stop_line, same_unwritten, break_line}
+use Rattle.gatt_commands.specs.declared.fault.ShellFault.TheVariants.{NotHex, Unwritten}
+use Rattle.gatt_commands.proofs.Sessions.{same_fault, pass_octet, stop_long, pass_blank, pass_line, stop_line, break_line}
 use Rattle.gatt_commands.proofs.session.Session.take_octet.Goals as goal
 use Rattle.gatt_commands.proofs.session.Session.take_octet.Goals.{then-not-is_empty+in_ok-answer_line, else-not-is_empty}
 
@@ -14,7 +15,7 @@ returns-in-Err-clause-stops g c number h = stop_long _ _ _ _ c.if-octet-ne10.tru
 pub returns-in_err-answer_line-clause-stops : goal.returns-in_err-answer_line-clause-stops
 returns-in_err-answer_line-clause-stops g c number h =
     let begun : c.args.self.now.line.items ≢ [] = grind (arith, common_steps) in
-    let said = same_fault c.answer_line.result c.from_residual.result _ number c.in_err-answer_line.was c.from_residual.ensures.1 h in
+    let said = same_fault c.answer_line.result c.from_residual.result _ (NotHex number) c.in_err-answer_line.was c.from_residual.ensures.1 h in
     let refused = c.answer_line.ensures.not_hex number said in
     stop_line _ _ _ _ _ c.if-octet-ne10.false begun refused.0 refused.1 refused.2
 
@@ -37,5 +38,5 @@ returns-clause-passes g c = elim c.if-not-is_empty.branch [
 pub returns-in_err-answer_line-clause-breaks_off : goal.returns-in_err-answer_line-clause-breaks_off
 returns-in_err-answer_line-clause-breaks_off g c h =
     let begun : c.args.self.now.line.items ≢ [] = grind (arith, common_steps) in
-    let said = same_unwritten c.answer_line.result c.from_residual.result _ c.in_err-answer_line.was c.from_residual.ensures.1 h in
+    let said = same_fault c.answer_line.result c.from_residual.result _ Unwritten c.in_err-answer_line.was c.from_residual.ensures.1 h in
     break_line _ _ _ _ c.if-octet-ne10.false begun (c.answer_line.ensures.breaks_off said)
