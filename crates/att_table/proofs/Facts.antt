@@ -9,7 +9,7 @@ use Rattle.std.proofs.lemmas.List.Elements.{All-nil, All-cons, All-head, All-tai
 use Rattle.std.proofs.lemmas.List.Sums.{sum_by-cons}
 use Rattle.octets.specs.Number.{Octets}
 use Rattle.att_numbers.specs.Types.{Handle}
-use Rattle.att_values.specs.Cell.{Cell, no_cell, cell_at, patched, patched_cell, with_part}
+use Rattle.att_values.specs.Cell.{Cell, no_cell, cell_at, value_with_part, patched_cell, with_part}
 use Rattle.att_table.specs.declared.attr.Attr.{Attr}
 use Rattle.att_table.specs.declared.attr.Role.{Role}
 use Rattle.att_table.specs.declared.attr.Role.TheVariants.{Declaration, Value, Configuration, Descriptor}
@@ -173,7 +173,7 @@ fixed-here attributes handle attr used at fixed = ap (λ found. option_map_or (�
 -- a part keeps the length of a fixed value, and what replaces it has that length
 abbrev pub KeepsLength : List Attr → List Cell → Bool → Handle → ℕ → Octets → Type 0
 KeepsLength attributes cells keep handle offset part = (attr : Attr) → slice_get attributes (handle - 1) ≡ Some attr → attr.fixed ≡ true
-    → length (patched keep (cell_at cells handle).octets offset part) ≡ (cell_at cells handle).room
+    → length (value_with_part keep (cell_at cells handle).octets offset part) ≡ (cell_at cells handle).room
 
 replaced : (attributes : List Attr) (cells : List Cell) (handle : Handle) (octets : Octets) → IsKept attributes cells → 0 < handle
     → (is_fixed_at attributes handle ≡ true → length octets ≡ room_at (record { attributes = attributes; values = values_of cells }) handle)
@@ -192,7 +192,7 @@ keeps_replaced attributes cells table handle octets kept is used =
     let P : Contents → Type 0 = λ t. (is_fixed_at t.attributes handle ≡ true → length octets ≡ room_at t handle) → KeepsLength attributes cells false handle 0 octets in
     subst P is (λ exact. replaced attributes cells handle octets kept used exact)
 
-length-kept : (value part : Octets) (offset : ℕ) → offset + length part ≤ length value → length (patched true value offset part) ≡ length value
+length-kept : (value part : Octets) (offset : ℕ) → offset + length part ≤ length value → length (value_with_part true value offset part) ≡ length value
 length-kept value part offset fits = simp (length-append, length-take, length-drop) (omega arith)
 
 written : (attributes : List Attr) (cells : List Cell) (keep : Bool) (handle : Handle) (offset : ℕ) (part : Octets) → IsKept attributes cells → 0 < handle
@@ -205,7 +205,7 @@ written attributes cells keep handle offset part kept used keeps fits attr at fi
     let own = exact-at attributes cells (handle - 1) attr (kept-length attributes cells kept) kept.exact at fixed in
     let value = (cell_at cells handle).octets in
     let within : offset + length part ≤ length value = omega (arith, fits, room, ap length (value_at-cell cells handle)) in
-    ap (λ b. length (patched b value offset part)) (keeps ∙ is) ∙ length-kept value part offset within ∙ own
+    ap (λ b. length (value_with_part b value offset part)) (keeps ∙ is) ∙ length-kept value part offset within ∙ own
 
 pub keeps_written : (attributes : List Attr) (cells : List Cell) (table : Contents) (keep : Bool) (handle : Handle) (offset : ℕ) (part : Octets)
     → IsKept attributes cells → (let view : Contents = record { attributes = attributes; values = values_of cells } in view) ≡ table → 0 < handle

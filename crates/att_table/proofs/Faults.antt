@@ -5,7 +5,7 @@ use Rattle.hex.specs.Hex.{decode_of}
 use Rattle.hex.specs.declared.error.FromHexError.{FromHexError}
 use Rattle.toml.specs.Data.{Data, Items, no_items, item, Members, as_str, as_integer, as_table}
 use Rattle.toml.specs.Parse.{parse_document}
-use Rattle.toml_tables.specs.Reading.{◌>>=◌, unless, required, each, text_at, integer_at, flag_at, array_at, items_at, table_at}
+use Rattle.toml_tables.specs.Reading.{◌>>=◌, unless, require, each, text_at, integer_at, flag_at, array_at, items_at, table_at}
 use Rattle.toml_tables.specs.Shape.{is_shaped}
 use Rattle.att_numbers.specs.AttributeType.{type_octets}
 use Rattle.att_numbers.specs.Types.{Handle, AttributeType}
@@ -41,7 +41,7 @@ walked-unless : (test : Bool) (fault : TableFault) → fault ≢ NotToml → IsW
 walked-unless true fault other = tt
 walked-unless false fault other = other
 
-walked-required : {A : Type 0} (found : Option A) (fault : TableFault) → fault ≢ NotToml → IsWalked (required found fault)
+walked-required : {A : Type 0} (found : Option A) (fault : TableFault) → fault ≢ NotToml → IsWalked (require found fault)
 walked-required None fault other = other
 walked-required (Some x) fault other = tt
 
@@ -72,7 +72,7 @@ walked-need_read (Some needs) =
 
 walked-type_at : (table : Members) → IsWalked (type_at table)
 walked-type_at table =
-    walked-then (required (text_at (codes "uuid") table) (Missing Uuid)) _ (walked-required _ _ (λ e. cc e))
+    walked-then (require (text_at (codes "uuid") table) (Missing Uuid)) _ (walked-required _ _ (λ e. cc e))
     (λ text. walked-required (type_named text) _ (λ e. cc e))
 
 walked-value_type_at : (table : Members) → IsWalked (value_type_at table)
@@ -82,13 +82,13 @@ walked-value_type_at table =
 
 walked-property_step : (allowed properties : Properties) (value : Data) → IsWalked (property_step allowed properties value)
 walked-property_step allowed properties value =
-    walked-then (required (as_str value) Shape) _ (walked-required _ _ (λ e. cc e))
-    (λ word. walked-then (required (property_named word) BadProperty) _ (walked-required _ _ (λ e. cc e))
+    walked-then (require (as_str value) Shape) _ (walked-required _ _ (λ e. cc e))
+    (λ word. walked-then (require (property_named word) BadProperty) _ (walked-required _ _ (λ e. cc e))
     (λ property. walked-then (unless (has_all allowed property) BadProperty) _ (walked-unless _ _ (λ e. cc e)) (λ _. tt)))
 
 walked-properties_at : (allowed : Properties) (table : Members) → IsWalked (properties_at allowed table)
 walked-properties_at allowed table =
-    walked-then (required (array_at (codes "properties") table) (Missing PropertiesName)) _ (walked-required _ _ (λ e. cc e))
+    walked-then (require (array_at (codes "properties") table) (Missing PropertiesName)) _ (walked-required _ _ (λ e. cc e))
     (λ words. walked-each (property_step allowed) no_properties words (walked-property_step allowed))
 
 walked-value_decoded : (decoded : Result (List ℕ) FromHexError) → IsWalked (value_decoded decoded)
@@ -97,7 +97,7 @@ walked-value_decoded (Ok octets) = walked-if (nat_le (length octets) 512) octets
 
 walked-value_read_at : (table : Members) → IsWalked (value_read_at table)
 walked-value_read_at table =
-    walked-then (required (text_at (codes "value") table) (Missing Value)) _ (walked-required _ _ (λ e. cc e))
+    walked-then (require (text_at (codes "value") table) (Missing Value)) _ (walked-required _ _ (λ e. cc e))
     (λ text. walked-value_decoded (decode_of text))
 
 walked-largest_of : (largest : Option ℤ) (fixed : Bool) (size : ℕ) → IsWalked (largest_of largest fixed size)
@@ -129,7 +129,7 @@ walked-configure draft properties need =
 
 walked-descriptor_step : (draft : Contents) (value : Data) → IsWalked (descriptor_step draft value)
 walked-descriptor_step draft value =
-    walked-then (required (as_table value) Shape) _ (walked-required _ _ (λ e. cc e))
+    walked-then (require (as_table value) Shape) _ (walked-required _ _ (λ e. cc e))
     (λ table. walked-then (unless (is_shaped descriptor_keys table) Shape) _ (walked-unless _ _ (λ e. cc e))
     (λ _. walked-then (placed_of Descriptor (next_handle draft) read_and_write table) _ (walked-placed_of Descriptor (next_handle draft) read_and_write table)
     (λ placed. walked-add draft placed.0 placed.1)))
@@ -147,7 +147,7 @@ walked-characterize draft attr value need =
 
 walked-characteristic_step : (draft : Contents) (value : Data) → IsWalked (characteristic_step draft value)
 walked-characteristic_step draft value =
-    walked-then (required (as_table value) Shape) _ (walked-required _ _ (λ e. cc e))
+    walked-then (require (as_table value) Shape) _ (walked-required _ _ (λ e. cc e))
     (λ table. walked-then (unless (is_shaped characteristic_keys table) Shape) _ (walked-unless _ _ (λ e. cc e))
     (λ _. walked-then (placed_of ValueRole (next_handle draft + 1) any_property table) _ (walked-placed_of ValueRole (next_handle draft + 1) any_property table)
     (λ placed. walked-then (config_at placed.0.guard.properties table) _ (walked-config_at placed.0.guard.properties table)
@@ -156,13 +156,13 @@ walked-characteristic_step draft value =
 
 walked-include_step : (draft : Contents) (value : Data) → IsWalked (include_step draft value)
 walked-include_step draft value =
-    walked-then (required (as_integer value) Shape) _ (walked-required _ _ (λ e. cc e))
-    (λ position. walked-then (required (earlier_service draft.attributes position) BadInclude) _ (walked-required _ _ (λ e. cc e))
+    walked-then (require (as_integer value) Shape) _ (walked-required _ _ (λ e. cc e))
+    (λ position. walked-then (require (earlier_service draft.attributes position) BadInclude) _ (walked-required _ _ (λ e. cc e))
     (λ service. walked-declare draft INCLUDE (include_value draft.values service)))
 
 walked-service_step : (draft : Contents) (value : Data) → IsWalked (service_step draft value)
 walked-service_step draft value =
-    walked-then (required (as_table value) Shape) _ (walked-required _ _ (λ e. cc e))
+    walked-then (require (as_table value) Shape) _ (walked-required _ _ (λ e. cc e))
     (λ table. walked-then (unless (is_shaped service_keys table) Shape) _ (walked-unless _ _ (λ e. cc e))
     (λ _. walked-then (type_at table) _ (walked-type_at table)
     (λ kind. walked-then (declare draft (service_type_at table) (type_octets kind)) _ (walked-declare draft (service_type_at table) (type_octets kind))
@@ -172,7 +172,7 @@ walked-service_step draft value =
 walked-table_of : (document : Members) → IsWalked (table_of document)
 walked-table_of document =
     walked-then (unless (is_shaped root_keys document) Shape) _ (walked-unless _ _ (λ e. cc e))
-    (λ _. walked-then (required (array_at (codes "service") document) (Missing ServiceName)) _ (walked-required _ _ (λ e. cc e))
+    (λ _. walked-then (require (array_at (codes "service") document) (Missing ServiceName)) _ (walked-required _ _ (λ e. cc e))
     (λ services. walked-each service_step no_attributes services walked-service_step))
 
 -- so that fault tells of a text that does not parse
@@ -180,7 +180,7 @@ other_fault : {A : Type 0} (result : Result A TableFault) → IsWalked result �
 other_fault (Ok x) walked = λ e. cc e
 other_fault (Err fault) walked = λ e. walked (cc e)
 
-none_parsed : (document : Option Members) → (required document NotToml >>= table_of) ≡ Err NotToml → document ≡ None
+none_parsed : (document : Option Members) → (require document NotToml >>= table_of) ≡ Err NotToml → document ≡ None
 none_parsed None e = refl
 none_parsed (Some document) e = absurd (other_fault (table_of document) (walked-table_of document) e)
 

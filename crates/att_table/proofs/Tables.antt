@@ -10,7 +10,7 @@ use Rattle.std.proofs.lemmas.List.Sums.{sum-map}
 use Rattle.std.proofs.lemmas.List.Elements.{All-get_or, All-set}
 use Rattle.std.proofs.lemmas.Option.{slice_get-get_or, slice_get_within, slice_get_past, slice_get-map, unwrap_or-slice_get}
 use Rattle.att_table.specs.declared.attr.Attr.{Attr}
-use Rattle.att_values.specs.Cell.{Cell, no_cell, cell_at, patched, patched_cell, with_part}
+use Rattle.att_values.specs.Cell.{Cell, no_cell, cell_at, value_with_part, patched_cell, with_part}
 use Rattle.att_table.specs.Table.{Contents, attribute_at, value_at, with_value, is_fixed_at, room_at, values_of, AreExact, IsKept}
 
 -- an attribute has its place in the list
@@ -22,7 +22,7 @@ attribute_at-found attributes handle h = grind arith
 
 -- a part that fits keeps the value within its room
 length-patched : (keep : Bool) (value : List ℕ) (offset : ℕ) (part : List ℕ) (room : ℕ)
-    → offset ≤ length value → offset + length part ≤ room → length value ≤ room → length (patched keep value offset part) ≤ room
+    → offset ≤ length value → offset + length part ≤ room → length value ≤ room → length (value_with_part keep value offset part) ≤ room
 length-patched true value offset part room in_value fits within = simp (length-append, length-take, length-drop) (omega arith)
 length-patched false value offset part room in_value fits within = simp (length-append, length-take, length-drop) (omega arith)
 
@@ -87,15 +87,15 @@ kept-patched attributes cells keep handle offset part kept in_value fits exact =
 
 -- the values after a part is written into a cell
 pub values_of-with_part : (cells : List Cell) (keep : Bool) (handle offset : ℕ) (part : List ℕ)
-    → values_of (with_part cells keep handle offset part) ≡ with_value (values_of cells) handle (patched keep (value_at (values_of cells) handle) offset part)
+    → values_of (with_part cells keep handle offset part) ≡ with_value (values_of cells) handle (value_with_part keep (value_at (values_of cells) handle) offset part)
 values_of-with_part cells keep handle offset part =
     map-set (λ (cell : Cell). cell.octets) cells (handle - 1) (patched_cell keep (cell_at cells handle) offset part)
-    ∙ ap (λ value. with_value (values_of cells) handle (patched keep value offset part)) (sym (value_at-cell cells handle))
+    ∙ ap (λ value. with_value (values_of cells) handle (value_with_part keep value offset part)) (sym (value_at-cell cells handle))
 
 -- the same of a table with these values
 pub patched_values : (cells new : List Cell) (table : Contents) (fixed : Bool) (handle place offset : ℕ) (part : List ℕ)
     → values_of cells ≡ table.values → new ≡ with_part cells fixed handle place part → fixed ≡ is_fixed_at table.attributes handle → place ≡ offset
-    → values_of new ≡ with_value table.values handle (patched (is_fixed_at table.attributes handle) (value_at table.values handle) offset part)
+    → values_of new ≡ with_value table.values handle (value_with_part (is_fixed_at table.attributes handle) (value_at table.values handle) offset part)
 patched_values cells new table fixed handle place offset part same is fixed_is at =
     ap values_of is ∙ values_of-with_part cells fixed handle place part ∙ (cc)
 

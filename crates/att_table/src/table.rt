@@ -1,7 +1,7 @@
 ghost use Rattle.std.specs.Prelude.{◌≡◌, ◌+◌, ◌<◌, ◌≤◌, ◌∷◌, ◌++◌, [], true, map, length, sum_by, vec_len, IfSome, IsSome, OnOk, OnErr};
 ghost use Rattle.std.specs.Option.{option_copied};
 ghost use Rattle.att_table.specs.declared.attr.Attr.{Attr};
-ghost use Rattle.att_values.specs.Cell.{patched};
+ghost use Rattle.att_values.specs.Cell.{value_with_part};
 ghost use Rattle.att_table.specs.ConfigRow.{HasRowRoom};
 ghost use Rattle.att_table.specs.Facts.{IsTable};
 ghost use Rattle.att_table.specs.Group.{group_ends_of, group_end_at};
@@ -157,7 +157,7 @@ impl Table {
         requires fits { offset + length part.now ≤ room_at self.old handle }
         ensures attributes { self.new.attributes ≡ self.old.attributes }
         ensures values { self.new.values ≡ with_value self.old.values handle
-            (patched (is_fixed_at self.old.attributes handle) (value_at self.old.values handle) offset part.now) }
+            (value_with_part (is_fixed_at self.old.attributes handle) (value_at self.old.values handle) offset part.now) }
     {
         let fixed = self.is_fixed(handle);
         self.values

@@ -10,7 +10,7 @@ use Rattle.std.proofs.lemmas.Cmp.{nat_cmp_total}
 use Rattle.std.proofs.lemmas.Bool.Decides.{nat_tests}
 use Rattle.std.proofs.lemmas.Option.{slice_get-get_or, slice_get_past}
 use Rattle.std.proofs.lemmas.List.{length-map, get_or-map, map-set, get_or_past}
-use Rattle.att_values.specs.Cell.{Cell, no_cell, IsUsed, cell_at, patched, patched_cell, with_part}
+use Rattle.att_values.specs.Cell.{Cell, no_cell, IsUsed, cell_at, value_with_part, patched_cell, with_part}
 use Rattle.att_values.specs.ValueStore.{contents_of, rooms_of, value_in}
 
 -- what a search for a handle finds in the values, counted from a number on
@@ -99,7 +99,7 @@ contents_of-set cells i cell below =
 
 -- a part that is written into a cell is written into the value of its handle alone
 pub contents_of-with_part : (cells : List Cell) (keep : Bool) (handle offset : ℕ) (part : List ℕ) → IsUsed cells handle
-    → contents_of (with_part cells keep handle offset part) ≡ insert (contents_of cells) handle (patched keep (value_in (contents_of cells) handle) offset part)
+    → contents_of (with_part cells keep handle offset part) ≡ insert (contents_of cells) handle (value_with_part keep (value_in (contents_of cells) handle) offset part)
 contents_of-with_part cells keep handle offset part used =
     let cell = patched_cell keep (cell_at cells handle) offset part in
     let at : suc (handle - 1) ≡ handle = omega arith in

@@ -3,7 +3,7 @@ use Rattle.std.proofs.Common.{◌≡◌, ℕ, zero, suc, ◌+◌, ◌-◌, ◌<�
 use Rattle.std.specs.List.{fold}
 use Rattle.std.proofs.lemmas.List.{same_lists, places as list_places, get_or-map, length-map, length-take-le, length-drop}
 use Rattle.att_values.specs.declared.flat_store.Place.{Place}
-use Rattle.att_values.specs.Cell.{Cell, no_cell, IsUsed, cell_at, patched, patched_cell, with_part}
+use Rattle.att_values.specs.Cell.{Cell, no_cell, IsUsed, cell_at, value_with_part, patched_cell, with_part}
 use Rattle.att_values.specs.FlatStore.{cell_in, cells_in, IsLaidOut}
 
 -- the octets after a part is written over them from a place on
@@ -24,13 +24,13 @@ written_after octets part at start len after fits =
 
 -- a part that is written into a value that keeps the octets after it
 pub written_kept : (octets part : List ℕ) (start len offset : ℕ) → offset ≤ len → start + len ≤ length octets → start + offset + length part ≤ length octets
-    → take (max len (offset + length part)) (drop start (written octets (start + offset) part)) ≡ patched true (take len (drop start octets)) offset part
+    → take (max len (offset + length part)) (drop start (written octets (start + offset) part)) ≡ value_with_part true (take len (drop start octets)) offset part
 written_kept octets part start len offset within inside fits =
     same_lists _ _ (search (rules, list_places)) (λ k d h. grind (arith, list_places))
 
 -- a part that ends a value
 pub written_last : (octets part : List ℕ) (start len offset : ℕ) → offset ≤ len → start + len ≤ length octets → start + offset + length part ≤ length octets
-    → take (offset + length part) (drop start (written octets (start + offset) part)) ≡ patched false (take len (drop start octets)) offset part
+    → take (offset + length part) (drop start (written octets (start + offset) part)) ≡ value_with_part false (take len (drop start octets)) offset part
 written_last octets part start len offset within inside fits =
     same_lists _ _ (search (rules, list_places)) (λ k d h. grind (arith, list_places))
 
@@ -144,7 +144,7 @@ part_written octets new part places cells end handle at offset keep place laid i
     let count : length places ≡ length cells = sym (length-map places (cell_in octets)) ∙ ap length view in
     let room : (cell_at cells handle).room ≡ place.room = ap (λ (cell : Cell). cell.room) here.cell in
     let laid_out : IsLaidOut 0 places (length octets) = rw (← is_end) laid in
-    let patched = patched_in places (at - 1) octets part 0 offset keep place laid_out (omega arith) read (omega (arith, here.len)) (omega arith) in
+    let value_with_part = patched_in places (at - 1) octets part 0 offset keep place laid_out (omega arith) read (omega (arith, here.len)) (omega arith) in
     let cell = here.cell in
     cc
 

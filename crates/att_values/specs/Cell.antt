@@ -21,13 +21,13 @@ abbrev pub cell_at : List Cell → Handle → Cell
 cell_at cells handle = slice_index_or cells (handle - 1) no_cell
 
 -- a value after a part is written from an offset on, with the octets after the part where they are kept
-abbrev pub patched : Bool → Octets → ℕ → Octets → Octets
-patched keep value offset part =
+abbrev pub value_with_part : Bool → Octets → ℕ → Octets → Octets
+value_with_part keep value offset part =
     take offset value ++ part ++ (if keep then drop (offset + length part) value else [])
 
 -- a cell after a part is written into its value
 abbrev pub patched_cell : Bool → Cell → ℕ → Octets → Cell
-patched_cell keep cell offset part = record { room = cell.room; octets = patched keep cell.octets offset part }
+patched_cell keep cell offset part = record { room = cell.room; octets = value_with_part keep cell.octets offset part }
 
 -- the cells after a part is written into the value at a handle
 abbrev pub with_part : List Cell → Bool → Handle → ℕ → Octets → List Cell

@@ -4,7 +4,7 @@ use Rattle.std.specs.FinMap.{get, insert}
 use Rattle.att_numbers.specs.Types.{Handle}
 use Rattle.att_values.specs.declared.change.Change.{Change}
 use Rattle.att_values.specs.declared.change.Change.TheVariants.{Set, Patch}
-use Rattle.att_values.specs.Cell.{patched}
+use Rattle.att_values.specs.Cell.{value_with_part}
 use Rattle.att_values.specs.ValueStore.{ByHandle, value_in}
 
 -- a change fits: its handle has a value, with room for what it becomes
@@ -18,7 +18,7 @@ Fits room contents (Patch handle offset part keep) =
 abbrev pub after : Change → ByHandle → ByHandle
 after (Set handle octets) contents = insert contents handle octets.now
 after (Patch handle offset part keep) contents =
-    insert contents handle (patched keep (value_in contents handle) offset part.now)
+    insert contents handle (value_with_part keep (value_in contents handle) offset part.now)
 
 -- each change fits in its turn
 abbrev pub AllFit : (Handle → ℕ) → ByHandle → List Change → Type 0

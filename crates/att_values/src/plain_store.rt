@@ -1,6 +1,6 @@
 ghost use Rattle.std.specs.Prelude.{◌≡◌, ◌+◌, ◌≤◌, [], ◌∷◌, ◌++◌, length, OnOk, OnErr};
 ghost use Rattle.arrayvec.specs.ArrayVec.{array_vec_len};
-ghost use Rattle.att_values.specs.Cell.{IsUsed, cell_at, patched, with_part};
+ghost use Rattle.att_values.specs.Cell.{IsUsed, cell_at, value_with_part, with_part};
 
 use crate::value_store::ValueStore;
 use arrayvec::ArrayVec;
@@ -140,7 +140,7 @@ fn copy(value: &[u8]) -> ArrayVec<u8, 512>
 fn write_part(value: &mut ArrayVec<u8, 512>, offset: usize, part: &[u8], keep: bool)
     requires offset { offset ≤ array_vec_len value.old }
     requires fits { offset + length part.now ≤ 512 }
-    ensures { value.new.items ≡ patched keep value.old.items offset part.now }
+    ensures { value.new.items ≡ value_with_part keep value.old.items offset part.now }
 {
     let end = offset + part.len();
     if keep && end <= value.len() {

@@ -1,7 +1,7 @@
 ghost use Rattle.std.specs.Prelude.{◌≡◌, ℕ, ◌+◌, ◌≤◌, length, is_some, IsSome, Some};
 ghost use Rattle.std.specs.FinMap as map;
 ghost use Rattle.att_numbers.specs.Types.{Handle};
-ghost use Rattle.att_values.specs.Cell.{patched};
+ghost use Rattle.att_values.specs.Cell.{value_with_part};
 ghost use Rattle.att_values.specs.ValueStore.{ByHandle, value_in};
 
 /// The values of attributes, by handles from 1 without gaps. Each has a fixed room: the most octets
@@ -33,7 +33,7 @@ pub trait ValueStore {
         requires exists { IsSome (map.get (contents self.old) handle) }
         requires offset { offset ≤ length (value_in (contents self.old) handle) }
         requires fits { offset + length part.now ≤ room self.old handle }
-        ensures contents { contents self.new ≡ map.insert (contents self.old) handle (patched keep (value_in (contents self.old) handle) offset part.now) }
+        ensures contents { contents self.new ≡ map.insert (contents self.old) handle (value_with_part keep (value_in (contents self.old) handle) offset part.now) }
         ensures room { room self.new ≡ room self.old };
 
     /// Sets the value at a handle.

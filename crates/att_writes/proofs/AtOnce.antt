@@ -9,7 +9,7 @@ use Rattle.att_policy.specs.declared.standing.Standing.{Standing}
 use Rattle.att_policy.specs.Policy.{first_broken_of}
 use Rattle.att_table.specs.declared.attr.Attr.{Attr}
 use Rattle.att_table.specs.Table.{attribute_at, guard_at, value_at, is_fixed_at}
-use Rattle.att_writes.specs.Applied.{Stored, applied, after_entry, unless_refused}
+use Rattle.att_writes.specs.Applied.{Stored, after_entries, after_entry, unless_refused}
 use Rattle.att_writes.specs.Entry.{Entry}
 use Rattle.att_writes.specs.Fault.{unless_broken, fault_of}
 use Rattle.att_writes.specs.Fits.{Fits}
@@ -49,16 +49,16 @@ fits_at_first access attributes standing stored entry is =
 -- so one entry is refused or written
 pub refused_at_first : (access : Access) (attributes : List Attr) (standing : Standing) (stored : Stored) (entry : Entry) (code : ℕ)
     → fault_of access attributes standing (size_after attributes stored.values entry.handle []) entry ≡ Some code
-    → applied access attributes standing stored (entry ∷ []) ≡ Err (record { handle = entry.handle; code = code })
-unfolding applied
+    → after_entries access attributes standing stored (entry ∷ []) ≡ Err (record { handle = entry.handle; code = code })
+unfolding after_entries
 refused_at_first access attributes standing stored entry code is =
     ap (λ fault. unless_refused entry fault (Ok (after_entry attributes stored entry)))
     (ap (λ size. fault_of access attributes standing size entry) (sym (size_at_first attributes stored.values entry.handle)) ∙ is)
 
 pub written_at_first : (access : Access) (attributes : List Attr) (standing : Standing) (stored : Stored) (entry : Entry)
     → fault_of access attributes standing (size_after attributes stored.values entry.handle []) entry ≡ None
-    → applied access attributes standing stored (entry ∷ []) ≡ Ok (after_entry attributes stored entry)
-unfolding applied
+    → after_entries access attributes standing stored (entry ∷ []) ≡ Ok (after_entry attributes stored entry)
+unfolding after_entries
 written_at_first access attributes standing stored entry is =
     ap (λ fault. unless_refused entry fault (Ok (after_entry attributes stored entry)))
     (ap (λ size. fault_of access attributes standing size entry) (sym (size_at_first attributes stored.values entry.handle)) ∙ is)
@@ -66,18 +66,18 @@ written_at_first access attributes standing stored entry is =
 -- and so is the first of more
 pub applied_more : (access : Access) (attributes : List Attr) (standing : Standing) (stored : Stored) (entry : Entry) (rest : List Entry)
     → fault_of access attributes standing (length (value_at stored.values entry.handle)) entry ≡ None
-    → applied access attributes standing stored (entry ∷ rest) ≡ applied access attributes standing (after_entry attributes stored entry) rest
-unfolding applied
-applied_more access attributes standing stored entry rest is = ap (λ fault. unless_refused entry fault (applied access attributes standing (after_entry attributes stored entry) rest)) is
+    → after_entries access attributes standing stored (entry ∷ rest) ≡ after_entries access attributes standing (after_entry attributes stored entry) rest
+unfolding after_entries
+applied_more access attributes standing stored entry rest is = ap (λ fault. unless_refused entry fault (after_entries access attributes standing (after_entry attributes stored entry) rest)) is
 
 pub refused_more : (access : Access) (attributes : List Attr) (standing : Standing) (stored : Stored) (entry : Entry) (rest : List Entry) (code : ℕ)
     → fault_of access attributes standing (length (value_at stored.values entry.handle)) entry ≡ Some code
-    → applied access attributes standing stored (entry ∷ rest) ≡ Err (record { handle = entry.handle; code = code })
-unfolding applied
-refused_more access attributes standing stored entry rest code is = ap (λ fault. unless_refused entry fault (applied access attributes standing (after_entry attributes stored entry) rest)) is
+    → after_entries access attributes standing stored (entry ∷ rest) ≡ Err (record { handle = entry.handle; code = code })
+unfolding after_entries
+refused_more access attributes standing stored entry rest code is = ap (λ fault. unless_refused entry fault (after_entries access attributes standing (after_entry attributes stored entry) rest)) is
 
-pub applied_none : (access : Access) (attributes : List Attr) (standing : Standing) (stored : Stored) → applied access attributes standing stored [] ≡ Ok stored
-unfolding applied
+pub applied_none : (access : Access) (attributes : List Attr) (standing : Standing) (stored : Stored) → after_entries access attributes standing stored [] ≡ Ok stored
+unfolding after_entries
 applied_none access attributes standing stored = refl
 
 pub ruleset at_once = (fits_at_first, refused_at_first, written_at_first)

@@ -7,10 +7,10 @@ use Rattle.att_numbers.specs.Types.{Handle, Code, Values}
 use Rattle.att_policy.specs.declared.policy.Access.{Access}
 use Rattle.att_policy.specs.declared.standing.Standing.{Standing}
 use Rattle.att_table.specs.declared.attr.Attr.{Attr}
-use Rattle.att_values.specs.Cell.{patched}
+use Rattle.att_values.specs.Cell.{value_with_part}
 use Rattle.att_table.specs.ConfigRow.{with_bits}
 use Rattle.att_table.specs.Table.{attribute_at, is_configuration_at, is_fixed_at, value_at, with_value}
-use Rattle.att_writes.specs.Applied.{Stored, after_entry, applied, first_octet, unless_refused}
+use Rattle.att_writes.specs.Applied.{Stored, after_entry, after_entries, first_octet, unless_refused}
 use Rattle.att_writes.specs.Entry.{Entry}
 use Rattle.att_writes.specs.Fault.{fault_of}
 use Rattle.att_writes.specs.SameBut.{SameBut, SameApplied}
@@ -24,7 +24,7 @@ pub behind : (values : Values) (handle : Handle) (value : Octets) → length val
 behind values handle value over = grind (arith, nat_tests, common_steps)
 
 -- the lengths of what a part leaves
-patched_length : (fixed : Bool) (some other part : Octets) (offset : ℕ) → length some ≡ length other → length (patched fixed some offset part) ≡ length (patched fixed other offset part)
+patched_length : (fixed : Bool) (some other part : Octets) (offset : ℕ) → length some ≡ length other → length (value_with_part fixed some offset part) ≡ length (value_with_part fixed other offset part)
 patched_length true some other part offset same = simp (length-append, length-take, length-drop) (omega (arith, same))
 patched_length false some other part offset same = simp (length-append, length-take) (omega (arith, same))
 
@@ -75,17 +75,17 @@ stored_both hidden some other handle value own is_used same lengths shown =
 entry_both-at : (hidden : Handle → Bool) (attributes : List Attr) (some other : Stored) (entry : Entry) (is : Bool) → 0 < entry.handle → SameBut hidden some.values other.values → some.row ≡ other.row
     → SameApplied hidden
     (Ok (if is then record some { row = with_bits some.row entry.handle (first_octet entry.part) }
-    else record some { values = with_value some.values entry.handle (patched (is_fixed_at attributes entry.handle) (value_at some.values entry.handle) entry.offset entry.part) }))
+    else record some { values = with_value some.values entry.handle (value_with_part (is_fixed_at attributes entry.handle) (value_at some.values entry.handle) entry.offset entry.part) }))
     (Ok (if is then record other { row = with_bits other.row entry.handle (first_octet entry.part) }
-    else record other { values = with_value other.values entry.handle (patched (is_fixed_at attributes entry.handle) (value_at other.values entry.handle) entry.offset entry.part) }))
+    else record other { values = with_value other.values entry.handle (value_with_part (is_fixed_at attributes entry.handle) (value_at other.values entry.handle) entry.offset entry.part) }))
 entry_both-at hidden attributes some other entry true is_used same rows = (same, ap (λ row. with_bits row entry.handle (first_octet entry.part)) rows)
 entry_both-at hidden attributes some other entry false is_used same rows =
     let fixed = is_fixed_at attributes entry.handle in
     let here = value_at some.values entry.handle in
     let there = value_at other.values entry.handle in (
-      stored_both hidden some.values other.values entry.handle (patched fixed here entry.offset entry.part) (patched fixed there entry.offset entry.part) is_used same
+      stored_both hidden some.values other.values entry.handle (value_with_part fixed here entry.offset entry.part) (value_with_part fixed there entry.offset entry.part) is_used same
           (patched_length fixed here there entry.part entry.offset (same.lengths entry.handle is_used))
-          (λ shown. ap (λ value. patched fixed value entry.offset entry.part) (same.shown entry.handle is_used shown)),
+          (λ shown. ap (λ value. value_with_part fixed value entry.offset entry.part) (same.shown entry.handle is_used shown)),
       rows,
     )
 
@@ -98,16 +98,16 @@ entry_both hidden attributes some other entry is_used same rows =
 applied_both-at : (hidden : Handle → Bool) (access : Access) (attributes : List Attr) (standing : Standing) (some other : Stored) (entry : Entry) (rest : List Entry) (fault : Option Code)
     → fault_of access attributes standing (length (value_at some.values entry.handle)) entry ≡ fault
     → fault_of access attributes standing (length (value_at other.values entry.handle)) entry ≡ fault
-    → (fault ≡ None → SameApplied hidden (applied access attributes standing (after_entry attributes some entry) rest) (applied access attributes standing (after_entry attributes other entry) rest))
-    → SameApplied hidden (applied access attributes standing some (entry ∷ rest)) (applied access attributes standing other (entry ∷ rest))
-unfolding applied
+    → (fault ≡ None → SameApplied hidden (after_entries access attributes standing (after_entry attributes some entry) rest) (after_entries access attributes standing (after_entry attributes other entry) rest))
+    → SameApplied hidden (after_entries access attributes standing some (entry ∷ rest)) (after_entries access attributes standing other (entry ∷ rest))
+unfolding after_entries
 applied_both-at hidden access attributes standing some other entry rest (Some code) is was later = rw (is, was) refl
 applied_both-at hidden access attributes standing some other entry rest None is was later = rw (is, was) (later refl)
 
 pub applied_both : (hidden : Handle → Bool) (access : Access) (attributes : List Attr) (standing : Standing) (entries : List Entry) (some other : Stored)
     → SameBut hidden some.values other.values → some.row ≡ other.row
-    → SameApplied hidden (applied access attributes standing some entries) (applied access attributes standing other entries)
-unfolding applied
+    → SameApplied hidden (after_entries access attributes standing some entries) (after_entries access attributes standing other entries)
+unfolding after_entries
 applied_both hidden access attributes standing [] some other same rows = (same, rows)
 applied_both hidden access attributes standing (entry ∷ rest) some other same rows =
     let one = length (value_at some.values entry.handle) in

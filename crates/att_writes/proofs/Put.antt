@@ -9,7 +9,7 @@ use Rattle.att_policy.specs.declared.policy.Access.{Access}
 use Rattle.att_policy.specs.declared.standing.Standing.{Standing}
 use Rattle.att_table.specs.declared.attr.Attr.{Attr}
 use Rattle.att_table.specs.Table.{value_at, with_value}
-use Rattle.att_writes.specs.Applied.{Stored, after_entry, applied, unless_refused}
+use Rattle.att_writes.specs.Applied.{Stored, after_entry, after_entries, unless_refused}
 use Rattle.att_writes.specs.Entry.{Entry}
 use Rattle.att_writes.specs.Fault.{fault_of}
 use Rattle.att_writes.specs.SameBut.{KeepsOthers, is_touched, values_put}
@@ -84,16 +84,16 @@ put_count (handle ∷ rest) from into = put_count rest from (with_value into han
 -- entries that are written are of handles in use
 used-at : (access : Access) (attributes : List Attr) (standing : Standing) (stored new : Stored) (entry : Entry) (rest : List Entry) (fault : Option Code)
     → fault_of access attributes standing (length (value_at stored.values entry.handle)) entry ≡ fault
-    → unless_refused entry fault (applied access attributes standing (after_entry attributes stored entry) rest) ≡ Ok new
-    → (applied access attributes standing (after_entry attributes stored entry) rest ≡ Ok new → AllUsed rest)
+    → unless_refused entry fault (after_entries access attributes standing (after_entry attributes stored entry) rest) ≡ Ok new
+    → (after_entries access attributes standing (after_entry attributes stored entry) rest ≡ Ok new → AllUsed rest)
     → AllUsed (entry ∷ rest)
 used-at access attributes standing stored new entry rest (Some code) judged is later = cc is
 used-at access attributes standing stored new entry rest None judged is later =
     let fit = fits_unless_refused access attributes standing stored entry judged in
     (used attributes entry.handle fit.exists, later is)
 
-all_used : (access : Access) (attributes : List Attr) (standing : Standing) (entries : List Entry) (stored new : Stored) → applied access attributes standing stored entries ≡ Ok new → AllUsed entries
-unfolding applied
+all_used : (access : Access) (attributes : List Attr) (standing : Standing) (entries : List Entry) (stored new : Stored) → after_entries access attributes standing stored entries ≡ Ok new → AllUsed entries
+unfolding after_entries
 all_used access attributes standing [] stored new is = tt
 all_used access attributes standing (entry ∷ rest) stored new is =
     used-at access attributes standing stored new entry rest (fault_of access attributes standing (length (value_at stored.values entry.handle)) entry) refl is
@@ -121,7 +121,7 @@ put-at entries stored new n false is all keeps =
     no_value new.values n over_new ∙ sym (no_value (values_put (handles_in entries) new.values stored.values) n over_put)
 
 pub stored_touched : (access : Access) (attributes : List Attr) (standing : Standing) (entries : List Entry) (stored new : Stored)
-    → applied access attributes standing stored entries ≡ Ok new → new.values ≡ values_put (handles_in entries) new.values stored.values
+    → after_entries access attributes standing stored entries ≡ Ok new → new.values ≡ values_put (handles_in entries) new.values stored.values
 stored_touched access attributes standing entries stored new is =
     let keeps = keeps_others access attributes standing entries stored new is in
     let all = all_used access attributes standing entries stored new is in

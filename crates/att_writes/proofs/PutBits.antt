@@ -7,10 +7,10 @@ use Rattle.att_numbers.specs.Types.{Handle, Code, Row}
 use Rattle.att_policy.specs.declared.policy.Access.{Access}
 use Rattle.att_policy.specs.declared.standing.Standing.{Standing}
 use Rattle.att_table.specs.declared.attr.Attr.{Attr}
-use Rattle.att_table.specs.Cell.{patched}
+use Rattle.att_table.specs.Cell.{value_with_part}
 use Rattle.att_table.specs.ConfigRow.{bits_at, with_bits, has_entry}
 use Rattle.att_table.specs.Table.{is_configuration_at, is_fixed_at, value_at, with_value}
-use Rattle.att_writes.specs.Applied.{Stored, after_entry, applied, first_octet, unless_refused}
+use Rattle.att_writes.specs.Applied.{Stored, after_entry, after_entries, first_octet, unless_refused}
 use Rattle.att_writes.specs.Entry.{Entry}
 use Rattle.att_writes.specs.Fault.{fault_of}
 use Rattle.att_writes.specs.SameBut.{KeepsOthers, is_touched, bits_put}
@@ -159,7 +159,7 @@ none_touched attributes (first ∷ rest) handle of none =
 
 -- one entry, and those after it
 row-at : (access : Access) (attributes : List Attr) (standing : Standing) (stored new : Stored) (entry : Entry) (rest : List Entry) (own : Bool) → is_configuration_at attributes entry.handle ≡ own
-    → applied access attributes standing (after_entry attributes stored entry) rest ≡ Ok new
+    → after_entries access attributes standing (after_entry attributes stored entry) rest ≡ Ok new
     → new.row ≡ bits_put (configured attributes rest) new.row (after_entry attributes stored entry).row
     → new.row ≡ bits_put (configured attributes (entry ∷ rest)) new.row stored.row
 row-at access attributes standing stored new entry rest true is written later =
@@ -178,16 +178,16 @@ row-at access attributes standing stored new entry rest false is written later =
     later ∙ ap (bits_put (configured attributes rest) new.row) after ∙ ap (λ handles. bits_put handles new.row stored.row) (sym all)
 
 judged-at : (access : Access) (attributes : List Attr) (standing : Standing) (stored new : Stored) (entry : Entry) (rest : List Entry) (fault : Option Code)
-    → unless_refused entry fault (applied access attributes standing (after_entry attributes stored entry) rest) ≡ Ok new
-    → (applied access attributes standing (after_entry attributes stored entry) rest ≡ Ok new → new.row ≡ bits_put (configured attributes rest) new.row (after_entry attributes stored entry).row)
+    → unless_refused entry fault (after_entries access attributes standing (after_entry attributes stored entry) rest) ≡ Ok new
+    → (after_entries access attributes standing (after_entry attributes stored entry) rest ≡ Ok new → new.row ≡ bits_put (configured attributes rest) new.row (after_entry attributes stored entry).row)
     → new.row ≡ bits_put (configured attributes (entry ∷ rest)) new.row stored.row
 judged-at access attributes standing stored new entry rest (Some code) is later = absurd (cc is)
 judged-at access attributes standing stored new entry rest None is later =
     row-at access attributes standing stored new entry rest (is_configuration_at attributes entry.handle) refl is (later is)
 
 pub row_touched : (access : Access) (attributes : List Attr) (standing : Standing) (entries : List Entry) (stored new : Stored)
-    → applied access attributes standing stored entries ≡ Ok new → new.row ≡ bits_put (configured attributes entries) new.row stored.row
-unfolding applied
+    → after_entries access attributes standing stored entries ≡ Ok new → new.row ≡ bits_put (configured attributes entries) new.row stored.row
+unfolding after_entries
 row_touched access attributes standing [] stored new is = let same : stored ≡ new = cc is in sym (ap (λ (of : Stored). of.row) same)
 row_touched access attributes standing (entry ∷ rest) stored new is =
     judged-at access attributes standing stored new entry rest (fault_of access attributes standing (length (value_at stored.values entry.handle)) entry) is

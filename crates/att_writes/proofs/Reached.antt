@@ -10,11 +10,11 @@ use Rattle.att_policy.specs.declared.policy.Access.{Access}
 use Rattle.att_policy.specs.declared.standing.Standing.{Standing}
 use Rattle.att_table.specs.declared.attr.Attr.{Attr}
 use Rattle.att_policy.specs.Policy.{first_broken_of}
-use Rattle.att_values.specs.Cell.{patched}
+use Rattle.att_values.specs.Cell.{value_with_part}
 use Rattle.att_table.specs.ConfigRow.{with_bits}
 use Rattle.att_table.specs.Table.{attribute_at, guard_at, is_configuration_at, is_fixed_at, value_at, with_value}
 use Rattle.att_writes.specs.declared.queue.Place.{Place}
-use Rattle.att_writes.specs.Applied.{Stored, applied, after_entry, first_octet}
+use Rattle.att_writes.specs.Applied.{Stored, after_entries, after_entry, first_octet}
 use Rattle.att_writes.specs.Entry.{Entry}
 use Rattle.att_writes.specs.Fault.{unless_broken, value_fault, configuration_fault, room_of, form_fault, fault_of}
 use Rattle.att_writes.specs.Fits.{AllFit, after_all}
@@ -26,7 +26,7 @@ use Rattle.att_writes.proofs.Sizes.{same_form, used, size_with_more, after_part}
 
 -- entries before these are judged, and what stands by then has the values and the row that they leave
 pub record IsReached (access : Access) (attributes : List Attr) (standing : Standing) (stored : Stored) (all rest : List Entry) (visited : List Place) (by : Stored) : Type 0 where
-  pub same : applied access attributes standing stored all ≡ applied access attributes standing by rest
+  pub same : after_entries access attributes standing stored all ≡ after_entries access attributes standing by rest
   pub after : after_all attributes stored all ≡ after_all attributes by rest
   pub fits : AllFit attributes by rest → AllFit attributes stored all
   pub count : length by.values ≡ length stored.values
@@ -63,13 +63,13 @@ fault_by_then access attributes standing stored all rest visited by entry fault 
 pub refused : (access : Access) (attributes : List Attr) (standing : Standing) (stored : Stored) (all rest : List Entry) (visited : List Place) (by : Stored) (entry : Entry) (code : ℕ)
     → IsReached access attributes standing stored all (entry ∷ rest) visited by
     → fault_of access attributes standing (size_after attributes stored.values entry.handle visited) entry ≡ Some code
-    → applied access attributes standing stored all ≡ Err (record { handle = entry.handle; code = code })
+    → after_entries access attributes standing stored all ≡ Err (record { handle = entry.handle; code = code })
 refused access attributes standing stored all rest visited by entry code reached is =
     reached.same ∙ refused_more access attributes standing by entry rest code (fault_by_then access attributes standing stored all rest visited by entry (Some code) reached is)
 
 pub finished : (access : Access) (attributes : List Attr) (standing : Standing) (stored : Stored) (all : List Entry) (visited : List Place) (by : Stored)
     → IsReached access attributes standing stored all [] visited by
-    → (applied access attributes standing stored all ≡ Ok (after_all attributes stored all)) × AllFit attributes stored all
+    → (after_entries access attributes standing stored all ≡ Ok (after_all attributes stored all)) × AllFit attributes stored all
 finished access attributes standing stored all visited by reached =
     (reached.same ∙ applied_none access attributes standing by ∙ ap Ok (sym reached.after), reached.fits tt)
 
@@ -102,7 +102,7 @@ sizes_more : (attributes : List Attr) (stored by : Stored) (visited : List Place
     → cond is (configuration_fault attributes entry) (value_fault attributes (length (value_at by.values entry.handle)) entry) ≡ None
     → length (value_at by.values other) ≡ size_after attributes stored.values other visited
     → length (value_at (if is then record by { row = with_bits by.row entry.handle (first_octet entry.part) }
-    else record by { values = with_value by.values entry.handle (patched (is_fixed_at attributes entry.handle) (value_at by.values entry.handle) entry.offset entry.part) }).values other)
+    else record by { values = with_value by.values entry.handle (value_with_part (is_fixed_at attributes entry.handle) (value_at by.values entry.handle) entry.offset entry.part) }).values other)
     ≡ size_after attributes stored.values other (visited ++ place ∷ [])
 sizes_more attributes stored by visited place entry true other is not_other is_used other_used within same_handle same_offset same_size fits size =
     let differs : (place.handle == other) ≡ false = apart attributes entry.handle place.handle other is not_other same_handle in
@@ -164,7 +164,7 @@ pub refused_at : (access : Access) (attributes : List Attr) (standing : Standing
     → i < length places
     → IsReached access attributes standing stored all (entries_in (drop i places) octets) (take i places) by
     → fault_of access attributes standing (size_after attributes stored.values (get_or places i no_place).handle (take i places)) (entry_at places i octets) ≡ Some code
-    → applied access attributes standing stored all ≡ Err (record { handle = (get_or places i no_place).handle; code = code })
+    → after_entries access attributes standing stored all ≡ Err (record { handle = (get_or places i no_place).handle; code = code })
 refused_at access attributes standing stored all places i octets by code below reached is =
     let entry = entry_at places i octets in
     let rest = entries_in (drop (i + 1) places) (drop (get_or places i no_place).len octets) in
@@ -175,7 +175,7 @@ refused_at access attributes standing stored all places i octets by code below r
 pub finished_at : (access : Access) (attributes : List Attr) (standing : Standing) (stored : Stored) (all : List Entry) (places : List Place) (i : ℕ) (octets : List ℕ) (visited : List Place) (by : Stored)
     → length places ≤ i
     → IsReached access attributes standing stored all (entries_in (drop i places) octets) visited by
-    → (applied access attributes standing stored all ≡ Ok (after_all attributes stored all)) × AllFit attributes stored all
+    → (after_entries access attributes standing stored all ≡ Ok (after_all attributes stored all)) × AllFit attributes stored all
 finished_at access attributes standing stored all places i octets visited by over reached =
     finished access attributes standing stored all visited by
     (subst (λ left. IsReached access attributes standing stored all (entries_in left octets) visited by) (drop_all i places over) reached)

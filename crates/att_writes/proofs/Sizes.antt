@@ -5,7 +5,7 @@ use Rattle.std.proofs.lemmas.Grind.{common_steps}
 use Rattle.std.specs.Prelude.{IsSome}
 use Rattle.att_numbers.specs.Types.{Values}
 use Rattle.att_table.specs.declared.attr.Attr.{Attr}
-use Rattle.att_values.specs.Cell.{patched}
+use Rattle.att_values.specs.Cell.{value_with_part}
 use Rattle.att_table.specs.Table.{attribute_at, is_fixed_at, value_at, with_value}
 use Rattle.att_writes.specs.declared.queue.Place.{Place}
 use Rattle.att_writes.specs.Entry.{Entry}
@@ -30,7 +30,7 @@ size_with_more handle size (first ∷ places) place = size_with_more handle (if 
 
 -- the length of a value after a part that fits is written
 length_patched : (fixed : Bool) (value part : List ℕ) (offset largest : ℕ) → offset ≤ length value → offset + length part ≤ cond fixed (length value) largest
-    → length (patched fixed value offset part) ≡ cond fixed (length value) (offset + length part)
+    → length (value_with_part fixed value offset part) ≡ cond fixed (length value) (offset + length part)
 length_patched true value part offset largest in_value fits = simp (length-append, length-take, length-drop) (omega arith)
 length_patched false value part offset largest in_value fits = simp (length-append, length-take, length-drop) (omega arith)
 
@@ -55,11 +55,11 @@ at_handle attributes values handle other written end false is size = sym (either
 pub after_part : (attributes : List Attr) (values : Values) (entry : Entry) (other : ℕ) (largest : ℕ) → 0 < entry.handle → entry.handle ≤ length values → 0 < other
     → entry.offset ≤ length (value_at values entry.handle)
     → entry.offset + length entry.part ≤ cond (is_fixed_at attributes entry.handle) (length (value_at values entry.handle)) largest
-    → length (value_at (with_value values entry.handle (patched (is_fixed_at attributes entry.handle) (value_at values entry.handle) entry.offset entry.part)) other)
+    → length (value_at (with_value values entry.handle (value_with_part (is_fixed_at attributes entry.handle) (value_at values entry.handle) entry.offset entry.part)) other)
     ≡ cond (is_fixed_at attributes other) (length (value_at values other)) (if entry.handle == other then entry.offset + length entry.part else length (value_at values other))
 after_part attributes values entry other largest is_used within other_used in_value fits =
     let value = value_at values entry.handle in
     let fixed = is_fixed_at attributes entry.handle in
-    let written = value_written values entry.handle other (patched fixed value entry.offset entry.part) is_used within other_used in
+    let written = value_written values entry.handle other (value_with_part fixed value entry.offset entry.part) is_used within other_used in
     let size = length_patched fixed value entry.part entry.offset largest in_value fits in
-    ap length written ∙ at_handle attributes values entry.handle other (patched fixed value entry.offset entry.part) (entry.offset + length entry.part) (entry.handle == other) refl size
+    ap length written ∙ at_handle attributes values entry.handle other (value_with_part fixed value entry.offset entry.part) (entry.offset + length entry.part) (entry.handle == other) refl size

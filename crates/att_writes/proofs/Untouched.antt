@@ -9,10 +9,10 @@ use Rattle.att_policy.specs.declared.policy.Access.{Access}
 use Rattle.att_policy.specs.declared.standing.Standing.{Standing}
 use Rattle.att_policy.specs.Refusal.{Refusal}
 use Rattle.att_table.specs.declared.attr.Attr.{Attr}
-use Rattle.att_values.specs.Cell.{patched}
+use Rattle.att_values.specs.Cell.{value_with_part}
 use Rattle.att_table.specs.ConfigRow.{bits_at, with_bits}
 use Rattle.att_table.specs.Table.{is_configuration_at, is_fixed_at, value_at, with_value}
-use Rattle.att_writes.specs.Applied.{Stored, after_entry, applied, first_octet, unless_refused}
+use Rattle.att_writes.specs.Applied.{Stored, after_entry, after_entries, first_octet, unless_refused}
 use Rattle.att_writes.specs.Entry.{Entry}
 use Rattle.att_writes.specs.Fault.{fault_of}
 use Rattle.att_writes.specs.SameBut.{KeepsOthers, is_touched}
@@ -40,7 +40,7 @@ bits_kept (entry ∷ row) handle other bits differs = bits_kept-at row entry han
 kept-at : (attributes : List Attr) (stored : Stored) (entry : Entry) (is : Bool) → 0 < entry.handle
     → KeepsOthers (entry ∷ []) stored
     (if is then record stored { row = with_bits stored.row entry.handle (first_octet entry.part) }
-    else record stored { values = with_value stored.values entry.handle (patched (is_fixed_at attributes entry.handle) (value_at stored.values entry.handle) entry.offset entry.part) })
+    else record stored { values = with_value stored.values entry.handle (value_with_part (is_fixed_at attributes entry.handle) (value_at stored.values entry.handle) entry.offset entry.part) })
 kept-at attributes stored entry true is_used = record {
   count = refl;
   values = λ handle handle_used not_touched. refl;
@@ -60,8 +60,8 @@ rest_untouched entry rest handle is = grind (arith, common_steps)
 
 more-at : (access : Access) (attributes : List Attr) (standing : Standing) (stored new : Stored) (entry : Entry) (rest : List Entry) (fault : Option Code)
     → fault_of access attributes standing (length (value_at stored.values entry.handle)) entry ≡ fault
-    → unless_refused entry fault (applied access attributes standing (after_entry attributes stored entry) rest) ≡ Ok new
-    → (applied access attributes standing (after_entry attributes stored entry) rest ≡ Ok new → KeepsOthers rest (after_entry attributes stored entry) new)
+    → unless_refused entry fault (after_entries access attributes standing (after_entry attributes stored entry) rest) ≡ Ok new
+    → (after_entries access attributes standing (after_entry attributes stored entry) rest ≡ Ok new → KeepsOthers rest (after_entry attributes stored entry) new)
     → KeepsOthers (entry ∷ rest) stored new
 more-at access attributes standing stored new entry rest (Some code) judged is later = cc is
 more-at access attributes standing stored new entry rest None judged is later =
@@ -77,8 +77,8 @@ more-at access attributes standing stored new entry rest None judged is later =
 
 -- what is written leaves all others
 pub keeps_others : (access : Access) (attributes : List Attr) (standing : Standing) (entries : List Entry) (stored new : Stored)
-    → applied access attributes standing stored entries ≡ Ok new → KeepsOthers entries stored new
-unfolding applied
+    → after_entries access attributes standing stored entries ≡ Ok new → KeepsOthers entries stored new
+unfolding after_entries
 keeps_others access attributes standing [] stored new is =
     let same : stored ≡ new = cc is in
     subst (λ of. KeepsOthers [] stored of) same (record { count = refl; values = λ handle handle_used not_touched. refl; row = λ handle not_touched. refl })

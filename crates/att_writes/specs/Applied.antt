@@ -5,7 +5,7 @@ use Rattle.att_policy.specs.Refusal.{Refusal}
 use Rattle.att_policy.specs.declared.policy.Access.{Access}
 use Rattle.att_policy.specs.declared.standing.Standing.{Standing}
 use Rattle.att_table.specs.declared.attr.Attr.{Attr}
-use Rattle.att_values.specs.Cell.{patched}
+use Rattle.att_values.specs.Cell.{value_with_part}
 use Rattle.att_table.specs.ConfigRow.{with_bits}
 use Rattle.att_table.specs.Table.{Contents, is_configuration_at, is_fixed_at, value_at, with_value}
 use Rattle.att_writes.specs.Entry.{Entry}
@@ -29,20 +29,20 @@ after_entry attributes stored entry =
     then record stored { row = with_bits stored.row entry.handle (first_octet entry.part) }
     else record stored {
       values = with_value stored.values entry.handle
-          (patched (is_fixed_at attributes entry.handle) (value_at stored.values entry.handle) entry.offset entry.part);
+          (value_with_part (is_fixed_at attributes entry.handle) (value_at stored.values entry.handle) entry.offset entry.part);
     }
 
 -- one entry is refused, with its handle, or leads to what follows it
 abbrev pub unless_refused : Entry → Option Code → Result Stored Refusal → Result Stored Refusal
-unless_refused entry (Some code) applied = Err (record { handle = entry.handle; code = code })
-unless_refused entry None applied = applied
+unless_refused entry (Some code) after_entries = Err (record { handle = entry.handle; code = code })
+unless_refused entry None after_entries = after_entries
 
 -- entries in their order, each against what stands by then
-unfoldable pub applied : Access → List Attr → Standing → Stored → List Entry → Result Stored Refusal
-applied access attributes standing stored [] = Ok stored
-applied access attributes standing stored (entry ∷ rest) =
+unfoldable pub after_entries : Access → List Attr → Standing → Stored → List Entry → Result Stored Refusal
+after_entries access attributes standing stored [] = Ok stored
+after_entries access attributes standing stored (entry ∷ rest) =
     unless_refused entry (fault_of access attributes standing (length (value_at stored.values entry.handle)) entry)
-    (applied access attributes standing (after_entry attributes stored entry) rest)
+    (after_entries access attributes standing (after_entry attributes stored entry) rest)
 
 -- what stands afterwards: where one entry is refused, all stays as it was
 abbrev pub stored_after : Stored → Result Stored Refusal → Stored
@@ -54,7 +54,7 @@ abbrev pub stored_in : Contents → Row → Stored
 stored_in table row = record { values = table.values; row = row }
 
 abbrev pub applied_to : Access → Contents → Row → Standing → List Entry → Result Stored Refusal
-applied_to access table row standing entries = applied access table.attributes standing (stored_in table row) entries
+applied_to access table row standing entries = after_entries access table.attributes standing (stored_in table row) entries
 
 abbrev pub written_to : Access → Contents → Row → Standing → List Entry → Stored
 written_to access table row standing entries = stored_after (stored_in table row) (applied_to access table row standing entries)

@@ -59,9 +59,9 @@ prepare_fault attributes standing entries entry =
     unless_broken (first_broken_of Write (guard_at attributes entry.handle) standing) (has_room entries entry.part)
 
 -- a prepared write is added at the end, or refused
-abbrev pub prepared : List Entry → Entry → Option Code → List Entry
-prepared entries entry (Some code) = entries
-prepared entries entry None = entries ++ entry ∷ []
+abbrev pub queue_after : List Entry → Entry → Option Code → List Entry
+queue_after entries entry (Some code) = entries
+queue_after entries entry None = entries ++ entry ∷ []
 
 abbrev pub prepare_outcome : Entry → Option Code → Outcome
 prepare_outcome entry (Some code) = Denied PREPARE_WRITE_REQUEST entry.handle code

@@ -8,7 +8,7 @@ use Rattle.att_table.specs.Table.{is_configuration_at, value_at, with_value}
 use Rattle.att_policy.specs.declared.policy.Access.{Access}
 use Rattle.att_policy.specs.declared.standing.Standing.{Standing}
 use Rattle.att_table.specs.declared.attr.Attr.{Attr}
-use Rattle.att_writes.specs.Applied.{Stored, applied}
+use Rattle.att_writes.specs.Applied.{Stored, after_entries}
 use Rattle.att_writes.specs.Entry.{Entry}
 
 -- as many values, of the same lengths, and the same ones where they are not hidden
@@ -48,20 +48,20 @@ bits_put (handle ∷ rest) from into = bits_put rest from (with_bits into handle
 abbrev pub JudgesByLengths : Type 0
 JudgesByLengths = (hidden : Handle → Bool) (access : Access) (attributes : List Attr) (standing : Standing) (entries : List Entry) (some other : Stored)
     → SameBut hidden some.values other.values → some.row ≡ other.row
-    → SameApplied hidden (applied access attributes standing some entries) (applied access attributes standing other entries)
+    → SameApplied hidden (after_entries access attributes standing some entries) (after_entries access attributes standing other entries)
 
 -- entries that are written leave all else as it was
 abbrev pub LeavesOthers : Type 0
 LeavesOthers = (access : Access) (attributes : List Attr) (standing : Standing) (entries : List Entry) (stored new : Stored)
-    → applied access attributes standing stored entries ≡ Ok new → KeepsOthers entries stored new
+    → after_entries access attributes standing stored entries ≡ Ok new → KeepsOthers entries stored new
 
 -- and the old values with those of their handles stored
 abbrev pub StoresTouched : Type 0
 StoresTouched = (access : Access) (attributes : List Attr) (standing : Standing) (entries : List Entry) (stored new : Stored)
-    → applied access attributes standing stored entries ≡ Ok new → new.values ≡ values_put (map (λ (entry : Entry). entry.handle) entries) new.values stored.values
+    → after_entries access attributes standing stored entries ≡ Ok new → new.values ≡ values_put (map (λ (entry : Entry). entry.handle) entries) new.values stored.values
 
 -- and the old row with the bits of their configurations set
 abbrev pub SetsTouched : Type 0
 SetsTouched = (access : Access) (attributes : List Attr) (standing : Standing) (entries : List Entry) (stored new : Stored)
-    → applied access attributes standing stored entries ≡ Ok new
+    → after_entries access attributes standing stored entries ≡ Ok new
     → new.row ≡ bits_put (filter (is_configuration_at attributes) (map (λ (entry : Entry). entry.handle) entries)) new.row stored.row

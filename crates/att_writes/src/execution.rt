@@ -10,7 +10,7 @@ ghost use Rattle.att_writes.specs.Entry.{entry_of};
 ghost use Rattle.att_writes.specs.Fits.{AllFit, after_all};
 ghost use Rattle.att_writes.specs.Leaves.{Leaves};
 ghost use Rattle.att_writes.specs.Outcome.{outcome_of};
-ghost use Rattle.att_writes.specs.Queue.{entries_in, sizes_of, handles_of, once_each, prepare_fault, prepared, prepare_outcome, touched_by};
+ghost use Rattle.att_writes.specs.Queue.{entries_in, sizes_of, handles_of, once_each, prepare_fault, queue_after, prepare_outcome, touched_by};
 
 use crate::entry::EntryRef;
 use crate::fault::fault_of;
@@ -34,7 +34,7 @@ pub fn prepare(
 ) -> Outcome
     ensures outcome { result ≡ prepare_outcome (record { handle = handle; offset = offset; part = part.now })
         (prepare_fault table.now.attributes standing.entry.now queue.old (record { handle = handle; offset = offset; part = part.now })) }
-    ensures queue { queue.new ≡ prepared queue.old (record { handle = handle; offset = offset; part = part.now })
+    ensures queue { queue.new ≡ queue_after queue.old (record { handle = handle; offset = offset; part = part.now })
         (prepare_fault table.now.attributes standing.entry.now queue.old (record { handle = handle; offset = offset; part = part.now })) }
 {
     let guard = table.get(handle).map(|attr| &attr.guard);

@@ -10,7 +10,7 @@ use Rattle.att_pdu.specs.Request.{ExchangeMtuRequest, FindInformationRequest, Fi
 use Rattle.att_pdu.specs.Response.{Response, ExchangeMtuResponse}
 use Rattle.att_table.specs.Table.{Contents}
 use Rattle.att_writes.specs.Entry.{Entry}
-use Rattle.att_writes.specs.Queue.{prepare_fault, prepared}
+use Rattle.att_writes.specs.Queue.{prepare_fault, queue_after}
 use Rattle.gatt_conn.specs.Answer.{Question, entry_at, prepare_response, answer_to, conn_after}
 use Rattle.gatt_conn.specs.Connection.{Connection, new_connection, mtu_between, after_exchange}
 use Rattle.gatt_conn.specs.Transcript.{Said, Answered, Dropped, is_exchange, is_acceptance, exchange_asked, first_exchange, mtu_in, part_asked, asks_execution, prepared_in, Follows, Act, Sends, Stands, Cancels, after_act, said_by, after_acts, said_in, TranscriptTells}
@@ -70,7 +70,7 @@ exchange conn client_rx_mtu all false is follows =
 
 -- a part that is accepted is prepared last
 prepare : (conn : Connection) (handle : Handle) (offset : ℕ) (part : List ℕ) (fault : Option Code) (all : List Said) → Follows conn all
-    → Follows (record conn { queue = prepared conn.queue (entry_at handle offset part) fault })
+    → Follows (record conn { queue = queue_after conn.queue (entry_at handle offset part) fault })
     (Answered (Ok (PrepareWriteRequest handle offset part)) (Some (prepare_response (entry_at handle offset part) fault)) ∷ all)
 prepare conn handle offset part None all follows =
     let same : option_or (first_exchange all) None ≡ first_exchange all = no_exchange (first_exchange all) false None refl in

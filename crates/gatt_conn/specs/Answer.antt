@@ -18,7 +18,7 @@ use Rattle.att_table.specs.Table.{Contents}
 use Rattle.att_policy.specs.Refusal.{Refusal}
 use Rattle.att_writes.specs.Applied.{Stored, stored_in, applied_to, written_to}
 use Rattle.att_writes.specs.Entry.{Entry, whole}
-use Rattle.att_writes.specs.Queue.{prepare_fault, prepared, touched_by}
+use Rattle.att_writes.specs.Queue.{prepare_fault, queue_after, touched_by}
 use Rattle.gatt_conn.specs.Connection.{Connection, after_exchange}
 use Rattle.octets.specs.Number.{Octets}
 
@@ -102,7 +102,7 @@ abbrev pub conn_after : List Attr → Connection → Question → Connection
 conn_after attributes conn (Ok (ExchangeMtuRequest client_rx_mtu)) = after_exchange conn client_rx_mtu
 conn_after attributes conn (Ok (PrepareWriteRequest handle offset part)) =
     let entry = entry_at handle offset part in
-    record conn { queue = prepared conn.queue entry (prepare_fault attributes conn.standing conn.queue entry) }
+    record conn { queue = queue_after conn.queue entry (prepare_fault attributes conn.standing conn.queue entry) }
 conn_after attributes conn (Ok (ExecuteWriteRequest flags)) = record conn { queue = [] }
 conn_after attributes conn _ = conn
 

@@ -2,7 +2,7 @@ ghost use Rattle.std.specs.Prelude.{◌≡◌, ◌≤◌, false, [], IfOk};
 ghost use Rattle.att_table.specs.ConfigRow.{IsRowOf};
 ghost use Rattle.att_writes.specs.Applied.{applied_to, written_to};
 ghost use Rattle.att_writes.specs.Outcome.{outcome_of};
-ghost use Rattle.att_writes.specs.Queue.{prepare_fault, prepared, prepare_outcome, touched_by};
+ghost use Rattle.att_writes.specs.Queue.{prepare_fault, queue_after, prepare_outcome, touched_by};
 ghost use Rattle.gatt_conn.specs.Answer.{entry_at};
 ghost use Rattle.gatt_conn.specs.Connection.{new_connection, after_exchange};
 ghost use Rattle.gatt_conn.specs.Transcript.{TranscriptTells};
@@ -149,7 +149,7 @@ impl Conn {
         ensures outcome { result ≡ prepare_outcome (entry_at handle offset part.now)
             (prepare_fault table.now.attributes self.old.standing self.old.queue (entry_at handle offset part.now)) }
         ensures conn { self.new ≡ record self.old {
-          queue = prepared self.old.queue (entry_at handle offset part.now)
+          queue = queue_after self.old.queue (entry_at handle offset part.now)
               (prepare_fault table.now.attributes self.old.standing self.old.queue (entry_at handle offset part.now));
         } }
     {

@@ -6,7 +6,7 @@ ghost use Rattle.att_pdu.specs.Request.{WriteRequest, ExecuteWriteRequest, Write
 ghost use Rattle.att_pdu.specs.Response.{ExecuteWriteResponse};
 ghost use Rattle.att_table.specs.ConfigRow.{IsRowOf};
 ghost use Rattle.att_writes.specs.Leaves.{Leaves};
-ghost use Rattle.att_writes.specs.Queue.{prepare_fault, prepared};
+ghost use Rattle.att_writes.specs.Queue.{prepare_fault, queue_after};
 ghost use Rattle.gatt_conn.specs.Answer.{entry_at, prepare_response, answer_to, stored_by, handles_by};
 ghost use Rattle.gatt_conn.specs.Served.{Serves};
 
@@ -84,7 +84,7 @@ pub(crate) fn prepare(
     ensures served { Serves (Some (prepare_response (entry_at handle offset part.now)
         (prepare_fault table.now.attributes conn.old.standing conn.old.queue (entry_at handle offset part.now)))) [] result (contents out.new) }
     ensures conn { conn.new ≡ record conn.old {
-      queue = prepared conn.old.queue (entry_at handle offset part.now)
+      queue = queue_after conn.old.queue (entry_at handle offset part.now)
           (prepare_fault table.now.attributes conn.old.standing conn.old.queue (entry_at handle offset part.now));
     } }
     ensures confirmed { result.confirmed ≡ false }

@@ -4,7 +4,7 @@ use Rattle.std.specs.Prelude.{Some, slice_get}
 use Rattle.std.specs.Option.{option_map}
 use Rattle.std.proofs.lemmas.List.{drop-drop, length-drop, drop_all}
 use Rattle.le_acl.specs.Fragment.{Fragment, Beginning, Continuation}
-use Rattle.le_acl.specs.Packets.{Pdu, pieces_within, pieces, frame_of, flagged, fragments_of}
+use Rattle.le_acl.specs.Packets.{Pdu, pieces_within, pieces, frame_of, fragments_of_pieces, fragments_of}
 use Rattle.le_acl.specs.Outgoing.{next_of, without_next, acl_octets}
 use Rattle.le_acl.specs.Sending.{fragment_at, fragments_from, queue_of, IsWithin}
 
@@ -56,7 +56,7 @@ fragments-next : (size gone : ℕ) (pdu : Pdu) → 0 < size → gone < length (f
 unfolding others_of
 fragments-next size zero pdu some h =
     let e : size ≡ 0 + size = omega arith in
-    ap flagged (pieces-next size (frame_of pdu) some h)
+    ap fragments_of_pieces (pieces-next size (frame_of pdu) some h)
     ∙ ap (λ (n : ℕ). Beginning (take size (frame_of pdu)) ∷ map Continuation (pieces size (drop n (frame_of pdu)))) e
 fragments-next size (suc gone) pdu some h =
     ap (map Continuation) (pieces-next size (drop (suc gone) (frame_of pdu)) some (omega (arith, length-drop (suc gone) (frame_of pdu))))

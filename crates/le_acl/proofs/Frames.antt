@@ -7,9 +7,9 @@ use Rattle.std.proofs.lemmas.List.{append-nil, length-append, length-drop, take-
 use Rattle.std.proofs.lemmas.Grind.{reverse_onto}
 use Rattle.octets.specs.Number.{from_two}
 use Rattle.le_acl.specs.Fragment.{Fragment, Beginning, Continuation}
-use Rattle.le_acl.specs.Packets.{Pdu, frame_of, pieces_within, pieces, flagged, fragments_of}
-use Rattle.le_acl.specs.Frame.{is_enough, is_frame, newest_run, joined, is_shortest, frame_in, of_run, frame_at}
-use Rattle.le_acl.specs.Reassembler.{Assembly, nothing, assembled_of, with_more, assembled}
+use Rattle.le_acl.specs.Packets.{Pdu, frame_of, pieces_within, pieces, fragments_of_pieces, fragments_of}
+use Rattle.le_acl.specs.Frame.{is_enough, is_frame, newest_run, octets_of_run, is_shortest, frame_in, of_run, frame_at}
+use Rattle.le_acl.specs.Reassembler.{Assembly, nothing, assembled_of, with_more, assembly_after}
 
 -- what octets of a run lead to, where they are more than is enough already or not
 abbrev outcome_by : Bool → Bool → Bool → List ℕ → Bool → Assembly
@@ -73,16 +73,16 @@ more-by false true false octets more long = sym (outcome-long (octets ++ more) t
 
 abbrev summary : Option (List (List ℕ)) → Assembly
 summary None = nothing
-summary (Some run) = outcome (joined run) (is_shortest run)
+summary (Some run) = outcome (octets_of_run run) (is_shortest run)
 
 summary-more : (run : Option (List (List ℕ))) (octets : List ℕ)
     → with_more (summary run).unfinished octets ≡ summary (option_map (λ earlier. octets ∷ earlier) run)
 summary-more None octets = refl
 summary-more (Some run) octets =
-    more-by (is_enough (joined run)) (is_shortest run) (nat_le (length (joined run)) 521) (joined run) octets
-    (λ long. omega (arith, leb-false (length (joined run)) 521 long, length-append (joined run) octets))
+    more-by (is_enough (octets_of_run run)) (is_shortest run) (nat_le (length (octets_of_run run)) 521) (octets_of_run run) octets
+    (λ long. omega (arith, leb-false (length (octets_of_run run)) 521 long, length-append (octets_of_run run) octets))
 
-assembled-is : (fragments : List Fragment) → assembled fragments ≡ summary (newest_run fragments)
+assembled-is : (fragments : List Fragment) → assembly_after fragments ≡ summary (newest_run fragments)
 assembled-is [] = refl
 assembled-is (Beginning octets ∷ older) = outcome-first octets
 assembled-is (Continuation octets ∷ older) =
@@ -93,7 +93,7 @@ summary-frame None = refl
 summary-frame (Some run) = refl
 
 -- whatever fragments came, the newest gives the frame that it makes whole
-pub assembled_frame : (fragments : List Fragment) → (assembled fragments).frame ≡ frame_at fragments
+pub assembled_frame : (fragments : List Fragment) → (assembly_after fragments).frame ≡ frame_at fragments
 unfolding frame_at
 assembled_frame fragments = ap (λ (held : Assembly). held.frame) (assembled-is fragments) ∙ summary-frame (newest_run fragments)
 
@@ -120,35 +120,35 @@ module _ (pdu : Pdu) where
       let high : b ≡ length pdu.1 / 256 = cc is in
       lt-leb (from_two a b) (length payload) (omega (arith, ap length is, low, high, length-append payload more))
 
-  short_of : (run : List (List ℕ)) (more : List ℕ) → joined run ++ more ≡ frame_of pdu → 0 < length more → is_shortest run ≡ true
+  short_of : (run : List (List ℕ)) (more : List ℕ) → octets_of_run run ++ more ≡ frame_of pdu → 0 < length more → is_shortest run ≡ true
   short_of [] more is some = refl
   short_of (octets ∷ run) more is some =
-      let whole : joined run ++ (octets ++ more) ≡ frame_of pdu = sym (append_assoc (joined run) octets more) ∙ is in
+      let whole : octets_of_run run ++ (octets ++ more) ≡ frame_of pdu = sym (append_assoc (octets_of_run run) octets more) ∙ is in
       let longer : 0 < length (octets ++ more) = omega (arith, length-append octets more) in
-      rw (too_few (joined run) (octets ++ more) whole longer) (short_of run (octets ++ more) whole longer)
+      rw (too_few (octets_of_run run) (octets ++ more) whole longer) (short_of run (octets ++ more) whole longer)
 
   IsRun : List (List ℕ) → Type 0
-  IsRun run = (joined run ≡ frame_of pdu) × (is_shortest run ≡ true)
+  IsRun run = (octets_of_run run ≡ frame_of pdu) × (is_shortest run ≡ true)
 
   -- the pieces of what is left, behind those before them
   run_of : (count size : ℕ) (octets : List ℕ) (older : List (List ℕ)) → 0 < size → length octets ≤ count → 0 < length octets
-      → joined older ++ octets ≡ frame_of pdu → IsRun (reverse (pieces_within count size octets) ++ older)
+      → octets_of_run older ++ octets ≡ frame_of pdu → IsRun (reverse (pieces_within count size octets) ++ older)
   unfolding IsRun
   run_of zero size octets older h within some is = absurd (omega arith)
   run_of (suc count) size [] older h within some is = absurd (omega arith)
   run_of (suc count) size (x ∷ xs) older h within some is =
       let piece : List ℕ = take size (x ∷ xs) in
       let left : List ℕ = drop size (x ∷ xs) in
-      let both : (joined older ++ piece) ++ left ≡ frame_of pdu =
-      append_assoc (joined older) piece left ∙ ap (λ (octets : List ℕ). joined older ++ octets) (take-append-drop size (x ∷ xs)) ∙ is in
+      let both : (octets_of_run older ++ piece) ++ left ≡ frame_of pdu =
+      append_assoc (octets_of_run older) piece left ∙ ap (λ (octets : List ℕ). octets_of_run older ++ octets) (take-append-drop size (x ∷ xs)) ∙ is in
       let fewer : length left ≤ count = omega (arith, length-drop size (x ∷ xs)) in
       subst IsRun (sym (newer piece (pieces_within count size left) older)) (elim (cases_lt 0 (length left)) [
         | inl more ↦ run_of count size left (piece ∷ older) h fewer more both
         | inr none ↦
             let ended : left ≡ [] = length-zero left (omega arith) in
             let last : IsRun (piece ∷ older) = (
-              sym (append-nil (joined older ++ piece)) ∙ ap (λ (octets : List ℕ). (joined older ++ piece) ++ octets) (sym ended) ∙ both,
-              rw (too_few (joined older) (x ∷ xs) is (omega arith)) (short_of older (x ∷ xs) is (omega arith)),
+              sym (append-nil (octets_of_run older ++ piece)) ∙ ap (λ (octets : List ℕ). (octets_of_run older ++ piece) ++ octets) (sym ended) ∙ both,
+              rw (too_few (octets_of_run older) (x ∷ xs) is (omega arith)) (short_of older (x ∷ xs) is (omega arith)),
             ) in
             subst (λ (octets : List ℕ). IsRun (reverse (pieces_within count size octets) ++ (piece ∷ older))) (sym ended) (alone count piece last)
       ])
@@ -180,7 +180,7 @@ newest-continued (octets ∷ others) older run is =
     ∙ ap Some (sym (newer octets others run))
 
 newest-flagged : (pieces : List (List ℕ)) (older : List Fragment) → 0 < length pieces
-    → newest_run (reverse (flagged pieces) ++ older) ≡ Some (reverse pieces ++ [])
+    → newest_run (reverse (fragments_of_pieces pieces) ++ older) ≡ Some (reverse pieces ++ [])
 newest-flagged [] older some = absurd (omega arith)
 newest-flagged (piece ∷ others) older some =
     ap newest_run (newer (Beginning piece) (map Continuation others) older)

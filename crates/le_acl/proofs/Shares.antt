@@ -6,7 +6,7 @@ use Rattle.std.proofs.lemmas.Bool.{ltb-true, ltb-false, lt-ltb, le-ltb, eqb-fals
 use Rattle.std.proofs.lemmas.Grind.{flat_map-append}
 use Rattle.std.proofs.lemmas.List.{append-nil, length-append, length-drop, take_at, take_all, drop-drop}
 use Rattle.le_acl.specs.Fragment.{Fragment}
-use Rattle.le_acl.specs.Packets.{Pdu, pieces, fragments_of, joined, rest}
+use Rattle.le_acl.specs.Packets.{Pdu, pieces, fragments_of, all_packets, rest}
 use Rattle.le_acl.specs.Outgoing.{Outgoing, none_queued, next_of, without_next, may_give, after_next}
 use Rattle.le_acl.specs.Acts.{Act, Push, Next, Completed, Flush, Reset, after, given_in, queued_in, done_in, GivesAShare, AlwaysGivesAShare}
 
@@ -30,7 +30,7 @@ unfolding pieces
 fragments-some size pdu = omega arith
 
 -- the queue is its first packet and then the others
-pub all-without : (pdus : List (List Fragment)) → joined pdus ≡ option_to_list (next_of pdus) ++ joined (without_next pdus)
+pub all-without : (pdus : List (List Fragment)) → all_packets pdus ≡ option_to_list (next_of pdus) ++ all_packets (without_next pdus)
 all-without [] = refl
 all-without ([] ∷ pdus) = refl
 all-without ((packet ∷ []) ∷ pdus) = refl
@@ -89,7 +89,7 @@ rest-next given (packets ∷ pdus) each some = elim (cases_lt given (length pack
 ]
 
 -- what is left, with one PDU more behind those of which all may be given
-pub rest-push : (given : ℕ) (queued : List (List Fragment)) (packets : List Fragment) → given ≤ length (joined queued) → 0 < length packets
+pub rest-push : (given : ℕ) (queued : List (List Fragment)) (packets : List Fragment) → given ≤ length (all_packets queued) → 0 < length packets
     → rest given (queued ++ packets ∷ []) ≡ rest given queued ++ packets ∷ []
 rest-push given [] packets within some =
     let none : 0 ≡ given = omega arith in
@@ -99,7 +99,7 @@ rest-push given (first ∷ queued) packets within some = elim (cases_lt given (l
   | inl part ↦ rw (lt-ltb given (length first) part) refl
   | inr past ↦
       rw (le-ltb given (length first) past)
-      (rest-push (given - length first) queued packets (omega (arith, length-append first (joined queued))) some)
+      (rest-push (given - length first) queued packets (omega (arith, length-append first (all_packets queued))) some)
 ]
 
 rest-all : (given : List Fragment) → rest (length given) (given ∷ []) ≡ []
@@ -120,7 +120,7 @@ may-parts old is =
 
 -- what is queued, given and done, and the sender
 record Keeps (queued : List (List Fragment)) (given : List Fragment) (done : ℕ) (now : Outgoing) : Type 0 where
-  order : joined queued ≡ given ++ joined now.queue
+  order : all_packets queued ≡ given ++ all_packets now.queue
   left : now.queue ≡ rest (length given) queued
   count : now.outstanding + done ≡ length given
   within : now.outstanding ≤ now.share
@@ -136,7 +136,7 @@ keeps-next queued given done old true is kept =
     let more : length given + 1 ≡ length (given ++ option_to_list (next_of old.queue)) = omega (arith, one, length-append given (option_to_list (next_of old.queue))) in
     record {
       order = kept.order ∙ ap (λ (packets : List Fragment). given ++ packets) (all-without old.queue)
-          ∙ sym (append_assoc given (option_to_list (next_of old.queue)) (joined (without_next old.queue)));
+          ∙ sym (append_assoc given (option_to_list (next_of old.queue)) (all_packets (without_next old.queue)));
       left = ap without_next kept.left ∙ rest-next (length given) queued (subst EachSome kept.left kept.each) some
           ∙ ap (λ (n : ℕ). rest n queued) more;
       count = omega (arith, kept.count, more);
@@ -144,7 +144,7 @@ keeps-next queued given done old true is kept =
       each = each-without old.queue kept.each;
     }
 keeps-next queued given done old false is kept = record {
-  order = kept.order ∙ ap (λ (packets : List Fragment). packets ++ joined old.queue) (sym (append-nil given));
+  order = kept.order ∙ ap (λ (packets : List Fragment). packets ++ all_packets old.queue) (sym (append-nil given));
   left = kept.left ∙ ap (λ (packets : List Fragment). rest (length packets) queued) (sym (append-nil given));
   count = omega (arith, kept.count, length-append given []);
   within = kept.within;
@@ -167,11 +167,11 @@ module _ (share size : ℕ) where
       let some : 0 < length packets = fragments-some old.size pdu in
       record {
         order = flat_map-append (λ (xs : List Fragment). xs) queued (packets ∷ [])
-            ∙ ap (λ (xs : List Fragment). xs ++ joined (packets ∷ [])) kept.order
-            ∙ append_assoc given (joined old.queue) (joined (packets ∷ []))
+            ∙ ap (λ (xs : List Fragment). xs ++ all_packets (packets ∷ [])) kept.order
+            ∙ append_assoc given (all_packets old.queue) (all_packets (packets ∷ []))
             ∙ ap (λ (xs : List Fragment). given ++ xs) (sym (flat_map-append (λ (xs : List Fragment). xs) old.queue (packets ∷ [])));
         left = ap (λ (queue : List (List Fragment)). queue ++ packets ∷ []) kept.left
-            ∙ sym (rest-push (length given) queued packets (omega (arith, ap length kept.order, length-append given (joined old.queue))) some);
+            ∙ sym (rest-push (length given) queued packets (omega (arith, ap length kept.order, length-append given (all_packets old.queue))) some);
         count = kept.count;
         within = kept.within;
         each = each-append old.queue packets kept.each some;
@@ -194,23 +194,23 @@ stopped now is queued = ltb-false now.outstanding now.share (second (length now.
     second true b is other = cc
     second false b is other = is
 
-none-left : (queue : List (List Fragment)) → length queue ≡ 0 → joined queue ≡ []
+none-left : (queue : List (List Fragment)) → length queue ≡ 0 → all_packets queue ≡ []
 none-left [] none = refl
 none-left (first ∷ queue) none = absurd (omega arith)
 
 gives : (queued : List (List Fragment)) (given : List Fragment) (done : ℕ) (now : Outgoing) → Keeps queued given done now → GivesAShare queued given done now
 gives queued given done now kept =
-    let first : given ≡ take (length given) (joined queued) = sym (ap (take (length given)) kept.order ∙ take_at given (joined now.queue) (length given) refl) in
+    let first : given ≡ take (length given) (all_packets queued) = sym (ap (take (length given)) kept.order ∙ take_at given (all_packets now.queue) (length given) refl) in
     record {
       first = first;
       within = omega (arith, kept.count, kept.within);
       all = λ is. elim (cases_eq (length now.queue) 0) [
         | inl none ↦
-            let whole : joined queued ≡ given = kept.order ∙ ap (λ (left : List Fragment). given ++ left) (none-left now.queue none) ∙ append-nil given in
+            let whole : all_packets queued ≡ given = kept.order ∙ ap (λ (left : List Fragment). given ++ left) (none-left now.queue none) ∙ append-nil given in
             sym (ap (take (now.share + done)) whole ∙ take_all (now.share + done) given (omega (arith, kept.count, kept.within)))
         | inr queued_more ↦
             let most : length given ≡ now.share + done = omega (arith, kept.count, kept.within, stopped now is queued_more) in
-            first ∙ ap (λ (n : ℕ). take n (joined queued)) most
+            first ∙ ap (λ (n : ℕ). take n (all_packets queued)) most
       ];
       left = kept.left;
       outstanding = omega (arith, kept.count);

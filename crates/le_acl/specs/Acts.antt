@@ -2,8 +2,8 @@
 use Rattle.std.specs.Prelude.{◌≡◌, ℕ, ◌+◌, ◌-◌, ◌≤◌, min, false, if◌then◌else◌, List, [], ◌∷◌, ◌++◌, length, take}
 use Rattle.std.specs.Option.{option_to_list}
 use Rattle.le_acl.specs.Fragment.{Fragment}
-use Rattle.le_acl.specs.Packets.{Pdu, fragments_of, joined, rest}
-use Rattle.le_acl.specs.Outgoing.{Outgoing, none_queued, with_pdu, next_of, may_give, after_next, with_completed, flushed}
+use Rattle.le_acl.specs.Packets.{Pdu, fragments_of, all_packets, rest}
+use Rattle.le_acl.specs.Outgoing.{Outgoing, none_queued, with_pdu, next_of, may_give, after_next, with_completed, without_pdus}
 
 -- a PDU is queued, a packet is asked for, packets are completed, the PDUs are dropped, or all begins anew
 pub data Act : Type 0 where
@@ -13,17 +13,17 @@ pub data Act : Type 0 where
   Flush : Act
   Reset : (share size : ℕ) → Act
 
-abbrev pub acted : Outgoing → Act → Outgoing
-acted old (Push pdu) = with_pdu old pdu
-acted old Next = if may_give old then after_next old else old
-acted old (Completed count) = with_completed old count
-acted old Flush = flushed old
-acted old (Reset share size) = none_queued share size
+abbrev pub after_act : Outgoing → Act → Outgoing
+after_act old (Push pdu) = with_pdu old pdu
+after_act old Next = if may_give old then after_next old else old
+after_act old (Completed count) = with_completed old count
+after_act old Flush = without_pdus old
+after_act old (Reset share size) = none_queued share size
 
 -- after any acts, of which the newest stands first
 abbrev pub after : Outgoing → List Act → Outgoing
 after start [] = start
-after start (act ∷ earlier) = acted (after start earlier) act
+after start (act ∷ earlier) = after_act (after start earlier) act
 
 -- since the newest reset: the packets given
 abbrev pub given_in : Outgoing → List Act → List Fragment
@@ -57,9 +57,9 @@ done_in start (Reset share size ∷ earlier) = 0
 -- the packets given are the first of those queued, and at most a share beyond those that are done; all of these, once no
 -- more may be given. What is left of the queue follows from how many they are
 pub record GivesAShare (queued : List (List Fragment)) (given : List Fragment) (done : ℕ) (now : Outgoing) : Type 0 where
-  pub first : given ≡ take (length given) (joined queued)
+  pub first : given ≡ take (length given) (all_packets queued)
   pub within : length given ≤ now.share + done
-  pub all : may_give now ≡ false → given ≡ take (now.share + done) (joined queued)
+  pub all : may_give now ≡ false → given ≡ take (now.share + done) (all_packets queued)
   pub left : now.queue ≡ rest (length given) queued
   pub outstanding : now.outstanding ≡ length given - done
 

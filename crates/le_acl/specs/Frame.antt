@@ -23,18 +23,18 @@ newest_run (Beginning octets ∷ older) = Some (octets ∷ [])
 newest_run (Continuation octets ∷ older) = option_map (λ run. octets ∷ run) (newest_run older)
 
 -- the octets of a run, in the order in which they came
-abbrev pub joined : List Octets → Octets
-joined [] = []
-joined (octets ∷ run) = joined run ++ octets
+abbrev pub octets_of_run : List Octets → Octets
+octets_of_run [] = []
+octets_of_run (octets ∷ run) = octets_of_run run ++ octets
 
 -- a run without its newest fragments is not enough, however many these are
 abbrev pub is_shortest : List Octets → Bool
 is_shortest [] = true
-is_shortest (octets ∷ run) = not (is_enough (joined run)) && is_shortest run
+is_shortest (octets ∷ run) = not (is_enough (octets_of_run run)) && is_shortest run
 
 -- the frame that a run's newest fragment makes whole: the run is the shortest part of itself that is enough, and a frame
 abbrev pub frame_in : List Octets → Option Octets
-frame_in run = if is_enough (joined run) && (is_shortest run && is_frame (joined run)) then Some (joined run) else None
+frame_in run = if is_enough (octets_of_run run) && (is_shortest run && is_frame (octets_of_run run)) then Some (octets_of_run run) else None
 
 -- the frame that the newest fragment gives
 abbrev pub of_run : Option (List Octets) → Option Octets

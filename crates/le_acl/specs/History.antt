@@ -6,13 +6,13 @@ use Rattle.le_acl.specs.Packets.{Pdu, packets_of, total}
 use Rattle.le_acl.specs.Outgoing.{Outgoing, outgoing_after, none_queued, with_pdu, next_of, may_give, after_next, with_completed}
 
 -- as many packets as may be given: a share beyond those that are completed
-abbrev pub allowed : ℕ → ℕ → List Pdu → ℕ → ℕ
-allowed share size pdus done = min (total size pdus) (share + done)
+abbrev pub packets_allowed : ℕ → ℕ → List Pdu → ℕ → ℕ
+packets_allowed share size pdus done = min (total size pdus) (share + done)
 
 -- what goes out is as after this history
 pub record StandsAt (outgoing : Outgoing) (share size : ℕ) (pdus : List Pdu) (given done : ℕ) : Type 0 where
   pub stands : outgoing ≡ outgoing_after share size pdus given done
-  pub most : given ≤ allowed share size pdus done
+  pub most : given ≤ packets_allowed share size pdus done
   pub done_before : done ≤ given
 
 -- the next packet behind those given
@@ -26,8 +26,8 @@ pub record FollowsHistory (share size : ℕ) : Type 0 where
   pub queued : (outgoing : Outgoing) (pdus : List Pdu) (given done : ℕ) (pdu : Pdu) → StandsAt outgoing share size pdus given done
       → StandsAt (with_pdu outgoing pdu) share size (pdus ++ pdu ∷ []) given done
   pub may : (outgoing : Outgoing) (pdus : List Pdu) (given done : ℕ) → StandsAt outgoing share size pdus given done
-      → may_give outgoing ≡ nat_lt given (allowed share size pdus done)
+      → may_give outgoing ≡ nat_lt given (packets_allowed share size pdus done)
   pub next : (outgoing : Outgoing) (pdus : List Pdu) (given done : ℕ) → StandsAt outgoing share size pdus given done
-      → given < allowed share size pdus done → StepsTo outgoing share size pdus given done
+      → given < packets_allowed share size pdus done → StepsTo outgoing share size pdus given done
   pub completed : (outgoing : Outgoing) (pdus : List Pdu) (given done count : ℕ) → StandsAt outgoing share size pdus given done
       → StandsAt (with_completed outgoing count) share size pdus given (done + min count (given - done))

@@ -49,8 +49,8 @@ abbrev pub with_completed : Outgoing → ℕ → Outgoing
 with_completed old count = record old { outstanding = old.outstanding - count }
 
 -- without the PDUs: packets stay outstanding
-abbrev pub flushed : Outgoing → Outgoing
-flushed old = record old { queue = [] }
+abbrev pub without_pdus : Outgoing → Outgoing
+without_pdus old = record old { queue = [] }
 
 -- the octets of an ACL packet to the controller
 abbrev pub acl_octets : ℕ → Fragment → Octets

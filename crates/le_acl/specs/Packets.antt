@@ -22,20 +22,20 @@ unfoldable pub pieces : ℕ → Octets → List Octets
 pieces size octets = pieces_within (length octets) size octets
 
 -- the first piece begins the frame, the others continue it
-abbrev pub flagged : List Octets → List Fragment
-flagged [] = []
-flagged (piece ∷ others) = Beginning piece ∷ map Continuation others
+abbrev pub fragments_of_pieces : List Octets → List Fragment
+fragments_of_pieces [] = []
+fragments_of_pieces (piece ∷ others) = Beginning piece ∷ map Continuation others
 
 -- the packets of one PDU, each with at most so many octets of data
 abbrev pub fragments_of : ℕ → Pdu → List Fragment
-fragments_of size pdu = flagged (pieces size (frame_of pdu))
+fragments_of size pdu = fragments_of_pieces (pieces size (frame_of pdu))
 
 -- the packets of several PDUs one after another, and how many they are
-abbrev pub joined : List (List Fragment) → List Fragment
-joined = flat_map (λ packets. packets)
+abbrev pub all_packets : List (List Fragment) → List Fragment
+all_packets = flat_map (λ packets. packets)
 
 abbrev pub packets_of : ℕ → List Pdu → List Fragment
-packets_of size pdus = joined (map (fragments_of size) pdus)
+packets_of size pdus = all_packets (map (fragments_of size) pdus)
 
 abbrev pub total : ℕ → List Pdu → ℕ
 total size pdus = length (packets_of size pdus)

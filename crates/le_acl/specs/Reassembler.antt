@@ -26,18 +26,18 @@ abbrev pub with_more : Option Octets → Octets → Assembly
 with_more None octets = nothing
 with_more (Some earlier) octets = assembled_of (earlier ++ octets)
 
-abbrev pub continued : Assembly → Octets → Assembly
-continued old octets = with_more old.unfinished octets
+abbrev pub with_continuation : Assembly → Octets → Assembly
+with_continuation old octets = with_more old.unfinished octets
 
 -- after any fragments, the newest first
-abbrev pub assembled : List Fragment → Assembly
-assembled [] = nothing
-assembled (Beginning octets ∷ older) = assembled_of octets
-assembled (Continuation octets ∷ older) = continued (assembled older) octets
+abbrev pub assembly_after : List Fragment → Assembly
+assembly_after [] = nothing
+assembly_after (Beginning octets ∷ older) = assembled_of octets
+assembly_after (Continuation octets ∷ older) = with_continuation (assembly_after older) octets
 
 -- whatever fragments came, the newest gives the frame that it makes whole
 abbrev pub GivesFrames : Type 0
-GivesFrames = (fragments : List Fragment) → (assembled fragments).frame ≡ frame_at fragments
+GivesFrames = (fragments : List Fragment) → (assembly_after fragments).frame ≡ frame_at fragments
 
 -- the fields of a reassembler, as one value
 abbrev pub assembly_of : State → Octets → Assembly

@@ -1,6 +1,6 @@
 ghost use Rattle.std.specs.Prelude.{◌≡◌, ◌≤◌, ◌↔◌, ◌++◌, length, take, Some, IsSome};
 ghost use Rattle.le_acl.specs.Frame.{FragmentsMakeTheirFrame};
-ghost use Rattle.le_acl.specs.Reassembler.{GivesFrames, nothing, assembled_of, continued, assembly_of};
+ghost use Rattle.le_acl.specs.Reassembler.{GivesFrames, nothing, assembled_of, with_continuation, assembly_of};
 
 use std::cmp::Ordering;
 use std::marker::Model;
@@ -80,7 +80,7 @@ impl Reassembler {
 
     /// Takes in a fragment that continues a frame. It is dropped where none is unfinished.
     pub fn more(&mut self, octets: &[u8]) -> Piece
-        ensures after { self.new ≡ continued self.old octets.now }
+        ensures after { self.new ≡ with_continuation self.old octets.now }
         ensures frame { (result ≡ Piece.Frame) ↔ IsSome self.new.frame }
     {
         self.state = match self.state {

@@ -3,7 +3,7 @@ ghost use Rattle.std.specs.Bool.{OnTrue, OnFalse};
 ghost use Rattle.std.specs.Borrow.{sem};
 ghost use Rattle.std.specs.Option.{option_map};
 ghost use Rattle.le_acl.specs.Packets.{frame_of};
-ghost use Rattle.le_acl.specs.Outgoing.{with_pdu, next_of, may_give, after_next, with_completed, flushed, acl_octets};
+ghost use Rattle.le_acl.specs.Outgoing.{with_pdu, next_of, may_give, after_next, with_completed, without_pdus, acl_octets};
 ghost use Rattle.le_acl.specs.Acts.{AlwaysGivesAShare};
 ghost use Rattle.le_acl.specs.History.{FollowsHistory};
 ghost use Rattle.le_acl.specs.Sending.{idle, fragment_at};
@@ -138,7 +138,7 @@ impl Sender {
 
     /// Drops the PDUs. Packets stay outstanding.
     pub fn flush(&mut self)
-        ensures { self.new ≡ record { outgoing = flushed self.old.outgoing; room = None } }
+        ensures { self.new ≡ record { outgoing = without_pdus self.old.outgoing; room = None } }
     {
         self.pdus.clear();
         self.gone = 0;

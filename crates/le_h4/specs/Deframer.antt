@@ -18,8 +18,8 @@ abbrev pub at_start : Deframing
 at_start = record { skipping = 0; gathered = []; marked = None }
 
 -- an indicator was met that no packet has
-abbrev pub desynced : ℕ → Deframing
-desynced indicator = record { skipping = 0; gathered = indicator ∷ []; marked = None }
+abbrev pub lost_at : ℕ → Deframing
+lost_at indicator = record { skipping = 0; gathered = indicator ∷ []; marked = None }
 
 -- what is still to come divides so, where these octets follow
 abbrev pub still : Deframing → Octets → Division

@@ -6,9 +6,9 @@ use Rattle.le_h4.specs.Deframer.{Deframing}
 use Rattle.le_h4.specs.Progress.{Fits, packet_in}
 
 -- a packet that is marked is what was gathered, and nothing is gathered behind it
-abbrev pub unmarked : Bool → Octets → Octets
-unmarked true gathered = []
-unmarked false gathered = gathered
+abbrev pub unless_marked : Bool → Octets → Octets
+unless_marked true gathered = []
+unless_marked false gathered = gathered
 
 abbrev pub marked_in : Bool → Octets → Option Packet
 marked_in true gathered = packet_in (first_of gathered)
@@ -16,7 +16,7 @@ marked_in false gathered = None
 
 abbrev pub deframing_of : ℕ → Octets → Bool → Deframing
 deframing_of skipping gathered marked =
-    record { skipping = skipping; gathered = unmarked marked gathered; marked = marked_in marked gathered }
+    record { skipping = skipping; gathered = unless_marked marked gathered; marked = marked_in marked gathered }
 
 -- what is gathered is one packet or less, or nothing where octets are passed over
 pub record IsHeld (skipping : ℕ) (gathered : Octets) (marked : Bool) : Type 0 where

@@ -3,10 +3,10 @@ ghost use Rattle.octets.specs.Number.{Octets};
 ghost use Rattle.arrayvec.specs.ArrayVec.{array_vec_len};
 ghost use Rattle.le_h4.specs.Packet.{seen, first_of};
 ghost use Rattle.le_h4.specs.Division.{unfinished, lost, before};
-ghost use Rattle.le_h4.specs.Deframer.{at_start, desynced, still, marks, EndsWith, MarksTheDivision};
+ghost use Rattle.le_h4.specs.Deframer.{at_start, lost_at, still, marks, EndsWith, MarksTheDivision};
 ghost use Rattle.le_h4.specs.Progress.{Fits, packet_in};
 ghost use Rattle.le_h4.specs.Gathering.{Gathers};
-ghost use Rattle.le_h4.specs.Held.{unmarked};
+ghost use Rattle.le_h4.specs.Held.{unless_marked};
 
 use crate::packet::{PacketRef, read_packet};
 use crate::progress::{Progress, progress_at, whole_packet};
@@ -82,7 +82,7 @@ impl Deframer {
         // No whole packet is held back.
         ensures unfinished { OnOk result (still self.new [] ≡ unfinished) }
         ensures desync { (indicator : ℕ) → (result ≡ Err (H4Fault.Desync indicator)) ↔ (still self.old octets.now ≡ lost indicator) }
-        ensures desynced { (indicator : ℕ) → result ≡ Err (H4Fault.Desync indicator) → self.new ≡ desynced indicator }
+        ensures desynced { (indicator : ℕ) → result ≡ Err (H4Fault.Desync indicator) → self.new ≡ lost_at indicator }
     {
         forget(&mut self.gathered, self.marked);
         match gather(&mut self.gathered, &mut self.skipping, octets) {
@@ -108,7 +108,7 @@ impl Deframer {
 
 /// Forgets what is gathered where it is a packet that is marked.
 fn forget(gathered: &mut ArrayVec<u8, 1029>, marked: bool)
-    ensures { gathered.new.items ≡ unmarked marked gathered.old.items }
+    ensures { gathered.new.items ≡ unless_marked marked gathered.old.items }
 {
     if marked {
         gathered.clear();

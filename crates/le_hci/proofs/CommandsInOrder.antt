@@ -27,7 +27,7 @@ after_success : (state : Init) (opcode : ℕ) → opcode_awaited state ≡ Some 
     → ((following : Init) → next state values ≡ Ok following → IsPrefixOf (sent_from following) commands)
     → IsPrefixOf (sent_after (outcome_of state (status ∷ values)) sent_from) commands
 after_success state opcode awaits status values sent_from commands h =
-    let P : Option ℕ → Type 0 = λ awaited. IsPrefixOf (sent_after (outcome_by awaited state (status ∷ values)) sent_from) commands in
+    let P : Option ℕ → Type 0 = λ command_awaited. IsPrefixOf (sent_after (outcome_by command_awaited state (status ∷ values)) sent_from) commands in
     subst P (sym awaits) (pick (status == 0))
   where
     settle : (outcome : Result Init InitFault) → ((following : Init) → outcome ≡ Ok following → IsPrefixOf (sent_from following) commands)
@@ -43,7 +43,7 @@ after : (state : Init) (opcode : ℕ) → opcode_awaited state ≡ Some opcode �
     → ((values : List ℕ) (following : Init) → next state values ≡ Ok following → IsPrefixOf (sent_from following) commands)
     → IsPrefixOf (sent_after (outcome_of state returned) sent_from) commands
 after state opcode awaits [] sent_from commands h =
-    let P : Option ℕ → Type 0 = λ awaited. IsPrefixOf (sent_after (outcome_by awaited state []) sent_from) commands in
+    let P : Option ℕ → Type 0 = λ command_awaited. IsPrefixOf (sent_after (outcome_by command_awaited state []) sent_from) commands in
     subst P (sym awaits) (none_sent commands)
 after state opcode awaits (status ∷ values) sent_from commands h = after_success state opcode awaits status values sent_from commands (h values)
 

@@ -12,7 +12,7 @@ use Rattle.le_hci.specs.declared.init.InitFault.{InitFault}
 use Rattle.le_hci.specs.declared.init.InitFault.TheVariants.{BadBuffers}
 use Rattle.le_hci.specs.Buffers.{usable_of, le_buffers_of, shared_buffers_of}
 use Rattle.le_hci.specs.Init.{opcode_awaited, outcome_by, values_of, next_by, handed_back, next, first_state, addressed_from, after_sizing, after_shared_sizing}
-use Rattle.le_hci.specs.InitTold.{AreUsable, KnowsUsable, state_after, reached}
+use Rattle.le_hci.specs.InitTold.{AreUsable, KnowsUsable, state_after, state_after_answers}
 use Rattle.arrayvec.specs.ArrayVec.{ArrayVec}
 
 -- a result that is a success knows enough
@@ -68,8 +68,8 @@ following (Ready length packets) values knows = knows
 
 -- so it is after any answers
 known-back : (answers : List (List ℕ)) (state : Init) (outcome : Result Init InitFault) → KnowsUsable state → Leads outcome
-    → ((next_state : Init) → KnowsUsable next_state → KnowsUsable (reached answers next_state))
-    → KnowsUsable (state_after (handed_back state outcome) (reached answers))
+    → ((next_state : Init) → KnowsUsable next_state → KnowsUsable (state_after_answers answers next_state))
+    → KnowsUsable (state_after (handed_back state outcome) (state_after_answers answers))
 known-back answers state (Ok next_state) knows leads later = later next_state leads
 known-back answers state (Err fault) knows leads later = knows
 
@@ -77,16 +77,16 @@ valued : (state : Init) (values : Result (List ℕ) InitFault) → KnowsUsable s
 valued state (Ok values) knows = following state values knows
 valued state (Err fault) knows = tt
 
-known-by : (awaited : Option ℕ) (answers : List (List ℕ)) (state : Init) (returned : List ℕ) → KnowsUsable state
-    → ((next_state : Init) → KnowsUsable next_state → KnowsUsable (reached answers next_state))
-    → KnowsUsable (state_after (outcome_by awaited state returned) (reached answers))
+known-by : (command_awaited : Option ℕ) (answers : List (List ℕ)) (state : Init) (returned : List ℕ) → KnowsUsable state
+    → ((next_state : Init) → KnowsUsable next_state → KnowsUsable (state_after_answers answers next_state))
+    → KnowsUsable (state_after (outcome_by command_awaited state returned) (state_after_answers answers))
 known-by None answers state returned knows later = later state knows
 known-by (Some opcode) answers state returned knows later =
     known-back answers state (next_by state (values_of opcode returned)) knows (valued state (values_of opcode returned) knows) later
 
-known : (answers : List (List ℕ)) (state : Init) → KnowsUsable state → KnowsUsable (reached answers state)
+known : (answers : List (List ℕ)) (state : Init) → KnowsUsable state → KnowsUsable (state_after_answers answers state)
 known [] state knows = knows
 known (returned ∷ answers) state knows = known-by (opcode_awaited state) answers state returned knows (known answers)
 
-pub knows_usable : (address : Option (List ℕ)) (advertising : ArrayVec ℕ) (answers : List (List ℕ)) → KnowsUsable (reached answers (first_state address advertising))
+pub knows_usable : (address : Option (List ℕ)) (advertising : ArrayVec ℕ) (answers : List (List ℕ)) → KnowsUsable (state_after_answers answers (first_state address advertising))
 knows_usable address advertising answers = known answers (first_state address advertising) tt

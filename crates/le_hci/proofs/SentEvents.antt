@@ -10,8 +10,8 @@ use Rattle.le_hci.specs.declared.peer.Peer.{Peer}
 use Rattle.le_hci.specs.declared.event.CompletedPackets.{CompletedPackets}
 use Rattle.le_hci.specs.declared.event.Event.{Event}
 use Rattle.le_hci.specs.declared.event.BadEvent.{BadEvent}
-use Rattle.le_hci.specs.Event.{Reported, reported, DisconnectionComplete, EncryptionChange, CommandComplete, CommandStatus, HardwareError, NumberOfCompletedPackets, EncryptionKeyRefreshComplete, ConnectionComplete, LongTermKeyRequest, Other, completed_packets_of, completed_entries, disconnection_complete, encryption_change, command_complete, command_status, hardware_error, number_of_completed_packets, encryption_key_refresh_complete, connection_complete, long_term_key_request, le_meta_form, form_of, read_or_bad, event_of}
-use Rattle.le_hci.specs.EventPacket.{packet, code_of, entry_fields, fields_of, HasFields, entry_told, told, IsSentAs, IsRead}
+use Rattle.le_hci.specs.Event.{Reported, report_of, DisconnectionComplete, EncryptionChange, CommandComplete, CommandStatus, HardwareError, NumberOfCompletedPackets, EncryptionKeyRefreshComplete, ConnectionComplete, LongTermKeyRequest, Other, completed_packets_of, completed_entries, disconnection_complete, encryption_change, command_complete, command_status, hardware_error, number_of_completed_packets, encryption_key_refresh_complete, connection_complete, long_term_key_request, le_meta_form, form_of, read_or_bad, event_of}
+use Rattle.le_hci.specs.EventPacket.{packet, code_of, entry_fields, fields_of, HasFields, entry_told, report_read, IsSentAs, IsRead}
 use Rattle.octets.specs.Number.{from_two}
 use Rattle.le_hci.proofs.Fields.{connection_by, connection_is, request_by, request_is}
 
@@ -30,7 +30,7 @@ record IsForm (code : ℕ) (parameters : List ℕ) (event : Reported) : Type 0 w
   pub extra : List ℕ
   pub code_is : code ≡ code_of sent
   pub fields : parameters ≡ fields_of sent ++ extra
-  pub same : told sent ≡ event
+  pub same : report_read sent ≡ event
 
 -- what a form reads is such an event, but for the other events
 abbrev Reads : List ℕ → ℕ → Option Reported → Type 0
@@ -240,7 +240,7 @@ entries_read (entry ∷ entries) extra =
     ∙ ap (λ (e : CompletedPackets). Some (e ∷ map entry_told entries)) (entry_read entry)
 
 -- the form of the code reads the fields
-form_read : (sent : Reported) (extra : List ℕ) → HasFields sent extra → form_of (code_of sent) (fields_of sent ++ extra) ≡ Some (told sent)
+form_read : (sent : Reported) (extra : List ℕ) → HasFields sent extra → form_of (code_of sent) (fields_of sent ++ extra) ≡ Some (report_read sent)
 form_read (DisconnectionComplete status handle reason) extra f = cc (restored handle)
 form_read (EncryptionChange status handle enabled) extra f = cc (restored handle)
 form_read (CommandComplete allowed opcode parameters) extra f = cc (restored opcode, ap (λ xs. parameters ++ xs) f, append-nil parameters)
@@ -271,7 +271,7 @@ form_read (LongTermKeyRequest handle random_number diversifier) extra f = eight 
 form_read Other extra f = absurd f
 
 -- what is sent is read
-pub is_read : (octets : List ℕ) (sent : Reported) (extra : List ℕ) → HasFields sent extra → packet (code_of sent) (fields_of sent ++ extra) ≡ octets → event_of octets ≡ Ok (told sent)
+pub is_read : (octets : List ℕ) (sent : Reported) (extra : List ℕ) → HasFields sent extra → packet (code_of sent) (fields_of sent ++ extra) ≡ octets → event_of octets ≡ Ok (report_read sent)
 is_read octets sent extra f e =
     let parameters : List ℕ = fields_of sent ++ extra in
     ap event_of (sym e)
@@ -280,6 +280,6 @@ is_read octets sent extra f e =
 
 -- the same of a result of the code
 pub result_is_sent : (octets : List ℕ) → ((i : ℕ) → Fits w8 (slice_index_or octets i 0)) → (result : Result Event BadEvent)
-    → result_map_both reported (λ bad. bad) result ≡ event_of octets → IfOk result (λ event. IsRead (reported event) octets)
-result_is_sent octets fits (Ok event) e = is_sent octets (λ i. Fits-lt-pow (fits i)) (reported event) (sym e)
+    → result_map_both report_of (λ bad. bad) result ≡ event_of octets → IfOk result (λ event. IsRead (report_of event) octets)
+result_is_sent octets fits (Ok event) e = is_sent octets (λ i. Fits-lt-pow (fits i)) (report_of event) (sym e)
 result_is_sent octets fits (Err bad) e = tt

@@ -20,19 +20,19 @@ pub data Commanded : Type 0 where
   LeLongTermKeyRequestReply : (handle : ℕ) (key : Octets) → Commanded
   LeLongTermKeyRequestNegativeReply : (handle : ℕ) → Commanded
 
-abbrev pub commanded : Command → Commanded
-commanded variant.Reset = Reset
-commanded (variant.SetEventMask mask) = SetEventMask mask
-commanded variant.ReadBufferSize = ReadBufferSize
-commanded (variant.Disconnect handle reason) = Disconnect handle reason
-commanded (variant.LeSetEventMask mask) = LeSetEventMask mask
-commanded variant.LeReadBufferSize = LeReadBufferSize
-commanded (variant.LeSetRandomAddress address) = LeSetRandomAddress address
-commanded (variant.LeSetAdvertisingParameters own_address_type) = LeSetAdvertisingParameters own_address_type
-commanded (variant.LeSetAdvertisingData advertising) = LeSetAdvertisingData advertising.now.items
-commanded variant.LeSetAdvertiseEnable = LeSetAdvertiseEnable
-commanded (variant.LeLongTermKeyRequestReply handle key) = LeLongTermKeyRequestReply handle key
-commanded (variant.LeLongTermKeyRequestNegativeReply handle) = LeLongTermKeyRequestNegativeReply handle
+abbrev pub command_of : Command → Commanded
+command_of variant.Reset = Reset
+command_of (variant.SetEventMask mask) = SetEventMask mask
+command_of variant.ReadBufferSize = ReadBufferSize
+command_of (variant.Disconnect handle reason) = Disconnect handle reason
+command_of (variant.LeSetEventMask mask) = LeSetEventMask mask
+command_of variant.LeReadBufferSize = LeReadBufferSize
+command_of (variant.LeSetRandomAddress address) = LeSetRandomAddress address
+command_of (variant.LeSetAdvertisingParameters own_address_type) = LeSetAdvertisingParameters own_address_type
+command_of (variant.LeSetAdvertisingData advertising) = LeSetAdvertisingData advertising.now.items
+command_of variant.LeSetAdvertiseEnable = LeSetAdvertiseEnable
+command_of (variant.LeLongTermKeyRequestReply handle key) = LeLongTermKeyRequestReply handle key
+command_of (variant.LeLongTermKeyRequestNegativeReply handle) = LeLongTermKeyRequestNegativeReply handle
 
 -- an opcode: the group (OGF) in the upper 6 bits, and the command in it (OCF) in the lower 10
 abbrev pub opcode : ℕ → ℕ → ℕ

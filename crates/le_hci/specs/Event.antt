@@ -31,18 +31,18 @@ completed_packets_of (handle_low ∷ handle_high ∷ packets_low ∷ packets_hig
     record { handle = handle_of handle_low handle_high; packets = from_two packets_low packets_high }
 completed_packets_of _ = record { handle = 0; packets = 0 }
 
-abbrev pub reported : Event → Reported
-reported (variant.DisconnectionComplete status handle reason) = DisconnectionComplete status handle reason
-reported (variant.EncryptionChange status handle enabled) = EncryptionChange status handle enabled
-reported (variant.CommandComplete allowed opcode parameters) = CommandComplete allowed opcode parameters.now
-reported (variant.CommandStatus status allowed opcode) = CommandStatus status allowed opcode
-reported (variant.HardwareError code) = HardwareError code
-reported (variant.NumberOfCompletedPackets entries) = NumberOfCompletedPackets (map completed_packets_of entries.now)
-reported (variant.EncryptionKeyRefreshComplete status handle) = EncryptionKeyRefreshComplete status handle
-reported (variant.ConnectionComplete status handle role peer interval latency timeout clock_accuracy) =
+abbrev pub report_of : Event → Reported
+report_of (variant.DisconnectionComplete status handle reason) = DisconnectionComplete status handle reason
+report_of (variant.EncryptionChange status handle enabled) = EncryptionChange status handle enabled
+report_of (variant.CommandComplete allowed opcode parameters) = CommandComplete allowed opcode parameters.now
+report_of (variant.CommandStatus status allowed opcode) = CommandStatus status allowed opcode
+report_of (variant.HardwareError code) = HardwareError code
+report_of (variant.NumberOfCompletedPackets entries) = NumberOfCompletedPackets (map completed_packets_of entries.now)
+report_of (variant.EncryptionKeyRefreshComplete status handle) = EncryptionKeyRefreshComplete status handle
+report_of (variant.ConnectionComplete status handle role peer interval latency timeout clock_accuracy) =
     ConnectionComplete status handle role peer interval latency timeout clock_accuracy
-reported (variant.LongTermKeyRequest handle random_number diversifier) = LongTermKeyRequest handle random_number diversifier
-reported variant.Other = Other
+report_of (variant.LongTermKeyRequest handle random_number diversifier) = LongTermKeyRequest handle random_number diversifier
+report_of variant.Other = Other
 
 -- The forms of the parameters, each none where there are fewer octets than fields; octets after the fields are ignored.
 abbrev pub disconnection_complete : Octets → Option Reported

@@ -53,25 +53,25 @@ HasFields _ extra = ⊤
 abbrev pub entry_told : CompletedPackets → CompletedPackets
 entry_told entry = record { handle = entry.handle % 4096; packets = entry.packets }
 
-abbrev pub told : Reported → Reported
-told (DisconnectionComplete status handle reason) = DisconnectionComplete status (handle % 4096) reason
-told (EncryptionChange status handle enabled) = EncryptionChange status (handle % 4096) enabled
-told (CommandComplete allowed opcode parameters) = CommandComplete allowed opcode parameters
-told (CommandStatus status allowed opcode) = CommandStatus status allowed opcode
-told (HardwareError code) = HardwareError code
-told (NumberOfCompletedPackets entries) = NumberOfCompletedPackets (map entry_told entries)
-told (EncryptionKeyRefreshComplete status handle) = EncryptionKeyRefreshComplete status (handle % 4096)
-told (ConnectionComplete status handle role peer interval latency timeout clock_accuracy) =
+abbrev pub report_read : Reported → Reported
+report_read (DisconnectionComplete status handle reason) = DisconnectionComplete status (handle % 4096) reason
+report_read (EncryptionChange status handle enabled) = EncryptionChange status (handle % 4096) enabled
+report_read (CommandComplete allowed opcode parameters) = CommandComplete allowed opcode parameters
+report_read (CommandStatus status allowed opcode) = CommandStatus status allowed opcode
+report_read (HardwareError code) = HardwareError code
+report_read (NumberOfCompletedPackets entries) = NumberOfCompletedPackets (map entry_told entries)
+report_read (EncryptionKeyRefreshComplete status handle) = EncryptionKeyRefreshComplete status (handle % 4096)
+report_read (ConnectionComplete status handle role peer interval latency timeout clock_accuracy) =
     ConnectionComplete status (handle % 4096) role peer interval latency timeout clock_accuracy
-told (LongTermKeyRequest handle random_number diversifier) = LongTermKeyRequest (handle % 4096) random_number diversifier
-told Other = Other
+report_read (LongTermKeyRequest handle random_number diversifier) = LongTermKeyRequest (handle % 4096) random_number diversifier
+report_read Other = Other
 
 -- the octets are those of an event, and of extra octets after its fields; without the ignored bits it is this event
 pub record IsSentAs (event : Reported) (octets : Octets) : Type 0 where
   pub sent : Reported
   pub extra : Octets
   pub spelled : octets ≡ packet (code_of sent) (fields_of sent ++ extra)
-  pub same : told sent ≡ event
+  pub same : report_read sent ≡ event
 
 -- and so is each event that is read, but for the other ones
 abbrev pub IsRead : Reported → Octets → Type 0

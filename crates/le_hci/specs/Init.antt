@@ -21,21 +21,21 @@ abbrev pub le_event_mask : ℕ
 le_event_mask = 0x1F
 
 -- the command that a state awaits
-abbrev pub awaited : Init → Option Commanded
-awaited (Resetting settings) = Some Reset
-awaited (Masking settings) = Some (SetEventMask event_mask)
-awaited (LeMasking settings) = Some (LeSetEventMask le_event_mask)
-awaited (Sizing settings) = Some LeReadBufferSize
-awaited (SharedSizing settings) = Some ReadBufferSize
-awaited (Addressing address advertising buffers) = Some (LeSetRandomAddress address)
-awaited (Describing own_address_type advertising buffers) = Some (LeSetAdvertisingParameters own_address_type)
-awaited (Filling advertising buffers) = Some (LeSetAdvertisingData advertising.items)
-awaited (Enabling buffers) = Some LeSetAdvertiseEnable
-awaited (Ready length packets) = None
+abbrev pub command_awaited : Init → Option Commanded
+command_awaited (Resetting settings) = Some Reset
+command_awaited (Masking settings) = Some (SetEventMask event_mask)
+command_awaited (LeMasking settings) = Some (LeSetEventMask le_event_mask)
+command_awaited (Sizing settings) = Some LeReadBufferSize
+command_awaited (SharedSizing settings) = Some ReadBufferSize
+command_awaited (Addressing address advertising buffers) = Some (LeSetRandomAddress address)
+command_awaited (Describing own_address_type advertising buffers) = Some (LeSetAdvertisingParameters own_address_type)
+command_awaited (Filling advertising buffers) = Some (LeSetAdvertisingData advertising.items)
+command_awaited (Enabling buffers) = Some LeSetAdvertiseEnable
+command_awaited (Ready length packets) = None
 
 -- its opcode
 abbrev pub opcode_awaited : Init → Option ℕ
-opcode_awaited state = option_map opcode_of (awaited state)
+opcode_awaited state = option_map opcode_of (command_awaited state)
 
 -- the first state
 abbrev pub first_state : Option Octets → ArrayVec ℕ → Init

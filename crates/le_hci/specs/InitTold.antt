@@ -33,6 +33,6 @@ abbrev pub state_after : Result Init (InitFault × Init) → (Init → Init) →
 state_after (Ok following) go_on = go_on following
 state_after (Err fault) go_on = fault.1
 
-abbrev pub reached : List Octets → Init → Init
-reached [] state = state
-reached (returned ∷ answers) state = state_after (outcome_of state returned) (reached answers)
+abbrev pub state_after_answers : List Octets → Init → Init
+state_after_answers [] state = state
+state_after_answers (returned ∷ answers) state = state_after (outcome_of state returned) (state_after_answers answers)

@@ -1,5 +1,5 @@
 ghost use Rattle.std.specs.Prelude.{◌≡◌};
-ghost use Rattle.le_hci.specs.Command.{commanded, opcode_of};
+ghost use Rattle.le_hci.specs.Command.{command_of, opcode_of};
 
 use crate::opcode;
 use arrayvec::ArrayVec;
@@ -63,7 +63,7 @@ pub enum Command<'a> {
 impl Command<'_> {
     /// The opcode, by which Command Complete and Command Status name the command.
     pub fn opcode(&self) -> u16
-        ensures { result ≡ opcode_of (commanded self.now) }
+        ensures { result ≡ opcode_of (command_of self.now) }
     {
         match self {
             Command::Reset => opcode::RESET,

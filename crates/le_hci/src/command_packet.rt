@@ -1,6 +1,6 @@
 ghost use Rattle.std.specs.Prelude.{◌≡◌, ◌+◌, ◌≤◌, [], ◌∷◌, ◌++◌, ◌-◌, length, replicate};
 ghost use Rattle.arrayvec.specs.ArrayVec.{array_vec_len};
-ghost use Rattle.le_hci.specs.Command.{commanded, packet_of, packet, advertising_data, key_reply, advertising_parameters};
+ghost use Rattle.le_hci.specs.Command.{command_of, packet_of, packet, advertising_data, key_reply, advertising_parameters};
 ghost use Rattle.octets.specs.Number.{two_octets};
 
 use crate::command::Command;
@@ -9,7 +9,7 @@ use arrayvec::ArrayVec;
 /// Replaces the content of `out` by a command packet, from its opcode on: Core 5.0, Vol 2 Part E,
 /// 5.4.1. A packet has at most 258 octets.
 pub fn write_command(command: &Command<'_>, out: &mut ArrayVec<u8, 260>)
-    ensures packet { out.new.items ≡ packet_of (commanded command.now) }
+    ensures packet { out.new.items ≡ packet_of (command_of command.now) }
     ensures fits { length out.new.items ≤ 258 }
 {
     let opcode = command.opcode();

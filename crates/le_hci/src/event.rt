@@ -1,8 +1,8 @@
 ghost use Rattle.std.specs.Prelude.{◌≡◌, ◌++◌, IfOk};
 ghost use Rattle.std.specs.Result.{result_map_both};
 ghost use Rattle.octets.specs.Number.{Octets};
-ghost use Rattle.le_hci.specs.Event.{Reported, reported, event_of, completed_packets_of};
-ghost use Rattle.le_hci.specs.EventPacket.{packet, code_of, fields_of, HasFields, told, IsRead};
+ghost use Rattle.le_hci.specs.Event.{Reported, report_of, event_of, completed_packets_of};
+ghost use Rattle.le_hci.specs.EventPacket.{packet, code_of, fields_of, HasFields, report_read, IsRead};
 
 use crate::event_form;
 use crate::peer::Peer;
@@ -85,11 +85,11 @@ pub struct BadEvent(pub u8);
 /// bits of a handle field are ignored, and so are octets after the fields. What has no fixed size
 /// is borrowed from the packet.
 pub fn read_event(octets: &[u8]) -> Result<Event<'_>, BadEvent>
-    ensures exact { result_map_both reported (λ bad. bad) result ≡ event_of octets.now }
-    ensures sent { IfOk result (λ event. IsRead (reported event) octets.now) }
+    ensures exact { result_map_both report_of (λ bad. bad) result ≡ event_of octets.now }
+    ensures sent { IfOk result (λ event. IsRead (report_of event) octets.now) }
     // Nothing that is sent so is a bad event.
     ensures accepted { (sent : Reported) (extra : Octets) → HasFields sent extra
-        → packet (code_of sent) (fields_of sent ++ extra) ≡ octets.now → event_of octets.now ≡ Ok (told sent) }
+        → packet (code_of sent) (fields_of sent ++ extra) ≡ octets.now → event_of octets.now ≡ Ok (report_read sent) }
 {
     let [code, rest @ ..] = octets else {
         return Err(BadEvent(0));

@@ -3,7 +3,7 @@
 
 ghost use Rattle.std.specs.Prelude.{◌≡◌, map};
 ghost use Rattle.std.specs.Option.{option_map};
-ghost use Rattle.le_hci.specs.Event.{reported, handle_of, completed_packets_of, completed_entries, form_of, le_meta_form, disconnection_complete, encryption_change, command_complete, command_status, hardware_error, number_of_completed_packets, encryption_key_refresh_complete, connection_complete, long_term_key_request};
+ghost use Rattle.le_hci.specs.Event.{report_of, handle_of, completed_packets_of, completed_entries, form_of, le_meta_form, disconnection_complete, encryption_change, command_complete, command_status, hardware_error, number_of_completed_packets, encryption_key_refresh_complete, connection_complete, long_term_key_request};
 
 use crate::event::Event;
 use crate::event_code;
@@ -14,7 +14,7 @@ const HANDLE: u16 = 0x0FFF;
 
 /// The event with this code and these parameters.
 pub fn read(code: u8, parameters: &[u8]) -> Option<Event<'_>>
-    ensures { option_map reported result ≡ form_of code parameters.now }
+    ensures { option_map report_of result ≡ form_of code parameters.now }
 {
     match code {
         event_code::DISCONNECTION_COMPLETE => read_disconnection_complete(parameters),
@@ -32,7 +32,7 @@ pub fn read(code: u8, parameters: &[u8]) -> Option<Event<'_>>
 }
 
 fn read_le_meta(parameters: &[u8]) -> Option<Event<'_>>
-    ensures { option_map reported result ≡ le_meta_form parameters.now }
+    ensures { option_map report_of result ≡ le_meta_form parameters.now }
 {
     let [subevent, parameters @ ..] = parameters else {
         return None;
@@ -52,7 +52,7 @@ pub fn handle(low: u8, high: u8) -> u16
 }
 
 fn read_disconnection_complete(parameters: &[u8]) -> Option<Event<'_>>
-    ensures { option_map reported result ≡ disconnection_complete parameters.now }
+    ensures { option_map report_of result ≡ disconnection_complete parameters.now }
 {
     match parameters {
         [status, low, high, reason, ..] => Some(Event::DisconnectionComplete {
@@ -65,7 +65,7 @@ fn read_disconnection_complete(parameters: &[u8]) -> Option<Event<'_>>
 }
 
 fn read_encryption_change(parameters: &[u8]) -> Option<Event<'_>>
-    ensures { option_map reported result ≡ encryption_change parameters.now }
+    ensures { option_map report_of result ≡ encryption_change parameters.now }
 {
     match parameters {
         [status, low, high, enabled, ..] => Some(Event::EncryptionChange {
@@ -78,7 +78,7 @@ fn read_encryption_change(parameters: &[u8]) -> Option<Event<'_>>
 }
 
 fn read_command_complete(parameters: &[u8]) -> Option<Event<'_>>
-    ensures { option_map reported result ≡ command_complete parameters.now }
+    ensures { option_map report_of result ≡ command_complete parameters.now }
 {
     match parameters {
         [allowed, low, high, parameters @ ..] => Some(Event::CommandComplete {
@@ -91,7 +91,7 @@ fn read_command_complete(parameters: &[u8]) -> Option<Event<'_>>
 }
 
 fn read_command_status(parameters: &[u8]) -> Option<Event<'_>>
-    ensures { option_map reported result ≡ command_status parameters.now }
+    ensures { option_map report_of result ≡ command_status parameters.now }
 {
     match parameters {
         [status, allowed, low, high, ..] => Some(Event::CommandStatus {
@@ -104,7 +104,7 @@ fn read_command_status(parameters: &[u8]) -> Option<Event<'_>>
 }
 
 fn read_hardware_error(parameters: &[u8]) -> Option<Event<'_>>
-    ensures { option_map reported result ≡ hardware_error parameters.now }
+    ensures { option_map report_of result ≡ hardware_error parameters.now }
 {
     match parameters {
         [code, ..] => Some(Event::HardwareError { code: *code }),
@@ -113,7 +113,7 @@ fn read_hardware_error(parameters: &[u8]) -> Option<Event<'_>>
 }
 
 fn read_number_of_completed_packets(parameters: &[u8]) -> Option<Event<'_>>
-    ensures { option_map reported result ≡ number_of_completed_packets parameters.now }
+    ensures { option_map report_of result ≡ number_of_completed_packets parameters.now }
 {
     let [count, octets @ ..] = parameters else {
         return None;
@@ -131,7 +131,7 @@ fn entries(count: u8, octets: &[u8]) -> Option<&[[u8; 4]]>
 }
 
 fn read_encryption_key_refresh_complete(parameters: &[u8]) -> Option<Event<'_>>
-    ensures { option_map reported result ≡ encryption_key_refresh_complete parameters.now }
+    ensures { option_map report_of result ≡ encryption_key_refresh_complete parameters.now }
 {
     match parameters {
         [status, low, high, ..] => Some(Event::EncryptionKeyRefreshComplete {
@@ -143,7 +143,7 @@ fn read_encryption_key_refresh_complete(parameters: &[u8]) -> Option<Event<'_>>
 }
 
 fn read_connection_complete(parameters: &[u8]) -> Option<Event<'_>>
-    ensures { option_map reported result ≡ connection_complete parameters.now }
+    ensures { option_map report_of result ≡ connection_complete parameters.now }
 {
     let [status, low, high, role, kind, rest @ ..] = parameters else {
         return None;
@@ -178,7 +178,7 @@ fn read_connection_complete(parameters: &[u8]) -> Option<Event<'_>>
 }
 
 fn read_long_term_key_request(parameters: &[u8]) -> Option<Event<'_>>
-    ensures { option_map reported result ≡ long_term_key_request parameters.now }
+    ensures { option_map report_of result ≡ long_term_key_request parameters.now }
 {
     let [low, high, rest @ ..] = parameters else {
         return None;

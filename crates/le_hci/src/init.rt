@@ -3,10 +3,10 @@ ghost use Rattle.std.specs.Option.{option_map};
 ghost use Rattle.std.specs.Result.{result_map_both};
 ghost use Rattle.octets.specs.Number.{Octets};
 ghost use Rattle.arrayvec.specs.ArrayVec.{ArrayVec};
-ghost use Rattle.le_hci.specs.Command.{commanded};
+ghost use Rattle.le_hci.specs.Command.{command_of};
 ghost use Rattle.le_hci.specs.InitOrder.{commands_sent, commands_in_order, tell_shared, IsPrefixOf};
-ghost use Rattle.le_hci.specs.InitTold.{KnowsUsable, reached};
-ghost use Rattle.le_hci.specs.Init.{awaited, opcode_awaited, outcome_of, values_of, handed_back, next, with_buffers, first_state};
+ghost use Rattle.le_hci.specs.InitTold.{KnowsUsable, state_after_answers};
+ghost use Rattle.le_hci.specs.Init.{command_awaited, opcode_awaited, outcome_of, values_of, handed_back, next, with_buffers, first_state};
 
 use crate::buffers::{Buffers, le_buffers, shared_buffers};
 use crate::command::{Command, EVENT_MASK, LE_EVENT_MASK};
@@ -89,7 +89,7 @@ impl Init {
         ensures in_order { (answers : List Octets)
             → IsPrefixOf (commands_sent answers result) (commands_in_order address advertising.items (tell_shared (drop 3 answers))) }
         // Whatever the answers are, buffers that a state knows have 27 octets at least, and there is one.
-        ensures usable { (answers : List Octets) → KnowsUsable (reached answers result) }
+        ensures usable { (answers : List Octets) → KnowsUsable (state_after_answers answers result) }
     {
         Init::Resetting(Settings {
             address,
@@ -100,7 +100,7 @@ impl Init {
     /// The command that is awaited, or `None` where the controller is ready. It is to be sent once
     /// in each state.
     pub fn command(&self) -> Option<Command<'_>>
-        ensures { option_map commanded result ≡ awaited self.now }
+        ensures { option_map command_of result ≡ command_awaited self.now }
     {
         match self {
             Init::Resetting(_) => Some(Command::Reset),
@@ -131,7 +131,7 @@ impl Init {
     /// nonzero status of its Command Status as one octet. Gives the next state, or hands this one
     /// back with what is wrong. Octets after the return parameters are ignored.
     pub fn complete(self, parameters: &[u8]) -> Result<Init, (InitFault, Init)>
-        requires awaiting { IsSome (awaited self) }
+        requires awaiting { IsSome (command_awaited self) }
         ensures exact { result ≡ outcome_of self parameters.now }
         ensures handed_back { IfErr result (λ e. e.1 ≡ self) }
         ensures refused { (opcode status : ℕ) (returned : Octets) → opcode_awaited self ≡ Some opcode
@@ -148,7 +148,7 @@ impl Init {
 
     /// Goes on after a successful command, which returned these values after its status.
     fn advance(self, values: &[u8]) -> Result<Init, (InitFault, Init)>
-        requires awaiting { IsSome (awaited self) }
+        requires awaiting { IsSome (command_awaited self) }
         ensures { result ≡ handed_back self (next self values.now) }
     {
         match self {

@@ -5,7 +5,7 @@ use Rattle.std.specs.Str.{bytes_eq}
 use Rattle.hex.specs.Hex.{decode_sized}
 use Rattle.octets.specs.Number.{Octets}
 use Rattle.toml.specs.Data.{Data, Members, as_table}
-use Rattle.toml_tables.specs.Reading.{◌>>=◌, unless, required, text_at, integer_at, boolean_at, flag_at}
+use Rattle.toml_tables.specs.Reading.{◌>>=◌, unless, require, text_at, integer_at, boolean_at, flag_at}
 use Rattle.toml_tables.specs.Shape.{Keys, is_shaped}
 use Rattle.toml_tables.specs.declared.shape.Shape.TheVariants.{Text, Boolean, Integer}
 use Rattle.le_security.specs.declared.entry.Entry.{Entry}
@@ -53,13 +53,13 @@ diversifier_of (Some (negsuc _)) = Err Shape
 abbrev pub written_at : Members → Result Written KeyFault
 written_at members = do
   ediv ← diversifier_of (integer_at (codes "ediv") members)
-  address ← required (text_at (codes "address") members) Missing
-  kind ← required (text_at (codes "kind") members) Missing
-  random_number ← required (text_at (codes "rand") members) Missing
-  diversifier ← required ediv Missing
-  ltk ← required (text_at (codes "ltk") members) Missing
-  size ← required (integer_at (codes "size") members) Missing
-  authenticated ← required (boolean_at (codes "authenticated") members) Missing
+  address ← require (text_at (codes "address") members) Missing
+  kind ← require (text_at (codes "kind") members) Missing
+  random_number ← require (text_at (codes "rand") members) Missing
+  diversifier ← require ediv Missing
+  ltk ← require (text_at (codes "ltk") members) Missing
+  size ← require (integer_at (codes "size") members) Missing
+  authenticated ← require (boolean_at (codes "authenticated") members) Missing
   Ok (record {
     address = address;
     kind = kind;
@@ -82,11 +82,11 @@ is_zero random_number diversifier = bytes_eq random_number (replicate 8 0) && (d
 
 abbrev pub entry_of : Written → Result Entry KeyFault
 entry_of written = do
-  address ← required (address_of written.address) BadAddress
-  kind ← required (address_type_of written.kind) BadAddress
-  random_number ← required (result_ok (decode_sized written.random_number 8)) BadHex
-  ltk ← required (result_ok (decode_sized written.ltk 16)) BadHex
-  size ← required (size_of written.size) BadSize
+  address ← require (address_of written.address) BadAddress
+  kind ← require (address_type_of written.kind) BadAddress
+  random_number ← require (result_ok (decode_sized written.random_number 8)) BadHex
+  ltk ← require (result_ok (decode_sized written.ltk 16)) BadHex
+  size ← require (size_of written.size) BadSize
   _ ← unless (not written.secure || is_zero random_number written.diversifier) NotZero
   Ok (record {
     peer = record { kind = kind; address = address };
@@ -102,7 +102,7 @@ entry_of written = do
 abbrev pub entry_after : List Entry → Data → Result Entry KeyFault
 entry_after entries value = do
   _ ← unless (nat_lt (length entries) 64) TooMany
-  members ← required (as_table value) Shape
+  members ← require (as_table value) Shape
   _ ← unless (is_shaped entry_keys members) Shape
   written ← written_at members
   entry ← entry_of written

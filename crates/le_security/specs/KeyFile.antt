@@ -3,7 +3,7 @@ use Rattle.std.specs.Prelude.{List, [], ◌∷◌, ◌++◌, codes, Result, Ok}
 use Rattle.octets.specs.Number.{Octets}
 use Rattle.toml.specs.Data.{Data, Members}
 use Rattle.toml.specs.Parse.{parse_document}
-use Rattle.toml_tables.specs.Reading.{◌>>=◌, unless, required, each, items_at}
+use Rattle.toml_tables.specs.Reading.{◌>>=◌, unless, require, each, items_at}
 use Rattle.toml_tables.specs.Shape.{Keys, is_shaped}
 use Rattle.toml_tables.specs.declared.shape.Shape.TheVariants.{Tables}
 use Rattle.le_security.specs.declared.entry.Entry.{Entry}
@@ -28,5 +28,5 @@ keys_of members = do
 -- the entries of a text
 abbrev pub keys_read : Octets → Result (List Entry) KeyFault
 keys_read text = do
-  members ← required (parse_document text) NotToml
+  members ← require (parse_document text) NotToml
   keys_of members

@@ -16,9 +16,9 @@ unless true fault = Ok true
 unless false fault = Err fault
 
 -- a fault where there is nothing
-abbrev pub required : {A E : Type 0} → Option A → E → Result A E
-required None fault = Err fault
-required (Some x) fault = Ok x
+abbrev pub require : {A E : Type 0} → Option A → E → Result A E
+require None fault = Err fault
+require (Some x) fault = Ok x
 
 -- a step for each item in turn
 abbrev pub each : {S E : Type 0} → (S → Data → Result S E) → S → Items → Result S E

@@ -2,7 +2,7 @@
 use Rattle.std.specs.Prelude.{[], length, Result, Ok, codes}
 use Rattle.octets.specs.Number.{Octets}
 use Rattle.toml.specs.Data.{Data, Members, as_str}
-use Rattle.toml_tables.specs.Reading.{◌>>=◌, unless, required, each, text_at, integer_at, flag_at, array_at}
+use Rattle.toml_tables.specs.Reading.{◌>>=◌, unless, require, each, text_at, integer_at, flag_at, array_at}
 use Rattle.att_numbers.specs.Types.{Handle, AttributeType}
 use Rattle.att_policy.specs.declared.guard.Properties.{Properties}
 use Rattle.att_table.specs.declared.attr.Attr.{Attr}
@@ -18,8 +18,8 @@ use Rattle.att_table.specs.file.TypeText.{type_named, is_type_of_value}
 -- the type at `uuid`, and that of a value, which is none of those that only the table itself gives
 abbrev pub type_at : Members → Result AttributeType TableFault
 type_at members = do
-  text ← required (text_at (codes "uuid") members) (Missing Uuid)
-  required (type_named text) BadUuid
+  text ← require (text_at (codes "uuid") members) (Missing Uuid)
+  require (type_named text) BadUuid
 
 abbrev pub value_type_at : Members → Result AttributeType TableFault
 value_type_at members = do
@@ -33,20 +33,20 @@ no_properties = all_of []
 
 abbrev pub property_step : Properties → Properties → Data → Result Properties TableFault
 property_step allowed properties value = do
-  word ← required (as_str value) Shape
-  property ← required (property_named word) BadProperty
+  word ← require (as_str value) Shape
+  property ← require (property_named word) BadProperty
   _ ← unless (has_all allowed property) BadProperty
   Ok (both_of properties property)
 
 abbrev pub properties_at : Properties → Members → Result Properties TableFault
 properties_at allowed members = do
-  words ← required (array_at (codes "properties") members) (Missing PropertiesName)
+  words ← require (array_at (codes "properties") members) (Missing PropertiesName)
   each (property_step allowed) no_properties words
 
 -- the value at `value`
 abbrev pub value_read_at : Members → Result Octets TableFault
 value_read_at members = do
-  text ← required (text_at (codes "value") members) (Missing Value)
+  text ← require (text_at (codes "value") members) (Missing Value)
   value_of text
 
 -- an attribute at a handle, with its value

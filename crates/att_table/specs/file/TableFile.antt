@@ -4,7 +4,7 @@ use Rattle.std.specs.Prelude.{◌+◌, Bool, false, not, ◌||◌, if◌then◌e
 use Rattle.octets.specs.Number.{Octets, two_octets}
 use Rattle.toml.specs.Data.{Data, Members, as_integer, as_table}
 use Rattle.toml.specs.Parse.{parse_document}
-use Rattle.toml_tables.specs.Reading.{◌>>=◌, unless, required, each, flag_at, array_at, items_at, table_at}
+use Rattle.toml_tables.specs.Reading.{◌>>=◌, unless, require, each, flag_at, array_at, items_at, table_at}
 use Rattle.toml_tables.specs.Shape.{is_shaped}
 use Rattle.att_numbers.specs.AttributeType.{type_octets}
 use Rattle.att_numbers.specs.Types.{Handle, AttributeType}
@@ -32,7 +32,7 @@ read_and_write = all_of (READ ∷ WRITE ∷ [])
 -- a descriptor
 abbrev pub descriptor_step : Contents → Data → Result Contents TableFault
 descriptor_step table value = do
-  members ← required (as_table value) Shape
+  members ← require (as_table value) Shape
   _ ← unless (is_shaped descriptor_keys members) Shape
   placed ← placed_of Descriptor (next_handle table) read_and_write members
   add table placed.0 placed.1
@@ -77,7 +77,7 @@ any_property = all_of (READ ∷ WRITE_WITHOUT_RESPONSE ∷ WRITE ∷ NOTIFY ∷ 
 
 abbrev pub characteristic_step : Contents → Data → Result Contents TableFault
 characteristic_step table value = do
-  members ← required (as_table value) Shape
+  members ← require (as_table value) Shape
   _ ← unless (is_shaped characteristic_keys members) Shape
   placed ← placed_of ValueRole (next_handle table + 1) any_property members
   need ← config_at placed.0.guard.properties members
@@ -87,8 +87,8 @@ characteristic_step table value = do
 -- an include of an earlier service (Core 5.0, Vol 3 Part G, 3.2)
 abbrev pub include_step : Contents → Data → Result Contents TableFault
 include_step table value = do
-  position ← required (as_integer value) Shape
-  service ← required (earlier_service table.attributes position) BadInclude
+  position ← require (as_integer value) Shape
+  service ← require (earlier_service table.attributes position) BadInclude
   declare table INCLUDE (include_value table.values service)
 
 -- a service: its declaration, its includes, its characteristics (Core 5.0, Vol 3 Part G, 3.1)
@@ -97,7 +97,7 @@ service_type_at members = if flag_at (codes "secondary") members then SECONDARY_
 
 abbrev pub service_step : Contents → Data → Result Contents TableFault
 service_step table value = do
-  members ← required (as_table value) Shape
+  members ← require (as_table value) Shape
   _ ← unless (is_shaped service_keys members) Shape
   kind ← type_at members
   declared ← declare table (service_type_at members) (type_octets kind)
@@ -111,11 +111,11 @@ no_attributes = record { attributes = []; values = [] }
 abbrev pub table_of : Members → Result Contents TableFault
 table_of members = do
   _ ← unless (is_shaped root_keys members) Shape
-  services ← required (array_at (codes "service") members) (Missing Service)
+  services ← require (array_at (codes "service") members) (Missing Service)
   each service_step no_attributes services
 
 -- the table of a text
 abbrev pub table_read : Octets → Result Contents TableFault
 table_read text = do
-  members ← required (parse_document text) NotToml
+  members ← require (parse_document text) NotToml
   table_of members

@@ -24,8 +24,8 @@ returns-in-Some-clause-left c =
     sym (refused_at_first c.args.access table.attributes c.args.standing.now (stored_in table row) (entry_of c.args.entry) c.in-Some.code
     (sym c.fault_of.ensures.fault ∙ c.in-Some.is)) in
     record {
-      values = ap (λ applied. (stored_after (stored_in table row) applied).values) refused;
-      row = ap (λ applied. (stored_after (stored_in table row) applied).row) refused;
+      values = ap (λ after_entries. (stored_after (stored_in table row) after_entries).values) refused;
+      row = ap (λ after_entries. (stored_after (stored_in table row) after_entries).row) refused;
       attributes = refl;
       table = c.requires.row;
     }
