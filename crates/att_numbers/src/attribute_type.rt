@@ -18,6 +18,10 @@ pub const CLIENT_CHARACTERISTIC_CONFIGURATION: u128 = (0x2902 << 96) + BASE_UUID
 
 pub const SERVICE_CHANGED: u128 = (0x2A05 << 96) + BASE_UUID;
 
+/// The UUID of the Generic Attribute Profile service, as its declaration has it: Core 5.0, Vol 3
+/// Part G, 7.
+pub const GENERIC_ATTRIBUTE_SERVICE: u16 = 0x1801;
+
 /// The type that a number of 16 bits stands for.
 #[inline(always)]
 pub fn from_16_bits(number: u16) -> u128

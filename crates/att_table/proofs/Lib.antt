@@ -3,9 +3,11 @@ pub mod Digits
 pub mod Facts
 pub mod Faults
 pub mod Groups
+pub mod Kept
 pub mod OfType
 pub mod Parsed
 pub mod Rows
+pub mod ServiceBefore
 pub mod Services
 pub mod Tables
 pub mod Values

@@ -1,10 +1,11 @@
 -- The client characteristic configurations of one client, as a list of pairs of a handle and its
 -- bits: Core 5.0, Vol 3 Part G, 3.3.3.3.
-use Rattle.std.specs.Prelude.{◌≡◌, ℕ, ◌<◌, ◌≤◌, All, Bool, true, false, ◌||◌, ◌==◌, nat_lt, if◌then◌else◌, List, [], ◌∷◌, length}
+use Rattle.std.specs.Prelude.{◌≡◌, ℕ, ◌-◌, ◌<◌, ◌≤◌, All, Bool, true, false, ◌&&◌, ◌||◌, ◌==◌, nat_lt, if◌then◌else◌, List, [], ◌∷◌, length, filter}
+use Rattle.std.specs.Int.RustNames.{bit_and}
 use Rattle.std.specs.List.{list_any}
 use Rattle.att_numbers.specs.Types.{Handle, Row}
 use Rattle.att_table.specs.declared.attr.Attr.{Attr}
-use Rattle.att_table.specs.Table.{is_configuration_at}
+use Rattle.att_table.specs.Table.{configuration_bits_at, is_configuration_at, type_at}
 
 -- the bits at a handle: 0 where the row has no entry
 abbrev pub bits_at : Row → Handle → ℕ
@@ -37,6 +38,19 @@ HasOneEntryEach (entry ∷ row) = (has_entry row entry.0 ≡ false) × HasOneEnt
 -- each handle of the row is that of a configuration
 abbrev pub IsRowOf : List Attr → Row → Type 0
 IsRowOf attributes row = All (λ entry. is_configuration_at attributes entry.0 ≡ true) row
+
+-- whether an attribute is a configuration that may have the bits of an entry at its handle
+abbrev pub is_supported : List Attr → Handle × ℕ → Bool
+is_supported attributes entry =
+    is_configuration_at attributes entry.0 && (bit_and entry.1 (configuration_bits_at attributes entry.0) == entry.1)
+
+-- whether a configuration has its meaning after a table is replaced: it is of a value of the same type
+abbrev pub has_its_meaning : List Attr → List Attr → Handle → Bool
+has_its_meaning old new handle = is_configuration_at old handle && (type_at old (handle - 1) == type_at new (handle - 1))
+
+-- the entries that stay after a table is replaced, whole or not at all (this profile's own)
+abbrev pub kept_row : List Attr → List Attr → Row → Row
+kept_row old new row = filter (λ entry. is_supported new entry && has_its_meaning old new entry.0) row
 
 -- a row of these attributes has room for the configuration at a handle
 abbrev pub HasRowRoom : List Attr → Handle → Type 0

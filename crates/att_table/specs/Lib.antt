@@ -1,6 +1,7 @@
 pub use Rattle.att_values.specs.Cell
 pub use Rattle.att_values.specs.Change
 pub use Rattle.att_values.specs.ValueStore
+pub mod Changer
 pub mod ConfigRow
 pub mod Facts
 pub mod Group

@@ -5,6 +5,7 @@ use Rattle.std.specs.Option.{option_map, option_map_or}
 use Rattle.octets.specs.Number.{Octets}
 use Rattle.att_numbers.specs.Types.{Handle, AttributeType, Values}
 use Rattle.att_policy.specs.declared.guard.Guard.{Guard}
+use Rattle.att_policy.specs.Policy.{configuration_bits_of}
 use Rattle.att_values.specs.Cell.{Cell}
 use Rattle.att_table.specs.declared.attr.Attr.{Attr}
 use Rattle.att_table.specs.declared.attr.Role.{Role}
@@ -78,6 +79,11 @@ room_at table handle =
 -- the type of the attribute at a handle
 abbrev pub type_at : List Attr → Handle → AttributeType
 type_at attributes handle = option_map_or (λ (attr : Attr). attr.kind) (attribute_at attributes handle) 0
+
+-- the bits that the configuration at a handle may have: its characteristic value stands before it (Core 5.0, Vol 3 Part G, 3.3.3.3)
+abbrev pub configuration_bits_at : List Attr → Handle → ℕ
+configuration_bits_at attributes handle =
+    option_map_or (λ (attr : Attr). configuration_bits_of attr.guard.properties) (attribute_at attributes (handle - 1)) 0
 
 -- all handles, by the types of their attributes, and those of one type ascending
 abbrev pub handles_by_type : List Attr → List Handle

@@ -1,9 +1,11 @@
-ghost use Rattle.std.specs.Prelude.{◌≡◌, ◌≢◌, ℕ, ◌<◌, ◌≤◌, ◌==◌, true, List, [], position, IsTrue};
+ghost use Rattle.std.specs.Prelude.{◌≡◌, ◌≢◌, ℕ, ◌-◌, ◌<◌, ◌≤◌, ◌==◌, true, List, [], position, IsTrue};
 ghost use Rattle.std.specs.Bool.{OnTrue, OnFalse};
 ghost use Rattle.att_table.specs.declared.attr.Attr.{Attr};
-ghost use Rattle.att_table.specs.ConfigRow.{bits_at, with_bits, has_entry, has_room, HasOneEntryEach, IsRowOf};
-ghost use Rattle.att_table.specs.Table.{is_configuration_at};
+ghost use Rattle.att_table.specs.ConfigRow.{bits_at, with_bits, has_entry, has_its_meaning, has_room, kept_row, HasOneEntryEach, IsRowOf};
+ghost use Rattle.att_table.specs.Table.{is_configuration_at, type_at};
 
+use crate::attr::Role;
+use crate::table::Table;
 use arrayvec::ArrayVec;
 use std::marker::Model;
 
@@ -67,6 +69,51 @@ impl ConfigRow {
             → bits_at self.new other ≡ bits_at self.old other }
     {
         write(&mut self.entries, handle, bits);
+    }
+
+    /// Takes in that a table was replaced: an entry stays where both tables have a configuration of a
+    /// value of the same type at its handle, and the new one may have its bits. The others are
+    /// dropped.
+    pub fn keep(&mut self, old: &Table, new: &Table)
+        ensures kept { self.new ≡ kept_row old.now.attributes new.now.attributes self.old }
+        ensures table { IsRowOf new.now.attributes self.new }
+    {
+        retain_kept(&mut self.entries, old, new);
+    }
+}
+
+// Drops the entries that do not stay when a table is replaced.
+fn retain_kept(entries: &mut ArrayVec<(u16, u8), 64>, old: &Table, new: &Table)
+    ensures { entries.new.items ≡ kept_row old.now.attributes new.now.attributes entries.old.items }
+{
+    entries.retain(|&mut (handle, bits)| new.supports(handle, bits)
+        && has_its_meaning(old, new, handle));
+}
+
+// Whether a configuration is one of a value of the same type in both tables.
+fn has_its_meaning(old: &Table, new: &Table, handle: u16) -> bool
+    ensures { result ≡ has_its_meaning old.now.attributes new.now.attributes handle }
+{
+    is_configuration(old, handle) && configured_type(old, handle) == configured_type(new, handle)
+}
+
+// Whether the attribute at a handle is a configuration.
+fn is_configuration(table: &Table, handle: u16) -> bool
+    ensures { result ≡ is_configuration_at table.now.attributes handle }
+{
+    match table.get(handle) {
+        Some(attr) => attr.role == Role::Configuration,
+        None => false,
+    }
+}
+
+// The type of the value that the configuration at a handle is of.
+fn configured_type(table: &Table, handle: u16) -> u128
+    ensures { result ≡ type_at table.now.attributes (handle - 1) }
+{
+    match table.get(handle.saturating_sub(1)) {
+        Some(attr) => attr.kind,
+        None => 0,
     }
 }
 

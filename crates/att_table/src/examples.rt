@@ -72,3 +72,64 @@ uuid = "fffa"
 secondary = true
 include = [0]
 "#;
+
+/// A letter box: `examples/post.toml`.
+pub const POST: &str =
+    r#"# The table of an example letter box: its count is for authorized connections alone.
+[[service]]
+uuid = "fffb"
+[[service.characteristic]]
+uuid = "fffc"
+value = "00"
+properties = ["read", "notify", "indicate"]
+read = { authorized = true }
+"#;
+
+/// A porch light: `examples/porch.toml`.
+pub const PORCH: &str =
+    r#"# The table of an example porch light, which may be replaced while phones are connected.
+[[service]]
+uuid = "1801"
+[[service.characteristic]]
+uuid = "2a05"
+value = "00000000"
+fixed = true
+properties = ["indicate"]
+
+[[service]]
+uuid = "fff0"
+[[service.characteristic]]
+uuid = "fff1"
+value = "00"
+fixed = true
+properties = ["read", "notify"]
+[[service.characteristic]]
+uuid = "fff4"
+value = ""
+max = 16
+properties = ["read", "write"]
+"#;
+
+/// The table that replaces it: `examples/porch_next.toml`.
+pub const PORCH_NEXT: &str = r#"# The table that replaces that of the porch light.
+[[service]]
+uuid = "1801"
+[[service.characteristic]]
+uuid = "2a05"
+value = "00000000"
+fixed = true
+properties = ["indicate"]
+
+[[service]]
+uuid = "fff0"
+[[service.characteristic]]
+uuid = "fff2"
+value = "00"
+fixed = true
+properties = ["read", "notify"]
+[[service.characteristic]]
+uuid = "fff4"
+value = ""
+max = 16
+properties = ["read", "write"]
+"#;

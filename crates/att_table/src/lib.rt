@@ -3,6 +3,7 @@
 
 mod attr;
 mod attribute_type;
+mod changer;
 mod config_row;
 pub mod examples;
 mod file;

@@ -2,15 +2,16 @@ ghost use Rattle.std.specs.Prelude.{◌≡◌, ◌+◌, ◌<◌, ◌≤◌, ◌�
 ghost use Rattle.std.specs.Option.{option_copied};
 ghost use Rattle.att_table.specs.declared.attr.Attr.{Attr};
 ghost use Rattle.att_values.specs.Cell.{value_with_part};
-ghost use Rattle.att_table.specs.ConfigRow.{HasRowRoom};
+ghost use Rattle.att_table.specs.Changer.{changer_of};
+ghost use Rattle.att_table.specs.ConfigRow.{is_supported, HasRowRoom};
 ghost use Rattle.att_table.specs.Facts.{IsTable};
 ghost use Rattle.att_table.specs.Group.{group_ends_of, group_end_at};
 ghost use Rattle.att_table.specs.OfType.{handles_of_type};
-ghost use Rattle.att_table.specs.Table.{Contents, attribute_at, attributes_in, configurations_of, octets_of, value_at, is_fixed_at, room_at, with_value, values_of, handles_by_type, IsKept, IsWhole};
+ghost use Rattle.att_table.specs.Table.{Contents, attribute_at, attributes_in, configuration_bits_at, configurations_of, octets_of, value_at, is_fixed_at, room_at, with_value, values_of, handles_by_type, IsKept, IsWhole};
 
-use crate::attr::Attr;
-use crate::type_index;
+use crate::attr::{Attr, Role};
 use crate::type_index::Steps;
+use crate::{changer, type_index};
 use att_values::FlatStore;
 use std::marker::Model;
 
@@ -162,6 +163,39 @@ impl Table {
         let fixed = self.is_fixed(handle);
         self.values
             .patch_at(handle, usize::from(offset), part, fixed);
+    }
+
+    /// The bits that the client characteristic configuration at a handle may have. Its characteristic
+    /// value stands before it.
+    pub fn configuration_bits(&self, handle: u16) -> u8
+        ensures { result ≡ configuration_bits_at self.now.attributes handle }
+    {
+        match self.get(handle.saturating_sub(1)) {
+            Some(attr) => attr.guard.properties.configuration_bits(),
+            None => 0,
+        }
+    }
+
+    /// Whether the attribute at a handle is a client characteristic configuration that may have
+    /// these bits.
+    pub fn supports(&self, handle: u16, bits: u8) -> bool
+        ensures { result ≡ is_supported self.now.attributes (handle, bits) }
+    {
+        match self.get(handle) {
+            Some(attr) => {
+                attr.role == Role::Configuration && bits & self.configuration_bits(handle) == bits
+            }
+            None => false,
+        }
+    }
+
+    /// The handle of the changer, by which clients are told that the table was replaced, if the table
+    /// has one. No write makes another one: whoever keeps the table asks once. (Core 5.0, Vol 3
+    /// Part G, 7.1)
+    pub fn changer(&self) -> Option<u16>
+        ensures { result ≡ changer_of self.now }
+    {
+        changer::changer_of(&self.attributes, &self.values)
     }
 
     /// How many octets the table keeps for its values: the sum of their largest lengths.

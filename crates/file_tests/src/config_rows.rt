@@ -1,6 +1,81 @@
-//! What one client has configured.
+//! What one client has configured, and what of it stays when its table is replaced.
 
-use att_table::ConfigRow;
+use att_table::examples::{BELL, DOOR, PORCH, PORCH_NEXT};
+use att_table::{ConfigRow, Table};
+use std::alloc::Global;
+use std::process::Abort;
+
+/// A table, the text of the one in its place with a change of it, and entries by handle and bits,
+/// each with whether it stays.
+struct Replacement {
+    old: &'static str,
+    new: &'static str,
+    change: (&'static str, &'static str),
+    entries: &'static [(u16, u8, bool)],
+}
+
+const REPLACEMENTS: [Replacement; 9] = [
+    Replacement {
+        old: PORCH,
+        new: PORCH_NEXT,
+        change: ("", ""),
+        entries: &[(4, 2, true), (8, 1, false)],
+    },
+    Replacement {
+        old: PORCH,
+        new: PORCH,
+        change: ("", ""),
+        entries: &[
+            (3, 2, false),
+            (8, 1, true),
+            (4, 2, true),
+            (10, 1, false),
+            (99, 1, false),
+        ],
+    },
+    Replacement {
+        old: BELL,
+        new: BELL,
+        change: ("\"notify\", \"indicate\"", "\"notify\""),
+        entries: &[(4, 3, false), (7, 2, true)],
+    },
+    Replacement {
+        old: BELL,
+        new: BELL,
+        change: ("\"notify\", \"indicate\"", "\"notify\""),
+        entries: &[(4, 1, true), (7, 2, true)],
+    },
+    Replacement {
+        old: BELL,
+        new: BELL,
+        change: ("\"notify\", \"indicate\"", "\"notify\""),
+        entries: &[(7, 3, false), (4, 2, false)],
+    },
+    Replacement {
+        old: BELL,
+        new: BELL,
+        change: ("\"fff9\"", "\"0000fff9-0000-1000-8000-00805f9b34fb\""),
+        entries: &[(4, 3, true), (7, 2, true)],
+    },
+    Replacement {
+        old: BELL,
+        new: BELL,
+        change: ("\"fff9\"", "\"fff7\""),
+        entries: &[(4, 3, false), (7, 2, true)],
+    },
+    Replacement {
+        old: BELL,
+        new: DOOR,
+        change: ("", ""),
+        entries: &[(4, 1, false), (7, 1, false)],
+    },
+    Replacement {
+        old: DOOR,
+        new: BELL,
+        change: ("", ""),
+        entries: &[(7, 1, false), (11, 1, false)],
+    },
+];
 
 #[test]
 fn keeps_what_was_written_last(rt: HostRuntime) {
@@ -15,4 +90,34 @@ fn keeps_what_was_written_last(rt: HostRuntime) {
         assert_eq!(rt; row.get(handle), bits);
         assert_eq!(rt; row.can_set(handle), handle < 65);
     }
+}
+
+#[test]
+fn keeps_what_has_its_meaning(rt: HostRuntime) {
+    check_replacements(&rt, rt.alloc(), &REPLACEMENTS);
+}
+
+fn check_replacements(rt: &impl Abort, alloc: Global, cases: &[Replacement]) {
+    for (place, case) in cases.iter().enumerate() {
+        assert_eq!(rt; is_kept(alloc, case), Some(true), "{place}");
+    }
+}
+
+fn is_kept(alloc: Global, case: &Replacement) -> Option<bool> {
+    let (from, to) = case.change;
+    let text = case.new.replacen(alloc, from, to, 1).ok()?;
+    let old = Table::read(alloc, case.old).ok()?;
+    let new = Table::read(alloc, &text).ok()?;
+    Some(keeps(&old, &new, case.entries))
+}
+
+fn keeps(old: &Table, new: &Table, entries: &[(u16, u8, bool)]) -> bool {
+    let mut row = ConfigRow::new();
+    for &(handle, bits, _) in entries {
+        if handle > 0 && bits <= 3 && row.can_set(handle) {
+            row.set(handle, bits);
+        }
+    }
+    row.keep(old, new);
+    entries.iter().all(|&(handle, bits, stays)| row.get(handle) == if stays { bits } else { 0 })
 }

@@ -2,6 +2,8 @@
 #![tactic(auto)]
 
 #[cfg(test)]
+mod changers;
+#[cfg(test)]
 mod config_rows;
 #[cfg(test)]
 mod keys;

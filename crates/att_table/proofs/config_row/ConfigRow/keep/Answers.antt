@@ -1,0 +1,18 @@
+use Rattle.std.proofs.Common.{sym, subst}
+use Rattle.std.specs.List.{All}
+use Rattle.att_table.specs.ConfigRow.{IsEntry, HasOneEntryEach, IsRowOf}
+use Rattle.att_table.proofs.Kept.{entries_of_kept, once_in_kept, row_of_kept}
+use Rattle.att_table.proofs.config_row.ConfigRow.keep.Goals as goal
+
+pub invariant_of-self : goal.invariant_of-self
+invariant_of-self c =
+    let old = c.args.old.now.attributes in
+    let new = c.args.new.now.attributes in
+    let row = c.self.inside.entries.items in (
+      subst (All IsEntry) (sym c.retain_kept.ensures) (entries_of_kept old new row c.self.invariant.0),
+      subst HasOneEntryEach (sym c.retain_kept.ensures) (once_in_kept old new row c.self.invariant.1),
+    )
+
+pub returns-clause-table : goal.returns-clause-table
+returns-clause-table c =
+    subst (IsRowOf c.args.new.now.attributes) (sym c.retain_kept.ensures) (row_of_kept c.args.old.now.attributes c.args.new.now.attributes c.self.inside.entries.items)

@@ -1,0 +1,88 @@
+//! The value of a table by which clients are told that it was replaced.
+
+use att_table::Table;
+use att_table::examples::{BELL, DOOR, PORCH};
+use std::alloc::Global;
+use std::process::Abort;
+
+const SERVICE: &str = "uuid = \"1801\"";
+
+const NEXT_SERVICE: &str = "[[service]]\nuuid = \"fff0\"";
+
+/// Tables, a change of each, and the handle of the changer.
+const CHANGERS: [(&str, &str, &str, Option<u16>); 17] = [
+    (DOOR, "", "", None),
+    (BELL, "", "", None),
+    (PORCH, "", "", Some(3)),
+    (
+        PORCH,
+        SERVICE,
+        "uuid = \"00001801-0000-1000-8000-00805f9b34fb\"",
+        Some(3),
+    ),
+    (
+        PORCH,
+        SERVICE,
+        "uuid = \"00001801-0000-1000-8000-00805f9b34fc\"",
+        None,
+    ),
+    (PORCH, SERVICE, "uuid = \"1800\"", None),
+    (PORCH, SERVICE, "uuid = \"1801\"\nsecondary = true", None),
+    (
+        PORCH,
+        SERVICE,
+        "uuid = \"1801\"\n[[service]]\nuuid = \"fff7\"",
+        None,
+    ),
+    (
+        PORCH,
+        SERVICE,
+        "uuid = \"1801\"\n[[service]]\nuuid = \"fff7\"\nsecondary = true",
+        None,
+    ),
+    (
+        PORCH,
+        SERVICE,
+        "uuid = \"fff7\"\n[[service]]\nuuid = \"1801\"",
+        Some(4),
+    ),
+    (PORCH, "\"2a05\"", "\"2a06\"", None),
+    (
+        PORCH,
+        "\"2a05\"",
+        "\"00002a05-0000-1000-8000-00805f9b34fb\"",
+        Some(3),
+    ),
+    (
+        PORCH,
+        "[\"indicate\"]",
+        "[\"read\", \"notify\", \"indicate\"]",
+        Some(3),
+    ),
+    (PORCH, "[\"indicate\"]", "[\"read\", \"notify\"]", None),
+    (PORCH, "fixed = true", "max = 4", None),
+    (PORCH, "\"00000000\"", "\"000000\"", None),
+    (
+        PORCH,
+        NEXT_SERVICE,
+        "[[service.characteristic]]\nuuid = \"2a05\"\nvalue = \"00000000\"\nfixed = true\nproperties = [\"indicate\"]\n",
+        Some(3),
+    ),
+];
+
+#[test]
+fn changers(rt: HostRuntime) {
+    check_changers(&rt, rt.alloc(), &CHANGERS);
+}
+
+fn check_changers(rt: &impl Abort, alloc: Global, cases: &[(&str, &str, &str, Option<u16>)]) {
+    for &(text, old, new, wanted) in cases {
+        assert_eq!(rt; changer_in(alloc, text, old, new), Some(wanted), "{new}");
+    }
+}
+
+fn changer_in(alloc: Global, text: &str, old: &str, new: &str) -> Option<Option<u16>> {
+    let text = text.replacen(alloc, old, new, 1).ok()?;
+    let table = Table::read(alloc, &text).ok()?;
+    Some(table.changer())
+}
