@@ -1,0 +1,5 @@
+use Rattle.gatt_subs.proofs.Heard.{releases_only_what_is_heard}
+use Rattle.gatt_subs.proofs.pending.Pending.new.Goals as goal
+
+pub returns-clause-released : goal.returns-clause-released
+returns-clause-released c = releases_only_what_is_heard

@@ -1,0 +1,4 @@
+pub mod Hearing
+pub mod HeardOnly
+pub mod Indications
+pub mod Told

@@ -1,0 +1,56 @@
+-- What a connection is told unasked: Core 5.0, Vol 3 Part F, 3.4.7.
+use Rattle.std.specs.Prelude.{◌-◌, Bool, ◌&&◌, if◌then◌else◌, List, take, Option, Some, None}
+use Rattle.std.specs.Option.{option_map}
+use Rattle.att_numbers.specs.Types.{Handle, Mtu, Row, Values}
+use Rattle.att_pdu.specs.Response.{Response}
+use Rattle.att_pdu.specs.Response.Response.{HandleValueNotification, HandleValueIndication}
+use Rattle.att_policy.specs.declared.standing.Standing.{Standing}
+use Rattle.att_table.specs.declared.attr.Attr.{Attr}
+use Rattle.att_table.specs.Table.{value_at}
+use Rattle.octets.specs.Number.{Octets}
+use Rattle.gatt_subs.specs.Indications.{Indications, Backlog, Milliseconds, hears, is_notified, after_raise, released_handle, after_release}
+
+-- as many octets of a value as fit behind the opcode and the handle
+abbrev pub value_front : Values → Handle → Mtu → Octets
+value_front values handle mtu = take (mtu - 3) (value_at values handle)
+
+abbrev pub notification_of : Values → Handle → Mtu → Response
+notification_of values handle mtu = HandleValueNotification handle (value_front values handle mtu)
+
+abbrev pub indication_of : Values → Handle → Mtu → Response
+indication_of values handle mtu = HandleValueIndication handle (value_front values handle mtu)
+
+-- all that decides what a connection hears, beside the table: whether it is neither absent nor ending, what the policy sees of
+-- it, its configurations, its ATT_MTU, its backlog, and its indications
+pub record Hearer : Type 0 where
+  pub live : Bool
+  pub standing : Standing
+  pub row : Row
+  pub mtu : Mtu
+  pub backlog : Backlog
+  pub pending : Indications
+
+-- whether it hears of the value at a handle
+abbrev pub is_heard : List Attr → Hearer → Handle → Bool
+is_heard attributes hearer handle = hearer.live && hears hearer.pending attributes hearer.row hearer.standing handle
+
+-- what it is told where the value at a handle is raised, and its indications then
+abbrev pub raise_tells : List Attr → Values → Hearer → Handle → Option Response
+raise_tells attributes values hearer handle =
+    if hearer.live && is_notified hearer.pending attributes hearer.row hearer.standing handle hearer.backlog
+    then Some (notification_of values handle hearer.mtu) else None
+
+abbrev pub pending_after_raise : List Attr → Hearer → Handle → Indications
+pending_after_raise attributes hearer handle =
+    if hearer.live then after_raise hearer.pending attributes hearer.row hearer.standing handle else hearer.pending
+
+-- what it is told at the end of an event, and its indications then
+abbrev pub release_tells : List Attr → Values → Hearer → Option Response
+release_tells attributes values hearer =
+    if hearer.live then option_map (λ handle. indication_of values handle hearer.mtu)
+    (released_handle hearer.pending attributes hearer.row hearer.standing hearer.backlog)
+    else None
+
+abbrev pub pending_after_release : List Attr → Hearer → Milliseconds → Indications
+pending_after_release attributes hearer now =
+    if hearer.live then after_release hearer.pending attributes hearer.row hearer.standing hearer.backlog now else hearer.pending

@@ -1,0 +1,247 @@
+ghost use Rattle.std.specs.Prelude.{◌≡◌, ◌<◌, ◌≤◌, true, IfSome};
+ghost use Rattle.std.specs.Bool.{OnTrue};
+ghost use Rattle.att_table.specs.Table.{is_value_at};
+ghost use Rattle.gatt_subs.specs.Hearing.{bits_for, is_indicated, may_hear_at, wants_indications};
+ghost use Rattle.gatt_subs.specs.HeardOnly.{RaisesOnlyWhatIsHeard, ReleasesOnlyWhatIsHeard, ReleasesOnlyWhatWaits};
+ghost use Rattle.gatt_subs.specs.Indications.{after_confirmation, after_end, after_raise, after_release, after_replacement, after_tick, first_of, from_due, is_notified, is_told, no_indications, released_handle, rest_of, with_handle, HaveOnePlace};
+
+use arrayvec::ArrayVec;
+use att_policy::{Standing, may_hear};
+use att_table::{ConfigRow, Role, Table};
+use std::marker::Model;
+
+/// The bit of a client characteristic configuration that asks for indications: Core 5.0, Vol 3
+/// Part G, 3.3.3.3.
+const INDICATION: u8 = 0x02;
+
+/// Notifications and indications are queued only while fewer PDUs than this are: this profile's own.
+const MAX_BACKLOG: usize = 8;
+
+/// How long an indication may be unconfirmed, in milliseconds: Core 5.0, Vol 3 Part F, 3.3.3.
+const CONFIRMATION_TIMEOUT: u64 = 30_000;
+
+/// An indication that was sent and is not confirmed.
+#[derive(Clone, Copy)]
+struct Unconfirmed {
+    handle: u16,
+    /// When it was queued, in milliseconds.
+    since: u64,
+    /// The table was replaced since then.
+    outdated: bool,
+}
+
+/// What one connection is still to be told by indications: the handles of values that wait, each
+/// once, and the indication that is not confirmed. (Core 5.0, Vol 3 Part F, 3.4.7.2)
+#[derive(Drop)]
+pub struct Pending {
+    /// A table has at most 1,024 attributes.
+    waiting: ArrayVec<u16, 1024>,
+    unconfirmed: Option<Unconfirmed>,
+    timed_out: bool,
+}
+
+impl Model for Pending {
+    ghost use Rattle.gatt_subs.specs.Indications.{Indications, HaveOnePlace};
+
+    ghost Value = { Indications };
+
+    ghost view = { λ pending. record { waiting = pending.waiting.items; unconfirmed = pending.unconfirmed; timed_out = pending.timed_out } };
+
+    ghost invariant = { λ pending. HaveOnePlace pending.waiting.items };
+}
+
+impl Pending {
+    /// Nothing waits, and nothing is unconfirmed.
+    #[tactic(auto, using(crate::proofs::Heard::only_what_is_heard))]
+    pub fn new() -> Self
+        ensures pending { result ≡ no_indications }
+        // Whatever the table and its values are by then, nothing is told that may not be heard.
+        ensures raised { RaisesOnlyWhatIsHeard }
+        ensures released { ReleasesOnlyWhatIsHeard }
+        ensures idle { ReleasesOnlyWhatWaits }
+    {
+        Pending {
+            waiting: ArrayVec::new(),
+            unconfirmed: None,
+            timed_out: false,
+        }
+    }
+
+    /// Tells the connection that a value was written: `true` where a notification of it is due. With
+    /// the indication bit the value waits instead, once and at the end. `row` is what the client has
+    /// configured, and `backlog` how many PDUs are queued for the connection.
+    pub fn raise(
+        &mut self,
+        table: &Table,
+        handle: u16,
+        row: &ConfigRow,
+        standing: &Standing,
+        backlog: usize,
+    ) -> bool
+        ensures notified { result ≡ is_notified self.old table.now.attributes row.now standing.entry.now handle backlog }
+        ensures pending { self.new ≡ after_raise self.old table.now.attributes row.now standing.entry.now handle }
+        ensures room { OnTrue result (backlog < 8) }
+        ensures value { OnTrue result (is_value_at table.now.attributes handle ≡ true) }
+    {
+        if self.timed_out || !may_hear_at(table, row, standing, handle) {
+            return false;
+        }
+        if !wants_indications(row, handle) {
+            return backlog < MAX_BACKLOG;
+        }
+        wait_once(&mut self.waiting, handle);
+        false
+    }
+
+    /// The handle of the value of which an indication is due now, if one is: the first that waits
+    /// and that the connection may still hear. It is unconfirmed from then on.
+    pub fn release(
+        &mut self,
+        table: &Table,
+        row: &ConfigRow,
+        standing: &Standing,
+        backlog: usize,
+        now: u64,
+    ) -> Option<u16>
+        ensures due { result ≡ released_handle self.old table.now.attributes row.now standing.entry.now backlog }
+        ensures pending { self.new ≡ after_release self.old table.now.attributes row.now standing.entry.now backlog now }
+        ensures room { IfSome result (λ handle. backlog < 8) }
+        ensures value { IfSome result (λ handle. is_value_at table.now.attributes handle ≡ true) }
+    {
+        if self.unconfirmed.is_some() || self.timed_out || backlog >= MAX_BACKLOG {
+            return None;
+        }
+        let handle = take_due(&mut self.waiting, table, row, standing)?;
+        self.unconfirmed = Some(Unconfirmed {
+            handle,
+            since: now,
+            outdated: false,
+        });
+        Some(handle)
+    }
+
+    /// Takes in a confirmation. One with nothing unconfirmed changes nothing.
+    pub fn confirm(&mut self)
+        ensures { self.new ≡ after_confirmation self.old }
+    {
+        self.unconfirmed = None;
+    }
+
+    /// Takes in the time, in milliseconds. A connection that did not confirm an indication within
+    /// 30,000 is told nothing more unasked.
+    pub fn tick(&mut self, now: u64)
+        ensures { self.new ≡ after_tick self.old now }
+    {
+        let is_late = self.unconfirmed.is_some_and(|sent| now.saturating_sub(sent.since)
+            >= CONFIRMATION_TIMEOUT);
+        if is_late {
+            self.end();
+            self.timed_out = true;
+        }
+    }
+
+    /// Takes in that the table was replaced: nothing waits any more, and an indication that is not
+    /// confirmed is one from before.
+    pub fn replaced(&mut self)
+        ensures { self.new ≡ after_replacement self.old }
+    {
+        self.waiting.clear();
+        if let Some(sent) = &mut self.unconfirmed {
+            sent.outdated = true;
+        }
+    }
+
+    /// Whether a confirmation, if it came now, would tell that the client knows the value at a
+    /// handle: the indication that it confirms is of that value and not from before a replacement,
+    /// and no later one waits.
+    pub fn told(&self, handle: u16) -> bool
+        ensures { result ≡ is_told self.now handle }
+    {
+        self.unconfirmed
+            .is_some_and(|sent| sent.handle == handle && !sent.outdated)
+            && !self.waiting.contains(&handle)
+    }
+
+    /// Takes in that the connection is ended: nothing waits, and nothing is unconfirmed.
+    pub fn end(&mut self)
+        ensures { self.new ≡ after_end self.old }
+    {
+        self.waiting.clear();
+        self.confirm();
+    }
+}
+
+/// Whether the connection may hear of the attribute at a handle.
+fn may_hear_at(table: &Table, row: &ConfigRow, standing: &Standing, handle: u16) -> bool
+    ensures may { result ≡ may_hear_at table.now.attributes row.now standing.entry.now handle }
+    ensures value { OnTrue result (is_value_at table.now.attributes handle ≡ true) }
+    ensures used { OnTrue result (0 < handle) }
+    ensures most { OnTrue result (handle ≤ 1024) }
+{
+    match table.get(handle) {
+        Some(attr) => {
+            attr.role == Role::Value && may_hear(&attr.guard, bits_for(row, handle), standing)
+        }
+        None => false,
+    }
+}
+
+/// What a client has configured for the value at a handle: its configuration stands behind it.
+fn bits_for(row: &ConfigRow, handle: u16) -> u8
+    requires { handle ≤ 1024 }
+    ensures { result ≡ bits_for row.now handle }
+{
+    row.get(handle + 1)
+}
+
+/// Whether a client has asked for indications of the value at a handle.
+fn wants_indications(row: &ConfigRow, handle: u16) -> bool
+    requires { handle ≤ 1024 }
+    ensures { result ≡ wants_indications row.now handle }
+{
+    bits_for(row, handle) & INDICATION != 0
+}
+
+/// Whether an indication of the value at a handle is due: the connection may hear of it, and has
+/// asked for indications.
+fn is_indicated(table: &Table, row: &ConfigRow, standing: &Standing, handle: u16) -> bool
+    ensures due { result ≡ is_indicated table.now.attributes row.now standing.entry.now handle }
+    ensures value { OnTrue result (is_value_at table.now.attributes handle ≡ true) }
+{
+    may_hear_at(table, row, standing, handle) && wants_indications(row, handle)
+}
+
+/// Puts a handle at the end, if it does not wait yet.
+fn wait_once(waiting: &mut ArrayVec<u16, 1024>, handle: u16)
+    requires places { HaveOnePlace waiting.old.items }
+    requires used { 0 < handle }
+    requires most { handle ≤ 1024 }
+    ensures waits { waiting.new.items ≡ with_handle waiting.old.items handle }
+    ensures places { HaveOnePlace waiting.new.items }
+{
+    if !waiting.contains(&handle) {
+        waiting.push(handle);
+    }
+}
+
+/// Takes out the handles up to the first of which an indication is due, and gives that one.
+fn take_due(
+    waiting: &mut ArrayVec<u16, 1024>,
+    table: &Table,
+    row: &ConfigRow,
+    standing: &Standing,
+) -> Option<u16>
+    requires { HaveOnePlace waiting.old.items }
+    ensures due { result ≡ first_of (from_due (is_indicated table.now.attributes row.now standing.entry.now) waiting.old.items) }
+    ensures rest { waiting.new.items ≡ rest_of (from_due (is_indicated table.now.attributes row.now standing.entry.now) waiting.old.items) }
+    ensures value { IfSome result (λ handle. is_value_at table.now.attributes handle ≡ true) }
+    ensures places { HaveOnePlace waiting.new.items }
+{
+    for _taken in 0..waiting.len() {
+        let handle = waiting.remove(0);
+        if is_indicated(table, row, standing, handle) {
+            return Some(handle);
+        }
+    }
+    None
+}
