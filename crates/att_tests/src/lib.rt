@@ -9,6 +9,10 @@ mod check_command;
 #[cfg(test)]
 mod command_faults;
 #[cfg(test)]
+mod hearer;
+#[cfg(test)]
+mod indications;
+#[cfg(test)]
 mod mtu;
 #[cfg(test)]
 mod pdus;
