@@ -2,41 +2,47 @@
 
 use arrayvec::ArrayVec;
 use le_hci::{Command, write_command};
+use std::process::Abort;
 
 /// A key, its octets as on the wire.
 const KEY: [u8; 16] = [
     0x00, 0x11, 0x22, 0x33, 0x44, 0x55, 0x66, 0x77, 0x88, 0x99, 0xAA, 0xBB, 0xCC, 0xDD, 0xEE, 0xFF,
 ];
 
+/// Commands for a connection, each with its octets.
+const COMMANDS: [(Command<'static>, &[u8]); 3] = [
+    (
+        Command::LeLongTermKeyRequestReply {
+            handle: 0x0040,
+            key: KEY,
+        },
+        &[
+            0x1A, 0x20, 0x12, 0x40, 0x00, 0x00, 0x11, 0x22, 0x33, 0x44, 0x55, 0x66, 0x77, 0x88,
+            0x99, 0xAA, 0xBB, 0xCC, 0xDD, 0xEE, 0xFF,
+        ],
+    ),
+    (
+        Command::LeLongTermKeyRequestNegativeReply { handle: 0x0040 },
+        &[0x1B, 0x20, 0x02, 0x40, 0x00],
+    ),
+    (
+        Command::Disconnect {
+            handle: 0x0040,
+            reason: 0x13,
+        },
+        &[0x06, 0x04, 0x03, 0x40, 0x00, 0x13],
+    ),
+];
+
 #[test]
 fn commands_of_a_connection(rt: HostRuntime) {
-    let cases = [
-        (
-            Command::LeLongTermKeyRequestReply {
-                handle: 0x0040,
-                key: KEY,
-            },
-            [
-                0x1A, 0x20, 0x12, 0x40, 0x00, 0x00, 0x11, 0x22, 0x33, 0x44, 0x55, 0x66, 0x77, 0x88,
-                0x99, 0xAA, 0xBB, 0xCC, 0xDD, 0xEE, 0xFF,
-            ]
-            .as_slice(),
-        ),
-        (
-            Command::LeLongTermKeyRequestNegativeReply { handle: 0x0040 },
-            &[0x1B, 0x20, 0x02, 0x40, 0x00],
-        ),
-        (
-            Command::Disconnect {
-                handle: 0x0040,
-                reason: 0x13,
-            },
-            &[0x06, 0x04, 0x03, 0x40, 0x00, 0x13],
-        ),
-    ];
+    assert_commands(&rt, &COMMANDS);
+}
+
+fn assert_commands(rt: &impl Abort, cases: &[(Command<'static>, &[u8])]) {
     for (command, expected) in cases {
         let mut octets = ArrayVec::new();
-        write_command(&command, &mut octets);
-        assert!(rt; octets.as_slice() == expected, "{command:?}");
+        write_command(command, &mut octets);
+        assert!(rt; octets.as_slice() == *expected, "{expected:?}");
     }
 }

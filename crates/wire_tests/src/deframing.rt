@@ -1,9 +1,10 @@
 //! Packets of a stream from the controller, however it is cut into pieces.
 
+ghost use Rattle.std.specs.Prelude.{◌<◌};
+
+use arrayvec::ArrayVec;
 use le_h4::{Deframer, Fed, H4Fault, PacketRef};
-use std::alloc::Global;
 use std::process::Abort;
-use std::test::Fail;
 
 // What a controller sends while a host sets it up, then two fragments of ACL data, a SCO packet, and
 // an event.
@@ -36,7 +37,10 @@ const PACKETS: [u8; 78] = [
     4, 0x10, 0x00, //
 ];
 
-fn note(packet: PacketRef<'_>, seen: &mut Vec<u8>) -> Result<(), Fail> {
+/// What is noted of the packets. What has no room is not noted, and fails the comparison.
+type Notes = ArrayVec<u8, 1029>;
+
+fn note(packet: PacketRef<'_>, notes: &mut Notes) {
     match packet {
         PacketRef::Acl {
             handle,
@@ -45,65 +49,74 @@ fn note(packet: PacketRef<'_>, seen: &mut Vec<u8>) -> Result<(), Fail> {
             octets,
         } => {
             let [low, high] = handle.to_le_bytes();
-            seen.extend_from_slice(&[2, low, high, pb, bc])?;
-            seen.extend_from_slice(octets)?;
+            let _ = notes.try_extend_from_slice(&[2, low, high, pb, bc]);
+            let _ = notes.try_extend_from_slice(octets);
         }
         PacketRef::Event(octets) => {
-            seen.push(4)?;
-            seen.extend_from_slice(octets)?;
+            let _ = notes.try_push(4);
+            let _ = notes.try_extend_from_slice(octets);
         }
-        PacketRef::Sco => seen.push(3)?,
+        PacketRef::Sco => {
+            let _ = notes.try_push(3);
+        }
     }
-    Ok(())
 }
 
-fn feed_all(deframer: &mut Deframer, piece: &[u8], seen: &mut Vec<u8>) -> Result<(), Fail> {
+/// Feeds a piece of a stream, and tells whether all of it is taken.
+fn feed_all(deframer: &mut Deframer, piece: &[u8], notes: &mut Notes) -> bool {
     let mut rest = piece;
     for _packet in 0..100u8 {
         if rest.is_empty() {
-            break;
+            return true;
         }
-        let fed = deframer.feed(rest).ok().ok_or("desync")?;
+        let Ok(fed) = deframer.feed(rest) else {
+            return false;
+        };
         if fed.packet {
-            note(deframer.packet(), seen)?;
+            note(deframer.packet(), notes);
         }
         rest = &rest[fed.used..];
     }
-    Ok(())
+    false
 }
 
-/// The packets that these pieces of a stream have to make.
-fn assert_packets(
-    rt: &impl Abort,
-    alloc: Global,
-    pieces: &[&[u8]],
-    expected: &[u8],
-) -> Result<(), Fail> {
-    let mut deframer = Deframer::new();
-    let mut seen = Vec::new(alloc);
-    for piece in pieces {
-        feed_all(&mut deframer, piece, &mut seen)?;
+/// The same in parts of at most `most` octets.
+fn feed_parts(deframer: &mut Deframer, piece: &[u8], most: usize, notes: &mut Notes) -> bool
+    requires { 0 < most }
+{
+    for part in piece.chunks(most) {
+        if !feed_all(deframer, part, notes) {
+            return false;
+        }
     }
-    assert!(rt; seen.as_slice() == expected);
-    Ok(())
+    true
+}
+
+/// Whether these pieces of a stream, each fed in parts of at most `most` octets, make these packets.
+fn makes(pieces: &[&[u8]], most: usize, packets: &[u8]) -> bool
+    requires { 0 < most }
+{
+    let mut deframer = Deframer::new();
+    let mut notes = ArrayVec::new();
+    for piece in pieces {
+        if !feed_parts(&mut deframer, piece, most, &mut notes) {
+            return false;
+        }
+    }
+    notes.as_slice() == packets
 }
 
 #[test]
-fn pieces_cut_anywhere(rt: HostRuntime) -> Result<(), Fail> {
+fn pieces_cut_anywhere(rt: HostRuntime) {
     for cut in 0..=STREAM.len() {
         let (front, back) = STREAM.split_at(cut);
-        assert_packets(&rt, rt.alloc(), &[front, back], &PACKETS)?;
+        assert!(rt; makes(&[front, back], usize::MAX, &PACKETS), "{cut}");
     }
-    Ok(())
 }
 
 #[test]
-fn octet_by_octet(rt: HostRuntime) -> Result<(), Fail> {
-    let mut pieces = [[].as_slice(); 83];
-    for (piece, octet) in pieces.iter_mut().zip(STREAM.chunks(1)) {
-        *piece = octet;
-    }
-    assert_packets(&rt, rt.alloc(), &pieces, &PACKETS)
+fn octet_by_octet(rt: HostRuntime) {
+    assert!(rt; makes(&[&STREAM], 1, &PACKETS));
 }
 
 /// A Read Request in an ACL packet, and what is noted of it.
@@ -116,23 +129,21 @@ const READ_NOTED: [u8; 12] = [
 ];
 
 /// 1,025 octets of data are passed over.
+const TOO_LONG: [&[u8]; 3] = [&[0x02, 0x40, 0x20, 0x01, 0x04], &[0x02; 1_025], &READ];
+
 #[test]
-fn long_acl_packet(rt: HostRuntime) -> Result<(), Fail> {
-    let pieces = [
-        [0x02, 0x40, 0x20, 0x01, 0x04].as_slice(),
-        &[0x02; 1_025],
-        &READ,
-    ];
-    assert_packets(&rt, rt.alloc(), &pieces, &READ_NOTED)
+fn long_acl_packet(rt: HostRuntime) {
+    assert!(rt; makes(&TOO_LONG, usize::MAX, &READ_NOTED));
 }
 
 /// 1,024 are kept.
+const LONGEST: [&[u8]; 2] = [&[0x02, 0x40, 0x20, 0x00, 0x04], &[0x55; 1_024]];
+
 #[test]
-fn longest_acl_packet(rt: HostRuntime) -> Result<(), Fail> {
+fn longest_acl_packet(rt: HostRuntime) {
     let mut noted = [0x55; 1_029];
     noted[..5].copy_from_slice(&[2, 0x40, 0x00, 2, 0]);
-    let pieces = [[0x02, 0x40, 0x20, 0x00, 0x04].as_slice(), &[0x55; 1_024]];
-    assert_packets(&rt, rt.alloc(), &pieces, &noted)
+    assert!(rt; makes(&LONGEST, usize::MAX, &noted));
 }
 
 /// What `feed` answers to pieces of a stream, one after another.
@@ -158,8 +169,11 @@ const DESYNC: [(&[u8], Result<Fed, H4Fault>); 5] = [
 
 #[test]
 fn desync_for_ever(rt: HostRuntime) {
-    let mut deframer = Deframer::new();
-    for (piece, answer) in DESYNC {
+    assert_fed(&rt, &mut Deframer::new(), &DESYNC);
+}
+
+fn assert_fed(rt: &impl Abort, deframer: &mut Deframer, cases: &[(&[u8], Result<Fed, H4Fault>)]) {
+    for &(piece, answer) in cases {
         assert!(rt; deframer.feed(piece) == answer, "{piece:?}");
     }
 }

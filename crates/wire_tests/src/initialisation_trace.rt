@@ -1,5 +1,7 @@
 //! The octets of a whole initialisation, from the stream of a controller to what the host writes.
 
+ghost use Rattle.std.specs.Prelude.{◌<◌};
+
 use arrayvec::ArrayVec;
 use le_h4::{Deframer, PacketRef};
 use le_hci::{Command, Event, Init, RANDOM_ADDRESS, read_event};
@@ -72,6 +74,60 @@ fn write(command: &Command<'_>, written: &mut ArrayVec<u8, 260>) {
     le_h4::write_command(octets.as_slice(), written);
 }
 
+/// Writes the command that a state sends.
+fn write_next(init: &Init, written: &mut ArrayVec<u8, 260>) {
+    if let Some(command) = init.command() {
+        write(&command, written);
+    }
+}
+
+/// The state after the awaited command, which has to be this one.
+fn complete(rt: &impl Abort, init: Init, opcode: u16, parameters: &[u8]) -> Init {
+    let Some(awaited) = init.command() else {
+        panic!(rt; "nothing is awaited");
+    };
+    assert!(rt; awaited.opcode() == opcode);
+    match init.complete(parameters) {
+        Ok(next) => next,
+        Err(_) => panic!(rt; "the command is not completed"),
+    }
+}
+
+/// What an event leads to: the next state, and the command that is written.
+fn follow(
+    rt: &impl Abort,
+    init: Init,
+    event: Option<Event<'_>>,
+    written: &mut ArrayVec<u8, 260>,
+) -> Init {
+    match event {
+        Some(
+            Event::CommandComplete {
+                opcode,
+                parameters,
+                ..
+            },
+        ) => {
+            let next = complete(rt, init, opcode, parameters);
+            write_next(&next, written);
+            next
+        }
+        Some(Event::ConnectionComplete { handle, peer, .. }) => {
+            assert!(rt; handle == 0x0040 && peer.kind == RANDOM_ADDRESS);
+            write(&Command::LeSetAdvertiseEnable, written);
+            init
+        }
+        _ => panic!(rt; "neither a completion nor a connection"),
+    }
+}
+
+fn event_in(packet: PacketRef<'_>) -> Option<Event<'_>> {
+    match packet {
+        PacketRef::Event(octets) => read_event(octets).ok(),
+        _ => None,
+    }
+}
+
 /// Takes in a piece of what the controller sends, and writes the command that it leads to.
 fn take(
     rt: &impl Abort,
@@ -80,81 +136,70 @@ fn take(
     piece: &[u8],
     written: &mut ArrayVec<u8, 260>,
 ) -> Init {
-    let Ok(fed) = deframer.feed(piece) else {
-        panic!(rt; "no packet has this indicator");
-    };
-    assert_eq!(rt; fed.used, piece.len());
-    if !fed.packet {
-        return init;
-    }
-    let PacketRef::Event(octets) = deframer.packet() else {
-        panic!(rt; "not an event");
-    };
-    match read_event(octets) {
-        Ok(
-            Event::CommandComplete {
-                opcode,
-                parameters,
-                ..
-            },
-        ) => complete(rt, init, opcode, parameters, written),
-        Ok(Event::ConnectionComplete { handle, peer, .. }) => {
-            assert_eq!(rt; handle, 0x0040);
-            assert_eq!(rt; peer.kind, RANDOM_ADDRESS);
-            write(&Command::LeSetAdvertiseEnable, written);
-            init
+    match deframer.feed(piece) {
+        Ok(fed) if fed.used == piece.len() => {
+            if fed.packet {
+                follow(rt, init, event_in(deframer.packet()), written)
+            } else {
+                init
+            }
         }
-        event => panic!(rt; "{event:?}"),
+        _ => panic!(rt; "not all of {piece:?} is taken"),
     }
 }
 
-/// Goes on after the awaited command, and writes the next one.
-fn complete(
+/// Takes in a packet in pieces of at most `size` octets, which lead to these octets.
+fn exchange(
     rt: &impl Abort,
-    init: Init,
-    opcode: u16,
-    parameters: &[u8],
-    written: &mut ArrayVec<u8, 260>,
-) -> Init {
-    let Some(awaited) = init.command() else {
-        panic!(rt; "nothing is awaited");
-    };
-    assert_eq!(rt; opcode, awaited.opcode());
-    let init = match init.complete(parameters) {
-        Ok(next) => next,
-        Err((fault, _)) => panic!(rt; "{fault:?}"),
-    };
-    if let Some(command) = init.command() {
-        write(&command, written);
+    deframer: &mut Deframer,
+    first: Init,
+    size: usize,
+    packet: &[u8],
+    wanted: &[u8],
+) -> Init
+    requires { 0 < size }
+{
+    let mut init = first;
+    let mut written = ArrayVec::new();
+    for piece in packet.chunks(size) {
+        init = take(rt, deframer, init, piece, &mut written);
     }
+    assert!(rt; written.as_slice() == wanted, "{packet:?}");
     init
+}
+
+/// The first command.
+fn assert_first(rt: &impl Abort, init: &Init) {
+    let mut written = ArrayVec::new();
+    write_next(init, &mut written);
+    assert!(rt; written.as_slice() == RESET.as_slice());
+}
+
+fn is_ready(init: &Init) -> bool {
+    matches!(
+        init,
+        Init::Ready {
+            length: 27,
+            packets: 4
+        }
+    )
+}
+
+/// The whole initialisation, where packets come in pieces of at most `size` octets.
+fn initialise(rt: &impl Abort, size: usize, exchanges: &[(&[u8], &[u8])])
+    requires { 0 < size }
+{
+    let mut deframer = Deframer::new();
+    let mut init = Init::new(None, advertising());
+    assert_first(rt, &init);
+    for (packet, wanted) in exchanges {
+        init = exchange(rt, &mut deframer, init, size, packet, wanted);
+    }
+    assert!(rt; is_ready(&init));
 }
 
 #[test]
 fn initialisation_and_a_connection(rt: HostRuntime) {
-    for size in [64, 1] {
-        let mut deframer = Deframer::new();
-        let mut init = Init::new(None, advertising());
-        let mut written = ArrayVec::new();
-        if let Some(command) = init.command() {
-            write(&command, &mut written);
-        }
-        assert_eq!(rt; written.as_slice(), RESET.as_slice());
-        for (sent, wanted) in EXCHANGES {
-            written.clear();
-            for piece in sent.chunks(size) {
-                init = take(&rt, &mut deframer, init, piece, &mut written);
-            }
-            assert_eq!(rt; written.as_slice(), wanted, "{sent:?} by {size}");
-        }
-        assert!(rt;
-            matches!(
-                init,
-                Init::Ready {
-                    length: 27,
-                    packets: 4
-                }
-            )
-        );
-    }
+    initialise(&rt, 64, &EXCHANGES);
+    initialise(&rt, 1, &EXCHANGES);
 }

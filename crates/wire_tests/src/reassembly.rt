@@ -8,21 +8,24 @@ use std::process::Abort;
 type Case<'a> = (&'a [u8], bool, Option<&'a [u8]>);
 
 fn assert_frames(rt: &impl Abort, reassembler: &mut Reassembler, cases: &[Case<'_>]) {
-    for (octets, begins, expected) in cases {
-        let piece = if *begins {
-            reassembler.start(octets)
-        } else {
-            reassembler.more(octets)
-        };
-        match expected {
-            Some(frame) => {
-                assert!(rt;
-                    piece == Piece::Frame && reassembler.frame() == *frame,
-                    "{octets:?}"
-                )
-            }
-            None => assert!(rt; piece == Piece::Nothing, "{octets:?}"),
-        }
+    for &(octets, begins, expected) in cases {
+        assert!(rt;
+            frame_of(reassembler, octets, begins) == expected,
+            "{octets:?}"
+        );
+    }
+}
+
+/// The frame that a fragment makes whole.
+fn frame_of<'a>(reassembler: &'a mut Reassembler, octets: &[u8], begins: bool) -> Option<&'a [u8]> {
+    let piece = if begins {
+        reassembler.start(octets)
+    } else {
+        reassembler.more(octets)
+    };
+    match piece {
+        Piece::Frame => Some(reassembler.frame()),
+        Piece::Nothing => None,
     }
 }
 

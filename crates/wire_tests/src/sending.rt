@@ -16,15 +16,15 @@ fn queue(sender: &mut Sender, payload: &[u8]) -> bool {
 
 /// The next packets, each of which has to have so many octets and begin with these.
 fn assert_packets(rt: &impl Abort, sender: &mut Sender, expected: &[(usize, &[u8])]) {
-    for (size, front) in expected {
-        let mut out = ArrayVec::new();
-        assert!(rt; sender.next(0x0040, &mut out));
-        assert!(rt;
-            out.len() == *size && out.as_slice().starts_with(front),
-            "{front:?}"
-        );
+    for &(size, front) in expected {
+        assert!(rt; is_next(sender, size, front), "{front:?}");
     }
     assert!(rt; !sender.next(0x0040, &mut ArrayVec::new()));
+}
+
+fn is_next(sender: &mut Sender, size: usize, front: &[u8]) -> bool {
+    let mut out = ArrayVec::new();
+    sender.next(0x0040, &mut out) && out.len() == size && out.as_slice().starts_with(front)
 }
 
 /// A first fragment and a continuation of 27 octets each, of the frame of 50 octets 55.
@@ -80,13 +80,20 @@ const ONE_OCTET: (usize, &[u8]) = (
     &[0x02, 0x40, 0x00, 0x05, 0x00, 0x01, 0x00, 0x04, 0x00, 0x1B],
 );
 
+/// Queues as many PDUs as there is room for.
+fn fill(sender: &mut Sender) -> bool {
+    for _pdu in 0..MAX_PDUS {
+        if !queue(sender, b"\x1b") {
+            return false;
+        }
+    }
+    true
+}
+
 #[test]
 fn completions(rt: HostRuntime) -> Result<(), Fail> {
     let mut sender = Sender::new(rt.alloc(), 2, 27)?;
-    for _pdu in 0..MAX_PDUS {
-        assert!(rt; queue(&mut sender, b"\x1b"));
-    }
-    assert!(rt; !queue(&mut sender, b"\x1b"));
+    assert!(rt; fill(&mut sender) && !queue(&mut sender, b"\x1b"));
     assert_packets(&rt, &mut sender, &[ONE_OCTET; 2]);
     // Nine completed packets count as the two that are outstanding.
     sender.completed(9);
@@ -95,21 +102,33 @@ fn completions(rt: HostRuntime) -> Result<(), Fail> {
     Ok(())
 }
 
+/// Queues two PDUs, of which one goes out.
+fn send_one_of_two(rt: &impl Abort, sender: &mut Sender) {
+    assert!(rt; queue(sender, b"\x1b") && queue(sender, b"\x1b"));
+    assert_packets(rt, sender, &[ONE_OCTET]);
+}
+
 #[test]
-fn flushes_and_resets(rt: HostRuntime) -> Result<(), Fail> {
+fn flushes(rt: HostRuntime) -> Result<(), Fail> {
     let mut sender = Sender::new(rt.alloc(), 1, 27)?;
-    assert!(rt; queue(&mut sender, b"\x1b") && queue(&mut sender, b"\x1b"));
-    assert_packets(&rt, &mut sender, &[ONE_OCTET]);
+    send_one_of_two(&rt, &mut sender);
     sender.flush();
     assert!(rt; sender.backlog() == 0 && queue(&mut sender, b"\x1b"));
     assert_packets(&rt, &mut sender, &[]);
+    Ok(())
+}
+
+/// A packet of the largest size.
+const LARGEST: (usize, &[u8]) = (5 + 251, &[0x02, 0x40, 0x00, 0xFB, 0x00]);
+
+/// A packet is outstanding, and a PDU queued, until the sender is reset.
+#[test]
+fn resets(rt: HostRuntime) -> Result<(), Fail> {
+    let mut sender = Sender::new(rt.alloc(), 1, 27)?;
+    send_one_of_two(&rt, &mut sender);
     sender.reset(1, 251);
-    assert!(rt; queue(&mut sender, &[0x1B; 247]));
-    assert_packets(
-        &rt,
-        &mut sender,
-        &[(5 + 251, &[0x02, 0x40, 0x00, 0xFB, 0x00])],
-    );
+    assert!(rt; sender.backlog() == 0 && queue(&mut sender, &[0x1B; 247]));
+    assert_packets(&rt, &mut sender, &[LARGEST]);
     assert!(rt; sender.backlog() == 0);
     Ok(())
 }

@@ -1,6 +1,7 @@
 //! The answers of the channels of LE signalling and of the Security Manager.
 
 use le_l2cap::{Reject, security, signalling};
+use std::process::Abort;
 
 #[test]
 fn rejects_an_update_request(rt: HostRuntime) {
@@ -13,32 +14,51 @@ fn rejects_an_update_request(rt: HostRuntime) {
     );
 }
 
+/// Payloads of the channel, and what is rejected of each.
+const PAYLOADS: [(&[u8], Option<Reject>); 12] = [
+    (&[0x06, 0x01, 0x00, 0x00], Some(Reject { id: 1 })),
+    (&[0x0D, 0xFF, 0x01, 0x00, 0x07], Some(Reject { id: 0xFF })),
+    (&[0x01, 0x01, 0x00, 0x00], None),
+    (&[0x07, 0x01, 0x00, 0x00], None),
+    (&[0x13, 0x01, 0x00, 0x00], None),
+    (&[0x15, 0x01, 0x00, 0x00], None),
+    (&[0x16, 0x01, 0x00, 0x00], None),
+    (&[0x12, 0x00, 0x00, 0x00], None),
+    (&[0x12, 0x01, 0x01, 0x00], None),
+    (&[0x12, 0x01, 0x00, 0x00, 0x07], None),
+    (&[0x12, 0x01, 0x00], None),
+    (&[], None),
+];
+
 #[test]
 fn rejects_and_ignores(rt: HostRuntime) {
-    let cases = [
-        ([0x06, 0x01, 0x00, 0x00].as_slice(), Some(Reject { id: 1 })),
-        (&[0x0D, 0xFF, 0x01, 0x00, 0x07], Some(Reject { id: 0xFF })),
-        (&[0x01, 0x01, 0x00, 0x00], None),
-        (&[0x07, 0x01, 0x00, 0x00], None),
-        (&[0x13, 0x01, 0x00, 0x00], None),
-        (&[0x15, 0x01, 0x00, 0x00], None),
-        (&[0x16, 0x01, 0x00, 0x00], None),
-        (&[0x12, 0x00, 0x00, 0x00], None),
-        (&[0x12, 0x01, 0x01, 0x00], None),
-        (&[0x12, 0x01, 0x00, 0x00, 0x07], None),
-        (&[0x12, 0x01, 0x00], None),
-        (&[], None),
-    ];
-    for (payload, answer) in cases {
-        assert_eq!(rt; signalling(payload), answer, "{payload:?}");
+    assert_answers(&rt, &PAYLOADS);
+}
+
+fn assert_answers(rt: &impl Abort, cases: &[(&[u8], Option<Reject>)]) {
+    for &(payload, answer) in cases {
+        assert!(rt; signalling(payload) == answer, "{payload:?}");
     }
 }
 
+/// PDUs of the Security Manager, and the answer to each.
+const PAIRING: [(&[u8], Option<[u8; 2]>); 4] = [
+    (
+        &[0x01, 0x03, 0x00, 0x01, 0x10, 0x00, 0x00],
+        Some([0x05, 0x05]),
+    ),
+    (&[0x01], Some([0x05, 0x05])),
+    (&[0x0B, 0x01], None),
+    (&[], None),
+];
+
 #[test]
 fn pairing_is_not_supported(rt: HostRuntime) {
-    let request = [0x01, 0x03, 0x00, 0x01, 0x10, 0x00, 0x00];
-    assert_eq!(rt; security(&request), Some([0x05, 0x05]));
-    assert_eq!(rt; security(&[0x01]), Some([0x05, 0x05]));
-    assert_eq!(rt; security(&[0x0B, 0x01]), None);
-    assert_eq!(rt; security(&[]), None);
+    assert_pairing(&rt, &PAIRING);
+}
+
+fn assert_pairing(rt: &impl Abort, cases: &[(&[u8], Option<[u8; 2]>)]) {
+    for &(pdu, answer) in cases {
+        assert!(rt; security(pdu) == answer, "{pdu:?}");
+    }
 }

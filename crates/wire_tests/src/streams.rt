@@ -9,13 +9,13 @@ const READ: [&[u8]; 3] = [b"ab", b"c", b""];
 /// Reads of at most two octets, each of which has to give these.
 fn assert_reads<S: Source>(rt: &impl Abort, source: &mut S, expected: &[&[u8]]) {
     for octets in expected {
-        let mut buf = [0; 2];
-        let read = source.read(&mut buf);
-        assert!(rt;
-            read == Ok(octets.len()) && buf.as_slice().starts_with(octets),
-            "{octets:?}"
-        );
+        assert!(rt; gives(source, octets), "{octets:?}");
     }
+}
+
+fn gives<S: Source>(source: &mut S, octets: &[u8]) -> bool {
+    let mut buf = [0; 2];
+    source.read(&mut buf) == Ok(octets.len()) && buf.as_slice().starts_with(octets)
 }
 
 /// What is written, and what the buffer of four octets answers.
