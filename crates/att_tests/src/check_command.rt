@@ -30,8 +30,11 @@ fn judges<T: Read, K: Read>(
     printed: &str,
 ) {
     let mut output: Vec<u8> = Vec::new(alloc);
-    assert_eq!(rt; check_files(alloc, table, keys, &mut output), answer);
-    assert_eq!(rt; output.as_slice(), printed.as_bytes());
+    let checked = check_files(alloc, table, keys, &mut output);
+    assert!(rt;
+        checked == answer && output.as_slice() == printed.as_bytes(),
+        "{printed}"
+    );
 }
 
 /// Tables and keys, how `check` ends, and what it prints.
@@ -92,8 +95,10 @@ fn judges_paths(
         KeysPath(keys),
         &mut output,
     );
-    assert_eq!(rt; checked, answer);
-    assert_eq!(rt; output.as_slice(), printed.as_bytes());
+    assert!(rt;
+        checked == answer && output.as_slice() == printed.as_bytes(),
+        "{printed}"
+    );
 }
 
 const TABLE: &str = "check_table.toml";

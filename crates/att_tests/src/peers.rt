@@ -53,17 +53,24 @@ pub fn standing(
     until: u64,
 ) -> Result<Standing, Fail> {
     let text = format!(in alloc; "{KEYS}{SECURE_KEY}")?;
-    let keys = Keys::read(alloc, &text).expect(rt, "the keys");
+    match Keys::read(alloc, &text) {
+        Ok(keys) => Ok(standing_by(rt, &keys, who, encrypted, until)),
+        Err(_) => panic!(rt; "the keys"),
+    }
+}
+
+/// The same by these keys.
+fn standing_by(rt: &impl Abort, keys: &Keys, who: Who, encrypted: bool, until: u64) -> Standing {
     let (peer, random_number, diversifier) = key_request(who);
     let mut link = Link::new();
     link.request(keys.answer(&peer, [random_number; 8], diversifier));
     if encrypted {
         assert!(rt; link.encryption(0x00, 0x01) == LinkChange::Raised);
     }
-    Ok(Standing {
+    Standing {
         key: link.facts(),
         key_known: keys.known(&peer),
         until,
         now: 0,
-    })
+    }
 }

@@ -127,8 +127,7 @@ fn make(
     Ok(())
 }
 
-/// Serves a PDU, and compares its answer and the handles that it wrote: those of a Write Request
-/// that is accepted are known.
+/// Serves a PDU, and compares its answer and the handles that it wrote.
 fn exchange(
     rt: &impl Abort,
     table: &mut Table,
@@ -145,24 +144,47 @@ fn exchange(
 {
     let pdu_octets = octets(rt, pdu, more);
     let wanted_octets = octets(rt, wanted, more_wanted);
-    let mut answer_octets = ArrayVec::new();
-    let mut out = PduBuf::new(&mut answer_octets, client.conn.mtu());
-    let answered = answer(
+    let served = serves(
         table,
-        &mut client.row,
-        &mut client.conn,
+        client,
         pdu_octets.as_slice(),
-        &mut out,
+        wanted_octets.as_slice(),
+        handles,
     );
-    assert_eq!(rt; answer_octets.as_slice(), wanted_octets.as_slice(), "{pdu}");
-    assert_eq!(rt; answered.due, !wanted.is_empty(), "{pdu}");
-    assert_eq!(rt; answered.confirmed, pdu == "1e", "{pdu}");
-    if let Some(handles) = handles {
-        assert_eq!(rt; answered.touched.as_slice(), handles, "{pdu}");
+    assert!(rt; served, "{pdu}");
+}
+
+/// Whether a PDU has this answer, and writes these handles.
+fn serves(
+    table: &mut Table,
+    client: &mut Client,
+    pdu: &[u8],
+    wanted: &[u8],
+    handles: Option<&[u16]>,
+) -> bool
+    requires row { IsRowOf table.old.attributes client.old.row }
+    ensures attributes { table.new.attributes ≡ table.old.attributes }
+    ensures row { IsRowOf table.new.attributes client.new.row }
+{
+    let mut octets = ArrayVec::new();
+    let mut out = PduBuf::new(&mut octets, client.conn.mtu());
+    let answered = answer(table, &mut client.row, &mut client.conn, pdu, &mut out);
+    octets.as_slice() == wanted
+        && answered.due != wanted.is_empty()
+        && answered.confirmed == (pdu == b"\x1e".as_slice())
+        && is_written(answered.touched.as_slice(), pdu, wanted, handles)
+}
+
+/// Whether these handles were to be written: those of a Write Request that is accepted are known.
+fn is_written(touched: &[u16], pdu: &[u8], wanted: &[u8], handles: Option<&[u16]>) -> bool {
+    if let ([0x12, low, high, ..], [0x13]) = (pdu, wanted) {
+        if touched != [u16::from_le_bytes([*low, *high])].as_slice() {
+            return false;
+        }
     }
-    if let ([0x12, low, high, ..], [0x13]) = (pdu_octets.as_slice(), wanted_octets.as_slice()) {
-        let handle = u16::from_le_bytes([*low, *high]);
-        assert_eq!(rt; answered.touched.as_slice(), [handle].as_slice(), "{pdu}");
+    match handles {
+        Some(handles) => touched == handles,
+        None => true,
     }
 }
 
