@@ -1,6 +1,6 @@
 -- The changer of a table: the value by which clients are told that the table was replaced. It is that of the Service Changed
 -- characteristic: Core 5.0, Vol 3 Part G, 7.1. That it is indicated, fixed and the first such one is this profile's own.
-use Rattle.std.specs.Prelude.{◌-◌, Bool, false, ◌==◌, ◌&&◌, List, reverse, take, Option}
+use Rattle.std.specs.Prelude.{◌≡◌, true, ◌-◌, Bool, false, ◌==◌, ◌&&◌, List, reverse, take, Option}
 use Rattle.std.specs.List.{find}
 use Rattle.std.specs.Option.{option_map, option_map_or}
 use Rattle.std.specs.Str.{bytes_eq}
@@ -12,7 +12,7 @@ use Rattle.att_policy.specs.Policy.{has_property}
 use Rattle.att_table.specs.declared.attr.Attr.{Attr}
 use Rattle.att_table.specs.declared.changer.TheConstants.{CHANGER_LEN}
 use Rattle.att_table.specs.Group.{is_service_type}
-use Rattle.att_table.specs.Table.{Contents, is_value, value_at}
+use Rattle.att_table.specs.Table.{Contents, is_fixed_at, is_value, is_value_at, room_at, value_at}
 
 -- the last of some attributes that begins a service
 abbrev pub last_service : List Attr → Option Attr
@@ -33,3 +33,9 @@ is_changer table attr =
 -- the handle of the first one
 abbrev pub changer_of : Contents → Option Handle
 changer_of table = option_map (λ (attr : Attr). attr.handle) (find (is_changer table) table.attributes)
+
+-- what holds of its handle: it is that of a value, which has four octets and keeps them
+pub record IsOfAChanger (table : Contents) (handle : Handle) : Type 0 where
+  pub value : is_value_at table.attributes handle ≡ true
+  pub fixed : is_fixed_at table.attributes handle ≡ true
+  pub room : room_at table handle ≡ CHANGER_LEN

@@ -2,7 +2,7 @@ ghost use Rattle.std.specs.Prelude.{◌≡◌, ◌+◌, ◌<◌, ◌≤◌, ◌�
 ghost use Rattle.std.specs.Option.{option_copied};
 ghost use Rattle.att_table.specs.declared.attr.Attr.{Attr};
 ghost use Rattle.att_values.specs.Cell.{value_with_part};
-ghost use Rattle.att_table.specs.Changer.{changer_of};
+ghost use Rattle.att_table.specs.Changer.{changer_of, IsOfAChanger};
 ghost use Rattle.att_table.specs.ConfigRow.{is_supported, HasRowRoom};
 ghost use Rattle.att_table.specs.Facts.{IsTable};
 ghost use Rattle.att_table.specs.Group.{group_ends_of, group_end_at};
@@ -193,7 +193,8 @@ impl Table {
     /// has one. No write makes another one: whoever keeps the table asks once. (Core 5.0, Vol 3
     /// Part G, 7.1)
     pub fn changer(&self) -> Option<u16>
-        ensures { result ≡ changer_of self.now }
+        ensures changer { result ≡ changer_of self.now }
+        ensures found { IfSome result (λ handle. IsOfAChanger self.now handle) }
     {
         changer::changer_of(&self.attributes, &self.values)
     }

@@ -79,17 +79,21 @@ const REPLACEMENTS: [Replacement; 9] = [
 
 #[test]
 fn keeps_what_was_written_last(rt: HostRuntime) {
+    for (handle, bits) in [(1, 1), (9, 1), (64, 1), (65, 0)] {
+        assert_eq!(rt; full_row_at(handle), (bits, handle < 65));
+    }
+}
+
+/// The bits at a handle of a row that is full, and whether they can be set.
+fn full_row_at(handle: u16) -> (u8, bool) {
     let mut row = ConfigRow::new();
     row.set(9, 2);
-    for handle in 1..100 {
-        if row.can_set(handle) {
-            row.set(handle, 1);
+    for next in 1..100 {
+        if row.can_set(next) {
+            row.set(next, 1);
         }
     }
-    for (handle, bits) in [(1, 1), (9, 1), (64, 1), (65, 0)] {
-        assert_eq!(rt; row.get(handle), bits);
-        assert_eq!(rt; row.can_set(handle), handle < 65);
-    }
+    (row.get(handle), row.can_set(handle))
 }
 
 #[test]

@@ -1,0 +1,14 @@
+use Rattle.std.proofs.Common.{◌≡◌, List, ap, ◌∙◌}
+use Rattle.att_table.specs.declared.attr.Attr.{Attr}
+use Rattle.att_table.specs.Changer.{changer_of}
+use Rattle.att_table.specs.Table.{Contents, values_of}
+use Rattle.att_table.proofs.ServiceBefore.{changer_found}
+use Rattle.att_table.proofs.table.Table.changer.Goals as goal
+
+pub returns-clause-found : goal.returns-clause-found
+returns-clause-found c =
+    let table = c.self.inside in
+    let contents : List Attr → Contents = λ attributes. record { attributes = attributes; values = values_of table.values } in
+    let answered : c.changer_of.result ≡ changer_of c.args.self.now =
+    c.changer_of.ensures ∙ ap (λ attributes. changer_of (contents attributes)) c.deref.ensures.value ∙ ap changer_of c.self.view_is in
+    changer_found table.attributes.items table.values table.group_ends.items table.by_type.items c.args.self.now _ c.self.invariant c.self.view_is answered
