@@ -141,10 +141,10 @@ fn check_table(rt: &impl Abort, table: &Table, wanted: &Wanted) {
     assert_eq!(rt; table.len(), wanted.attributes);
     assert_eq!(rt; table.octets(), wanted.octets);
     for &(handle, value) in wanted.values {
-        assert_eq!(rt; value_of(table, handle), value, "{handle}");
+        assert!(rt; value_of(table, handle) == value, "{handle}");
     }
     for &(handle, last) in wanted.group_ends {
-        assert_eq!(rt; group_end_of(table, handle), last, "{handle}");
+        assert!(rt; group_end_of(table, handle) == last, "{handle}");
     }
     for handle in 1..=21 {
         let is_configuration = table
@@ -170,7 +170,7 @@ fn check_of_type(rt: &impl Abort, table: &Table, kind: u128, range: (u16, u16), 
     let mut steps = Counted { count: 0 };
     let (first, last) = range;
     let handles = table.of_type(kind, first, last, &mut steps);
-    assert_eq!(rt; handles, wanted, "{kind:x} from {first} to {last}");
+    assert!(rt; handles == wanted, "{kind:x} from {first} to {last}");
     assert!(rt; steps.count <= 22);
 }
 

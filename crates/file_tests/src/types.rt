@@ -56,7 +56,7 @@ fn octets(rt: HostRuntime) {
         (CUSTOM, false, &CUSTOM_OCTETS),
     ] {
         assert!(rt; is_of_16_bits(kind) == is_short, "{kind:x}");
-        assert_eq!(rt; type_octets(kind).as_slice(), octets, "{kind:x}");
+        assert!(rt; type_octets(kind).as_slice() == octets, "{kind:x}");
     }
 }
 
