@@ -1,2 +1,5 @@
 pub mod Heard
+pub mod InOrder
+pub mod Lines
 pub mod Places
+pub mod RowsLine

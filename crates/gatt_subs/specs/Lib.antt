@@ -1,4 +1,9 @@
 pub mod Hearing
 pub mod HeardOnly
+pub mod InOrder
 pub mod Indications
+pub mod RowEntry
+pub mod RowsFault
+pub mod RowsLine
 pub mod Told
+pub mod Unfitted

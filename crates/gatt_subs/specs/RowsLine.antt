@@ -1,0 +1,83 @@
+-- What one line of a rows file says: this profile's own.
+use Rattle.std.specs.Prelude.{ℕ, Bool, ◌==◌, ◌&&◌, nat_lt, nat_le, if◌then◌else◌, List, [], ◌∷◌, length, slice_index, codes, Option, Some, None}
+use Rattle.std.specs.Borrow.{Bor}
+use Rattle.std.specs.List.{position_or_len, before_first, after_first}
+use Rattle.std.specs.Option.{option_map, option_and_then}
+use Rattle.std.specs.Str.{bytes_eq, all_ascii_digits}
+use Rattle.std.specs.Str.Parse.{digits_value}
+use Rattle.octets.specs.Number.{Octets}
+use Rattle.att_numbers.specs.Types.{Handle}
+use Rattle.le_hci.specs.declared.peer.Peer.{Peer}
+use Rattle.le_hci.specs.declared.peer.TheConstants.{PUBLIC_ADDRESS, RANDOM_ADDRESS}
+use Rattle.le_security.specs.Address.{address_of}
+use Rattle.gatt_subs.specs.declared.row_entry.RowEntry.{RowEntry}
+use Rattle.gatt_subs.specs.declared.rows_line.Line.{Line}
+use Rattle.gatt_subs.specs.declared.rows_line.Line.TheVariants.{Entry, Owed}
+
+-- a part of what may be missing, and then what follows from it
+infixl 10 ◌>>=◌
+abbrev pub ◌>>=◌ : {A B : Type 0} → Option A → (A → Option B) → Option B
+None >>= next = None
+Some x >>= next = next x
+
+-- single spaces stand between the words of a line
+abbrev pub space : ℕ
+space = 32
+
+-- what stands before the first space, and behind it
+unfoldable pub parts_of : Octets → Option (Octets × Octets)
+parts_of text =
+    if nat_lt (position_or_len (λ octet. octet == space) text) (length text)
+    then Some (before_first (λ octet. octet == space) text, after_first (λ octet. octet == space) text)
+    else None
+
+-- the same, as the code has them
+abbrev pub parts_view : Bor Octets × Bor Octets → Octets × Octets
+parts_view parts = (parts.0.now, parts.1.now)
+
+-- a type of address is a digit
+abbrev pub kind_of : Octets → Option ℕ
+kind_of word =
+    if bytes_eq word (codes "0") then Some PUBLIC_ADDRESS
+    else if bytes_eq word (codes "1") then Some RANDOM_ADDRESS
+    else None
+
+unfoldable pub peer_of : Octets → Octets → Option Peer
+peer_of kind address = do
+  type ← kind_of kind
+  octets ← address_of address
+  Some (record { kind = type; address = octets })
+
+-- a handle is decimal digits, the first of them from 1 to 9
+abbrev pub is_from_one : ℕ → Bool
+is_from_one digit = nat_le 49 digit && nat_le digit 57
+
+unfoldable pub handle_of : Octets → Option Handle
+handle_of word =
+    if is_from_one (slice_index word 0) && (all_ascii_digits word && nat_lt (digits_value 10 word) 65536)
+    then Some (digits_value 10 word) else None
+
+-- bits are a digit, and some are set
+unfoldable pub bits_of : Octets → Option ℕ
+bits_of word =
+    if bytes_eq word (codes "1") then Some 1
+    else if bytes_eq word (codes "2") then Some 2
+    else if bytes_eq word (codes "3") then Some 3
+    else None
+
+-- behind two words: `! kind address` has one more, and `kind address handle value` two
+abbrev pub line_behind : Octets → Octets → Octets → Option (Octets × Octets) → Option Line
+line_behind mark kind address None =
+    if bytes_eq mark (codes "!") then option_map Owed (peer_of kind address) else None
+line_behind kind address rest (Some last) = do
+  peer ← peer_of kind address
+  handle ← handle_of last.0
+  bits ← bits_of last.1
+  Some (Entry (record { peer = peer; handle = handle; bits = bits }))
+
+-- what a line says, if it is one of these
+unfoldable pub line_of : Octets → Option Line
+line_of line = do
+  first ← parts_of line
+  second ← parts_of first.1
+  line_behind first.0 second.0 second.1 (parts_of second.1)

@@ -1,0 +1,61 @@
+-- What a rows file says: this profile's own.
+use Rattle.std.specs.Prelude.{◌≡◌, ℕ, ◌+◌, ◌==◌, Bool, not, nat_lt, List, [], ◌∷◌, length, Result, Ok}
+use Rattle.std.specs.List.{list_any, slice_split}
+use Rattle.octets.specs.Number.{Octets}
+use Rattle.toml_tables.specs.Reading.{◌>>=◌, unless, require}
+use Rattle.att_numbers.specs.Types.{Handle}
+use Rattle.le_hci.specs.declared.peer.Peer.{Peer}
+use Rattle.le_security.specs.Entry.{same_peer}
+use Rattle.gatt_subs.specs.declared.row_entry.RowEntry.{RowEntry}
+use Rattle.gatt_subs.specs.declared.rows_fault.RowsFault.{RowsFault}
+use Rattle.gatt_subs.specs.declared.rows_fault.RowsFault.TheVariants.{BadLine, Twice, TooMany}
+use Rattle.gatt_subs.specs.declared.rows_line.Line.{Line}
+use Rattle.gatt_subs.specs.declared.rows_line.Line.TheVariants.{Entry, Owed}
+use Rattle.gatt_subs.specs.declared.unfitted.TheConstants.{MAX_ENTRIES, MAX_OWED}
+use Rattle.gatt_subs.specs.InOrder.{in_order}
+use Rattle.gatt_subs.specs.RowEntry.{is_at, order_of, rank_of}
+use Rattle.gatt_subs.specs.RowsLine.{line_of}
+
+-- what peers have configured, and which peers are owed an indication of a changed table, both in the order of a rows file
+pub record Written : Type 0 where
+  pub entries : List RowEntry
+  pub owed : List Peer
+
+abbrev pub nothing_written : Written
+nothing_written = record { entries = []; owed = [] }
+
+abbrev pub has_entry : List RowEntry → Peer → Handle → Bool
+has_entry entries peer handle = list_any (is_at peer handle) entries
+
+abbrev pub has_peer : List Peer → Peer → Bool
+has_peer peers peer = list_any (λ other. same_peer other peer) peers
+
+-- what one line adds to the lines before it
+abbrev pub with_said : ℕ → Written → Line → Result Written RowsFault
+with_said number written (Entry entry) = do
+  _ ← unless (not (has_entry written.entries entry.peer entry.handle)) (Twice number)
+  _ ← unless (nat_lt (length written.entries) MAX_ENTRIES) TooMany
+  Ok (record written { entries = in_order order_of entry written.entries })
+with_said number written (Owed peer) = do
+  _ ← unless (not (has_peer written.owed peer)) (Twice number)
+  _ ← unless (nat_lt (length written.owed) MAX_OWED) TooMany
+  Ok (record written { owed = in_order rank_of peer written.owed })
+
+-- a blank line adds nothing
+abbrev pub with_line : ℕ → Written → Octets → Result Written RowsFault
+with_line number written [] = Ok written
+with_line number written (octet ∷ octets) = do
+  said ← require (line_of (octet ∷ octets)) (BadLine number)
+  with_said number written said
+
+-- lines that are counted from a number, behind others
+abbrev pub with_lines : ℕ → Written → List Octets → Result Written RowsFault
+with_lines number written [] = Ok written
+with_lines number written (line ∷ lines) = with_line number written line >>= (λ next. with_lines (number + 1) next lines)
+
+-- a text, whose lines end with line feeds: what stands behind the last one is a line too, which may be blank
+abbrev pub lines_of : Octets → List Octets
+lines_of text = slice_split (λ octet. octet == 10) text
+
+unfoldable pub rows_read : Octets → Result Written RowsFault
+rows_read text = with_lines 1 nothing_written (lines_of text)

@@ -1,0 +1,41 @@
+ghost use Rattle.std.specs.Prelude.{◌≡◌, ◌+◌, ◌*◌, ◌^◌, ◌<◌};
+ghost use Rattle.gatt_subs.specs.RowEntry.{rank_of, order_of, is_at};
+
+use le_hci::Peer;
+
+/// What a peer has configured at a handle.
+#[derive(Clone, Copy, Debug, PartialEq, Eq)]
+pub struct RowEntry {
+    pub peer: Peer,
+    /// The handle of a client characteristic configuration.
+    pub handle: u16,
+    /// The bits: 1 for notifications, 2 for indications.
+    pub bits: u8,
+}
+
+impl RowEntry {
+    /// Whether this is what a peer has configured at a handle.
+    pub fn is_at(&self, peer: &Peer, handle: u16) -> bool
+        ensures { result ≡ is_at peer.now handle self.now }
+    {
+        self.peer == *peer && self.handle == handle
+    }
+
+    /// The place of the entry in the order of a rows file: peers by `rank`, and then handles.
+    pub fn order(&self) -> u128
+        ensures { result ≡ order_of self.now }
+    {
+        let RowEntry { peer, handle, .. } = *self;
+        u128::from(rank(&peer)) * 65_536 + u128::from(handle)
+    }
+}
+
+/// The place of a peer in the order of a rows file: the number whose octets are its address, and
+/// above them the type of it.
+#[tactic(auto, unfolding(crate::specs::RowEntry::rank_of))]
+pub fn rank(peer: &Peer) -> u64
+    ensures { result ≡ rank_of peer.now }
+{
+    let [a, b, c, d, e, f] = peer.address;
+    u64::from_le_bytes([a, b, c, d, e, f, peer.kind, 0])
+}

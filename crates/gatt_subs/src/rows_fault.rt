@@ -1,0 +1,40 @@
+ghost use Rattle.std.specs.Prelude.{◌≡◌};
+ghost use Rattle.gatt_subs.specs.declared.rows_fault.RowsFault.TheVariants.{OutOfMemory};
+ghost use Rattle.gatt_subs.specs.RowsFault.{number_of};
+
+use std::alloc::AllocError;
+
+/// Why a rows file is refused: its first line with a fault. Lines count from 1, blank ones too.
+#[derive(Clone, Copy, Debug, PartialEq, Eq)]
+pub enum RowsFault {
+    /// The line of this number says nothing that a rows file may say.
+    BadLine(u64),
+    /// The line of this number repeats what an earlier one is of.
+    Twice(u64),
+    /// There are more than 4,096 configurations, or more than 64 peers that are owed.
+    TooMany,
+    /// Memory was refused.
+    OutOfMemory,
+}
+
+impl RowsFault {
+    /// The number by which the fault is told, from 1.
+    pub fn number(self) -> u8
+        ensures { result ≡ number_of self }
+    {
+        match self {
+            RowsFault::BadLine(_) => 1,
+            RowsFault::Twice(_) => 2,
+            RowsFault::TooMany => 3,
+            RowsFault::OutOfMemory => 4,
+        }
+    }
+}
+
+impl From<AllocError> for RowsFault {
+    ghost from_gives = { λ _ fault. fault ≡ OutOfMemory };
+
+    fn from(_: AllocError) -> Self {
+        RowsFault::OutOfMemory
+    }
+}

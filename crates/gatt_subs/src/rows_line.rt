@@ -1,0 +1,93 @@
+//! The lines of a rows file.
+
+ghost use Rattle.std.specs.Prelude.{◌≡◌, None};
+ghost use Rattle.std.specs.Option.{option_map};
+ghost use Rattle.gatt_subs.specs.RowsLine.{parts_view, parts_of, line_behind, line_of, peer_of, kind_of, handle_of, bits_of};
+
+use crate::row_entry::RowEntry;
+use le_hci::{PUBLIC_ADDRESS, Peer, RANDOM_ADDRESS};
+use le_security::read_address;
+
+/// What a line says.
+#[derive(Clone, Copy, Debug, PartialEq, Eq)]
+pub enum Line {
+    /// What a peer has configured.
+    Entry(RowEntry),
+    /// A peer is owed an indication of a changed table.
+    Owed(Peer),
+}
+
+/// What a line says, if it is `kind address handle value` or `! kind address`.
+#[tactic(auto, unfolding(crate::specs::RowsLine::line_of))]
+pub fn read_line(line: &str) -> Option<Line>
+    ensures { result ≡ line_of line.now }
+{
+    let (first, rest) = parts(line)?;
+    let (second, rest) = parts(rest)?;
+    let Some((handle, value)) = parts(rest) else {
+        return read_owed(first, second, rest);
+    };
+    Some(Line::Entry(RowEntry {
+        peer: read_peer(first, second)?,
+        handle: read_handle(handle)?,
+        bits: read_bits(value)?,
+    }))
+}
+
+/// What stands before the first space of a text, and behind it.
+#[tactic(auto, unfolding(crate::specs::RowsLine::parts_of))]
+fn parts(text: &str) -> Option<(&str, &str)>
+    ensures { option_map parts_view result ≡ parts_of text.now }
+{
+    text.split_once(' ')
+}
+
+/// The peer that is owed, behind the mark.
+fn read_owed(mark: &str, kind: &str, address: &str) -> Option<Line>
+    ensures { result ≡ line_behind mark.now kind.now address.now None }
+{
+    if mark != "!" {
+        return None;
+    }
+    Some(Line::Owed(read_peer(kind, address)?))
+}
+
+/// The peer of a type of address and an address.
+#[tactic(auto, unfolding(crate::specs::RowsLine::peer_of))]
+fn read_peer(kind: &str, address: &str) -> Option<Peer>
+    ensures { result ≡ peer_of kind.now address.now }
+{
+    let kind = match kind {
+        "0" => PUBLIC_ADDRESS,
+        "1" => RANDOM_ADDRESS,
+        _ => return None,
+    };
+    Some(Peer {
+        kind,
+        address: read_address(address.as_bytes())?,
+    })
+}
+
+/// The handle that decimal digits write, without leading zeros.
+#[tactic(auto, unfolding(crate::specs::RowsLine::handle_of))]
+fn read_handle(word: &str) -> Option<u16>
+    ensures { result ≡ handle_of word.now }
+{
+    match word.as_bytes() {
+        [b'1'..=b'9', ..] => word.parse::<u16>().ok(),
+        _ => None,
+    }
+}
+
+/// The bits that a digit writes: some are set.
+#[tactic(auto, unfolding(crate::specs::RowsLine::bits_of))]
+fn read_bits(word: &str) -> Option<u8>
+    ensures { result ≡ bits_of word.now }
+{
+    match word {
+        "1" => Some(1),
+        "2" => Some(2),
+        "3" => Some(3),
+        _ => None,
+    }
+}

@@ -1,0 +1,157 @@
+//! The rows file: lines that say what peers have configured, and which are owed.
+
+ghost use Rattle.std.specs.Prelude.{◌≡◌, ◌+◌, ◌<◌, ◌≤◌, [], ◌∷◌, length, nat_lt, Ok, OnOk, OnErr, IfSome, IfNone};
+ghost use Rattle.std.specs.List.{position};
+ghost use Rattle.octets.specs.Memory.{Gives, Leaves};
+ghost use Rattle.gatt_subs.specs.declared.rows_fault.RowsFault.TheVariants.{OutOfMemory};
+ghost use Rattle.gatt_subs.specs.InOrder.{in_order};
+ghost use Rattle.gatt_subs.specs.RowEntry.{order_of, rank_of};
+ghost use Rattle.gatt_subs.specs.Unfitted.{has_entry, has_peer, nothing_written, lines_of, with_line, with_said, rows_read};
+
+use crate::row_entry::{RowEntry, rank};
+use crate::rows_fault::RowsFault;
+use crate::rows_line::{Line, read_line};
+use le_hci::Peer;
+use std::alloc::{AllocError, Global};
+use std::marker::Model;
+
+/// The most configurations that a rows file may have.
+const MAX_ENTRIES: usize = 4096;
+/// The most peers that a rows file may say are owed.
+const MAX_OWED: usize = 64;
+
+/// What a rows file says, before it is fitted to keys and a table.
+#[derive(Drop)]
+pub struct Unfitted {
+    /// In the order of a rows file, as the peers.
+    entries: Vec<RowEntry>,
+    owed: Vec<Peer>,
+}
+
+impl Model for Unfitted {
+    ghost use Rattle.gatt_subs.specs.Unfitted.{Written};
+
+    ghost Value = { Written };
+
+    ghost view = { λ unfitted. record { entries = unfitted.entries.items; owed = unfitted.owed.items } };
+}
+
+impl Unfitted {
+    /// Reads a rows file, and gives what it says or its first fault. Memory may be refused at any
+    /// point.
+    #[tactic(auto, unfolding(crate::specs::Unfitted::rows_read))]
+    pub fn read(alloc: Global, text: &str) -> Result<Unfitted, RowsFault>
+        ensures { Gives OutOfMemory (rows_read text.now) result }
+    {
+        let mut unfitted = Unfitted {
+            entries: Vec::new(alloc),
+            owed: Vec::new(alloc),
+        };
+        let mut rest = text;
+        let mut number = 1;
+        while let Some((line, behind)) = first_line(rest) {
+            unfitted.take_line(number, line)?;
+            rest = behind;
+            number += 1;
+        }
+        unfitted.take_line(number, rest)?;
+        Ok(unfitted)
+    }
+
+    /// Takes in the line of a number.
+    fn take_line(&mut self, number: u64, line: &str) -> Result<(), RowsFault>
+        ensures { Leaves OutOfMemory (with_line number self.old line.now) result self.new }
+    {
+        if line.is_empty() {
+            return Ok(());
+        }
+        let said = read_line(line).ok_or(RowsFault::BadLine(number))?;
+        self.take(number, said)
+    }
+
+    /// Takes in what the line of a number says.
+    fn take(&mut self, number: u64, said: Line) -> Result<(), RowsFault>
+        ensures { Leaves OutOfMemory (with_said number self.old said) result self.new }
+    {
+        match said {
+            Line::Entry(entry) => {
+                if has_entry(&self.entries, &entry.peer, entry.handle) {
+                    return Err(RowsFault::Twice(number));
+                }
+                if self.entries.len() >= MAX_ENTRIES {
+                    return Err(RowsFault::TooMany);
+                }
+                insert_entry(&mut self.entries, entry)?;
+            }
+            Line::Owed(peer) => {
+                if has_peer(&self.owed, &peer) {
+                    return Err(RowsFault::Twice(number));
+                }
+                if self.owed.len() >= MAX_OWED {
+                    return Err(RowsFault::TooMany);
+                }
+                insert_peer(&mut self.owed, peer)?;
+            }
+        }
+        Ok(())
+    }
+}
+
+/// The first line of a text that has another one, and what stands behind its line feed.
+fn first_line(text: &str) -> Option<(&str, &str)>
+    ensures first { IfSome result (λ parts. lines_of text.now ≡ parts.0.now ∷ lines_of parts.1.now) }
+    ensures only { IfNone result (lines_of text.now ≡ text.now ∷ []) }
+    ensures shorter { IfSome result (λ parts. length parts.1.now < length text.now) }
+{
+    text.split_once('\n')
+}
+
+/// Whether one of the entries is what a peer has configured at a handle.
+fn has_entry(entries: &[RowEntry], peer: &Peer, handle: u16) -> bool
+    ensures { result ≡ has_entry entries.now peer.now handle }
+{
+    entries.iter().any(|entry| entry.is_at(peer, handle))
+}
+
+/// Whether a peer is one of these.
+pub fn has_peer(peers: &[Peer], peer: &Peer) -> bool
+    ensures { result ≡ has_peer peers.now peer.now }
+{
+    peers.iter().any(|other| *other == *peer)
+}
+
+/// Puts an entry in its place in the order of a rows file.
+#[tactic(auto, using(crate::proofs::InOrder::inserts))]
+fn insert_entry(entries: &mut Vec<RowEntry>, entry: RowEntry) -> Result<(), AllocError>
+    ensures ok { OnOk result (entries.new.items ≡ in_order order_of entry entries.old.items) }
+    ensures err { OnErr result (entries.new.items ≡ entries.old.items) }
+{
+    let place = first_entry_behind(entries, entry.order()).unwrap_or(entries.len());
+    entries.insert(place, entry)?;
+    Ok(())
+}
+
+/// Where the first entry is that comes behind this place in the order.
+fn first_entry_behind(entries: &[RowEntry], order: u128) -> Option<usize>
+    ensures { result ≡ position (λ other. nat_lt order (order_of other)) entries.now }
+{
+    entries.iter().position(|other| order < other.order())
+}
+
+/// Puts a peer in its place in the order of a rows file.
+#[tactic(auto, using(crate::proofs::InOrder::inserts))]
+fn insert_peer(peers: &mut Vec<Peer>, peer: Peer) -> Result<(), AllocError>
+    ensures ok { OnOk result (peers.new.items ≡ in_order rank_of peer peers.old.items) }
+    ensures err { OnErr result (peers.new.items ≡ peers.old.items) }
+{
+    let place = first_peer_behind(peers, rank(&peer)).unwrap_or(peers.len());
+    peers.insert(place, peer)?;
+    Ok(())
+}
+
+/// Where the first peer is that comes behind this rank.
+pub fn first_peer_behind(peers: &[Peer], order: u64) -> Option<usize>
+    ensures { result ≡ position (λ other. nat_lt order (rank_of other)) peers.now }
+{
+    peers.iter().position(|other| order < rank(other))
+}
