@@ -1,7 +1,7 @@
-ghost use Rattle.std.specs.Prelude.{◌≡◌, ◌≢◌, ℕ, ◌-◌, ◌<◌, ◌≤◌, ◌==◌, true, List, [], position, IsTrue};
+ghost use Rattle.std.specs.Prelude.{◌≡◌, ◌≢◌, ℕ, ◌-◌, ◌<◌, ◌≤◌, ◌==◌, true, All, List, [], length, position, IsTrue};
 ghost use Rattle.std.specs.Bool.{OnTrue, OnFalse};
 ghost use Rattle.att_table.specs.declared.attr.Attr.{Attr};
-ghost use Rattle.att_table.specs.ConfigRow.{bits_at, with_bits, has_entry, has_its_meaning, has_room, kept_row, HasOneEntryEach, IsRowOf};
+ghost use Rattle.att_table.specs.ConfigRow.{bits_at, with_bits, has_entry, has_its_meaning, has_room, kept_row, HasOneEntryEach, IsEntry, IsRowOf};
 ghost use Rattle.att_table.specs.Table.{is_configuration_at, type_at};
 
 use crate::attr::Role;
@@ -45,6 +45,15 @@ impl ConfigRow {
         ensures known { result ≤ 3 }
     {
         bits_in(&self.entries, handle)
+    }
+
+    /// The entries, in the order in which their handles were set first: at most 64.
+    pub fn entries(&self) -> &[(u16, u8)]
+        ensures entries { result.now ≡ self.now }
+        ensures most { length self.now ≤ 64 }
+        ensures known { All IsEntry self.now }
+    {
+        &self.entries
     }
 
     /// Whether the bits at a handle can be set: its entry is there, or there is room for it.

@@ -1,3 +1,5 @@
+pub mod Bonds
+pub mod Entries
 pub mod Heard
 pub mod InOrder
 pub mod Lines

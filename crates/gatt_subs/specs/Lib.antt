@@ -7,3 +7,5 @@ pub mod RowsFault
 pub mod RowsLine
 pub mod Told
 pub mod Unfitted
+pub mod Rows
+pub mod RowsLends

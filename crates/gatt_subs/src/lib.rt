@@ -2,11 +2,14 @@
 //! waits.
 #![tactic(auto)]
 
+mod bond;
 mod pending;
 mod row_entry;
+mod rows;
 mod rows_fault;
 mod rows_line;
 mod unfitted;
 
 pub use pending::Pending;
+pub use rows::Rows;
 pub use rows_fault::RowsFault;

@@ -58,6 +58,20 @@ impl Unfitted {
         Ok(unfitted)
     }
 
+    /// What was read, in the order of a rows file.
+    pub fn entries(&self) -> &[RowEntry]
+        ensures { result.now ≡ self.now.entries }
+    {
+        &self.entries
+    }
+
+    /// The peers that are owed, in the order of a rows file.
+    pub fn owed(&self) -> &[Peer]
+        ensures { result.now ≡ self.now.owed }
+    {
+        &self.owed
+    }
+
     /// Takes in the line of a number.
     fn take_line(&mut self, number: u64, line: &str) -> Result<(), RowsFault>
         ensures { Leaves OutOfMemory (with_line number self.old line.now) result self.new }

@@ -1,0 +1,154 @@
+//! What the peers that have keys have configured.
+
+ghost use Rattle.std.specs.Prelude.{◌≡◌, ◌<◌, ◌≤◌, length, slice_get, Some, IsTrue, IsNone, IfSome};
+ghost use Rattle.std.specs.Borrow.{sem};
+ghost use Rattle.std.specs.List.{find};
+ghost use Rattle.std.specs.Option.{option_copied};
+ghost use Rattle.octets.specs.Memory.{Gives};
+ghost use Rattle.att_table.specs.ConfigRow.{bits_at, has_room, HasOneEntryEach};
+ghost use Rattle.gatt_subs.specs.declared.rows_fault.RowsFault.TheVariants.{OutOfMemory};
+ghost use Rattle.gatt_subs.specs.RowEntry.{is_at};
+ghost use Rattle.gatt_subs.specs.Rows.{place_of, bond_of, row_of, row_in, row_read, owes, bonds_with, with_set, with_owed, subscriptions_read, ChangesBond};
+
+use crate::bond::Bond;
+use crate::row_entry::RowEntry;
+use crate::rows_fault::RowsFault;
+use crate::unfitted::{Unfitted, has_peer};
+use att_table::ConfigRow;
+use le_hci::Peer;
+use std::alloc::Global;
+use std::marker::Model;
+
+/// What each peer that has a key has configured, and whether it is owed an indication of a changed
+/// table: at most 64 peers. What was read of a rows file is shown until it is fitted, and no peer
+/// has a row before that.
+#[derive(Drop)]
+pub struct Rows {
+    /// In the order of a rows file.
+    peers: Vec<Peer>,
+    /// The bond of each of the peers.
+    bonds: Vec<Bond>,
+    unfitted: Unfitted,
+}
+
+impl Model for Rows {
+    ghost use Rattle.std.specs.Prelude.{◌≡◌, length};
+    ghost use Rattle.gatt_subs.specs.Rows.{Subscriptions};
+
+    ghost Value = { Subscriptions };
+
+    ghost view = { λ rows. record { peers = rows.peers.items; bonds = rows.bonds.items; unfitted = rows.unfitted } };
+
+    ghost invariant = { λ rows. length rows.bonds.items ≡ length rows.peers.items };
+}
+
+impl Rows {
+    ghost use Rattle.gatt_subs.specs.RowsLends.{LendsRow};
+
+    /// Reads a rows file, and gives what it says or its first fault. Memory may be refused at any
+    /// point.
+    pub fn read(alloc: Global, text: &str) -> Result<Rows, RowsFault>
+        ensures { Gives OutOfMemory (subscriptions_read text.now) result }
+    {
+        Ok(Rows {
+            peers: Vec::new(alloc),
+            bonds: Vec::new(alloc),
+            unfitted: Unfitted::read(alloc, text)?,
+        })
+    }
+
+    /// What a peer has configured at a handle: 0 where it has configured nothing.
+    pub fn get(&self, peer: &Peer, handle: u16) -> u8
+        ensures { result ≡ bits_at (row_read self.now peer.now) handle }
+    {
+        match place_of(&self.peers, peer) {
+            Some(place) => self.bonds[place].row.get(handle),
+            None => bits_in(self.unfitted.entries(), peer, handle),
+        }
+    }
+
+    /// Whether a peer is owed an indication of a changed table.
+    pub fn owed(&self, peer: &Peer) -> bool
+        ensures { result ≡ owes self.now peer.now }
+    {
+        match place_of(&self.peers, peer) {
+            Some(place) => self.bonds[place].owed,
+            None => has_peer(self.unfitted.owed(), peer),
+        }
+    }
+
+    /// Lends the row of a peer, if it has one.
+    pub fn of(&mut self, peer: &Peer) -> Option<&mut ConfigRow>
+        ensures* writes_back { sem 𝓛 (LendsRow self.entry peer.now result) }
+        ensures row { IfSome result (λ row. row_of self.old peer.now ≡ Some row.now) }
+        ensures none { IsNone result → IsNone (row_of self.old peer.now) }
+    {
+        let place = place_of(&self.peers, peer)?;
+        Some(&mut self.bonds[place].row)
+    }
+
+    /// Sets what a peer has configured at a handle, if the peer has a row: then there is an entry of
+    /// the handle in it, or room for one.
+    pub fn set(&mut self, peer: &Peer, handle: u16, bits: u8)
+        requires handle { 0 < handle }
+        requires bits { bits ≤ 3 }
+        requires room { IfSome (row_of self.old peer.now) (λ row. HasOneEntryEach row → IsTrue (has_room row handle)) }
+        ensures { ChangesBond (with_set handle bits) peer.now self.old self.new }
+    {
+        if let Some(place) = place_of(&self.peers, peer) {
+            set_bits(&mut self.bonds, place, handle, bits);
+        }
+    }
+
+    /// Sets whether a peer is owed an indication of a changed table, if it has a row.
+    pub fn owe(&mut self, peer: &Peer, owed: bool)
+        ensures { ChangesBond (with_owed owed) peer.now self.old self.new }
+    {
+        if let Some(place) = place_of(&self.peers, peer) {
+            set_owed(&mut self.bonds, place, owed);
+        }
+    }
+}
+
+/// Where a peer is among others.
+fn place_of(peers: &[Peer], peer: &Peer) -> Option<usize>
+    ensures { result ≡ place_of peers.now peer.now }
+{
+    peers.iter().position(|other| *other == *peer)
+}
+
+/// What was read of a peer at a handle: 0 where nothing was.
+fn bits_in(entries: &[RowEntry], peer: &Peer, handle: u16) -> u8
+    ensures { result ≡ bits_at (row_in entries.now peer.now) handle }
+{
+    match find_entry(entries, peer, handle) {
+        Some(entry) => entry.bits,
+        None => 0,
+    }
+}
+
+/// What was read of a peer at a handle, if anything was.
+fn find_entry<'a>(entries: &'a [RowEntry], peer: &Peer, handle: u16) -> Option<&'a RowEntry>
+    ensures { option_copied result ≡ find (is_at peer.now handle) entries.now }
+{
+    entries.iter().find(|entry| entry.is_at(peer, handle))
+}
+
+/// Sets bits in the row of the bond at a place.
+fn set_bits(bonds: &mut Vec<Bond>, place: usize, handle: u16, bits: u8)
+    requires place { place < length bonds.old.items }
+    requires handle { 0 < handle }
+    requires bits { bits ≤ 3 }
+    requires room { IfSome (slice_get bonds.old.items place) (λ bond. HasOneEntryEach bond.row → IsTrue (has_room bond.row handle)) }
+    ensures { bonds.new.items ≡ bonds_with bonds.old.items place (with_set handle bits) }
+{
+    bonds[place].row.set(handle, bits);
+}
+
+/// Sets whether the peer of the bond at a place is owed.
+fn set_owed(bonds: &mut Vec<Bond>, place: usize, owed: bool)
+    requires { place < length bonds.old.items }
+    ensures { bonds.new.items ≡ bonds_with bonds.old.items place (with_owed owed) }
+{
+    bonds[place].owed = owed;
+}
