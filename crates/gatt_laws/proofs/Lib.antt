@@ -1,0 +1,5 @@
+pub mod Courses
+pub mod Headline
+pub mod Silence
+pub mod Streams
+pub mod examples

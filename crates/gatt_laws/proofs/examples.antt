@@ -1,0 +1,9 @@
+pub mod Authorizations
+pub mod Frames
+pub mod Initialisation
+pub mod Links
+pub mod Replacements
+pub mod Runs
+pub mod Shares
+pub mod Subscriptions
+pub mod Tables

@@ -1,0 +1,37 @@
+-- A controller is initialised, and a connection comes: each octet of it.
+use Rattle.std.specs.Prelude.{◌≡◌, refl, [], ◌∷◌, ◌++◌, replicate, Some}
+use Rattle.gatt_laws.proofs.examples.Runs.{host, stream, initialised, connected, enable, sent_to}
+use Rattle.gatt_laws.proofs.examples.Tables.{door, phone}
+use Rattle.gatt_laws.specs.Controller.{commands_due}
+use Rattle.gatt_laws.specs.Input.{course, after_item}
+use Rattle.gatt_laws.specs.Packets.{packet_event, Desync}
+use Rattle.gatt_laws.specs.State.{step, change_of, out}
+use Rattle.gatt_laws.specs.Turn.{live_turn}
+use Rattle.gatt_laws.specs.Heard.{after_hearing}
+
+-- nothing is received yet, and Reset is sent
+opening : (course (host door 2) []).gone ≡ (0x01 ∷ 0x03 ∷ 0x0C ∷ 0x00 ∷ []) ∷ []
+unfolding course commands_due
+opening = refl
+
+initialisation : (course (host door 2) (stream (initialised 4))).gone ≡
+    (0x01 ∷ 0x03 ∷ 0x0C ∷ 0x00 ∷ [])
+    ∷ (0x01 ∷ 0x01 ∷ 0x0C ∷ 0x08 ∷ 0xFF ∷ 0xFF ∷ 0xFF ∷ 0xFF ∷ 0xFF ∷ 0x9F ∷ 0x00 ∷ 0x20 ∷ [])
+    ∷ (0x01 ∷ 0x01 ∷ 0x20 ∷ 0x08 ∷ 0x1F ∷ replicate 7 0x00)
+    ∷ (0x01 ∷ 0x02 ∷ 0x20 ∷ 0x00 ∷ [])
+    ∷ (0x01 ∷ 0x06 ∷ 0x20 ∷ 0x0F ∷ 0xA0 ∷ 0x00 ∷ 0xA0 ∷ 0x00 ∷ 0x00 ∷ 0x00 ∷ 0x00 ∷ replicate 6 0x00 ++ 0x07 ∷ 0x00 ∷ [])
+    ∷ (0x01 ∷ 0x08 ∷ 0x20 ∷ 0x20 ∷ 0x03 ∷ 0x02 ∷ 0x01 ∷ 0x06 ∷ replicate 28 0x00)
+    ∷ (0x01 ∷ 0x0A ∷ 0x20 ∷ 0x01 ∷ 0x01 ∷ [])
+    ∷ []
+unfolding course after_item packet_event step change_of commands_due out
+initialisation = refl
+
+-- a connection comes, and advertising is enabled for the second slot
+connection : sent_to door 2 4 phone [] ≡ enable ∷ []
+unfolding course after_item packet_event step change_of live_turn after_hearing commands_due out
+connection = refl
+
+-- an octet that begins no packet stops the host for good
+desync : (course (host door 2) (stream (initialised 4 ++ 0x07 ∷ connected phone))).intake.fault ≡ Some (Desync 0x07)
+unfolding course after_item packet_event step change_of live_turn after_hearing commands_due out
+desync = refl

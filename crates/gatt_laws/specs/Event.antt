@@ -1,0 +1,35 @@
+-- What happens to the host, one whole packet or one call at a time.
+use Rattle.std.specs.Prelude.{ℕ, List, Option}
+use Rattle.att_numbers.specs.Types.{Handle}
+use Rattle.att_table.specs.Table.{Contents}
+use Rattle.le_hci.specs.declared.init.Init.{Init}
+use Rattle.le_hci.specs.declared.peer.Peer.{Peer}
+use Rattle.octets.specs.Number.{Octets}
+
+-- a connection by its place in the order of those that were accepted, which no other ever has
+abbrev pub Ordinal : Type 0
+Ordinal = ℕ
+
+-- what happens to one connection: it comes, and goes; its key is asked for, its link is encrypted, or its key refreshed;
+-- a PDU of the Attribute Protocol or of another channel comes from it; or the application authorizes it up to a moment
+pub data Own : Type 0 where
+  Connected : (handle : ℕ) (peer : Peer) → Own
+  Gone : Own
+  KeyAsked : (random_number : Octets) (diversifier : ℕ) → Own
+  Encrypted : (status enabled : ℕ) → Own
+  Refreshed : (status : ℕ) → Own
+  Asks : (pdu : Octets) → Own
+  Signals : (channel : ℕ) (payload : Octets) → Own
+  Authorized : (until : ℕ) → Own
+
+-- what happens: to one connection; packets of connections are completed; a command is answered, with the commands that
+-- the controller takes now, with the status if there is one, and with the state of initialisation that follows where it
+-- was awaited; the application writes a value, tells the time, or replaces the table; or nothing that counts
+pub data Event : Type 0 where
+  Of : (ordinal : Ordinal) (own : Own) → Event
+  Completed : (entries : List (Ordinal × ℕ)) → Event
+  Credit : (allowed opcode : ℕ) (status : Option ℕ) (following : Option Init) → Event
+  Update : (handle : Handle) (value : Octets) → Event
+  Tick : (time : ℕ) → Event
+  Replaced : (table : Contents) → Event
+  Nothing : Event

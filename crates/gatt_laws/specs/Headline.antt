@@ -1,0 +1,58 @@
+-- What an answer promises, in the words of the policy: what it sends may be read, what it writes may be written, and a
+-- refusal changes nothing.
+use Rattle.std.specs.Prelude.{◌≡◌, IfSome, if◌then◌else◌, List, [], ◌∷◌, map, Some}
+use Rattle.att_numbers.specs.Types.{Handle, Opcode, Code, Row}
+use Rattle.att_pdu.specs.Request.{Asked, ReadRequest, ReadBlobRequest, ReadMultipleRequest}
+use Rattle.att_pdu.specs.Response.{Element, OfAttribute, OfGroup, Response, ErrorResponse, FindByTypeValueResponse, ReadByTypeResponse, ReadResponse, ReadBlobResponse, ReadMultipleResponse, ReadByGroupTypeResponse}
+use Rattle.att_policy.specs.declared.policy.Access.{Access}
+use Rattle.att_policy.specs.declared.policy.Access.TheVariants.{Read}
+use Rattle.att_policy.specs.declared.standing.Standing.{Standing}
+use Rattle.att_policy.specs.Policy.{IsPermitted}
+use Rattle.att_table.specs.declared.attr.Attr.{Attr}
+use Rattle.att_table.specs.Table.{Contents, guard_at}
+use Rattle.att_writes.specs.Applied.{stored_in}
+use Rattle.gatt_conn.specs.Answer.{Question, response_to, answer_to, writing_asked, stored_by, handles_by, conn_after}
+use Rattle.gatt_conn.specs.Connection.{Connection}
+use Rattle.gatt_conn.specs.Transcript.{asks_execution}
+
+-- each of some handles is so
+abbrev pub Each : (Handle → Type 0) → List Handle → Type 0
+Each P [] = Unit
+Each P (handle ∷ handles) = P handle × Each P handles
+
+-- no rule of the policy is broken at a handle
+abbrev pub MayUse : Access → List Attr → Standing → Handle → Type 0
+MayUse access attributes standing handle = IsPermitted access (guard_at attributes handle) standing
+
+-- the handles whose values a response sends, or tells to be equal to one that the client named
+abbrev pub handle_in : Element → Handle
+handle_in (OfAttribute handle octets) = handle
+handle_in (OfGroup first last value) = first
+
+abbrev pub handles_sent : Asked → Response → List Handle
+handles_sent (ReadRequest handle) (ReadResponse value) = handle ∷ []
+handles_sent (ReadBlobRequest handle offset) (ReadBlobResponse part) = handle ∷ []
+handles_sent (ReadMultipleRequest handles) (ReadMultipleResponse values) = handles
+handles_sent asked (FindByTypeValueResponse groups) = map handle_in groups
+handles_sent asked (ReadByTypeResponse size values) = map handle_in values
+handles_sent asked (ReadByGroupTypeResponse size groups) = map handle_in groups
+handles_sent asked response = []
+
+-- each value that is sent is one that the client may then read
+abbrev pub SendsWhatMayBeRead : Type 0
+SendsWhatMayBeRead = (table : Contents) (row : Row) (conn : Connection) (asked : Asked) →
+    IfSome (response_to table row conn asked)
+    (λ response. Each (MayUse Read table.attributes conn.standing) (handles_sent asked response))
+
+-- each handle that is written is one that the client may then write, in the way in which it asks to
+abbrev pub WritesWhatMayBeWritten : Type 0
+WritesWhatMayBeWritten = (table : Contents) (row : Row) (conn : Connection) (asked : Question) →
+    IfSome (writing_asked conn.queue asked)
+    (λ writing. Each (MayUse writing.access table.attributes conn.standing) (handles_by table row conn asked))
+
+-- a refusal changes no value, no configuration and no ATT_MTU, and of what is prepared only an execution leaves nothing
+abbrev pub RefusalsChangeNothing : Type 0
+RefusalsChangeNothing = (table : Contents) (row : Row) (conn : Connection) (asked : Question) (request : Opcode) (handle : Handle) (code : Code) →
+    answer_to table row conn asked ≡ Some (ErrorResponse request handle code) →
+    (stored_by table row conn asked ≡ stored_in table row)
+    × (conn_after table.attributes conn asked ≡ (if asks_execution asked then record conn { queue = [] } else conn))

@@ -1,0 +1,14 @@
+pub mod Calls
+pub mod Controller
+pub mod Event
+pub mod Headline
+pub mod Heard
+pub mod Input
+pub mod Laws
+pub mod Packets
+pub mod Part
+pub mod Room
+pub mod Silence
+pub mod Start
+pub mod State
+pub mod Turn

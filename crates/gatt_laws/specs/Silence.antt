@@ -1,0 +1,22 @@
+-- What holds of each connection at the end of each event.
+use Rattle.std.specs.Prelude.{◌≡◌, true, false, List}
+use Rattle.att_numbers.specs.Types.{Handle}
+use Rattle.gatt_laws.specs.Event.{Ordinal, Event}
+use Rattle.gatt_laws.specs.Part.{Part, is_live}
+use Rattle.gatt_laws.specs.Room.{Room, Bonds, share_of, size_of}
+use Rattle.gatt_laws.specs.State.{State, finished, step}
+use Rattle.le_acl.specs.History.{packets_allowed}
+
+-- nothing is queued and nothing given where a connection is not there, or is ending
+abbrev pub OnlyServesTheLive : Type 0
+OnlyServesTheLive = (room : Room) (bonds : Bonds) (handles : List Handle) (part : Part) →
+    is_live part.mark ≡ false → finished room bonds handles part ≡ part
+
+-- a connection that serves was given all that it may be given
+abbrev pub IsAllGiven : Room → Part → Type 0
+IsAllGiven room part =
+    is_live part.mark ≡ true → part.given ≡ packets_allowed (share_of room.slots room.told) (size_of room.told) part.pdus part.done
+
+abbrev pub GivesAllThatItMay : Type 0
+GivesAllThatItMay = (state : State) (event : Event) (ordinal : Ordinal) →
+    IsAllGiven (step state event).room ((step state event).parts ordinal)
