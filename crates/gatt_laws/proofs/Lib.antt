@@ -1,5 +1,6 @@
 pub mod Courses
 pub mod Headline
+pub mod RowsOfTheTable
 pub mod Silence
 pub mod Streams
 pub mod examples

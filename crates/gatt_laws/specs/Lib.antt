@@ -1,3 +1,4 @@
+pub mod RowsOfTheTable
 pub mod Calls
 pub mod Controller
 pub mod Event

@@ -142,15 +142,15 @@ announced table =
     option_map_or (λ changer. record table { values = with_value table.values changer all_changed }) (changer_of table) table
 
 -- of its row a connection keeps what is of the new table too; what it prepared and what waits for it is dropped
+abbrev pub part_dropped : Part → Part
+part_dropped part =
+    if is_live part.mark
+    then record part { said = Dropped ∷ part.said; pending = after_replacement part.pending }
+    else part
+
 abbrev pub part_replaced : Contents → Contents → Part → Part
 part_replaced old new part =
-    if is_live part.mark
-    then record part {
-      row = kept_row old.attributes new.attributes part.row;
-      said = Dropped ∷ part.said;
-      pending = after_replacement part.pending;
-    }
-    else part
+    record (part_dropped part) { row = kept_row old.attributes new.attributes part.row }
 
 abbrev pub bonds_replaced : Contents → Contents → Bonds → Bonds
 bonds_replaced old new bonds peer = kept_row old.attributes new.attributes (bonds peer)
