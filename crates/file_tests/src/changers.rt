@@ -82,7 +82,15 @@ fn check_changers(rt: &impl Abort, alloc: Global, cases: &[(&str, &str, &str, Op
 }
 
 fn changer_in(alloc: Global, text: &str, old: &str, new: &str) -> Option<Option<u16>> {
-    let text = text.replacen(alloc, old, new, 1).ok()?;
-    let table = Table::read(alloc, &text).ok()?;
-    Some(table.changer())
+    match text.replacen(alloc, old, new, 1) {
+        Ok(text) => changer_of(alloc, &text),
+        Err(_) => None,
+    }
+}
+
+fn changer_of(alloc: Global, text: &str) -> Option<Option<u16>> {
+    match Table::read(alloc, text) {
+        Ok(table) => Some(table.changer()),
+        Err(_) => None,
+    }
 }

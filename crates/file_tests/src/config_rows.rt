@@ -79,8 +79,15 @@ const REPLACEMENTS: [Replacement; 9] = [
 
 #[test]
 fn keeps_what_was_written_last(rt: HostRuntime) {
-    for (handle, bits) in [(1, 1), (9, 1), (64, 1), (65, 0)] {
-        assert_eq!(rt; full_row_at(handle), (bits, handle < 65));
+    check_full_row(
+        &rt,
+        &[(1, 1, true), (9, 1, true), (64, 1, true), (65, 0, false)],
+    );
+}
+
+fn check_full_row(rt: &impl Abort, cases: &[(u16, u8, bool)]) {
+    for &(handle, bits, can_set) in cases {
+        assert_eq!(rt; full_row_at(handle), (bits, can_set));
     }
 }
 
@@ -109,10 +116,24 @@ fn check_replacements(rt: &impl Abort, alloc: Global, cases: &[Replacement]) {
 
 fn is_kept(alloc: Global, case: &Replacement) -> Option<bool> {
     let (from, to) = case.change;
-    let text = case.new.replacen(alloc, from, to, 1).ok()?;
-    let old = Table::read(alloc, case.old).ok()?;
-    let new = Table::read(alloc, &text).ok()?;
-    Some(keeps(&old, &new, case.entries))
+    match case.new.replacen(alloc, from, to, 1) {
+        Ok(text) => is_kept_by(alloc, case.old, &text, case.entries),
+        Err(_) => None,
+    }
+}
+
+fn is_kept_by(alloc: Global, old: &str, new: &str, entries: &[(u16, u8, bool)]) -> Option<bool> {
+    match Table::read(alloc, old) {
+        Ok(table) => is_kept_of(alloc, &table, new, entries),
+        Err(_) => None,
+    }
+}
+
+fn is_kept_of(alloc: Global, old: &Table, new: &str, entries: &[(u16, u8, bool)]) -> Option<bool> {
+    match Table::read(alloc, new) {
+        Ok(table) => Some(keeps(old, &table, entries)),
+        Err(_) => None,
+    }
 }
 
 fn keeps(old: &Table, new: &Table, entries: &[(u16, u8, bool)]) -> bool {
