@@ -1,6 +1,6 @@
 -- When a write is refused, and by which error code: Core 5.0, Vol 3 Part F, 3.4.1.1.
 -- The order of the faults is this profile's own.
-use Rattle.std.specs.Prelude.{ℕ, ◌+◌, ◌-◌, Bool, false, ◌==◌, ◌&&◌, not, nat_lt, if◌then◌else◌, List, [], ◌∷◌, length, Option, Some, None}
+use Rattle.std.specs.Prelude.{ℕ, ◌+◌, Bool, false, ◌==◌, ◌&&◌, not, nat_lt, if◌then◌else◌, List, [], ◌∷◌, length, Option, Some, None}
 use Rattle.std.specs.Int.RustNames.{bit_and}
 use Rattle.std.specs.Option.{option_map_or}
 use Rattle.att_numbers.specs.Types.{Handle, Code}
@@ -8,16 +8,11 @@ use Rattle.att_numbers.specs.declared.error_code.TheConstants.{INVALID_OFFSET, I
 use Rattle.att_policy.specs.declared.policy.Access.{Access}
 use Rattle.att_policy.specs.declared.policy.Rule.{Rule}
 use Rattle.att_policy.specs.declared.standing.Standing.{Standing}
-use Rattle.att_policy.specs.Policy.{configuration_bits_of, first_broken_of}
+use Rattle.att_policy.specs.Policy.{first_broken_of}
 use Rattle.att_table.specs.declared.attr.Attr.{Attr}
-use Rattle.att_table.specs.Table.{attribute_at, guard_at, is_configuration_at, is_fixed_at}
+use Rattle.att_table.specs.Table.{attribute_at, configuration_bits_at, guard_at, is_configuration_at, is_fixed_at}
 use Rattle.att_writes.specs.Entry.{Entry}
 use Rattle.octets.specs.Number.{Octets}
-
--- the bits that the configuration at a handle may have: its characteristic value stands before it (Core 5.0, Vol 3 Part G, 3.3.3.3)
-abbrev pub configuration_bits_at : List Attr → Handle → ℕ
-configuration_bits_at attributes handle =
-    option_map_or (λ (attr : Attr). configuration_bits_of attr.guard.properties) (attribute_at attributes (handle - 1)) 0
 
 -- octets are bits that a configuration may have, the lower octet first
 abbrev pub has_bits_within : ℕ → Octets → Bool

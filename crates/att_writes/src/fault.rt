@@ -3,7 +3,7 @@
 ghost use Rattle.std.specs.Prelude.{◌≡◌, ◌≤◌, length, Some, IsNone};
 ghost use Rattle.att_table.specs.Table.{attribute_at};
 ghost use Rattle.att_writes.specs.Entry.{entry_of};
-ghost use Rattle.att_writes.specs.Fault.{configuration_bits_at, configuration_fault, value_fault, fault_of};
+ghost use Rattle.att_writes.specs.Fault.{configuration_fault, value_fault, fault_of};
 ghost use Rattle.att_writes.specs.Sizes.{size_with, size_after};
 
 use crate::entry::EntryRef;
@@ -97,20 +97,9 @@ fn configuration_fault(table: &Table, entry: EntryRef<'_>) -> Option<u8>
     let [low, high] = *entry.part else {
         return Some(error_code::INVALID_ATTRIBUTE_VALUE_LENGTH);
     };
-    if high == 0 && low & configuration_bits_at(table, entry.handle) == low {
+    if high == 0 && low & table.configuration_bits(entry.handle) == low {
         None
     } else {
         Some(error_code::OUT_OF_RANGE)
-    }
-}
-
-/// The bits that the client characteristic configuration at a handle may have. Its characteristic
-/// value stands before it.
-fn configuration_bits_at(table: &Table, handle: u16) -> u8
-    ensures { result ≡ configuration_bits_at table.now.attributes handle }
-{
-    match table.get(handle.saturating_sub(1)) {
-        Some(attr) => attr.guard.properties.configuration_bits(),
-        None => 0,
     }
 }
