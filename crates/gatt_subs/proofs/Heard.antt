@@ -36,7 +36,8 @@ first_is_due : (is_due : Handle → Bool) (waiting : List Handle) (handle : Hand
 first_is_due is_due [] handle found = cc found
 first_is_due is_due (next ∷ rest) handle found = first_here is_due next handle rest (is_due next) (first_is_due is_due rest handle) refl found
 
-both : (one other : Bool) → one && other ≡ true → (one ≡ true) × (other ≡ true)
+-- two tests that both hold
+pub both : (one other : Bool) → one && other ≡ true → (one ≡ true) × (other ≡ true)
 both true true is = (refl, refl)
 both true false is = cc is
 both false other is = cc is

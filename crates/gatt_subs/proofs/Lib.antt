@@ -5,3 +5,4 @@ pub mod InOrder
 pub mod Lines
 pub mod Places
 pub mod RowsLine
+pub mod Undisclosed

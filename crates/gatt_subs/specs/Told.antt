@@ -1,5 +1,5 @@
 -- What a connection is told unasked: Core 5.0, Vol 3 Part F, 3.4.7.
-use Rattle.std.specs.Prelude.{◌-◌, Bool, ◌&&◌, if◌then◌else◌, List, take, Option, Some, None}
+use Rattle.std.specs.Prelude.{◌≡◌, ◌-◌, Bool, true, ◌&&◌, if◌then◌else◌, List, take, Option, Some, None}
 use Rattle.std.specs.Option.{option_map}
 use Rattle.att_numbers.specs.Types.{Handle, Mtu, Row, Values}
 use Rattle.att_pdu.specs.Response.{Response}
@@ -8,6 +8,7 @@ use Rattle.att_policy.specs.declared.standing.Standing.{Standing}
 use Rattle.att_table.specs.declared.attr.Attr.{Attr}
 use Rattle.att_table.specs.Table.{value_at}
 use Rattle.octets.specs.Number.{Octets}
+use Rattle.gatt_subs.specs.Hearing.{may_hear_at}
 use Rattle.gatt_subs.specs.Indications.{Indications, Backlog, Milliseconds, hears, is_notified, after_raise, released_handle, after_release}
 
 -- as many octets of a value as fit behind the opcode and the handle
@@ -54,3 +55,22 @@ release_tells attributes values hearer =
 abbrev pub pending_after_release : List Attr → Hearer → Milliseconds → Indications
 pending_after_release attributes hearer now =
     if hearer.live then after_release hearer.pending attributes hearer.row hearer.standing hearer.backlog now else hearer.pending
+
+-- where it may not hear of a value it is told nothing of it, and nothing waits more than before
+pub record HearsNothing (attributes : List Attr) (hearer : Hearer) (handle : Handle) : Type 0 where
+  pub unchanged : pending_after_raise attributes hearer handle ≡ hearer.pending
+  pub silent : (values : Values) → raise_tells attributes values hearer handle ≡ None
+
+-- values that are the same wherever it may hear of them
+abbrev pub AgreeWhereHeard : List Attr → Hearer → Values → Values → Type 0
+AgreeWhereHeard attributes hearer one other =
+    (handle : Handle) → may_hear_at attributes hearer.row hearer.standing handle ≡ true → value_at one handle ≡ value_at other handle
+
+pub record TellsTheSame (attributes : List Attr) (hearer : Hearer) (one other : Values) : Type 0 where
+  pub raised : (handle : Handle) → raise_tells attributes one hearer handle ≡ raise_tells attributes other hearer handle
+  pub released : release_tells attributes one hearer ≡ release_tells attributes other hearer
+
+-- what it is told depends on no value that it may not hear of
+abbrev pub TellsOnlyWhatIsHeard : Type 0
+TellsOnlyWhatIsHeard = (attributes : List Attr) (hearer : Hearer) (one other : Values)
+    → AgreeWhereHeard attributes hearer one other → TellsTheSame attributes hearer one other

@@ -4,6 +4,7 @@ ghost use Rattle.att_table.specs.Table.{is_value_at};
 ghost use Rattle.gatt_subs.specs.Hearing.{bits_for, is_indicated, may_hear_at, wants_indications};
 ghost use Rattle.gatt_subs.specs.HeardOnly.{RaisesOnlyWhatIsHeard, ReleasesOnlyWhatIsHeard, ReleasesOnlyWhatWaits};
 ghost use Rattle.gatt_subs.specs.Indications.{after_confirmation, after_end, after_raise, after_release, after_replacement, after_tick, first_of, from_due, is_notified, is_told, no_indications, released_handle, rest_of, with_handle, HaveOnePlace};
+ghost use Rattle.gatt_subs.specs.Told.{TellsOnlyWhatIsHeard};
 
 use arrayvec::ArrayVec;
 use att_policy::{Standing, may_hear};
@@ -59,6 +60,7 @@ impl Pending {
         ensures raised { RaisesOnlyWhatIsHeard }
         ensures released { ReleasesOnlyWhatIsHeard }
         ensures idle { ReleasesOnlyWhatWaits }
+        ensures undisclosed { TellsOnlyWhatIsHeard }
     {
         Pending {
             waiting: ArrayVec::new(),
