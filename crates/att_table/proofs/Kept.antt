@@ -1,10 +1,11 @@
--- What of a row stays when a table is replaced is a row of the new table.
-use Rattle.std.proofs.Common.{◌≡◌, ℕ, Bool, true, false, ◌&&◌, if◌then◌else◌, List, [], ◌∷◌, refl, arith}
+-- What of a row stays when a table is replaced is a row of the new table, with the bits that were there.
+use Rattle.std.proofs.Common.{◌≡◌, ℕ, Bool, true, false, ◌==◌, ◌&&◌, if◌then◌else◌, List, [], ◌∷◌, refl, subst, ◌∙◌, arith}
+use Rattle.std.proofs.lemmas.Bool.Decides.{nat_tests}
 use Rattle.std.specs.List.{All, filter}
 use Rattle.std.proofs.lemmas.List.Elements.{All-nil, All-cons, All-filter}
 use Rattle.att_numbers.specs.Types.{Handle, Row}
 use Rattle.att_table.specs.declared.attr.Attr.{Attr}
-use Rattle.att_table.specs.ConfigRow.{has_entry, is_supported, kept_row, IsEntry, HasOneEntryEach, IsRowOf}
+use Rattle.att_table.specs.ConfigRow.{bits_at, has_entry, has_its_meaning, is_supported, kept_bits, kept_row, IsEntry, HasOneEntryEach, IsRowOf}
 use Rattle.att_table.specs.Table.{is_configuration_at}
 
 -- what is left out of a row adds no entry
@@ -46,3 +47,38 @@ once_in_kept old new row once = once-filter _ row once
 
 pub row_of_kept : (old new : List Attr) (row : Row) → IsRowOf new (kept_row old new row)
 row_of_kept old new row = row-filter new _ row
+
+-- the bits that stay
+none_at : (row : Row) (handle : Handle) → has_entry row handle ≡ false → bits_at row handle ≡ 0
+none_at [] handle lacks = refl
+none_at (entry ∷ row) handle lacks = grind (arith, nat_tests, none_at row handle)
+
+bits-here : (test : Handle × ℕ → Bool) (row : Row) (entry : Handle × ℕ) (stays : Bool) → has_entry row entry.0 ≡ false
+    → bits_at (if stays then entry ∷ filter test row else filter test row) entry.0 ≡ (if stays then entry.1 else 0)
+bits-here test row entry true lacks = grind (arith, nat_tests)
+bits-here test row entry false lacks = none_at (filter test row) entry.0 (has-filter test row entry.0 lacks)
+
+bits-later : (test : Handle × ℕ → Bool) (row : Row) (entry : Handle × ℕ) (handle : Handle) (stays : Bool) → (entry.0 == handle) ≡ false
+    → bits_at (if stays then entry ∷ filter test row else filter test row) handle ≡ bits_at (filter test row) handle
+bits-later test row entry handle true differs = grind (arith, nat_tests)
+bits-later test row entry handle false differs = refl
+
+no-bits : (stays : Bool) → (let none : ℕ = 0 in none ≡ (if stays then none else none))
+no-bits true = refl
+no-bits false = refl
+
+bits-filter : (test : Handle × ℕ → Bool) (row : Row) (handle : Handle) → HasOneEntryEach row
+    → bits_at (filter test row) handle ≡ (if test (handle, bits_at row handle) then bits_at row handle else 0)
+bits-filter test [] handle once = no-bits (test (handle, 0))
+bits-filter test (entry ∷ row) handle once = by-handle (entry.0 == handle) refl (bits-filter test row handle once.1)
+  where
+    by-handle : (same : Bool) → (entry.0 == handle) ≡ same
+        → bits_at (filter test row) handle ≡ (if test (handle, bits_at row handle) then bits_at row handle else 0)
+        → bits_at (filter test (entry ∷ row)) handle ≡ (let bits = if same then entry.1 else bits_at row handle in if test (handle, bits) then bits else 0)
+    by-handle true is later =
+        let own : entry.0 ≡ handle = grind (arith, nat_tests) in
+        subst (λ (h : Handle). bits_at (filter test (entry ∷ row)) h ≡ (if test (h, entry.1) then entry.1 else 0)) own (bits-here test row entry (test entry) once.0)
+    by-handle false differs later = bits-later test row entry handle (test entry) differs ∙ later
+
+pub bits_of_kept : (old new : List Attr) (row : Row) (handle : Handle) → HasOneEntryEach row → bits_at (kept_row old new row) handle ≡ kept_bits old new handle (bits_at row handle)
+bits_of_kept old new row handle once = bits-filter (λ entry. is_supported new entry && has_its_meaning old new entry.0) row handle once

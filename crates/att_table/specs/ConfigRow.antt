@@ -52,6 +52,10 @@ has_its_meaning old new handle = is_configuration_at old handle && (type_at old 
 abbrev pub kept_row : List Attr → List Attr → Row → Row
 kept_row old new row = filter (λ entry. is_supported new entry && has_its_meaning old new entry.0) row
 
+-- so the bits at a handle are those that were there, or none
+abbrev pub kept_bits : List Attr → List Attr → Handle → ℕ → ℕ
+kept_bits old new handle bits = if is_supported new (handle, bits) && has_its_meaning old new handle then bits else 0
+
 -- a row of these attributes has room for the configuration at a handle
 abbrev pub HasRowRoom : List Attr → Handle → Type 0
 HasRowRoom attributes handle =

@@ -1,7 +1,7 @@
 ghost use Rattle.std.specs.Prelude.{◌≡◌, ◌≢◌, ℕ, ◌-◌, ◌<◌, ◌≤◌, ◌==◌, true, All, List, [], length, position, IsTrue};
 ghost use Rattle.std.specs.Bool.{OnTrue, OnFalse};
 ghost use Rattle.att_table.specs.declared.attr.Attr.{Attr};
-ghost use Rattle.att_table.specs.ConfigRow.{bits_at, with_bits, has_entry, has_its_meaning, has_room, kept_row, HasOneEntryEach, IsEntry, IsRowOf};
+ghost use Rattle.att_table.specs.ConfigRow.{bits_at, with_bits, has_entry, has_its_meaning, has_room, kept_bits, kept_row, HasOneEntryEach, IsEntry, IsRowOf};
 ghost use Rattle.att_table.specs.Table.{is_configuration_at, type_at};
 
 use crate::attr::Role;
@@ -85,6 +85,8 @@ impl ConfigRow {
     /// dropped.
     pub fn keep(&mut self, old: &Table, new: &Table)
         ensures kept { self.new ≡ kept_row old.now.attributes new.now.attributes self.old }
+        ensures bits { (handle : ℕ) → bits_at self.new handle
+            ≡ kept_bits old.now.attributes new.now.attributes handle (bits_at self.old handle) }
         ensures table { IsRowOf new.now.attributes self.new }
     {
         retain_kept(&mut self.entries, old, new);
