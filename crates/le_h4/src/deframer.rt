@@ -1,6 +1,5 @@
 ghost use Rattle.std.specs.Prelude.{◌≡◌, ℕ, ◌+◌, ◌-◌, ◌<◌, ◌≤◌, ◌↔◌, [], ◌++◌, length, take, drop, Some, None, IsTrue, IsSome, IsNone, IfOk, IfSome, OnOk};
 ghost use Rattle.octets.specs.Number.{Octets};
-ghost use Rattle.arrayvec.specs.ArrayVec.{array_vec_len};
 ghost use Rattle.le_h4.specs.Packet.{seen, first_of};
 ghost use Rattle.le_h4.specs.Division.{unfinished, lost, before};
 ghost use Rattle.le_h4.specs.Deframer.{at_start, lost_at, still, marks, EndsWith, MarksTheDivision};
@@ -8,9 +7,9 @@ ghost use Rattle.le_h4.specs.Progress.{Fits, packet_in};
 ghost use Rattle.le_h4.specs.Gathering.{Gathers};
 ghost use Rattle.le_h4.specs.Held.{unless_marked};
 
+use crate::gathered::Gathered;
 use crate::packet::{PacketRef, read_packet};
 use crate::progress::{Progress, progress_at, whole_packet};
-use arrayvec::ArrayVec;
 use std::marker::Model;
 
 /// How far a piece of the stream was taken.
@@ -33,7 +32,7 @@ pub enum H4Fault {
 #[derive(Drop)]
 pub struct Deframer {
     /// The packet that is marked, or else the octets so far of the next one.
-    gathered: ArrayVec<u8, 1029>,
+    gathered: Gathered,
     /// Whether what is gathered is a packet that is marked.
     marked: bool,
     /// How many octets of a long ACL packet are still to be passed over.
@@ -47,9 +46,9 @@ impl Model for Deframer {
 
     ghost use Rattle.le_h4.specs.Held.{deframing_of, IsHeld};
 
-    ghost view = { λ d. deframing_of d.skipping d.gathered.items d.marked };
+    ghost view = { λ d. deframing_of d.skipping d.gathered d.marked };
 
-    ghost invariant = { λ d. IsHeld d.skipping d.gathered.items d.marked };
+    ghost invariant = { λ d. IsHeld d.skipping d.gathered d.marked };
 }
 
 impl Deframer {
@@ -61,7 +60,7 @@ impl Deframer {
         ensures division { MarksTheDivision }
     {
         Deframer {
-            gathered: ArrayVec::new(),
+            gathered: Gathered::new(),
             marked: false,
             skipping: 0,
         }
@@ -107,8 +106,8 @@ impl Deframer {
 }
 
 /// Forgets what is gathered where it is a packet that is marked.
-fn forget(gathered: &mut ArrayVec<u8, 1029>, marked: bool)
-    ensures { gathered.new.items ≡ unless_marked marked gathered.old.items }
+fn forget(gathered: &mut Gathered, marked: bool)
+    ensures { gathered.new ≡ unless_marked marked gathered.old }
 {
     if marked {
         gathered.clear();
@@ -117,15 +116,11 @@ fn forget(gathered: &mut ArrayVec<u8, 1029>, marked: bool)
 
 /// Gathers octets to the end of a packet that is kept, or all of them. A packet that is all there,
 /// where nothing was gathered before, is copied at once.
-fn gather(
-    gathered: &mut ArrayVec<u8, 1029>,
-    skipping: &mut usize,
-    octets: &[u8],
-) -> Result<Fed, H4Fault>
-    requires fits { Fits gathered.old.items }
-    requires unfinished { packet_in (first_of gathered.old.items) ≡ None }
-    requires passes { 0 < skipping.old → gathered.old.items ≡ [] }
-    ensures gathers { Gathers skipping.old gathered.old.items octets.now result skipping.new gathered.new.items }
+fn gather(gathered: &mut Gathered, skipping: &mut usize, octets: &[u8]) -> Result<Fed, H4Fault>
+    requires fits { Fits gathered.old }
+    requires unfinished { packet_in (first_of gathered.old) ≡ None }
+    requires passes { 0 < skipping.old → gathered.old ≡ [] }
+    ensures gathers { Gathers skipping.old gathered.old octets.now result skipping.new gathered.new }
 {
     if !gathered.is_empty() || *skipping > 0 {
         return gather_by_parts(gathered, skipping, octets);
@@ -142,14 +137,14 @@ fn gather(
 
 /// The same, header and data each by what they lack.
 fn gather_by_parts(
-    gathered: &mut ArrayVec<u8, 1029>,
+    gathered: &mut Gathered,
     skipping: &mut usize,
     octets: &[u8],
 ) -> Result<Fed, H4Fault>
-    requires fits { Fits gathered.old.items }
-    requires unfinished { packet_in (first_of gathered.old.items) ≡ None }
-    requires passes { 0 < skipping.old → gathered.old.items ≡ [] }
-    ensures gathers { Gathers skipping.old gathered.old.items octets.now result skipping.new gathered.new.items }
+    requires fits { Fits gathered.old }
+    requires unfinished { packet_in (first_of gathered.old) ≡ None }
+    requires passes { 0 < skipping.old → gathered.old ≡ [] }
+    ensures gathers { Gathers skipping.old gathered.old octets.now result skipping.new gathered.new }
 {
     let mut rest = octets;
     'packets: loop {
@@ -188,12 +183,12 @@ fn skip<'a>(skipping: &mut usize, octets: &'a [u8]) -> &'a [u8]
 }
 
 /// Gathers octets, as many as there are of those that are missing, and answers what follows.
-fn fill<'a>(gathered: &mut ArrayVec<u8, 1029>, missing: usize, octets: &'a [u8]) -> &'a [u8]
-    requires { array_vec_len gathered.old + missing ≤ 1029 }
-    ensures gathered { gathered.new.items ≡ gathered.old.items ++ take missing octets.now }
+fn fill<'a>(gathered: &mut Gathered, missing: usize, octets: &'a [u8]) -> &'a [u8]
+    requires { length gathered.old + missing ≤ 1029 }
+    ensures gathered { gathered.new ≡ gathered.old ++ take missing octets.now }
     ensures rest { result.now ≡ drop missing octets.now }
 {
     let (now, later) = octets.split_at(missing.min(octets.len()));
-    let _ = gathered.try_extend_from_slice(now);
+    gathered.append(now);
     later
 }

@@ -3,6 +3,7 @@
 #![tactic(auto)]
 
 mod deframer;
+mod gathered;
 pub mod indicator;
 mod packet;
 mod progress;

@@ -9,9 +9,9 @@ use Rattle.le_h4.proofs.deframer.Deframer.feed.Goals as goal
 
 pub returns-in-Ok-clause-divided : goal.returns-in-Ok-clause-divided
 returns-in-Ok-clause-divided c =
-    let H : List ℕ → Type 0 = λ xs. Gathers c.self.inside.skipping xs c.args.octets.now (Ok c.in-Ok.fed) c.gather.new.skipping c.gather.new.gathered.items in
+    let H : List ℕ → Type 0 = λ xs. Gathers c.self.inside.skipping xs c.args.octets.now (Ok c.in-Ok.fed) c.gather.new.skipping c.gather.new.gathered in
     let gathers = subst H c.forget.ensures c.in-Ok.ensures.gathers in
-    let after : Deframing = deframing_of c.gather.new.skipping c.gather.new.gathered.items c.in-Ok.fed.packet in
+    let after : Deframing = deframing_of c.gather.new.skipping c.gather.new.gathered c.in-Ok.fed.packet in
     let P : Deframing → Type 0 = λ d. (rest : List ℕ) → still d (take c.in-Ok.fed.used c.args.octets.now ++ rest)
     ≡ before (marks after) (still after rest) in
     subst P c.self.view_is (fed_divided _ _ _ _ _ c.in-Ok.fed gathers)
@@ -21,7 +21,7 @@ returns-in-Ok-clause-unfinished c = fed_unfinished _ _ _ _ _ c.in-Ok.fed c.in-Ok
 
 pub returns-in-Ok-clause-desync : goal.returns-in-Ok-clause-desync
 returns-in-Ok-clause-desync c =
-    let H : List ℕ → Type 0 = λ xs. Gathers c.self.inside.skipping xs c.args.octets.now (Ok c.in-Ok.fed) c.gather.new.skipping c.gather.new.gathered.items in
+    let H : List ℕ → Type 0 = λ xs. Gathers c.self.inside.skipping xs c.args.octets.now (Ok c.in-Ok.fed) c.gather.new.skipping c.gather.new.gathered in
     let gathers = subst H c.forget.ensures c.in-Ok.ensures.gathers in
     λ indicator. (
       λ is. cc,
@@ -31,7 +31,7 @@ returns-in-Ok-clause-desync c =
 
 pub returns-in-Err-clause-desync : goal.returns-in-Err-clause-desync
 returns-in-Err-clause-desync c =
-    let H : List ℕ → Type 0 = λ xs. Gathers c.self.inside.skipping xs c.args.octets.now (Err c.in-Err.fault) c.gather.new.skipping c.gather.new.gathered.items in
+    let H : List ℕ → Type 0 = λ xs. Gathers c.self.inside.skipping xs c.args.octets.now (Err c.in-Err.fault) c.gather.new.skipping c.gather.new.gathered in
     let gathers = subst H c.forget.ensures c.in-Err.ensures.gathers in
     let same = ap (λ (d : Deframing). still d c.args.octets.now) c.self.view_is in
     λ indicator. (
