@@ -103,8 +103,9 @@ impl<'a> PduBuf<'a> {
         if !self.has_room(4 + octets.len()) {
             return false;
         }
-        self.append(&first.to_le_bytes());
-        self.append(&last.to_le_bytes());
+        let [first_low, first_high] = first.to_le_bytes();
+        let [last_low, last_high] = last.to_le_bytes();
+        self.append(&[first_low, first_high, last_low, last_high]);
         self.append(octets);
         true
     }
