@@ -96,6 +96,7 @@ pub fn answer(
 }
 
 /// Begins an answer by its opcode, the octets of each attribute, and the first one.
+#[inline(always)]
 fn begin(listing: Listing, table: &Table, handle: u16, front: &[u8], out: &mut PduBuf<'_>)
     requires empty { contents out.old ≡ [] }
     requires exists { IsSome (attribute_at table.now.attributes handle) }
@@ -110,6 +111,7 @@ fn begin(listing: Listing, table: &Table, handle: u16, front: &[u8], out: &mut P
 
 /// Appends the attributes at these handles, up to the first that is refused, has another size or
 /// does not fit.
+#[inline(always)]
 fn append_all(
     listing: Listing,
     reader: Reader<'_>,
@@ -130,6 +132,7 @@ fn append_all(
 }
 
 /// Appends an attribute that is not refused, has this size and fits.
+#[inline(always)]
 fn append_next(
     listing: Listing,
     reader: Reader<'_>,
