@@ -101,6 +101,7 @@ pub(crate) fn prepare(
 }
 
 /// Serves an Execute Write Request that drops what is prepared: Core 5.0, Vol 3 Part F, 3.4.6.3.
+#[inline(always)]
 pub(crate) fn cancel(conn: &mut Conn, out: &mut PduBuf<'_>) -> Answered
     requires empty { contents out.old ≡ [] }
     ensures served { Serves (Some ExecuteWriteResponse) [] result (contents out.new) }
@@ -114,6 +115,7 @@ pub(crate) fn cancel(conn: &mut Conn, out: &mut PduBuf<'_>) -> Answered
 }
 
 /// Serves an Execute Write Request that writes what is prepared: Core 5.0, Vol 3 Part F, 3.4.6.3.
+#[inline(always)]
 pub(crate) fn execute(
     table: &mut Table,
     row: &mut ConfigRow,
