@@ -3,7 +3,7 @@ ghost use Rattle.std.specs.Bool.{OnTrue};
 ghost use Rattle.att_table.specs.Table.{is_value_at};
 ghost use Rattle.gatt_subs.specs.Hearing.{bits_for, is_indicated, may_hear_at, wants_indications};
 ghost use Rattle.gatt_subs.specs.HeardOnly.{RaisesOnlyWhatIsHeard, ReleasesOnlyWhatIsHeard, ReleasesOnlyWhatWaits};
-ghost use Rattle.gatt_subs.specs.Indications.{after_confirmation, after_end, after_raise, after_release, after_replacement, after_tick, first_of, from_due, is_notified, is_told, no_indications, released_handle, rest_of, with_handle, HaveOnePlace};
+ghost use Rattle.gatt_subs.specs.Indications.{after_confirmation, after_end, after_raise, after_release, after_replacement, after_tick, first_of, from_due, is_notified, is_told, is_waiting, no_indications, released_handle, rest_of, with_handle, HaveOnePlace};
 ghost use Rattle.gatt_subs.specs.Told.{TellsOnlyWhatIsHeard};
 
 use arrayvec::ArrayVec;
@@ -161,7 +161,7 @@ impl Pending {
     {
         self.unconfirmed
             .is_some_and(|sent| sent.handle == handle && !sent.outdated)
-            && !self.waiting.contains(&handle)
+            && !is_waiting(self.waiting.as_slice(), handle)
     }
 
     /// Takes in that the connection is ended: nothing waits, and nothing is unconfirmed.
@@ -214,6 +214,7 @@ fn is_indicated(table: &Table, row: &ConfigRow, standing: &Standing, handle: u16
 }
 
 /// Puts a handle at the end, if it does not wait yet.
+#[tactic(auto, using(crate::proofs::Places::places))]
 fn wait_once(waiting: &mut ArrayVec<u16, 1024>, handle: u16)
     requires places { HaveOnePlace waiting.old.items }
     requires used { 0 < handle }
@@ -221,9 +222,16 @@ fn wait_once(waiting: &mut ArrayVec<u16, 1024>, handle: u16)
     ensures waits { waiting.new.items ≡ with_handle waiting.old.items handle }
     ensures places { HaveOnePlace waiting.new.items }
 {
-    if !waiting.contains(&handle) {
+    if !is_waiting(waiting.as_slice(), handle) {
         waiting.push(handle);
     }
+}
+
+/// Whether a handle is among those that wait.
+fn is_waiting(waiting: &[u16], handle: u16) -> bool
+    ensures { result ≡ is_waiting waiting.now handle }
+{
+    waiting.contains(&handle)
 }
 
 /// Takes out the handles up to the first of which an indication is due, and gives that one.
