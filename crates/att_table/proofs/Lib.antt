@@ -11,3 +11,4 @@ pub mod ServiceBefore
 pub mod Services
 pub mod Tables
 pub mod Values
+pub mod Changers

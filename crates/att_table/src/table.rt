@@ -177,9 +177,11 @@ impl Table {
     }
 
     /// Whether the attribute at a handle is a client characteristic configuration that may have
-    /// these bits.
+    /// these bits. A client's row of the table has room for it.
+    #[tactic(auto, using(crate::proofs::Configurations::room_in_row))]
     pub fn supports(&self, handle: u16, bits: u8) -> bool
-        ensures { result ≡ is_supported self.now.attributes (handle, bits) }
+        ensures supported { result ≡ is_supported self.now.attributes (handle, bits) }
+        ensures row { HasRowRoom self.now.attributes handle }
     {
         match self.get(handle) {
             Some(attr) => {
@@ -195,6 +197,7 @@ impl Table {
     pub fn changer(&self) -> Option<u16>
         ensures changer { result ≡ changer_of self.now }
         ensures found { IfSome result (λ handle. IsOfAChanger self.now handle) }
+        ensures most { IfSome result (λ handle. handle ≤ 1024) }
     {
         changer::changer_of(&self.attributes, &self.values)
     }

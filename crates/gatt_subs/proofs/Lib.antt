@@ -5,4 +5,5 @@ pub mod InOrder
 pub mod Lines
 pub mod Places
 pub mod RowsLine
+pub mod Supported
 pub mod Undisclosed

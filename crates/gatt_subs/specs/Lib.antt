@@ -9,3 +9,4 @@ pub mod Told
 pub mod Unfitted
 pub mod Rows
 pub mod RowsLends
+pub mod Fit

@@ -3,6 +3,7 @@
 #![tactic(auto)]
 
 mod bond;
+mod fit;
 mod pending;
 mod row_entry;
 mod rows;

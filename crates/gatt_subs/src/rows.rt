@@ -1,22 +1,26 @@
 //! What the peers that have keys have configured.
 
-ghost use Rattle.std.specs.Prelude.{◌≡◌, ◌<◌, ◌≤◌, length, slice_get, Some, IsTrue, IsNone, IfSome};
+ghost use Rattle.std.specs.Prelude.{◌≡◌, ◌<◌, ◌≤◌, length, slice_get, Some, IsTrue, IsNone, IfSome, IfOk, IfErr, OnOk, OnErr, map};
 ghost use Rattle.std.specs.Borrow.{sem};
 ghost use Rattle.std.specs.List.{find};
 ghost use Rattle.std.specs.Option.{option_copied};
 ghost use Rattle.octets.specs.Memory.{Gives};
+ghost use Rattle.att_table.specs.Changer.{changer_of};
 ghost use Rattle.att_table.specs.ConfigRow.{bits_at, has_room, HasOneEntryEach};
 ghost use Rattle.gatt_subs.specs.declared.rows_fault.RowsFault.TheVariants.{OutOfMemory};
+ghost use Rattle.gatt_subs.specs.Fit.{fitted_bond, fitted_rows, row_fitted};
 ghost use Rattle.gatt_subs.specs.RowEntry.{is_at};
 ghost use Rattle.gatt_subs.specs.Rows.{place_of, bond_of, row_of, row_in, row_read, owes, bonds_with, with_set, with_owed, subscriptions_read, ChangesBond};
 
 use crate::bond::Bond;
+use crate::fit;
 use crate::row_entry::RowEntry;
 use crate::rows_fault::RowsFault;
 use crate::unfitted::{Unfitted, has_peer};
-use att_table::ConfigRow;
+use att_table::{ConfigRow, Table};
 use le_hci::Peer;
-use std::alloc::Global;
+use le_security::Keys;
+use std::alloc::{AllocError, Global};
 use std::marker::Model;
 
 /// What each peer that has a key has configured, and whether it is owed an indication of a changed
@@ -55,6 +59,60 @@ impl Rows {
             bonds: Vec::new(alloc),
             unfitted: Unfitted::read(alloc, text)?,
         })
+    }
+
+    /// Gives each peer of the keys a row, with what the table supports of what it has configured, and
+    /// drops all else. A peer stays owed if its row asks for indications of the table's changer. Where
+    /// memory is refused nothing changes.
+    pub fn fit(&mut self, alloc: Global, keys: &Keys, table: &Table) -> Result<(), RowsFault>
+        ensures fitted { OnOk result (self.new ≡ fitted_rows keys.now table.now self.old) }
+        ensures unchanged { OnErr result (self.new ≡ self.old) }
+        ensures refused { IfErr result (λ fault. fault ≡ OutOfMemory) }
+    {
+        let peers = fit::peers_of(alloc, keys)?;
+        let bonds = self.fitted_bonds(alloc, &peers, table)?;
+        self.peers = peers;
+        self.bonds = bonds;
+        self.unfitted = Unfitted::new(alloc);
+        Ok(())
+    }
+
+    /// The bond of each of these peers, fitted to a table.
+    fn fitted_bonds(
+        &self,
+        alloc: Global,
+        peers: &[Peer],
+        table: &Table,
+    ) -> Result<Vec<Bond>, AllocError>
+        ensures { IfOk result (λ bonds. bonds.items ≡ map (fitted_bond table.now self.now) peers.now) }
+    {
+        let changer = table.changer();
+        let mut bonds = Vec::new(alloc);
+        for peer in peers {
+            bonds.push(self.fitted_bond(peer, table, changer))?;
+        }
+        Ok(bonds)
+    }
+
+    /// The bond of a peer, fitted to a table that has this changer.
+    fn fitted_bond(&self, peer: &Peer, table: &Table, changer: Option<u16>) -> Bond
+        requires changer { changer ≡ changer_of table.now }
+        requires most { IfSome changer (λ handle. handle ≤ 1024) }
+        ensures { result ≡ fitted_bond table.now self.now peer.now }
+    {
+        let row = self.fitted_row(peer, table);
+        let owed = self.owed(peer) && fit::wants_changes(changer, &row);
+        Bond { row, owed }
+    }
+
+    /// The row of a peer, fitted to a table.
+    fn fitted_row(&self, peer: &Peer, table: &Table) -> ConfigRow
+        ensures { result ≡ row_fitted table.now.attributes (row_read self.now peer.now) }
+    {
+        match place_of(&self.peers, peer) {
+            Some(place) => fit::fit_row(self.bonds[place].row.entries(), table),
+            None => fit::fit_entries(self.unfitted.entries(), peer, table),
+        }
     }
 
     /// What a peer has configured at a handle: 0 where it has configured nothing.

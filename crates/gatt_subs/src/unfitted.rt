@@ -37,16 +37,23 @@ impl Model for Unfitted {
 }
 
 impl Unfitted {
+    /// Nothing.
+    pub fn new(alloc: Global) -> Self
+        ensures { result ≡ nothing_written }
+    {
+        Unfitted {
+            entries: Vec::new(alloc),
+            owed: Vec::new(alloc),
+        }
+    }
+
     /// Reads a rows file, and gives what it says or its first fault. Memory may be refused at any
     /// point.
     #[tactic(auto, unfolding(crate::specs::Unfitted::rows_read))]
     pub fn read(alloc: Global, text: &str) -> Result<Unfitted, RowsFault>
         ensures { Gives OutOfMemory (rows_read text.now) result }
     {
-        let mut unfitted = Unfitted {
-            entries: Vec::new(alloc),
-            owed: Vec::new(alloc),
-        };
+        let mut unfitted = Unfitted::new(alloc);
         let mut rest = text;
         let mut number = 1;
         while let Some((line, behind)) = first_line(rest) {
@@ -154,7 +161,7 @@ fn first_entry_behind(entries: &[RowEntry], order: u128) -> Option<usize>
 
 /// Puts a peer in its place in the order of a rows file.
 #[tactic(auto, using(crate::proofs::InOrder::inserts))]
-fn insert_peer(peers: &mut Vec<Peer>, peer: Peer) -> Result<(), AllocError>
+pub fn insert_peer(peers: &mut Vec<Peer>, peer: Peer) -> Result<(), AllocError>
     ensures ok { OnOk result (peers.new.items ≡ in_order rank_of peer peers.old.items) }
     ensures err { OnErr result (peers.new.items ≡ peers.old.items) }
 {
@@ -164,7 +171,7 @@ fn insert_peer(peers: &mut Vec<Peer>, peer: Peer) -> Result<(), AllocError>
 }
 
 /// Where the first peer is that comes behind this rank.
-pub fn first_peer_behind(peers: &[Peer], order: u64) -> Option<usize>
+fn first_peer_behind(peers: &[Peer], order: u64) -> Option<usize>
     ensures { result ≡ position (λ other. nat_lt order (rank_of other)) peers.now }
 {
     peers.iter().position(|other| order < rank(other))

@@ -1,0 +1,53 @@
+-- Rows fitted to keys and a table: this profile's own.
+use Rattle.std.specs.Prelude.{ℕ, ◌+◌, Bool, false, ◌==◌, ◌&&◌, not, if◌then◌else◌, List, [], ◌∷◌, map, filter, Option, Some, None}
+use Rattle.std.specs.Int.RustNames.{bit_and}
+use Rattle.std.specs.Option.{option_map_or}
+use Rattle.att_numbers.specs.Types.{Handle, Row}
+use Rattle.att_table.specs.declared.attr.Attr.{Attr}
+use Rattle.att_table.specs.Changer.{changer_of}
+use Rattle.att_table.specs.ConfigRow.{bits_at, with_bits, is_supported}
+use Rattle.att_table.specs.Table.{Contents}
+use Rattle.le_hci.specs.declared.peer.Peer.{Peer}
+use Rattle.le_security.specs.declared.entry.Entry.{Entry}
+use Rattle.gatt_subs.specs.declared.bond.Bond.{Bond}
+use Rattle.gatt_subs.specs.declared.bond.TheConstants.{INDICATION}
+use Rattle.gatt_subs.specs.InOrder.{in_order}
+use Rattle.gatt_subs.specs.RowEntry.{rank_of}
+use Rattle.gatt_subs.specs.Rows.{Subscriptions, owes, row_read}
+use Rattle.gatt_subs.specs.Unfitted.{nothing_written, has_peer}
+
+-- the peers of keys, each once, in the order of a rows file
+abbrev pub with_peer : List Peer → Peer → List Peer
+with_peer peers peer = if has_peer peers peer then peers else in_order rank_of peer peers
+
+abbrev pub peers_with : List Peer → List Entry → List Peer
+peers_with peers [] = peers
+peers_with peers (key ∷ keys) = peers_with (with_peer peers key.peer) keys
+
+abbrev pub peers_of : List Entry → List Peer
+peers_of keys = peers_with [] keys
+
+-- a row with other entries set
+abbrev pub with_entries : Row → Row → Row
+with_entries row [] = row
+with_entries row (entry ∷ entries) = with_entries (with_bits row entry.0 entry.1) entries
+
+-- the entries of a row that a table supports, whole or not at all
+abbrev pub row_fitted : List Attr → Row → Row
+row_fitted attributes row = with_entries [] (filter (is_supported attributes) row)
+
+-- whether a row asks for indications of the changer of a table, if that has one: its configuration stands behind it
+abbrev pub wants_changes : Option Handle → Row → Bool
+wants_changes changer row =
+    option_map_or (λ handle. not (bit_and (bits_at row (handle + 1)) INDICATION == 0)) changer false
+
+-- a peer's bond: a peer stays owed only if its row still asks for what it is owed
+abbrev pub fitted_bond : Contents → Subscriptions → Peer → Bond
+fitted_bond table rows peer =
+    let row = row_fitted table.attributes (row_read rows peer) in
+    record { row = row; owed = owes rows peer && wants_changes (changer_of table) row }
+
+-- one row for each peer of the keys, and nothing else
+abbrev pub fitted_rows : List Entry → Contents → Subscriptions → Subscriptions
+fitted_rows keys table rows =
+    record { peers = peers_of keys; bonds = map (fitted_bond table rows) (peers_of keys); unfitted = nothing_written }
