@@ -99,7 +99,7 @@ known true true false four five six is = cc is
 known true false three four five six is = cc is
 known false two three four five six is = cc is
 
-of_a_changer : (table : Contents) (attr : Attr) → IsTable table → find (is_changer table) table.attributes ≡ Some attr → IsOfAChanger table attr.handle
+pub of_a_changer : (table : Contents) (attr : Attr) → IsTable table → find (is_changer table) table.attributes ≡ Some attr → IsOfAChanger table attr.handle
 of_a_changer table attr facts found =
     let attributes = table.attributes in
     let at = found-at (is_changer table) attributes 1 attr facts.handles found in

@@ -7,3 +7,4 @@ pub mod Places
 pub mod RowsLine
 pub mod Supported
 pub mod Undisclosed
+pub mod Writing

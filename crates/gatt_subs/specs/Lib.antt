@@ -10,3 +10,4 @@ pub mod Unfitted
 pub mod Rows
 pub mod RowsLends
 pub mod Fit
+pub mod RowsText

@@ -8,7 +8,7 @@ use Rattle.toml_tables.specs.Reading.{◌>>=◌}
 use Rattle.att_numbers.specs.Types.{Handle, Row}
 use Rattle.att_table.specs.declared.attr.Attr.{Attr}
 use Rattle.att_table.specs.Changer.{changer_of}
-use Rattle.att_table.specs.ConfigRow.{bits_at, with_bits, is_supported}
+use Rattle.att_table.specs.ConfigRow.{with_bits, kept_row}
 use Rattle.att_table.specs.Table.{Contents}
 use Rattle.le_hci.specs.declared.peer.Peer.{Peer}
 use Rattle.le_security.specs.declared.entry.Entry.{Entry}
@@ -82,3 +82,7 @@ pub record ChangesBond (change : Bond → Bond) (peer : Peer) (old new : Subscri
   pub others : (other : Peer) → same_peer peer other ≡ false → bond_of new other ≡ bond_of old other
   pub unfitted : new.unfitted ≡ old.unfitted
   pub peers : new.peers ≡ old.peers
+
+-- what of a bond stays when a table is replaced
+abbrev pub kept_bond : List Attr → List Attr → Bond → Bond
+kept_bond old new bond = record bond { row = kept_row old new bond.row }

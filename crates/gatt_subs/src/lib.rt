@@ -9,6 +9,7 @@ mod row_entry;
 mod rows;
 mod rows_fault;
 mod rows_line;
+mod rows_text;
 mod unfitted;
 
 pub use pending::Pending;

@@ -13,6 +13,19 @@ pub struct RowEntry {
     pub bits: u8,
 }
 
+impl Default for RowEntry {
+    fn default() -> Self {
+        RowEntry {
+            peer: Peer {
+                kind: 0,
+                address: [0; 6],
+            },
+            handle: 0,
+            bits: 0,
+        }
+    }
+}
+
 impl RowEntry {
     /// Whether this is what a peer has configured at a handle.
     pub fn is_at(&self, peer: &Peer, handle: u16) -> bool

@@ -2,24 +2,28 @@
 
 ghost use Rattle.std.specs.Prelude.{◌≡◌, ◌<◌, ◌≤◌, length, slice_get, Some, IsTrue, IsNone, IfSome, IfOk, IfErr, OnOk, OnErr, map};
 ghost use Rattle.std.specs.Borrow.{sem};
+ghost use Rattle.std.specs.Io.KnownBytes.{Appends};
 ghost use Rattle.std.specs.List.{find};
 ghost use Rattle.std.specs.Option.{option_copied};
 ghost use Rattle.octets.specs.Memory.{Gives};
+ghost use Rattle.octets.specs.Stream.{CountsFailure};
 ghost use Rattle.att_table.specs.Changer.{changer_of};
 ghost use Rattle.att_table.specs.ConfigRow.{bits_at, has_room, HasOneEntryEach};
 ghost use Rattle.gatt_subs.specs.declared.rows_fault.RowsFault.TheVariants.{OutOfMemory};
 ghost use Rattle.gatt_subs.specs.Fit.{fitted_bond, fitted_rows, row_fitted};
 ghost use Rattle.gatt_subs.specs.RowEntry.{is_at};
-ghost use Rattle.gatt_subs.specs.Rows.{place_of, bond_of, row_of, row_in, row_read, owes, bonds_with, with_set, with_owed, subscriptions_read, ChangesBond};
+ghost use Rattle.gatt_subs.specs.Rows.{place_of, bond_of, row_of, row_in, row_read, owes, bonds_with, with_set, with_owed, kept_bond, subscriptions_read, ChangesBond};
+ghost use Rattle.gatt_subs.specs.RowsText.{text_of, WritesFront};
 
 use crate::bond::Bond;
-use crate::fit;
 use crate::row_entry::RowEntry;
 use crate::rows_fault::RowsFault;
 use crate::unfitted::{Unfitted, has_peer};
+use crate::{fit, rows_text};
 use att_table::{ConfigRow, Table};
 use le_hci::Peer;
 use le_security::Keys;
+use octets::{Failed, Sink};
 use std::alloc::{AllocError, Global};
 use std::marker::Model;
 
@@ -115,6 +119,16 @@ impl Rows {
         }
     }
 
+    /// Writes the rows as a rows file: what is configured, in ascending order of peers and handles, and
+    /// then the peers that are owed. Where the sink fails, the front of that is written.
+    pub fn text<W: Sink>(&self, sink: &mut W) -> Result<(), Failed>
+        ensures ok { OnOk result (Appends (W.contents sink.old) (W.contents sink.new) (text_of self.now)) }
+        ensures front { OnErr result (WritesFront (text_of self.now) (W.contents sink.old) (W.contents sink.new)) }
+        ensures failures { CountsFailure (W.failures sink.old) (W.failures sink.new) result }
+    {
+        rows_text::write_rows(&self.peers, &self.bonds, &self.unfitted, sink)
+    }
+
     /// What a peer has configured at a handle: 0 where it has configured nothing.
     pub fn get(&self, peer: &Peer, handle: u16) -> u8
         ensures { result ≡ bits_at (row_read self.now peer.now) handle }
@@ -165,6 +179,22 @@ impl Rows {
         if let Some(place) = place_of(&self.peers, peer) {
             set_owed(&mut self.bonds, place, owed);
         }
+    }
+
+    /// Keeps of each row what has its meaning in the table that replaces another.
+    pub fn keep(&mut self, old: &Table, new: &Table)
+        ensures { self.new ≡ record self.old { bonds = map (kept_bond old.now.attributes new.now.attributes) self.old.bonds } }
+    {
+        keep_rows(&mut self.bonds, old, new);
+    }
+}
+
+/// Keeps of the row of each bond what has its meaning in the table that replaces another.
+fn keep_rows(bonds: &mut Vec<Bond>, old: &Table, new: &Table)
+    ensures { bonds.new.items ≡ map (kept_bond old.now.attributes new.now.attributes) bonds.old.items }
+{
+    for place in 0..bonds.len() {
+        bonds[place].row.keep(old, new);
     }
 }
 

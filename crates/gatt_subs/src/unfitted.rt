@@ -153,7 +153,7 @@ fn insert_entry(entries: &mut Vec<RowEntry>, entry: RowEntry) -> Result<(), Allo
 }
 
 /// Where the first entry is that comes behind this place in the order.
-fn first_entry_behind(entries: &[RowEntry], order: u128) -> Option<usize>
+pub fn first_entry_behind(entries: &[RowEntry], order: u128) -> Option<usize>
     ensures { result ≡ position (λ other. nat_lt order (order_of other)) entries.now }
 {
     entries.iter().position(|other| order < other.order())

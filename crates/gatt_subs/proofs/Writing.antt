@@ -1,0 +1,250 @@
+-- What a sink takes in turn.
+use Rattle.std.proofs.Common.{◌≡◌, ℕ, ◌+◌, ◌≤◌, Bool, true, false, if◌then◌else◌, List, [], ◌∷◌, ◌++◌, ◌<◌, length, get_or, take, drop, Option, Some, None, refl, sym, ap, subst, ◌∙◌, arith, append_assoc}
+use Rattle.std.proofs.Math.ListN.{drop_of_length-le}
+use Rattle.std.specs.Prelude.{Result, Ok, Err, IsOk, OnOk, OnErr}
+use Rattle.std.specs.List.{flat_map}
+use Rattle.std.specs.Io.KnownBytes.{Appends, Keeps}
+use Rattle.std.proofs.lemmas.Grind.{common_steps}
+use Rattle.std.proofs.lemmas.List.{append-nil, at_drop_more, take-append-drop}
+use Rattle.octets.specs.Number.{Octets}
+use Rattle.octets.specs.Stream.{CountsNone, CountsOne}
+use Rattle.std.proofs.lemmas.List.Concat.{flat_map-append}
+use Rattle.le_hci.specs.declared.peer.Peer.{Peer}
+use Rattle.gatt_subs.specs.declared.bond.Bond.{Bond}
+use Rattle.gatt_subs.specs.declared.row_entry.RowEntry.{RowEntry}
+use Rattle.gatt_subs.specs.RowsText.{bond_entries, entries_of, entry_line, owed_line, owed_peers, text_in_parts, text_of, WritesFront}
+use Rattle.gatt_subs.specs.Rows.{Subscriptions}
+use Rattle.gatt_subs.specs.Unfitted.{Written}
+
+appends-append : (held mid holds : Option Octets) (xs ys : Octets) → Appends held mid xs → Appends mid holds ys → Appends held holds (xs ++ ys)
+appends-append None mid holds xs ys a b = tt
+appends-append (Some h) None holds xs ys a b = absurd a
+appends-append (Some h) (Some m) None xs ys a b = absurd b
+appends-append (Some h) (Some m) (Some n) xs ys a b = grind (arith, common_steps)
+
+appends-nothing : (held : Option Octets) → Appends held held []
+appends-nothing None = tt
+appends-nothing (Some h) = grind (arith, common_steps)
+
+kept-appends : (mid holds : Option Octets) → Keeps mid holds → Appends mid holds []
+kept-appends None holds kept = tt
+kept-appends (Some m) None kept = absurd kept
+kept-appends (Some m) (Some n) kept = kept ∙ sym (append-nil m)
+
+-- of a text all but the rest is written
+pub record HasWritten (text rest : Octets) (held holds : Option Octets) : Type 0 where
+  pub written : Octets
+  pub appended : Appends held holds written
+  pub parts : text ≡ written ++ rest
+
+pub written_none : (text : Octets) (held : Option Octets) → HasWritten text text held held
+written_none text held = record { written = []; appended = appends-nothing held; parts = refl }
+
+-- more of it is written
+pub written_more : (text piece rest : Octets) (held mid holds : Option Octets)
+    → HasWritten text (piece ++ rest) held mid → Appends mid holds piece → HasWritten text rest held holds
+written_more text piece rest held mid holds so_far appended = record {
+  written = so_far.written ++ piece;
+  appended = appends-append held mid holds so_far.written piece so_far.appended appended;
+  parts = so_far.parts ∙ sym (append_assoc so_far.written piece rest);
+}
+
+pub written_count : (text rest : Octets) (count : ℕ) (held mid holds : Option Octets)
+    → HasWritten text rest held mid → Appends mid holds (take count rest) → HasWritten text (drop count rest) held holds
+written_count text rest count held mid holds so_far appended =
+    written_more text (take count rest) (drop count rest) held mid holds
+    (subst (λ (rest : Octets). HasWritten text rest held mid) (sym (take-append-drop count rest)) so_far) appended
+
+pub written_all : (text rest : Octets) (held holds : Option Octets) → HasWritten text rest held holds → rest ≡ [] → Appends held holds text
+written_all text rest held holds so_far none =
+    subst (Appends held holds) (sym (so_far.parts ∙ ap (λ octets. so_far.written ++ octets) none ∙ append-nil so_far.written)) so_far.appended
+
+-- a piece breaks off
+pub breaks_off : (text piece rest : Octets) (held mid holds : Option Octets)
+    → HasWritten text (piece ++ rest) held mid → WritesFront piece mid holds → WritesFront text held holds
+breaks_off text piece rest held mid holds so_far front = record {
+  written = so_far.written ++ front.written;
+  appended = appends-append held mid holds so_far.written front.written so_far.appended front.appended;
+  left = front.left ++ rest;
+  parts =
+      so_far.parts
+      ∙ ap (λ (octets : Octets). so_far.written ++ (octets ++ rest)) front.parts
+      ∙ ap (λ (octets : Octets). so_far.written ++ octets) (append_assoc front.written front.left rest)
+      ∙ sym (append_assoc so_far.written front.written (front.left ++ rest));
+}
+
+pub breaks_kept : (text rest : Octets) (held mid holds : Option Octets) → HasWritten text rest held mid → Keeps mid holds → WritesFront text held holds
+breaks_kept text rest held mid holds so_far kept =
+    breaks_off text [] rest held mid holds so_far (record { written = []; appended = kept-appends mid holds kept; left = []; parts = refl })
+
+-- failures that are counted one after the other
+pub counts_none : (before mid now : Option ℕ) → CountsNone before mid → CountsNone mid now → CountsNone before now
+counts_none (Some b) (Some m) (Some n) first second = second ∙ first
+counts_none None None None first second = tt
+counts_none None None (Some n) first second = absurd second
+counts_none None (Some m) now first second = absurd first
+counts_none (Some b) None now first second = absurd first
+counts_none (Some b) (Some m) None first second = absurd second
+
+pub counts_one : (before mid now : Option ℕ) → CountsNone before mid → CountsOne mid now → CountsOne before now
+counts_one (Some b) (Some m) (Some n) first second = second ∙ ap (λ count. count + 1) first
+counts_one (Some b) (Some m) None first second = sym first ∙ second
+counts_one None None None first second = tt
+counts_one None None (Some n) first second = absurd second
+counts_one None (Some m) now first second = absurd first
+counts_one (Some b) None now first second = absurd first
+
+pub counts_same : (before : Option ℕ) → CountsNone before before
+counts_same (Some b) = refl
+counts_same None = tt
+
+-- lines that are written one after the other
+pub lines_more : {X : Type 0} (line : X → Octets) (xs : List X) (i : ℕ) (d : X) (octets : Octets) (held mid holds : Option Octets) → i < length xs
+    → octets ≡ line (get_or xs i d) → HasWritten (flat_map line xs) (flat_map line (drop i xs)) held mid → Appends mid holds octets
+    → HasWritten (flat_map line xs) (flat_map line (drop (i + 1) xs)) held holds
+lines_more line xs i d octets held mid holds within is so_far appended =
+    written_more (flat_map line xs) (line (get_or xs i d)) (flat_map line (drop (i + 1) xs)) held mid holds
+    (subst (λ (rest : Octets). HasWritten (flat_map line xs) rest held mid) (at_drop_more (flat_map line) xs i d within) so_far)
+    (subst (Appends mid holds) is appended)
+
+pub line_breaks_off : {X : Type 0} (line : X → Octets) (xs : List X) (i : ℕ) (d : X) (octets : Octets) (held mid holds : Option Octets) → i < length xs
+    → octets ≡ line (get_or xs i d) → HasWritten (flat_map line xs) (flat_map line (drop i xs)) held mid → WritesFront octets mid holds
+    → WritesFront (flat_map line xs) held holds
+line_breaks_off line xs i d octets held mid holds within is so_far front =
+    breaks_off (flat_map line xs) (line (get_or xs i d)) (flat_map line (drop (i + 1) xs)) held mid holds
+    (subst (λ (rest : Octets). HasWritten (flat_map line xs) rest held mid) (at_drop_more (flat_map line) xs i d within) so_far)
+    (subst (λ (octets : Octets). WritesFront octets mid holds) is front)
+
+pub on_err : {T E : Type 0} (result : Result T E) (P : Type 0) → P → OnErr result P
+on_err (Ok x) P p = tt
+on_err (Err e) P p = p
+
+pub on_ok_is : {T E : Type 0} (result : Result T E) (P : Type 0) → IsOk result → OnOk result P → P
+on_ok_is (Ok x) P ok p = p
+on_ok_is (Err e) P ok p = cc ok
+
+-- the lines of bonds, from a place on
+bonds_break : (peers : List Peer) (bonds : List Bond) (i : ℕ) (d : Peer) (e : Bond) (entries : List RowEntry) → i < length peers → i < length bonds
+    → entries ≡ entries_of (get_or peers i d) (get_or bonds i e).row
+    → flat_map entry_line (bond_entries (drop i peers) (drop i bonds))
+    ≡ flat_map entry_line entries ++ flat_map entry_line (bond_entries (drop (i + 1) peers) (drop (i + 1) bonds))
+bonds_break peers bonds i d e entries within within' is =
+    at_drop_more (λ (left : List Peer). flat_map entry_line (bond_entries left (drop i bonds))) peers i d within
+    ∙ at_drop_more (λ (left : List Bond). flat_map entry_line (bond_entries (get_or peers i d ∷ drop (i + 1) peers) left)) bonds i e within'
+    ∙ flat_map-append entry_line (entries_of (get_or peers i d) (get_or bonds i e).row) (bond_entries (drop (i + 1) peers) (drop (i + 1) bonds))
+    ∙ sym (ap (λ (entries : List RowEntry). flat_map entry_line entries ++ flat_map entry_line (bond_entries (drop (i + 1) peers) (drop (i + 1) bonds))) is)
+
+pub bonds_more : (peers : List Peer) (bonds : List Bond) (i : ℕ) (d : Peer) (e : Bond) (entries : List RowEntry) (held mid holds : Option Octets) → i < length peers → i < length bonds
+    → entries ≡ entries_of (get_or peers i d) (get_or bonds i e).row
+    → HasWritten (flat_map entry_line (bond_entries peers bonds)) (flat_map entry_line (bond_entries (drop i peers) (drop i bonds))) held mid
+    → Appends mid holds (flat_map entry_line entries)
+    → HasWritten (flat_map entry_line (bond_entries peers bonds)) (flat_map entry_line (bond_entries (drop (i + 1) peers) (drop (i + 1) bonds))) held holds
+bonds_more peers bonds i d e entries held mid holds within within' is so_far appended =
+    written_more (flat_map entry_line (bond_entries peers bonds)) (flat_map entry_line entries) (flat_map entry_line (bond_entries (drop (i + 1) peers) (drop (i + 1) bonds))) held mid holds
+    (subst (λ (rest : Octets). HasWritten (flat_map entry_line (bond_entries peers bonds)) rest held mid) (bonds_break peers bonds i d e entries within within' is) so_far)
+    appended
+
+pub bonds_break_off : (peers : List Peer) (bonds : List Bond) (i : ℕ) (d : Peer) (e : Bond) (entries : List RowEntry) (held mid holds : Option Octets) → i < length peers → i < length bonds
+    → entries ≡ entries_of (get_or peers i d) (get_or bonds i e).row
+    → HasWritten (flat_map entry_line (bond_entries peers bonds)) (flat_map entry_line (bond_entries (drop i peers) (drop i bonds))) held mid
+    → WritesFront (flat_map entry_line entries) mid holds → WritesFront (flat_map entry_line (bond_entries peers bonds)) held holds
+bonds_break_off peers bonds i d e entries held mid holds within within' is so_far front =
+    breaks_off (flat_map entry_line (bond_entries peers bonds)) (flat_map entry_line entries) (flat_map entry_line (bond_entries (drop (i + 1) peers) (drop (i + 1) bonds))) held mid holds
+    (subst (λ (rest : Octets). HasWritten (flat_map entry_line (bond_entries peers bonds)) rest held mid) (bonds_break peers bonds i d e entries within within' is) so_far)
+    front
+
+-- the same of who is owed
+owed_from : (peers : List Peer) (bonds : List Bond) (i : ℕ) (d : Peer) (e : Bond) → i < length peers → i < length bonds
+    → flat_map owed_line (owed_peers (drop i peers) (drop i bonds))
+    ≡ (if (get_or bonds i e).owed then owed_line (get_or peers i d) else []) ++ flat_map owed_line (owed_peers (drop (i + 1) peers) (drop (i + 1) bonds))
+owed_from peers bonds i d e within within' =
+    at_drop_more (λ (left : List Peer). flat_map owed_line (owed_peers left (drop i bonds))) peers i d within
+    ∙ at_drop_more (λ (left : List Bond). flat_map owed_line (owed_peers (get_or peers i d ∷ drop (i + 1) peers) left)) bonds i e within'
+    ∙ (
+    let peer = get_or peers i d in
+    let rest = owed_peers (drop (i + 1) peers) (drop (i + 1) bonds) in
+    elim ((get_or bonds i e).owed) as (λ owed. flat_map owed_line (if owed then peer ∷ rest else rest) ≡ (if owed then owed_line peer else []) ++ flat_map owed_line rest) [
+      | true ↦ refl
+      | false ↦ refl
+    ])
+
+pub owed_more : (peers : List Peer) (bonds : List Bond) (i : ℕ) (d : Peer) (e : Bond) (held mid holds : Option Octets) → i < length peers → i < length bonds
+    → HasWritten (flat_map owed_line (owed_peers peers bonds)) (flat_map owed_line (owed_peers (drop i peers) (drop i bonds))) held mid
+    → Appends mid holds (if (get_or bonds i e).owed then owed_line (get_or peers i d) else [])
+    → HasWritten (flat_map owed_line (owed_peers peers bonds)) (flat_map owed_line (owed_peers (drop (i + 1) peers) (drop (i + 1) bonds))) held holds
+owed_more peers bonds i d e held mid holds within within' so_far appended =
+    written_more (flat_map owed_line (owed_peers peers bonds)) (if (get_or bonds i e).owed then owed_line (get_or peers i d) else []) (flat_map owed_line (owed_peers (drop (i + 1) peers) (drop (i + 1) bonds))) held mid holds
+    (subst (λ (rest : Octets). HasWritten (flat_map owed_line (owed_peers peers bonds)) rest held mid) (owed_from peers bonds i d e within within') so_far)
+    appended
+
+pub owed_break_off : (peers : List Peer) (bonds : List Bond) (i : ℕ) (d : Peer) (e : Bond) (held mid holds : Option Octets) → i < length peers → i < length bonds
+    → HasWritten (flat_map owed_line (owed_peers peers bonds)) (flat_map owed_line (owed_peers (drop i peers) (drop i bonds))) held mid
+    → WritesFront (if (get_or bonds i e).owed then owed_line (get_or peers i d) else []) mid holds → WritesFront (flat_map owed_line (owed_peers peers bonds)) held holds
+owed_break_off peers bonds i d e held mid holds within within' so_far front =
+    breaks_off (flat_map owed_line (owed_peers peers bonds)) (if (get_or bonds i e).owed then owed_line (get_or peers i d) else []) (flat_map owed_line (owed_peers (drop (i + 1) peers) (drop (i + 1) bonds))) held mid holds
+    (subst (λ (rest : Octets). HasWritten (flat_map owed_line (owed_peers peers bonds)) rest held mid) (owed_from peers bonds i d e within within') so_far)
+    front
+
+-- nothing is left behind the last bond
+pub bonds_end : (peers : List Peer) (bonds : List Bond) (i : ℕ) → length bonds ≤ i → length bonds ≡ length peers → flat_map entry_line (bond_entries (drop i peers) (drop i bonds)) ≡ []
+bonds_end peers bonds i end same =
+    ap (λ (left : List Peer). flat_map entry_line (bond_entries left (drop i bonds))) (drop_of_length-le peers (omega arith))
+
+pub owed_end : (peers : List Peer) (bonds : List Bond) (i : ℕ) → length bonds ≤ i → length bonds ≡ length peers → flat_map owed_line (owed_peers (drop i peers) (drop i bonds)) ≡ []
+owed_end peers bonds i end same =
+    ap (λ (left : List Peer). flat_map owed_line (owed_peers left (drop i bonds))) (drop_of_length-le peers (omega arith))
+
+-- the text in its parts
+pub text_of_parts : (rows : Subscriptions) → text_in_parts rows.peers rows.bonds rows.unfitted ≡ text_of rows
+unfolding text_of
+text_of_parts rows =
+    let A = flat_map entry_line (bond_entries rows.peers rows.bonds) in
+    let B = flat_map entry_line rows.unfitted.entries in
+    let C = flat_map owed_line (owed_peers rows.peers rows.bonds) in
+    let D = flat_map owed_line rows.unfitted.owed in
+    sym (append_assoc A B (C ++ D))
+    ∙ sym (λ i. flat_map-append entry_line (bond_entries rows.peers rows.bonds) rows.unfitted.entries i ++ flat_map-append owed_line (owed_peers rows.peers rows.bonds) rows.unfitted.owed i)
+
+-- where one of the parts breaks off
+last_breaks_off : (text piece : Octets) (held mid holds : Option Octets) → HasWritten text piece held mid → WritesFront piece mid holds → WritesFront text held holds
+last_breaks_off text piece held mid holds so_far front =
+    breaks_off text piece [] held mid holds (subst (λ (rest : Octets). HasWritten text rest held mid) (sym (append-nil piece)) so_far) front
+
+first_written : (peers : List Peer) (bonds : List Bond) (unfitted : Written) (held mid : Option Octets) → Appends held mid (flat_map entry_line (bond_entries peers bonds))
+    → HasWritten (text_in_parts peers bonds unfitted) (flat_map entry_line unfitted.entries ++ (flat_map owed_line (owed_peers peers bonds) ++ flat_map owed_line unfitted.owed)) held mid
+first_written peers bonds unfitted held mid first =
+    written_more (text_in_parts peers bonds unfitted) (flat_map entry_line (bond_entries peers bonds)) (flat_map entry_line unfitted.entries ++ (flat_map owed_line (owed_peers peers bonds) ++ flat_map owed_line unfitted.owed)) held held mid
+    (written_none (text_in_parts peers bonds unfitted) held) first
+
+second_written : (peers : List Peer) (bonds : List Bond) (unfitted : Written) (entries : List RowEntry) (held mid holds : Option Octets) → entries ≡ unfitted.entries
+    → Appends held mid (flat_map entry_line (bond_entries peers bonds)) → Appends mid holds (flat_map entry_line entries)
+    → HasWritten (text_in_parts peers bonds unfitted) (flat_map owed_line (owed_peers peers bonds) ++ flat_map owed_line unfitted.owed) held holds
+second_written peers bonds unfitted entries held mid holds is first second =
+    written_more (text_in_parts peers bonds unfitted) (flat_map entry_line unfitted.entries) (flat_map owed_line (owed_peers peers bonds) ++ flat_map owed_line unfitted.owed) held mid holds
+    (first_written peers bonds unfitted held mid first) (subst (λ (entries : List RowEntry). Appends mid holds (flat_map entry_line entries)) is second)
+
+pub second_breaks_off : (peers : List Peer) (bonds : List Bond) (unfitted : Written) (entries : List RowEntry) (held mid holds : Option Octets) → entries ≡ unfitted.entries
+    → Appends held mid (flat_map entry_line (bond_entries peers bonds)) → WritesFront (flat_map entry_line entries) mid holds
+    → WritesFront (text_in_parts peers bonds unfitted) held holds
+second_breaks_off peers bonds unfitted entries held mid holds is first front =
+    breaks_off (text_in_parts peers bonds unfitted) (flat_map entry_line unfitted.entries) (flat_map owed_line (owed_peers peers bonds) ++ flat_map owed_line unfitted.owed) held mid holds
+    (first_written peers bonds unfitted held mid first) (subst (λ (entries : List RowEntry). WritesFront (flat_map entry_line entries) mid holds) is front)
+
+pub third_breaks_off : (peers : List Peer) (bonds : List Bond) (unfitted : Written) (entries : List RowEntry) (held mid mid' holds : Option Octets) → entries ≡ unfitted.entries
+    → Appends held mid (flat_map entry_line (bond_entries peers bonds)) → Appends mid mid' (flat_map entry_line entries)
+    → WritesFront (flat_map owed_line (owed_peers peers bonds)) mid' holds → WritesFront (text_in_parts peers bonds unfitted) held holds
+third_breaks_off peers bonds unfitted entries held mid mid' holds is first second front =
+    breaks_off (text_in_parts peers bonds unfitted) (flat_map owed_line (owed_peers peers bonds)) (flat_map owed_line unfitted.owed) held mid' holds
+    (second_written peers bonds unfitted entries held mid mid' is first second) front
+
+pub fourth_breaks_off : {T E : Type 0} (result : Result T E) (peers : List Peer) (bonds : List Bond) (unfitted : Written) (entries : List RowEntry) (owed : List Peer) (held mid mid' mid'' holds : Option Octets)
+    → entries ≡ unfitted.entries → owed ≡ unfitted.owed
+    → Appends held mid (flat_map entry_line (bond_entries peers bonds)) → Appends mid mid' (flat_map entry_line entries)
+    → Appends mid' mid'' (flat_map owed_line (owed_peers peers bonds)) → OnErr result (WritesFront (flat_map owed_line owed) mid'' holds)
+    → OnErr result (WritesFront (text_in_parts peers bonds unfitted) held holds)
+fourth_breaks_off (Ok x) peers bonds unfitted entries owed held mid mid' mid'' holds is is' first second third front = tt
+fourth_breaks_off (Err e) peers bonds unfitted entries owed held mid mid' mid'' holds is is' first second third front =
+    last_breaks_off (text_in_parts peers bonds unfitted) (flat_map owed_line unfitted.owed) held mid'' holds
+    (written_more (text_in_parts peers bonds unfitted) (flat_map owed_line (owed_peers peers bonds)) (flat_map owed_line unfitted.owed) held mid' mid''
+    (second_written peers bonds unfitted entries held mid mid' is first second) third)
+    (subst (λ (owed : List Peer). WritesFront (flat_map owed_line owed) mid'' holds) is' front)

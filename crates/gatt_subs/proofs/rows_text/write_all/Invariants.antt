@@ -1,0 +1,13 @@
+use Rattle.std.proofs.Common.{length}
+use Rattle.octets.specs.Stream.{CountsNone}
+use Rattle.gatt_subs.proofs.Writing.{HasWritten}
+use Rattle.gatt_subs.proofs.rows_text.write_all.Given as goal
+
+abbrev pub invariant-loop-rest : goal.invariant-loop-rest
+invariant-loop-rest g l = record {
+  written : HasWritten l.fn.octets l.rest (g.W.Sink.contents l.fn.sink) (g.W.Sink.contents l.sink);
+  failures : CountsNone (g.W.Sink.failures l.fn.sink) (g.W.Sink.failures l.sink);
+}
+
+abbrev pub decreases-loop-rest : goal.decreases-loop-rest
+decreases-loop-rest g l = length l.rest

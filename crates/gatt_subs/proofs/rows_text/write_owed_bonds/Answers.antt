@@ -1,0 +1,21 @@
+use Rattle.std.proofs.Common.{◌<◌, length, arith}
+use Rattle.gatt_subs.proofs.Writing.{owed_break_off, owed_more, counts_none, on_err}
+use Rattle.gatt_subs.proofs.rows_text.write_owed_bonds.Goals as goal
+
+pub returns-in_err-write_if-clause-front : goal.returns-in_err-write_if-clause-front
+returns-in_err-write_if-clause-front g c =
+    let place = c.loop-place.place in
+    let within : place < length c.args.bonds.now = omega (arith, c.loop-place-test.true) in
+    let within' : place < length c.args.peers.now = omega (arith, c.requires) in
+    on_err c.from_residual.result _
+    (owed_break_off c.args.peers.now c.args.bonds.now place _ _ _ _ _ within' within c.loop-place.invariant.written c.in_err-write_if.ensures.front)
+
+pub loop-place-preserved : goal.loop-place-preserved
+loop-place-preserved g c =
+    let place = c.loop-place.place in
+    let within : place < length c.args.bonds.now = omega (arith, c.loop-place-test.true) in
+    let within' : place < length c.args.peers.now = omega (arith, c.requires) in
+    record {
+      written = owed_more c.args.peers.now c.args.bonds.now place _ _ _ _ _ within' within c.loop-place.invariant.written c.in_ok-write_if.ensures.ok;
+      failures = counts_none _ _ _ c.loop-place.invariant.failures c.in_ok-write_if.ensures.failures;
+    }

@@ -1,0 +1,79 @@
+-- The text of a rows file: this profile's own.
+use Rattle.std.specs.Prelude.{◌≡◌, ℕ, ◌==◌, Bool, if◌then◌else◌, List, [], ◌∷◌, ◌++◌, map, filter, slice_index, Option}
+use Rattle.std.specs.Fmt.{decimal}
+use Rattle.std.specs.Io.KnownBytes.{Appends}
+use Rattle.std.specs.List.{flat_map}
+use Rattle.hex.specs.Hex.{encode_lower}
+use Rattle.octets.specs.Number.{Octets}
+use Rattle.att_numbers.specs.Types.{Handle, Row}
+use Rattle.le_hci.specs.declared.peer.Peer.{Peer}
+use Rattle.gatt_subs.specs.declared.bond.Bond.{Bond}
+use Rattle.gatt_subs.specs.declared.row_entry.RowEntry.{RowEntry}
+use Rattle.gatt_subs.specs.InOrder.{in_order}
+use Rattle.gatt_subs.specs.RowEntry.{order_of}
+use Rattle.gatt_subs.specs.Rows.{Subscriptions}
+use Rattle.gatt_subs.specs.Unfitted.{Written}
+
+-- octets in hexadecimal, joined by colons
+abbrev pub joined_by_colons : Octets → Octets
+joined_by_colons [] = []
+joined_by_colons (octet ∷ []) = encode_lower (octet ∷ [])
+joined_by_colons (octet ∷ next ∷ octets) = encode_lower (octet ∷ []) ++ 58 ∷ joined_by_colons (next ∷ octets)
+
+-- an address, the last octet on the wire first
+unfoldable pub address_text : Octets → Octets
+address_text address = joined_by_colons (map (slice_index address) (5 ∷ 4 ∷ 3 ∷ 2 ∷ 1 ∷ 0 ∷ []))
+
+abbrev pub peer_text : Peer → Octets
+peer_text peer = decimal peer.kind ++ 32 ∷ address_text peer.address
+
+-- what a peer has configured, in a line
+unfoldable pub entry_line : RowEntry → Octets
+entry_line entry = peer_text entry.peer ++ 32 ∷ decimal entry.handle ++ 32 ∷ decimal entry.bits ++ 10 ∷ []
+
+-- a peer that is owed, in a line
+unfoldable pub owed_line : Peer → Octets
+owed_line peer = 33 ∷ 32 ∷ peer_text peer ++ 10 ∷ []
+
+-- the entries of a row that have bits, in the order of a rows file, behind others
+abbrev pub entries_with : List RowEntry → Peer → Row → List RowEntry
+entries_with entries peer [] = entries
+entries_with entries peer (entry ∷ row) =
+    entries_with (if entry.1 == 0 then entries else in_order order_of (record { peer = peer; handle = entry.0; bits = entry.1 }) entries) peer row
+
+abbrev pub entries_of : Peer → Row → List RowEntry
+entries_of peer row = entries_with [] peer row
+
+-- the same of all bonds
+abbrev pub bond_entries : List Peer → List Bond → List RowEntry
+bond_entries [] bonds = []
+bond_entries (peer ∷ peers) [] = []
+bond_entries (peer ∷ peers) (bond ∷ bonds) = entries_of peer bond.row ++ bond_entries peers bonds
+
+-- the peers whose bonds are owed
+abbrev pub owed_peers : List Peer → List Bond → List Peer
+owed_peers [] bonds = []
+owed_peers (peer ∷ peers) [] = []
+owed_peers (peer ∷ peers) (bond ∷ bonds) = if bond.owed then peer ∷ owed_peers peers bonds else owed_peers peers bonds
+
+-- all that rows say, in the order of a rows file: what is configured, and then who is owed
+abbrev pub configured : Subscriptions → List RowEntry
+configured rows = bond_entries rows.peers rows.bonds ++ rows.unfitted.entries
+
+abbrev pub owed_in : Subscriptions → List Peer
+owed_in rows = owed_peers rows.peers rows.bonds ++ rows.unfitted.owed
+
+unfoldable pub text_of : Subscriptions → Octets
+text_of rows = flat_map entry_line (configured rows) ++ flat_map owed_line (owed_in rows)
+
+-- the same in the four parts that it has
+abbrev pub text_in_parts : List Peer → List Bond → Written → Octets
+text_in_parts peers bonds unfitted =
+    flat_map entry_line (bond_entries peers bonds) ++ (flat_map entry_line unfitted.entries ++ (flat_map owed_line (owed_peers peers bonds) ++ flat_map owed_line unfitted.owed))
+
+-- the front of these octets was written
+pub record WritesFront (octets : Octets) (held holds : Option Octets) : Type 0 where
+  pub written : Octets
+  pub appended : Appends held holds written
+  pub left : Octets
+  pub parts : octets ≡ written ++ left

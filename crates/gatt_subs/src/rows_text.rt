@@ -1,0 +1,221 @@
+//! The text of rows.
+
+ghost use Rattle.std.specs.Prelude.{◌≡◌, ◌+◌, ◌≤◌, ◌<◌, ◌++◌, [], if◌then◌else◌, length, OnOk, OnErr};
+ghost use Rattle.std.specs.Fmt.{decimal};
+ghost use Rattle.std.specs.Io.KnownBytes.{Appends};
+ghost use Rattle.std.specs.List.{flat_map};
+ghost use Rattle.arrayvec.specs.ArrayVec.{array_vec_len};
+ghost use Rattle.octets.specs.Stream.{CountsFailure};
+ghost use Rattle.gatt_subs.specs.InOrder.{in_order};
+ghost use Rattle.gatt_subs.specs.RowEntry.{order_of};
+ghost use Rattle.gatt_subs.specs.RowsText.{address_text, peer_text, entry_line, owed_line, owed_peers, bond_entries, entries_of, text_in_parts, WritesFront};
+
+use crate::bond::Bond;
+use crate::row_entry::RowEntry;
+use crate::unfitted::{Unfitted, first_entry_behind};
+use arrayvec::ArrayVec;
+use att_table::ConfigRow;
+use itoa::Buffer;
+use le_hci::Peer;
+use octets::{Failed, Sink};
+
+/// Room for a line.
+const LINE: usize = 96;
+
+/// Writes rows, by their parts: the peers that have bonds, and what is unfitted.
+pub fn write_rows<W: Sink>(
+    peers: &[Peer],
+    bonds: &[Bond],
+    unfitted: &Unfitted,
+    sink: &mut W,
+) -> Result<(), Failed>
+    requires { length bonds.now ≡ length peers.now }
+    ensures ok { OnOk result (Appends (W.contents sink.old) (W.contents sink.new) (text_in_parts peers.now bonds.now unfitted.now)) }
+    ensures front { OnErr result (WritesFront (text_in_parts peers.now bonds.now unfitted.now) (W.contents sink.old) (W.contents sink.new)) }
+    ensures failures { CountsFailure (W.failures sink.old) (W.failures sink.new) result }
+{
+    write_bonds(peers, bonds, sink)?;
+    write_entries(unfitted.entries(), sink)?;
+    write_owed_bonds(peers, bonds, sink)?;
+    write_owed(unfitted.owed(), sink)
+}
+
+/// Writes the lines of what bonds have configured.
+fn write_bonds<W: Sink>(peers: &[Peer], bonds: &[Bond], sink: &mut W) -> Result<(), Failed>
+    requires { length bonds.now ≡ length peers.now }
+    ensures ok { OnOk result (Appends (W.contents sink.old) (W.contents sink.new) (flat_map entry_line (bond_entries peers.now bonds.now))) }
+    ensures front { OnErr result (WritesFront (flat_map entry_line (bond_entries peers.now bonds.now)) (W.contents sink.old) (W.contents sink.new)) }
+    ensures failures { CountsFailure (W.failures sink.old) (W.failures sink.new) result }
+{
+    for place in 0..bonds.len() {
+        let entries = entries_of(&peers[place], &bonds[place].row);
+        write_entries(entries.as_slice(), sink)?;
+    }
+    Ok(())
+}
+
+/// Writes the lines of peers whose bonds are owed.
+fn write_owed_bonds<W: Sink>(peers: &[Peer], bonds: &[Bond], sink: &mut W) -> Result<(), Failed>
+    requires { length bonds.now ≡ length peers.now }
+    ensures ok { OnOk result (Appends (W.contents sink.old) (W.contents sink.new) (flat_map owed_line (owed_peers peers.now bonds.now))) }
+    ensures front { OnErr result (WritesFront (flat_map owed_line (owed_peers peers.now bonds.now)) (W.contents sink.old) (W.contents sink.new)) }
+    ensures failures { CountsFailure (W.failures sink.old) (W.failures sink.new) result }
+{
+    for place in 0..bonds.len() {
+        write_if(bonds[place].owed, &peers[place], sink)?;
+    }
+    Ok(())
+}
+
+/// Writes the line of a peer if it is owed.
+fn write_if<W: Sink>(owed: bool, peer: &Peer, sink: &mut W) -> Result<(), Failed>
+    ensures ok { OnOk result (Appends (W.contents sink.old) (W.contents sink.new) (if owed then owed_line peer.now else [])) }
+    ensures front { OnErr result (WritesFront (if owed then owed_line peer.now else []) (W.contents sink.old) (W.contents sink.new)) }
+    ensures failures { CountsFailure (W.failures sink.old) (W.failures sink.new) result }
+{
+    if owed {
+        write_all(owed_line(peer).as_slice(), sink)
+    } else {
+        Ok(())
+    }
+}
+
+/// Writes octets out, or the front of them where the sink fails.
+fn write_all<W: Sink>(octets: &[u8], sink: &mut W) -> Result<(), Failed>
+    ensures ok { OnOk result (Appends (W.contents sink.old) (W.contents sink.new) octets.now) }
+    ensures front { OnErr result (WritesFront octets.now (W.contents sink.old) (W.contents sink.new)) }
+    ensures failures { CountsFailure (W.failures sink.old) (W.failures sink.new) result }
+{
+    let mut rest = octets;
+    while !rest.is_empty() {
+        let count = sink.write(rest)?;
+        rest = rest.split_at(count).1;
+    }
+    Ok(())
+}
+
+/// Writes the lines of entries.
+fn write_entries<W: Sink>(entries: &[RowEntry], sink: &mut W) -> Result<(), Failed>
+    ensures ok { OnOk result (Appends (W.contents sink.old) (W.contents sink.new) (flat_map entry_line entries.now)) }
+    ensures front { OnErr result (WritesFront (flat_map entry_line entries.now) (W.contents sink.old) (W.contents sink.new)) }
+    ensures failures { CountsFailure (W.failures sink.old) (W.failures sink.new) result }
+{
+    for entry in entries {
+        write_all(entry_line(entry).as_slice(), sink)?;
+    }
+    Ok(())
+}
+
+/// Writes the lines of peers that are owed.
+fn write_owed<W: Sink>(peers: &[Peer], sink: &mut W) -> Result<(), Failed>
+    ensures ok { OnOk result (Appends (W.contents sink.old) (W.contents sink.new) (flat_map owed_line peers.now)) }
+    ensures front { OnErr result (WritesFront (flat_map owed_line peers.now) (W.contents sink.old) (W.contents sink.new)) }
+    ensures failures { CountsFailure (W.failures sink.old) (W.failures sink.new) result }
+{
+    for peer in peers {
+        write_all(owed_line(peer).as_slice(), sink)?;
+    }
+    Ok(())
+}
+
+/// The entries of a row that have bits, in the order of a rows file.
+fn entries_of(peer: &Peer, row: &ConfigRow) -> ArrayVec<RowEntry, 64>
+    ensures { result.items ≡ entries_of peer.now row.now }
+{
+    let mut entries = ArrayVec::new();
+    for &(handle, bits) in row.entries() {
+        if bits != 0 {
+            insert_in_order(
+                &mut entries,
+                RowEntry {
+                    peer: *peer,
+                    handle,
+                    bits,
+                },
+            );
+        }
+    }
+    entries
+}
+
+/// Puts an entry in its place in the order of a rows file.
+#[tactic(auto, using(crate::proofs::InOrder::inserts))]
+fn insert_in_order(entries: &mut ArrayVec<RowEntry, 64>, entry: RowEntry)
+    requires { array_vec_len entries.old < 64 }
+    ensures items { entries.new.items ≡ in_order order_of entry entries.old.items }
+    ensures len { array_vec_len entries.new ≡ array_vec_len entries.old + 1 }
+{
+    let place = first_entry_behind(entries, entry.order()).unwrap_or(entries.len());
+    entries.insert(place, entry);
+}
+
+/// What a peer has configured, in a line.
+#[tactic(auto, unfolding(crate::specs::RowsText::entry_line))]
+fn entry_line(entry: &RowEntry) -> ArrayVec<u8, LINE>
+    ensures { result.items ≡ entry_line entry.now }
+{
+    let mut line = ArrayVec::new();
+    push_peer(&mut line, &entry.peer);
+    push(&mut line, b" ");
+    push_number(&mut line, u64::from(entry.handle));
+    push(&mut line, b" ");
+    push_number(&mut line, u64::from(entry.bits));
+    push(&mut line, b"\n");
+    line
+}
+
+/// A peer that is owed, in a line.
+#[tactic(auto, unfolding(crate::specs::RowsText::owed_line))]
+fn owed_line(peer: &Peer) -> ArrayVec<u8, LINE>
+    ensures { result.items ≡ owed_line peer.now }
+{
+    let mut line = ArrayVec::new();
+    push(&mut line, b"! ");
+    push_peer(&mut line, peer);
+    push(&mut line, b"\n");
+    line
+}
+
+/// Appends the type of a peer's address, and the address.
+fn push_peer(line: &mut ArrayVec<u8, LINE>, peer: &Peer)
+    requires { array_vec_len line.old ≤ 2 }
+    ensures items { line.new.items ≡ line.old.items ++ peer_text peer.now }
+    ensures len { array_vec_len line.new ≤ array_vec_len line.old + 38 }
+{
+    push_number(line, u64::from(peer.kind));
+    push(line, b" ");
+    push(line, &address_text(peer.address));
+}
+
+/// An address as people write it, the most significant octet first.
+#[tactic(auto, unfolding(crate::specs::RowsText::address_text))]
+fn address_text(address: [u8; 6]) -> [u8; 17]
+    ensures { result ≡ address_text address }
+{
+    let [a, b, c, d, e, f] = address;
+    let mut digits = [0; 12];
+    hex::encode_to_slice([f, e, d, c, b, a], &mut digits).unwrap();
+    let [f1, f0, e1, e0, d1, d0, c1, c0, b1, b0, a1, a0] = digits;
+    [
+        f1, f0, b':', e1, e0, b':', d1, d0, b':', c1, c0, b':', b1, b0, b':', a1, a0,
+    ]
+}
+
+/// Appends a number in decimal digits.
+fn push_number(line: &mut ArrayVec<u8, LINE>, number: u64)
+    requires { array_vec_len line.old + 20 ≤ 96 }
+    ensures items { line.new.items ≡ line.old.items ++ decimal number }
+    ensures len { array_vec_len line.new ≤ array_vec_len line.old + 20 }
+{
+    let mut digits = Buffer::new();
+    push(line, digits.format(number).as_bytes());
+}
+
+/// Appends octets that fit, so the `unwrap` is proved and tests nothing.
+fn push(line: &mut ArrayVec<u8, LINE>, octets: &[u8])
+    requires { array_vec_len line.old + length octets.now ≤ 96 }
+    ensures items { line.new.items ≡ line.old.items ++ octets.now }
+    ensures len { array_vec_len line.new ≡ array_vec_len line.old + length octets.now }
+{
+    line.try_extend_from_slice(octets).unwrap();
+}
