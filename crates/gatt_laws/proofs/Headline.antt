@@ -136,7 +136,7 @@ abbrev SentTo : Contents → Standing → Asked → Response → Type 0
 SentTo table standing asked response = Each (MayUse Read table.attributes standing) (handles_sent asked response)
 
 -- the entries that an access is refused for the policy are not written
-written-may : (access : Access) (attributes : List Attr) (standing : Standing) (entry : Entry) (broken : Option (Rule × Code)) (fault : Option Code)
+pub written-may : (access : Access) (attributes : List Attr) (standing : Standing) (entry : Entry) (broken : Option (Rule × Code)) (fault : Option Code)
     → first_broken_of access (guard_at attributes entry.handle) standing ≡ broken → unless_broken broken fault ≡ None → MayUse access attributes standing entry.handle
 written-may access attributes standing entry None fault is none =
     is_permitted access (guard_at attributes entry.handle) standing (none-mapped _ (first_broken_rule_of access (guard_at attributes entry.handle) standing) is)

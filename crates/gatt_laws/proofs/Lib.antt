@@ -4,3 +4,4 @@ pub mod RowsOfTheTable
 pub mod Silence
 pub mod Streams
 pub mod examples
+pub mod ValuesOfTheTable

@@ -13,3 +13,4 @@ pub mod Silence
 pub mod Start
 pub mod State
 pub mod Turn
+pub mod ValuesOfTheTable

@@ -1,0 +1,395 @@
+-- Whatever is written, a table stands.
+use Rattle.std.proofs.Common.{◌≡◌, ℕ, zero, suc, ◌+◌, ◌<◌, ◌≤◌, Bool, true, false, List, [], ◌∷◌, ◌++◌, length, Option, Some, None, refl, sym, ap, ◌∙◌, arith}
+use Rattle.std.specs.Prelude.{Result, Ok, Err, nat_lt, nat_le, ◌==◌, ◌&&◌, not, if◌then◌else◌}
+use Rattle.std.specs.Option.{option_map_or}
+use Rattle.std.proofs.lemmas.Bool.{eqb-true, leb-true, ltb-false}
+use Rattle.std.proofs.lemmas.List.{length-append, length-take, length-drop}
+use Rattle.att_numbers.specs.Types.{Handle, Row, Code, Values}
+use Rattle.att_numbers.specs.declared.error_code.TheConstants.{INVALID_OFFSET, INVALID_ATTRIBUTE_VALUE_LENGTH}
+use Rattle.att_policy.specs.declared.policy.Access.{Access}
+use Rattle.att_policy.specs.declared.policy.Rule.{Rule}
+use Rattle.att_policy.specs.declared.policy.Rule.TheVariants.{HandleExists}
+use Rattle.att_policy.specs.declared.standing.Standing.{Standing}
+use Rattle.att_policy.specs.Policy.{first_broken_of}
+use Rattle.att_policy.specs.Refusal.{Refusal}
+use Rattle.att_table.proofs.Values.{length_stored, stored_alike}
+use Rattle.att_table.specs.declared.attr.Attr.{Attr}
+use Rattle.att_table.specs.Facts.{IsTable}
+use Rattle.att_table.specs.Table.{Contents, attribute_at, guard_at, is_value, is_configuration_at, is_fixed_at, is_value_at, largest_at, value_at, with_value}
+use Rattle.att_values.specs.Cell.{value_with_part}
+use Rattle.att_writes.specs.Applied.{Stored, after_entry, after_entries, stored_in, stored_after as written_after, unless_refused as unless_entry}
+use Rattle.att_writes.specs.Entry.{Entry}
+use Rattle.att_writes.specs.Fault.{configuration_fault, fault_of, form_fault, room_of, unless_broken, value_fault}
+use Rattle.gatt_conn.specs.Answer.{Writing, stored_after}
+use Rattle.std.specs.List.{find}
+use Rattle.std.specs.Option.{option_map}
+use Rattle.att_pdu.specs.Grammar.{request_of, is_due}
+use Rattle.att_table.proofs.ServiceBefore.{of_a_changer}
+use Rattle.att_table.specs.Changer.{changer_of, is_changer}
+use Rattle.gatt_conn.specs.Answer.{writing_asked}
+use Rattle.gatt_laws.specs.Event.{Ordinal, Own, Event, Connected, Gone, KeyAsked, Encrypted, Refreshed, Asks, Signals, Authorized, Of, Completed, Credit, Update, Tick, Replaced, Nothing}
+use Rattle.gatt_laws.specs.Headline.{MayUse}
+use Rattle.gatt_laws.specs.Calls.{Call, UpdateCall, AuthorizeCall, TickCall, NotAValue, BadLength, TimeWentBack, NoServiceChanged, holding, serving, has_length, update_event, authorize_event, call_event, same_changer, replacement_event}
+use Rattle.gatt_laws.specs.Controller.{is_ready}
+use Rattle.gatt_laws.specs.Input.{Item, AnOctet, APacket, ACall, ATable, TheEnd, Course, after_result, packet_taken, after_packet, with_unfinished, after_first, taken, unless_stopped, after_item, after_items, at_start, course}
+use Rattle.gatt_laws.specs.Packets.{Fault, answered, own_event, is_accepted, connection_event, reported_event, event_or_bad, frame_event, Fragments, Arrival, arrival, arrival_event, packet_event}
+use Rattle.gatt_laws.specs.ValuesOfTheTable.{HasTables, AlwaysHasATable}
+use Rattle.le_h4.specs.Division.{is_long}
+use Rattle.le_h4.specs.Packet.{Packet, AclPacket, EventPacket, ScoPacket, First, FirstPacket, NoneYet, NoPacket, first_of}
+use Rattle.le_hci.specs.declared.event.BadEvent.{BadEvent}
+use Rattle.le_hci.specs.declared.init.Init.{Init}
+use Rattle.le_hci.specs.Event as event
+use Rattle.le_hci.specs.Event.{Reported, event_of}
+use Rattle.gatt_laws.specs.Part.{Part, is_live, row_of, mtu_of, connection_of, after_ending}
+use Rattle.gatt_laws.specs.Room.{Room}
+use Rattle.gatt_laws.specs.State.{State, own_change, all_changed, change_of, step}
+use Rattle.gatt_laws.specs.Turn.{turn_to, served, is_full, live_turn, remote_user_terminated}
+use Rattle.gatt_laws.proofs.Headline.{written-may}
+use Rattle.octets.specs.Number.{Octets}
+
+abbrev table_with : List Attr → Values → Contents
+table_with attributes values = record { attributes = attributes; values = values }
+
+-- a value that fits is stored
+stored-table : (table : Contents) (handle : Handle) (value : Octets) → IsTable table → 0 < handle → length value ≤ largest_at table.attributes handle
+    → (is_fixed_at table.attributes handle ≡ true → length value ≡ largest_at table.attributes handle)
+    → IsTable (table_with table.attributes (with_value table.values handle value))
+stored-table table handle value is used fits exact = record {
+  handles = is.handles;
+  most = is.most;
+  one_value_each = length_stored table.values handle value ∙ is.one_value_each;
+  largest = is.largest;
+  within = λ other other_used.
+      stored_alike (λ (at : Handle) (x y : Octets). length x ≤ largest_at table.attributes at) table.values table.values handle value value refl used
+      (λ at at_used. is.within at at_used) fits other other_used;
+  fixed = λ other. fixed-at other;
+  behind = is.behind;
+  configurations = is.configurations;
+  rows = is.rows;
+  octets = is.octets;
+}
+  where
+    fixed-at : (other : Handle) → is_fixed_at table.attributes other ≡ true → length (value_at (with_value table.values handle value) other) ≡ largest_at table.attributes other
+    fixed-at zero none = cc none
+    fixed-at (suc other) fixed =
+        stored_alike (λ (at : Handle) (x y : Octets). is_fixed_at table.attributes at ≡ true → length x ≡ largest_at table.attributes at)
+        table.values table.values handle value value refl used (λ at at_used. is.fixed at) exact (suc other) (omega arith) fixed
+
+-- how long a value is once a part is written into it
+kept-length : (value : Octets) (offset : ℕ) (part : Octets) → offset + length part ≤ length value → length (value_with_part true value offset part) ≡ length value
+kept-length value offset part fits = simp (length-append, length-take, length-drop) (omega arith)
+
+cut-length : (value : Octets) (offset : ℕ) (part : Octets) → offset ≤ length value → length (value_with_part false value offset part) ≡ offset + length part
+cut-length value offset part fits = simp (length-append, length-take, length-drop) (omega arith)
+
+-- an entry with no fault fits
+record Fits (size offset count room : ℕ) : Type 0 where
+  begins : offset ≤ size
+  ends : offset + count ≤ room
+
+fits-by : (size offset count room : ℕ) (low long : Code) (before behind : Bool) → nat_lt size offset ≡ before → nat_lt room (offset + count) ≡ behind
+    → (if before then Some low else if behind then Some long else None) ≡ None → Fits size offset count room
+fits-by size offset count room low long true behind is was none = cc none
+fits-by size offset count room low long false true is was none = cc none
+fits-by size offset count room low long false false is was none =
+    record { begins = omega (arith, ltb-false size offset is); ends = omega (arith, ltb-false room (offset + count) was) }
+
+no-fault : (broken : Option (Rule × Code)) (fault : Option Code) → unless_broken broken fault ≡ None → fault ≡ None
+no-fault None fault none = none
+no-fault (Some one) fault none = cc none
+
+handle-used : (access : Access) (attributes : List Attr) (standing : Standing) (handle : Handle) → MayUse access attributes standing handle → 0 < handle
+handle-used access attributes standing zero may = let exists = may HandleExists in cc exists
+handle-used access attributes standing (suc handle) may = omega arith
+
+-- so what an entry with no fault leaves is a table again
+value-table : (table : Contents) (entry : Entry) (fixed : Bool) → is_fixed_at table.attributes entry.handle ≡ fixed → IsTable table → 0 < entry.handle
+    → Fits (length (value_at table.values entry.handle)) entry.offset (length entry.part)
+    (if fixed then length (value_at table.values entry.handle) else largest_at table.attributes entry.handle)
+    → IsTable (table_with table.attributes (with_value table.values entry.handle
+    (value_with_part fixed (value_at table.values entry.handle) entry.offset entry.part)))
+value-table table entry true fixed is used fits =
+    let value = value_at table.values entry.handle in
+    let same : length (value_with_part true value entry.offset entry.part) ≡ largest_at table.attributes entry.handle =
+    kept-length value entry.offset entry.part fits.ends ∙ is.fixed entry.handle fixed in
+    stored-table table entry.handle (value_with_part true value entry.offset entry.part) is used (omega (arith, same)) (λ so. same)
+value-table table entry false fixed is used fits =
+    let value = value_at table.values entry.handle in
+    let size : length (value_with_part false value entry.offset entry.part) ≡ entry.offset + length entry.part =
+    cut-length value entry.offset entry.part fits.begins in
+    stored-table table entry.handle (value_with_part false value entry.offset entry.part) is used (omega (arith, size, fits.ends)) (λ so. cc (so, fixed))
+
+entry-table : (access : Access) (attributes : List Attr) (standing : Standing) (stored : Stored) (entry : Entry) (configuration : Bool)
+    → is_configuration_at attributes entry.handle ≡ configuration → IsTable (table_with attributes stored.values)
+    → fault_of access attributes standing (length (value_at stored.values entry.handle)) entry ≡ None
+    → IsTable (table_with attributes (after_entry attributes stored entry).values)
+entry-table access attributes standing stored entry true configuration is none = rw configuration is
+entry-table access attributes standing stored entry false configuration is none =
+    let size = length (value_at stored.values entry.handle) in
+    let may = written-may access attributes standing entry (first_broken_of access (guard_at attributes entry.handle) standing) (form_fault attributes size entry) refl none in
+    let value_none : value_fault attributes size entry ≡ None =
+    ap (λ (test : Bool). if test then configuration_fault attributes entry else value_fault attributes size entry) (sym configuration)
+    ∙ no-fault (first_broken_of access (guard_at attributes entry.handle) standing) (form_fault attributes size entry) none in
+    let room = room_of attributes entry.handle size in
+    let fits : Fits size entry.offset (length entry.part) room =
+    fits-by size entry.offset (length entry.part) room INVALID_OFFSET INVALID_ATTRIBUTE_VALUE_LENGTH
+    (nat_lt size entry.offset) (nat_lt room (entry.offset + length entry.part)) refl refl value_none in
+    rw configuration (value-table (table_with attributes stored.values) entry (is_fixed_at attributes entry.handle) refl is
+    (handle-used access attributes standing entry.handle may) fits)
+
+unless-table : (attributes : List Attr) (old : Stored) (entry : Entry) (code : Option Code) (rest : Result Stored Refusal) → IsTable (table_with attributes old.values)
+    → (code ≡ None → IsTable (table_with attributes (written_after old rest).values))
+    → IsTable (table_with attributes (written_after old (unless_entry entry code rest)).values)
+unless-table attributes old entry (Some code) rest before after = before
+unless-table attributes old entry None rest before after = after refl
+
+entries-table : (access : Access) (attributes : List Attr) (standing : Standing) (entries : List Entry) (old by : Stored)
+    → IsTable (table_with attributes old.values) → IsTable (table_with attributes by.values)
+    → IsTable (table_with attributes (written_after old (after_entries access attributes standing by entries)).values)
+unfolding after_entries
+entries-table access attributes standing [] old by before is = is
+entries-table access attributes standing (entry ∷ entries) old by before is =
+    unless-table attributes old entry (fault_of access attributes standing (length (value_at by.values entry.handle)) entry) _ before
+    (λ none. entries-table access attributes standing entries old (after_entry attributes by entry) before
+    (entry-table access attributes standing by entry (is_configuration_at attributes entry.handle) refl is none))
+
+-- and so is what a request leaves
+pub writing-table : (table : Contents) (row : Row) (standing : Standing) (writing : Option Writing) → IsTable table
+    → IsTable (table_with table.attributes (stored_after table row standing writing).values)
+writing-table table row standing None is = is
+writing-table table row standing (Some writing) is =
+    entries-table writing.access table.attributes standing writing.entries (stored_in table row) (stored_in table row) is is
+
+-- what an event of one connection leaves
+turn-table : (room : Room) (bond : Row) (owed : Bool) (part : Part) (own : Own) (live : Bool) → IsTable room.table
+    → IsTable (table_with room.table.attributes (if live then live_turn room bond owed part own else turn_to room bond owed part).values)
+unfolding live_turn
+turn-table room bond owed part (Asks pdu) true is = request-table room bond owed part pdu (is_due (request_of pdu (mtu_of room part)) && is_full room part) is
+  where
+    request-table : (room : Room) (bond : Row) (owed : Bool) (part : Part) (pdu : Octets) (full : Bool) → IsTable room.table
+        → IsTable (table_with room.table.attributes (if full then turn_to room bond owed (after_ending part remote_user_terminated)
+        else served room bond owed part pdu (request_of pdu (mtu_of room part))).values)
+    request-table room bond owed part pdu true is = is
+    request-table room bond owed part pdu false is =
+        let conn = connection_of room part in
+        writing-table room.table (row_of bond part) conn.standing (writing_asked conn.queue (request_of pdu (mtu_of room part))) is
+turn-table room bond owed part (Connected handle peer) true is = is
+turn-table room bond owed part Gone true is = is
+turn-table room bond owed part (KeyAsked random_number diversifier) true is = is
+turn-table room bond owed part (Encrypted status enabled) true is = is
+turn-table room bond owed part (Refreshed status) true is = is
+turn-table room bond owed part (Signals channel payload) true is = is
+turn-table room bond owed part (Authorized until) true is = is
+turn-table room bond owed part own false is = is
+
+own-table : (state : State) (ordinal : Ordinal) (own : Own) → IsTable state.room.table → IsTable (own_change state ordinal own).state.room.table
+own-table state ordinal (Connected handle peer) is = is
+own-table state ordinal Gone is = is
+own-table state ordinal (KeyAsked random_number diversifier) is =
+    let part = state.parts ordinal in turn-table state.room (state.bonds part.peer) (state.owed part.peer) part (KeyAsked random_number diversifier) (is_live part.mark) is
+own-table state ordinal (Encrypted status enabled) is =
+    let part = state.parts ordinal in turn-table state.room (state.bonds part.peer) (state.owed part.peer) part (Encrypted status enabled) (is_live part.mark) is
+own-table state ordinal (Refreshed status) is =
+    let part = state.parts ordinal in turn-table state.room (state.bonds part.peer) (state.owed part.peer) part (Refreshed status) (is_live part.mark) is
+own-table state ordinal (Asks pdu) is =
+    let part = state.parts ordinal in turn-table state.room (state.bonds part.peer) (state.owed part.peer) part (Asks pdu) (is_live part.mark) is
+own-table state ordinal (Signals channel payload) is =
+    let part = state.parts ordinal in turn-table state.room (state.bonds part.peer) (state.owed part.peer) part (Signals channel payload) (is_live part.mark) is
+own-table state ordinal (Authorized until) is =
+    let part = state.parts ordinal in turn-table state.room (state.bonds part.peer) (state.owed part.peer) part (Authorized until) (is_live part.mark) is
+
+-- the changer of a table that replaces another has four octets, as what is written there
+announced-table : (table : Contents) (changer : Option Attr) → find (is_changer table) table.attributes ≡ changer → IsTable table
+    → IsTable (option_map_or (λ handle. record table { values = with_value table.values handle all_changed }) (option_map (λ (attr : Attr). attr.handle) changer) table)
+announced-table table None found is = is
+announced-table table (Some attr) found is =
+    let changes = of_a_changer table attr is found in
+    let exact : largest_at table.attributes attr.handle ≡ 4 =
+    sym (is.fixed attr.handle changes.fixed) ∙ ap (λ (fixed : Bool). if fixed then length (value_at table.values attr.handle) else largest_at table.attributes attr.handle) (sym changes.fixed) ∙ changes.room in
+    stored-table table attr.handle all_changed is (value-used table.attributes attr.handle changes.value) (omega (arith, exact)) (λ fixed. sym exact)
+  where
+    value-used : (attributes : List Attr) (handle : Handle) → is_value_at attributes handle ≡ true → 0 < handle
+    value-used attributes zero value = cc value
+    value-used attributes (suc handle) value = omega arith
+
+-- an event that may come leaves a table: a value that is written fits, and a table that is handed in is one
+abbrev Fitting : State → Event → Type 0
+Fitting state (Update handle value) =
+    (attr : Attr) × (attribute_at state.room.table.attributes handle ≡ Some attr) × (has_length attr (length value) ≡ true)
+Fitting state (Replaced table) = IsTable table
+Fitting state event = Unit
+
+has-largest : (attr : Attr) (count : ℕ) (fixed : Bool) → attr.fixed ≡ fixed → (if fixed then count == attr.largest else nat_le count attr.largest) ≡ true
+    → (count ≤ attr.largest) × (attr.fixed ≡ true → count ≡ attr.largest)
+has-largest attr count true is has = let same : count ≡ attr.largest = eqb-true count attr.largest has in (omega (arith, same), λ so. same)
+has-largest attr count false is has = (leb-true count attr.largest has, λ so. cc (so, is))
+
+updated-table : (table : Contents) (handle : Handle) (value : Octets) (attr : Attr) → attribute_at table.attributes handle ≡ Some attr
+    → has_length attr (length value) ≡ true → IsTable table → IsTable (table_with table.attributes (with_value table.values handle value))
+updated-table table zero value attr at has is = cc at
+updated-table table (suc handle) value attr at has is =
+    let fits = has-largest attr (length value) attr.fixed refl has in
+    let largest : largest_at table.attributes (suc handle) ≡ attr.largest = ap (λ (found : Option Attr). option_map_or (λ (a : Attr). a.largest) found 0) at in
+    let fixed : is_fixed_at table.attributes (suc handle) ≡ attr.fixed = ap (λ (found : Option Attr). option_map_or (λ (a : Attr). a.fixed) found false) at in
+    stored-table table (suc handle) value is (omega arith) (omega (arith, fits.0, largest)) (λ so. fits.1 (sym fixed ∙ so) ∙ sym largest)
+
+change-table : (state : State) (event : Event) → Fitting state event → IsTable state.room.table → IsTable (change_of state event).state.room.table
+unfolding change_of
+change-table state (Of ordinal own) fits is = own-table state ordinal own is
+change-table state (Completed entries) fits is = is
+change-table state (Credit allowed opcode status (Some init)) fits is = is
+change-table state (Credit allowed opcode status None) fits is = is
+change-table state (Update handle value) fits is = updated-table state.room.table handle value fits.0 fits.1 fits.2 is
+change-table state (Tick time) fits is = is
+change-table state (Replaced table) fits is = announced-table table (find (is_changer table) table.attributes) refl fits
+change-table state Nothing fits is = is
+
+step-table : (state : State) (event : Event) → Fitting state event → IsTable state.room.table → IsTable (step state event).room.table
+unfolding step
+step-table state event fits is = change-table state event fits is
+
+-- all that comes in means such events
+abbrev FittingIfAny : {E : Type 0} → State → Result Event E → Type 0
+FittingIfAny state (Ok event) = Fitting state event
+FittingIfAny state (Err refused) = Unit
+
+answered-fits : (state : State) (allowed opcode : ℕ) (status : Option ℕ) (following : Result (Option Init) Fault) → FittingIfAny state (answered allowed opcode status following)
+answered-fits state allowed opcode status (Ok following) = tt
+answered-fits state allowed opcode status (Err fault) = tt
+
+own-fits : (state : State) (found : Option Ordinal) (own : Own) → Fitting state (own_event found own)
+own-fits state None own = tt
+own-fits state (Some ordinal) own = tt
+
+either-fits : (state : State) (test : Bool) (one other : Event) → Fitting state one → Fitting state other → Fitting state (if test then one else other)
+either-fits state true one other first second = first
+either-fits state false one other first second = second
+
+connection-fits : (state : State) (reported : Reported) → Fitting state (connection_event state reported)
+connection-fits state (event.DisconnectionComplete status handle reason) =
+    either-fits state (status == 0) (own_event (holding state handle) Gone) Nothing (own-fits state (holding state handle) Gone) tt
+connection-fits state (event.EncryptionChange status handle enabled) = own-fits state (serving state handle) (Encrypted status enabled)
+connection-fits state (event.CommandComplete allowed opcode returned) = tt
+connection-fits state (event.CommandStatus status allowed opcode) = tt
+connection-fits state (event.HardwareError code) = tt
+connection-fits state (event.NumberOfCompletedPackets entries) = tt
+connection-fits state (event.EncryptionKeyRefreshComplete status handle) = own-fits state (serving state handle) (Refreshed status)
+connection-fits state (event.ConnectionComplete status handle role peer interval latency timeout clock_accuracy) =
+    either-fits state (is_accepted state status handle role) (Of state.next (Connected handle peer)) Nothing tt tt
+connection-fits state (event.LongTermKeyRequest handle random_number diversifier) = own-fits state (serving state handle) (KeyAsked random_number diversifier)
+connection-fits state event.Other = tt
+
+if-ready : (state : State) (reported : Reported) → Fitting state (if is_ready state.controller then connection_event state reported else Nothing)
+if-ready state reported = either-fits state (is_ready state.controller) (connection_event state reported) Nothing (connection-fits state reported) tt
+
+reported-fits : (state : State) (reported : Reported) → FittingIfAny state (reported_event state reported)
+reported-fits state (event.CommandComplete allowed opcode returned) = answered-fits state allowed opcode _ _
+reported-fits state (event.CommandStatus status allowed opcode) = answered-fits state allowed opcode _ _
+reported-fits state (event.HardwareError code) = tt
+reported-fits state (event.DisconnectionComplete status handle reason) = if-ready state (event.DisconnectionComplete status handle reason)
+reported-fits state (event.EncryptionChange status handle enabled) = if-ready state (event.EncryptionChange status handle enabled)
+reported-fits state (event.NumberOfCompletedPackets entries) = if-ready state (event.NumberOfCompletedPackets entries)
+reported-fits state (event.EncryptionKeyRefreshComplete status handle) = if-ready state (event.EncryptionKeyRefreshComplete status handle)
+reported-fits state (event.ConnectionComplete status handle role peer interval latency timeout clock_accuracy) =
+    if-ready state (event.ConnectionComplete status handle role peer interval latency timeout clock_accuracy)
+reported-fits state (event.LongTermKeyRequest handle random_number diversifier) = if-ready state (event.LongTermKeyRequest handle random_number diversifier)
+reported-fits state event.Other = if-ready state event.Other
+
+bad-or-fits : (state : State) (read : Result Reported BadEvent) → FittingIfAny state (event_or_bad state read)
+bad-or-fits state (Ok reported) = reported-fits state reported
+bad-or-fits state (Err bad) = tt
+
+frame-fits : (state : State) (ordinal : Ordinal) (own : Option Own) → Fitting state (frame_event ordinal own)
+frame-fits state ordinal None = tt
+frame-fits state ordinal (Some own) = tt
+
+arrival-fits : (state : State) (fragments : Fragments) (arrived : Arrival) → Fitting state (arrival_event fragments arrived)
+arrival-fits state fragments None = tt
+arrival-fits state fragments (Some arrived) = frame-fits state arrived.0 _
+
+packet-fits : (state : State) (fragments : Fragments) (packet : Packet) → FittingIfAny state (packet_event state fragments packet)
+unfolding packet_event
+packet-fits state fragments (EventPacket octets) = bad-or-fits state (event_of octets)
+packet-fits state fragments (AclPacket handle boundary broadcast octets) = arrival-fits state fragments (arrival state (AclPacket handle boundary broadcast octets))
+packet-fits state fragments ScoPacket = arrival-fits state fragments (arrival state ScoPacket)
+
+update-fits : (state : State) (handle : Handle) (value : Octets) (found : Option Attr) → attribute_at state.room.table.attributes handle ≡ found
+    → FittingIfAny state (update_event handle value found)
+update-fits state handle value None at = tt
+update-fits state handle value (Some attr) at =
+    elim (is_value attr.role) as (λ is. FittingIfAny state (if not is then Err NotAValue else if not (has_length attr (length value)) then Err BadLength else Ok (Update handle value))) [
+      | false ↦ tt
+      | true ↦
+          elim (has_length attr (length value)) as (λ has. has_length attr (length value) ≡ has → FittingIfAny state (if not has then Err BadLength else Ok (Update handle value))) [
+            | false ↦ λ is. tt
+            | true ↦ λ is. (attr, at, is)
+          ] refl
+    ]
+
+authorize-fits : (state : State) (until : ℕ) (found : Option Ordinal) → FittingIfAny state (authorize_event until found)
+authorize-fits state until None = tt
+authorize-fits state until (Some ordinal) = tt
+
+call-fits : (state : State) (call : Call) → FittingIfAny state (call_event state call)
+call-fits state (UpdateCall handle value) = update-fits state handle value (attribute_at state.room.table.attributes handle) refl
+call-fits state (AuthorizeCall handle until) = authorize-fits state until (serving state handle)
+call-fits state (TickCall time) =
+    elim (nat_lt time state.room.time) as (λ back. FittingIfAny state (if back then Err TimeWentBack else Ok (Tick time))) [ true ↦ tt | false ↦ tt ]
+
+replacement-fits : (state : State) (table : Contents) → IsTable table → FittingIfAny state (replacement_event state table)
+replacement-fits state table is =
+    elim (same_changer state.room.changer (changer_of table)) as (λ same. FittingIfAny state (if same then Ok (Replaced table) else Err NoServiceChanged)) [ true ↦ is | false ↦ tt ]
+
+-- so a table stands after each item
+abbrev HasATable : Course → Type 0
+HasATable course = IsTable course.intake.state.room.table
+
+result-table : {E : Type 0} (old : Course) (result : Result Event E) → FittingIfAny old.intake.state result → HasATable old → HasATable (after_result old result)
+result-table old (Ok event) fits is = step-table old.intake.state event fits is
+result-table old (Err refused) fits is = is
+
+packet-table : (old : Course) (packet : Packet) (result : Result Event Fault) → FittingIfAny old.intake.state result → HasATable old → HasATable (packet_taken old packet result)
+packet-table old packet (Ok event) fits is = step-table old.intake.state event fits is
+packet-table old packet (Err fault) fits is = is
+
+kept-table : (old : Course) (packet : Packet) (rest : Octets) (long : Bool) → HasATable old
+    → HasATable (if long then with_unfinished old rest else after_packet (with_unfinished old rest) packet)
+kept-table old packet rest true is = is
+kept-table old packet rest false is =
+    packet-table (with_unfinished old rest) packet (packet_event old.intake.state old.intake.fragments packet)
+    (packet-fits old.intake.state old.intake.fragments packet) is
+
+first-table : (old : Course) (octets : Octets) (first : First) → HasATable old → HasATable (after_first old octets first)
+first-table old octets (FirstPacket packet rest) is = kept-table old packet rest (is_long packet) is
+first-table old octets NoneYet is = is
+first-table old octets (NoPacket indicator) is = is
+
+unless-stopped-table : (old new : Course) (fault : Option Fault) → HasATable old → HasATable new → HasATable (unless_stopped fault old new)
+unless-stopped-table old new (Some fault) before after = before
+unless-stopped-table old new None before after = after
+
+items-table : (old : Course) (items : List Item) → HasTables items → HasATable old → HasATable (after_items old items)
+unfolding after_item
+items-table old [] tables is = is
+items-table old (AnOctet octet ∷ items) tables is =
+    items-table (unless_stopped old.intake.fault old (taken old (AnOctet octet))) items tables
+    (unless-stopped-table old (taken old (AnOctet octet)) old.intake.fault is
+    (first-table old (old.intake.unfinished ++ octet ∷ []) (first_of (old.intake.unfinished ++ octet ∷ [])) is))
+items-table old (APacket packet ∷ items) tables is =
+    items-table (unless_stopped old.intake.fault old (taken old (APacket packet))) items tables
+    (unless-stopped-table old (taken old (APacket packet)) old.intake.fault is
+    (packet-table old packet (packet_event old.intake.state old.intake.fragments packet) (packet-fits old.intake.state old.intake.fragments packet) is))
+items-table old (ACall call ∷ items) tables is =
+    items-table (unless_stopped old.intake.fault old (taken old (ACall call))) items tables
+    (unless-stopped-table old (taken old (ACall call)) old.intake.fault is
+    (result-table old (call_event old.intake.state call) (call-fits old.intake.state call) is))
+items-table old (ATable table ∷ items) tables is =
+    items-table (unless_stopped old.intake.fault old (taken old (ATable table))) items tables.1
+    (unless-stopped-table old (taken old (ATable table)) old.intake.fault is
+    (result-table old (replacement_event old.intake.state table) (replacement-fits old.intake.state table tables.0) is))
+items-table old (TheEnd ∷ items) tables is =
+    items-table (unless_stopped old.intake.fault old (taken old TheEnd)) items tables (unless-stopped-table old (taken old TheEnd) old.intake.fault is is)
+
+pub always_has_a_table : AlwaysHasATable
+unfolding course
+always_has_a_table start input is tables = items-table (at_start start) input tables is
