@@ -42,10 +42,12 @@ impl Flags for Properties {
     }
 }
 
-/// The bits of a client characteristic configuration: Core 5.0, Vol 3 Part G, 3.3.3.3.
+/// The bit of a client characteristic configuration that asks for notifications: Core 5.0, Vol 3
+/// Part G, 3.3.3.3.
 const NOTIFICATION: u8 = 0x01;
 
-const INDICATION: u8 = 0x02;
+/// The bit of a client characteristic configuration that asks for indications.
+pub const INDICATION: u8 = 0x02;
 
 impl Properties {
     /// The bits that the client characteristic configuration of a characteristic with these

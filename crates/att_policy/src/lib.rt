@@ -6,6 +6,6 @@ mod guard;
 mod policy;
 mod standing;
 
-pub use guard::{Guard, Need, Properties};
+pub use guard::{Guard, INDICATION, Need, Properties};
 pub use policy::{Access, Rule, first_broken, may_hear};
 pub use standing::{KeyFacts, Standing};

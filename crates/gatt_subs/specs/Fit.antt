@@ -1,16 +1,15 @@
 -- Rows fitted to keys and a table: this profile's own.
-use Rattle.std.specs.Prelude.{ℕ, ◌+◌, Bool, false, ◌==◌, ◌&&◌, not, if◌then◌else◌, List, [], ◌∷◌, map, filter, Option, Some, None}
-use Rattle.std.specs.Int.RustNames.{bit_and}
+use Rattle.std.specs.Prelude.{Bool, false, ◌&&◌, if◌then◌else◌, List, [], ◌∷◌, map, filter, Option}
 use Rattle.std.specs.Option.{option_map_or}
 use Rattle.att_numbers.specs.Types.{Handle, Row}
 use Rattle.att_table.specs.declared.attr.Attr.{Attr}
 use Rattle.att_table.specs.Changer.{changer_of}
-use Rattle.att_table.specs.ConfigRow.{bits_at, with_bits, is_supported}
+use Rattle.att_table.specs.ConfigRow.{with_bits, is_supported}
 use Rattle.att_table.specs.Table.{Contents}
 use Rattle.le_hci.specs.declared.peer.Peer.{Peer}
 use Rattle.le_security.specs.declared.entry.Entry.{Entry}
 use Rattle.gatt_subs.specs.declared.bond.Bond.{Bond}
-use Rattle.gatt_subs.specs.declared.bond.TheConstants.{INDICATION}
+use Rattle.gatt_subs.specs.Hearing.{wants_indications}
 use Rattle.gatt_subs.specs.InOrder.{in_order}
 use Rattle.gatt_subs.specs.RowEntry.{rank_of}
 use Rattle.gatt_subs.specs.Rows.{Subscriptions, owes, row_read}
@@ -36,10 +35,10 @@ with_entries row (entry ∷ entries) = with_entries (with_bits row entry.0 entry
 abbrev pub row_fitted : List Attr → Row → Row
 row_fitted attributes row = with_entries [] (filter (is_supported attributes) row)
 
--- whether a row asks for indications of the changer of a table, if that has one: its configuration stands behind it
+-- whether a row asks for indications of the changer of a table, if that has one
 abbrev pub wants_changes : Option Handle → Row → Bool
 wants_changes changer row =
-    option_map_or (λ handle. not (bit_and (bits_at row (handle + 1)) INDICATION == 0)) changer false
+    option_map_or (wants_indications row) changer false
 
 -- a peer's bond: a peer stays owed only if its row still asks for what it is owed
 abbrev pub fitted_bond : Contents → Subscriptions → Peer → Bond

@@ -4,11 +4,11 @@ use Rattle.std.specs.Int.RustNames.{bit_and}
 use Rattle.std.specs.Option.{option_map_or}
 use Rattle.att_numbers.specs.Types.{Handle, Row}
 use Rattle.att_policy.specs.declared.standing.Standing.{Standing}
+use Rattle.att_policy.specs.declared.guard.TheConstants.{INDICATION}
 use Rattle.att_policy.specs.Policy.{may_hear_of}
 use Rattle.att_table.specs.declared.attr.Attr.{Attr}
 use Rattle.att_table.specs.ConfigRow.{bits_at}
 use Rattle.att_table.specs.Table.{attribute_at, is_value}
-use Rattle.gatt_subs.specs.declared.pending.TheConstants.{INDICATION}
 
 -- what a client has configured for a value: its configuration stands behind it
 abbrev pub bits_for : Row → Handle → ℕ

@@ -5,7 +5,7 @@ ghost use Rattle.att_table.specs.ConfigRow.{with_bits, is_supported, IsRowOf};
 ghost use Rattle.gatt_subs.specs.Fit.{peers_of, row_fitted, wants_changes, with_peer};
 ghost use Rattle.gatt_subs.specs.Rows.{row_in};
 
-use crate::bond::INDICATION;
+use crate::hearing::wants_indications;
 use crate::row_entry::RowEntry;
 use crate::unfitted::{has_peer, insert_peer};
 use att_table::{ConfigRow, Table};
@@ -78,7 +78,7 @@ pub fn wants_changes(changer: Option<u16>, row: &ConfigRow) -> bool
     ensures { result ≡ wants_changes changer row.now }
 {
     match changer {
-        Some(handle) => row.get(handle + 1) & INDICATION != 0,
+        Some(handle) => wants_indications(row, handle),
         None => false,
     }
 }

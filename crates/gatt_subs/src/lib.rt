@@ -4,6 +4,7 @@
 
 mod bond;
 mod fit;
+mod hearing;
 mod pending;
 mod row_entry;
 mod rows;

@@ -1,19 +1,16 @@
 ghost use Rattle.std.specs.Prelude.{◌≡◌, ◌<◌, ◌≤◌, true, IfSome};
 ghost use Rattle.std.specs.Bool.{OnTrue};
 ghost use Rattle.att_table.specs.Table.{is_value_at};
-ghost use Rattle.gatt_subs.specs.Hearing.{bits_for, is_indicated, may_hear_at, wants_indications};
+ghost use Rattle.gatt_subs.specs.Hearing.{is_indicated};
 ghost use Rattle.gatt_subs.specs.HeardOnly.{RaisesOnlyWhatIsHeard, ReleasesOnlyWhatIsHeard, ReleasesOnlyWhatWaits};
 ghost use Rattle.gatt_subs.specs.Indications.{after_confirmation, after_end, after_raise, after_release, after_replacement, after_tick, first_of, from_due, is_notified, is_told, is_waiting, no_indications, released_handle, rest_of, with_handle, HaveOnePlace};
 ghost use Rattle.gatt_subs.specs.Told.{TellsOnlyWhatIsHeard};
 
+use crate::hearing::{is_indicated, may_hear_at, wants_indications};
 use arrayvec::ArrayVec;
-use att_policy::{Standing, may_hear};
-use att_table::{ConfigRow, Role, Table};
+use att_policy::Standing;
+use att_table::{ConfigRow, Table};
 use std::marker::Model;
-
-/// The bit of a client characteristic configuration that asks for indications: Core 5.0, Vol 3
-/// Part G, 3.3.3.3.
-const INDICATION: u8 = 0x02;
 
 /// Notifications and indications are queued only while fewer PDUs than this are: this profile's own.
 const MAX_BACKLOG: usize = 8;
@@ -171,46 +168,6 @@ impl Pending {
         self.waiting.clear();
         self.confirm();
     }
-}
-
-/// Whether the connection may hear of the attribute at a handle.
-fn may_hear_at(table: &Table, row: &ConfigRow, standing: &Standing, handle: u16) -> bool
-    ensures may { result ≡ may_hear_at table.now.attributes row.now standing.entry.now handle }
-    ensures value { OnTrue result (is_value_at table.now.attributes handle ≡ true) }
-    ensures used { OnTrue result (0 < handle) }
-    ensures most { OnTrue result (handle ≤ 1024) }
-{
-    match table.get(handle) {
-        Some(attr) => {
-            attr.role == Role::Value && may_hear(&attr.guard, bits_for(row, handle), standing)
-        }
-        None => false,
-    }
-}
-
-/// What a client has configured for the value at a handle: its configuration stands behind it.
-fn bits_for(row: &ConfigRow, handle: u16) -> u8
-    requires { handle ≤ 1024 }
-    ensures { result ≡ bits_for row.now handle }
-{
-    row.get(handle + 1)
-}
-
-/// Whether a client has asked for indications of the value at a handle.
-fn wants_indications(row: &ConfigRow, handle: u16) -> bool
-    requires { handle ≤ 1024 }
-    ensures { result ≡ wants_indications row.now handle }
-{
-    bits_for(row, handle) & INDICATION != 0
-}
-
-/// Whether an indication of the value at a handle is due: the connection may hear of it, and has
-/// asked for indications.
-fn is_indicated(table: &Table, row: &ConfigRow, standing: &Standing, handle: u16) -> bool
-    ensures due { result ≡ is_indicated table.now.attributes row.now standing.entry.now handle }
-    ensures value { OnTrue result (is_value_at table.now.attributes handle ≡ true) }
-{
-    may_hear_at(table, row, standing, handle) && wants_indications(row, handle)
 }
 
 /// Puts a handle at the end, if it does not wait yet.
