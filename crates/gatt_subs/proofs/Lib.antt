@@ -8,3 +8,5 @@ pub mod RowsLine
 pub mod Supported
 pub mod Undisclosed
 pub mod Writing
+pub mod Fitted
+pub mod Ascending

@@ -1,5 +1,5 @@
 -- Rows fitted to keys and a table: this profile's own.
-use Rattle.std.specs.Prelude.{Bool, false, ◌&&◌, if◌then◌else◌, List, [], ◌∷◌, map, filter, Option}
+use Rattle.std.specs.Prelude.{◌≡◌, Bool, false, ◌&&◌, if◌then◌else◌, List, [], ◌∷◌, map, filter, Option, Some, None}
 use Rattle.std.specs.Option.{option_map_or}
 use Rattle.att_numbers.specs.Types.{Handle, Row}
 use Rattle.att_table.specs.declared.attr.Attr.{Attr}
@@ -8,11 +8,12 @@ use Rattle.att_table.specs.ConfigRow.{with_bits, is_supported}
 use Rattle.att_table.specs.Table.{Contents}
 use Rattle.le_hci.specs.declared.peer.Peer.{Peer}
 use Rattle.le_security.specs.declared.entry.Entry.{Entry}
+use Rattle.le_security.specs.Keys.{is_known}
 use Rattle.gatt_subs.specs.declared.bond.Bond.{Bond}
 use Rattle.gatt_subs.specs.Hearing.{wants_indications}
 use Rattle.gatt_subs.specs.InOrder.{in_order}
 use Rattle.gatt_subs.specs.RowEntry.{rank_of}
-use Rattle.gatt_subs.specs.Rows.{Subscriptions, owes, row_read}
+use Rattle.gatt_subs.specs.Rows.{Subscriptions, bond_of, owes, row_read}
 use Rattle.gatt_subs.specs.Unfitted.{nothing_written, has_peer}
 
 -- the peers of keys, each once, in the order of a rows file
@@ -50,3 +51,8 @@ fitted_bond table rows peer =
 abbrev pub fitted_rows : List Entry → Contents → Subscriptions → Subscriptions
 fitted_rows keys table rows =
     record { peers = peers_of keys; bonds = map (fitted_bond table rows) (peers_of keys); unfitted = nothing_written }
+
+-- the same peer by peer: who has a key has the bond that is fitted, and nobody else has one
+abbrev pub HasFittedBonds : List Entry → Contents → Subscriptions → Subscriptions → Type 0
+HasFittedBonds keys table old new =
+    (peer : Peer) → bond_of new peer ≡ (if is_known keys peer then Some (fitted_bond table old peer) else None)

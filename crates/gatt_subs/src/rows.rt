@@ -4,14 +4,16 @@ ghost use Rattle.std.specs.Prelude.{◌≡◌, ◌<◌, ◌≤◌, length, slice
 ghost use Rattle.std.specs.Borrow.{sem};
 ghost use Rattle.std.specs.Io.KnownBytes.{Appends};
 ghost use Rattle.std.specs.List.{find};
-ghost use Rattle.std.specs.Option.{option_copied};
+ghost use Rattle.std.specs.Option.{option_copied, option_map};
+ghost use Rattle.le_hci.specs.declared.peer.Peer.{Peer};
 ghost use Rattle.octets.specs.Memory.{Gives};
 ghost use Rattle.octets.specs.Stream.{CountsFailure};
 ghost use Rattle.att_table.specs.Changer.{changer_of};
 ghost use Rattle.att_table.specs.ConfigRow.{bits_at, has_room, HasOneEntryEach};
 ghost use Rattle.gatt_subs.specs.declared.rows_fault.RowsFault.TheVariants.{OutOfMemory};
-ghost use Rattle.gatt_subs.specs.Fit.{fitted_bond, fitted_rows, row_fitted};
-ghost use Rattle.gatt_subs.specs.RowEntry.{is_at};
+ghost use Rattle.gatt_subs.specs.Fit.{fitted_bond, fitted_rows, row_fitted, HasFittedBonds};
+ghost use Rattle.gatt_subs.specs.InOrder.{Ascends};
+ghost use Rattle.gatt_subs.specs.RowEntry.{is_at, rank_of};
 ghost use Rattle.gatt_subs.specs.Rows.{place_of, bond_of, row_of, row_in, row_read, owes, bonds_with, with_set, with_owed, kept_bond, subscriptions_read, ChangesBond};
 ghost use Rattle.gatt_subs.specs.RowsText.{text_of, WritesFront};
 
@@ -69,6 +71,17 @@ impl Rows {
     /// drops all else. A peer stays owed if its row asks for indications of the table's changer. Where
     /// memory is refused nothing changes.
     pub fn fit(&mut self, alloc: Global, keys: &Keys, table: &Table) -> Result<(), RowsFault>
+        ensures fitted { OnOk result (self.new ≡ fitted_rows keys.now table.now self.old) }
+        ensures each { OnOk result (HasFittedBonds keys.now table.now self.old self.new) }
+        ensures ordered { OnOk result (Ascends rank_of self.new.peers) }
+        ensures unchanged { OnErr result (self.new ≡ self.old) }
+        ensures refused { IfErr result (λ fault. fault ≡ OutOfMemory) }
+    {
+        self.replace_bonds(alloc, keys, table)
+    }
+
+    /// Makes the bonds of the peers of the keys, in place of all that is kept.
+    fn replace_bonds(&mut self, alloc: Global, keys: &Keys, table: &Table) -> Result<(), RowsFault>
         ensures fitted { OnOk result (self.new ≡ fitted_rows keys.now table.now self.old) }
         ensures unchanged { OnErr result (self.new ≡ self.old) }
         ensures refused { IfErr result (λ fault. fault ≡ OutOfMemory) }
@@ -183,7 +196,8 @@ impl Rows {
 
     /// Keeps of each row what has its meaning in the table that replaces another.
     pub fn keep(&mut self, old: &Table, new: &Table)
-        ensures { self.new ≡ record self.old { bonds = map (kept_bond old.now.attributes new.now.attributes) self.old.bonds } }
+        ensures kept { self.new ≡ record self.old { bonds = map (kept_bond old.now.attributes new.now.attributes) self.old.bonds } }
+        ensures each { (peer : Peer) → bond_of self.new peer ≡ option_map (kept_bond old.now.attributes new.now.attributes) (bond_of self.old peer) }
     {
         keep_rows(&mut self.bonds, old, new);
     }
