@@ -13,7 +13,7 @@ use Rattle.gatt_laws.specs.Heard.{after_hearing}
 use Rattle.gatt_laws.specs.Part.{Part, is_live, after_giving}
 use Rattle.gatt_laws.specs.Room.{Room, Bonds, Owed, size_of}
 use Rattle.gatt_laws.specs.Turn.{Turn, turn_of}
-use Rattle.gatt_subs.specs.Hearing.{wants_indications}
+use Rattle.gatt_subs.specs.Fit.{wants_changes}
 use Rattle.gatt_subs.specs.Indications.{after_tick, after_replacement}
 use Rattle.le_acl.specs.Outgoing.{acl_octets}
 use Rattle.le_acl.specs.Packets.{packets_of}
@@ -157,7 +157,7 @@ bonds_replaced old new bonds peer = kept_row old.attributes new.attributes (bond
 
 -- a peer is owed where its row asks for indications of the changer
 abbrev pub owed_by : Option Handle → Bonds → Owed
-owed_by changer bonds peer = option_map_or (λ handle. wants_indications (bonds peer) handle) changer false
+owed_by changer bonds peer = wants_changes changer (bonds peer)
 
 abbrev pub after_replaced : State → Contents → State
 after_replaced state table = record state {
