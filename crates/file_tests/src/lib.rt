@@ -12,6 +12,8 @@ mod links;
 #[cfg(test)]
 mod look_ups;
 #[cfg(test)]
+mod rows;
+#[cfg(test)]
 mod stores;
 #[cfg(test)]
 mod table_faults;
