@@ -1,5 +1,5 @@
 -- Peers that are put in their places ascend.
-use Rattle.std.proofs.Common.{◌≡◌, ℕ, ◌<◌, ◌≤◌, Bool, true, false, nat_lt, if◌then◌else◌, List, [], ◌∷◌, refl, sym, subst, arith}
+use Rattle.std.proofs.Common.{◌≡◌, ℕ, ◌≤◌, true, false, nat_lt, if◌then◌else◌, List, [], ◌∷◌, refl, sym, subst, arith}
 use Rattle.std.specs.Prelude.{Result, Ok, Err, OnOk}
 use Rattle.std.specs.List.{All}
 use Rattle.std.proofs.lemmas.Bool.Decides.{nat_tests}
@@ -9,7 +9,7 @@ use Rattle.le_hci.specs.declared.peer.Peer.{Peer}
 use Rattle.le_security.specs.declared.entry.Entry.{Entry}
 use Rattle.gatt_subs.specs.InOrder.{in_order, Ascends}
 use Rattle.gatt_subs.specs.RowEntry.{rank_of}
-use Rattle.gatt_subs.specs.Fit.{fitted_rows, peers_of, peers_with, with_peer}
+use Rattle.gatt_subs.specs.Fit.{fitted_rows, peers_with, with_peer}
 use Rattle.gatt_subs.specs.Rows.{Subscriptions}
 use Rattle.gatt_subs.specs.Unfitted.{has_peer}
 

@@ -1,5 +1,5 @@
 -- What peers have configured, and the order in which a rows file has it: this profile's own.
-use Rattle.std.specs.Prelude.{ℕ, ◌+◌, ◌*◌, Bool, ◌==◌, ◌&&◌, List, [], ◌∷◌, ◌++◌}
+use Rattle.std.specs.Prelude.{ℕ, ◌+◌, ◌*◌, Bool, ◌==◌, ◌&&◌, [], ◌∷◌, ◌++◌}
 use Rattle.std.specs.Int.{from_le_bytes, w64}
 use Rattle.att_numbers.specs.Types.{Handle}
 use Rattle.le_hci.specs.declared.peer.Peer.{Peer}

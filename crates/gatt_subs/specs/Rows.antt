@@ -1,24 +1,18 @@
 -- What the peers that have keys have configured, and which of them are owed: this profile's own.
-use Rattle.std.specs.Prelude.{◌≡◌, ℕ, Bool, false, ◌==◌, ◌&&◌, not, if◌then◌else◌, List, [], ◌∷◌, ◌++◌, length, map, filter, slice_get, slice_set, Option, Some, None, Result, Ok}
-use Rattle.std.specs.Int.RustNames.{bit_and}
-use Rattle.std.specs.List.{position, find}
+use Rattle.std.specs.Prelude.{◌≡◌, ℕ, Bool, false, List, [], map, filter, slice_get, slice_set, Option, Result, Ok}
+use Rattle.std.specs.List.{position}
 use Rattle.std.specs.Option.{option_and_then, option_map, option_map_or, unwrap_or}
 use Rattle.octets.specs.Number.{Octets}
 use Rattle.toml_tables.specs.Reading.{◌>>=◌}
 use Rattle.att_numbers.specs.Types.{Handle, Row}
 use Rattle.att_table.specs.declared.attr.Attr.{Attr}
-use Rattle.att_table.specs.Changer.{changer_of}
 use Rattle.att_table.specs.ConfigRow.{with_bits, kept_row}
-use Rattle.att_table.specs.Table.{Contents}
 use Rattle.le_hci.specs.declared.peer.Peer.{Peer}
-use Rattle.le_security.specs.declared.entry.Entry.{Entry}
 use Rattle.le_security.specs.Entry.{same_peer}
 use Rattle.gatt_subs.specs.declared.bond.Bond.{Bond}
 use Rattle.gatt_subs.specs.declared.row_entry.RowEntry.{RowEntry}
 use Rattle.gatt_subs.specs.declared.rows_fault.RowsFault.{RowsFault}
-use Rattle.gatt_subs.specs.InOrder.{in_order}
-use Rattle.gatt_subs.specs.RowEntry.{is_at, rank_of}
-use Rattle.gatt_subs.specs.Unfitted.{Written, nothing_written, has_peer, rows_read}
+use Rattle.gatt_subs.specs.Unfitted.{Written, has_peer, rows_read}
 
 -- the peers that have a bond, in the order of a rows file, and the bond of each: its row, and whether it is owed an indication
 -- of a changed table. What was read of other peers is not fitted yet

@@ -1,11 +1,11 @@
 -- The text of a rows file: this profile's own.
-use Rattle.std.specs.Prelude.{◌≡◌, ℕ, ◌==◌, Bool, if◌then◌else◌, List, [], ◌∷◌, ◌++◌, map, filter, slice_index, Option}
+use Rattle.std.specs.Prelude.{◌≡◌, ◌==◌, if◌then◌else◌, List, [], ◌∷◌, ◌++◌, map, slice_index, Option}
 use Rattle.std.specs.Fmt.{decimal}
 use Rattle.std.specs.Io.KnownBytes.{Appends}
 use Rattle.std.specs.List.{flat_map}
 use Rattle.hex.specs.Hex.{encode_lower}
 use Rattle.octets.specs.Number.{Octets}
-use Rattle.att_numbers.specs.Types.{Handle, Row}
+use Rattle.att_numbers.specs.Types.{Row}
 use Rattle.le_hci.specs.declared.peer.Peer.{Peer}
 use Rattle.gatt_subs.specs.declared.bond.Bond.{Bond}
 use Rattle.gatt_subs.specs.declared.row_entry.RowEntry.{RowEntry}

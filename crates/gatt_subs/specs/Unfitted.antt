@@ -1,5 +1,5 @@
 -- What a rows file says: this profile's own.
-use Rattle.std.specs.Prelude.{◌≡◌, ℕ, ◌+◌, ◌==◌, Bool, not, nat_lt, List, [], ◌∷◌, length, Result, Ok}
+use Rattle.std.specs.Prelude.{ℕ, ◌+◌, ◌==◌, Bool, not, nat_lt, List, [], ◌∷◌, length, Result, Ok}
 use Rattle.std.specs.List.{list_any, slice_split}
 use Rattle.octets.specs.Number.{Octets}
 use Rattle.toml_tables.specs.Reading.{◌>>=◌, unless, require}

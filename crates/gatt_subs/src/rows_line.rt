@@ -2,7 +2,7 @@
 
 ghost use Rattle.std.specs.Prelude.{◌≡◌, None};
 ghost use Rattle.std.specs.Option.{option_map};
-ghost use Rattle.gatt_subs.specs.RowsLine.{parts_view, parts_of, line_behind, line_of, peer_of, kind_of, handle_of, bits_of};
+ghost use Rattle.gatt_subs.specs.RowsLine.{parts_view, parts_of, line_behind, line_of, peer_of, handle_of, bits_of};
 
 use crate::row_entry::RowEntry;
 use le_hci::{PUBLIC_ADDRESS, Peer, RANDOM_ADDRESS};

@@ -1,6 +1,6 @@
 //! The rows file: lines that say what peers have configured, and which are owed.
 
-ghost use Rattle.std.specs.Prelude.{◌≡◌, ◌+◌, ◌<◌, ◌≤◌, [], ◌∷◌, length, nat_lt, Ok, OnOk, OnErr, IfSome, IfNone};
+ghost use Rattle.std.specs.Prelude.{◌≡◌, ◌+◌, ◌<◌, [], ◌∷◌, length, nat_lt, Ok, OnOk, OnErr, IfSome, IfNone};
 ghost use Rattle.std.specs.List.{position};
 ghost use Rattle.octets.specs.Memory.{Gives, Leaves};
 ghost use Rattle.gatt_subs.specs.declared.rows_fault.RowsFault.TheVariants.{OutOfMemory};

@@ -1,8 +1,8 @@
-use Rattle.std.proofs.Common.{◌≡◌, ◌+◌, drop, ap, sym, subst, ◌∙◌}
+use Rattle.std.proofs.Common.{◌+◌, drop, ap, sym, subst, ◌∙◌}
 use Rattle.std.specs.List.{filter}
 use Rattle.att_numbers.specs.Types.{Row}
 use Rattle.att_table.specs.ConfigRow.{is_supported, IsRowOf}
-use Rattle.gatt_subs.specs.Fit.{with_entries, row_fitted}
+use Rattle.gatt_subs.specs.Fit.{with_entries}
 use Rattle.gatt_subs.specs.Rows.{row_in}
 use Rattle.gatt_subs.proofs.Supported.{fits_entry, passes_entry}
 use Rattle.gatt_subs.proofs.fit.fit_entries.Goals as goal

@@ -1,4 +1,4 @@
-use Rattle.std.proofs.Common.{◌≡◌, ◌<◌, ◌+◌, List, length, drop, Some, None, ap, sym, ◌∙◌, arith}
+use Rattle.std.proofs.Common.{◌<◌, ◌+◌, List, length, drop, Some, None, ap, sym, ◌∙◌, arith}
 use Rattle.std.specs.Option.{option_copied}
 use Rattle.le_hci.specs.declared.peer.Peer.{Peer}
 use Rattle.gatt_subs.specs.Fit.{peers_with}

@@ -2,7 +2,6 @@ use Rattle.std.proofs.Common.{◌<◌, length, set, ap, ◌∙◌, arith}
 use Rattle.std.proofs.lemmas.List.Edits.{map_over_more}
 use Rattle.att_numbers.specs.Types.{Row}
 use Rattle.gatt_subs.specs.Rows.{kept_bond}
-use Rattle.gatt_subs.specs.declared.bond.Bond.{Bond}
 use Rattle.gatt_subs.proofs.rows.keep_rows.Goals as goal
 
 pub loop-place-preserved : goal.loop-place-preserved

@@ -1,10 +1,10 @@
-use Rattle.std.proofs.Common.{◌≡◌, List, ap, sym, ◌∙◌, false}
+use Rattle.std.proofs.Common.{List, ap, sym, ◌∙◌, false}
 use Rattle.std.specs.Option.{option_map}
 use Rattle.std.proofs.lemmas.Bool.{false≢true}
 use Rattle.att_numbers.specs.Types.{Row}
 use Rattle.le_hci.specs.declared.peer.Peer.{Peer}
 use Rattle.gatt_subs.specs.declared.bond.Bond.{Bond}
-use Rattle.gatt_subs.specs.Rows.{Subscriptions, place_of}
+use Rattle.gatt_subs.specs.Rows.{place_of}
 use Rattle.gatt_subs.proofs.Bonds.{ends_alike, lent_row, row_there}
 use Rattle.gatt_subs.proofs.rows.Rows.of.Goals as goal
 
