@@ -114,3 +114,16 @@ row_there old peers bonds unfitted peer place bond d is same at there =
 pub ends_alike : {N A B C : Type 0} (name : N) (one other : A → B) → ((x : A) → one x ≡ other x)
     → ◌≡◌ {A = (N × (A → B)) ⊎ C} (inl (name, one)) (inl (name, other))
 ends_alike name one other same = λ i. inl (name, λ x. same x i)
+
+-- the law of a row that is lent: what is written through it changes the bond of its peer, and no other
+pub row_changes : (old : Subscriptions) (peers : List Peer) (bonds : List Bond) (unfitted : Written) (peer : Peer) (row : Row)
+    → record { peers = peers; bonds = bonds; unfitted = unfitted } ≡ old → length bonds ≡ length peers
+    → ChangesBond (with_row row) peer old (with_bond old peer (with_row row))
+row_changes old peers bonds unfitted peer row is same =
+    let held : Subscriptions = record { peers = peers; bonds = bonds; unfitted = unfitted } in
+    subst (λ (old : Subscriptions). ChangesBond (with_row row) peer old (with_bond old peer (with_row row))) is
+    (elim (place_of peers peer) as (λ found. place_of peers peer ≡ found
+    → ChangesBond (with_row row) peer held (option_map_or (λ place. record held { bonds = bonds_with bonds place (with_row row) }) found held)) [
+      | None ↦ λ missing. changes_no_bond held peers bonds unfitted peer (with_row row) refl missing
+      | Some place ↦ λ at. changes_bond held peers bonds unfitted peer place (with_row row) refl same at
+    ] refl)

@@ -8,13 +8,14 @@ ghost use Rattle.std.specs.Option.{option_copied, option_map};
 ghost use Rattle.le_hci.specs.declared.peer.Peer.{Peer};
 ghost use Rattle.octets.specs.Memory.{Gives};
 ghost use Rattle.octets.specs.Stream.{CountsFailure};
+ghost use Rattle.att_numbers.specs.Types.{Row};
 ghost use Rattle.att_table.specs.Changer.{changer_of};
 ghost use Rattle.att_table.specs.ConfigRow.{bits_at, has_room, HasOneEntryEach};
 ghost use Rattle.gatt_subs.specs.declared.rows_fault.RowsFault.TheVariants.{OutOfMemory};
 ghost use Rattle.gatt_subs.specs.Fit.{fitted_bond, fitted_rows, row_fitted, HasFittedBonds};
 ghost use Rattle.gatt_subs.specs.InOrder.{Ascends};
 ghost use Rattle.gatt_subs.specs.RowEntry.{is_at, rank_of};
-ghost use Rattle.gatt_subs.specs.Rows.{place_of, bond_of, row_of, row_in, row_read, owes, bonds_with, with_set, with_owed, kept_bond, subscriptions_read, ChangesBond};
+ghost use Rattle.gatt_subs.specs.Rows.{place_of, bond_of, row_of, row_in, row_read, owes, bonds_with, with_bond, with_row, with_set, with_owed, kept_bond, subscriptions_read, ChangesBond};
 ghost use Rattle.gatt_subs.specs.RowsText.{text_of, WritesFront};
 
 use crate::bond::Bond;
@@ -167,6 +168,7 @@ impl Rows {
         ensures* writes_back { sem 𝓛 (LendsRow self.entry peer.now result) }
         ensures row { IfSome result (λ row. row_of self.old peer.now ≡ Some row.now) }
         ensures none { IsNone result → IsNone (row_of self.old peer.now) }
+        ensures changes { (row : Row) → ChangesBond (with_row row) peer.now self.old (with_bond self.old peer.now (with_row row)) }
     {
         let place = place_of(&self.peers, peer)?;
         Some(&mut self.bonds[place].row)

@@ -5,7 +5,7 @@ use Rattle.att_numbers.specs.Types.{Row}
 use Rattle.le_hci.specs.declared.peer.Peer.{Peer}
 use Rattle.gatt_subs.specs.declared.bond.Bond.{Bond}
 use Rattle.gatt_subs.specs.Rows.{place_of}
-use Rattle.gatt_subs.proofs.Bonds.{ends_alike, lent_row, row_there}
+use Rattle.gatt_subs.proofs.Bonds.{ends_alike, lent_row, row_changes, row_there}
 use Rattle.gatt_subs.proofs.rows.Rows.of.Goals as goal
 
 pub returns : goal.returns
@@ -23,5 +23,6 @@ returns c =
             ap (option_map (λ (bond : Bond). bond.row))
             (row_there c.args.self.now held.peers.items held.bonds.items held.unfitted peer place bond bond c.self.view_is c.self.invariant at c.index_mut.ensures.value);
         none = λ is. absurd (false≢true (sym is));
+        changes = λ row. row_changes c.args.self.now held.peers.items held.bonds.items held.unfitted peer row c.self.view_is c.self.invariant;
       },
     )
