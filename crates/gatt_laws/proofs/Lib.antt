@@ -1,7 +1,13 @@
+pub mod Always
 pub mod Courses
 pub mod Headline
+pub mod MayBeHeard
+pub mod OwnQueues
+pub mod Queued
+pub mod Refusals
 pub mod RowsOfTheTable
+pub mod Settled
 pub mod Silence
 pub mod Streams
-pub mod examples
 pub mod ValuesOfTheTable
+pub mod examples

@@ -1,6 +1,6 @@
 -- Each event leaves rows of the table that then stands.
-use Rattle.std.proofs.Common.{◌≡◌, ℕ, ◌+◌, Bool, true, false, List, [], ◌∷◌, ◌++◌, length, Option, Some, None, refl, sym, subst}
-use Rattle.std.specs.Prelude.{Result, Ok, Err, is_some, nat_lt, ◌==◌, ◌&&◌, if◌then◌else◌}
+use Rattle.std.proofs.Common.{◌≡◌, ℕ, ◌+◌, Bool, true, false, List, [], ◌∷◌, length, Option, Some, None, refl, sym, subst}
+use Rattle.std.specs.Prelude.{Result, is_some, nat_lt, ◌==◌, ◌&&◌, if◌then◌else◌}
 use Rattle.std.proofs.lemmas.List.Elements.{All-nil}
 use Rattle.std.specs.Option.{option_map_or}
 use Rattle.att_numbers.specs.Types.{Handle, Row, Code}
@@ -22,12 +22,9 @@ use Rattle.att_table.specs.Changer.{changer_of}
 use Rattle.gatt_laws.specs.Controller.{command_of_init, count_before, without_command}
 use Rattle.gatt_laws.specs.Event.{Ordinal, Own, Event, Connected, Gone, KeyAsked, Encrypted, Refreshed, Asks, Signals, Authorized, Of, Completed, Credit, Update, Tick, Replaced, Nothing}
 use Rattle.gatt_laws.specs.Heard.{after_hearing}
-use Rattle.gatt_laws.specs.Calls.{call_event, replacement_event}
-use Rattle.gatt_laws.specs.Input.{Item, AnOctet, APacket, ACall, ATable, TheEnd, Course, after_result, packet_taken, after_packet, with_unfinished, after_first, taken, unless_stopped, after_item, after_items, at_start, course}
-use Rattle.gatt_laws.specs.Packets.{Fault, packet_event}
+use Rattle.gatt_laws.proofs.Always.{always, any_tables}
+use Rattle.gatt_laws.specs.Input.{at_start, course}
 use Rattle.gatt_laws.specs.Start.{before_first_command}
-use Rattle.le_h4.specs.Division.{is_long}
-use Rattle.le_h4.specs.Packet.{Packet, First, FirstPacket, NoneYet, NoPacket, first_of}
 use Rattle.gatt_laws.specs.Part.{Part, absent, come, is_live, is_there, key_of, row_of, mtu_of, connection_of, with_pdus, after_ending}
 use Rattle.gatt_laws.specs.Room.{Room, Bonds}
 use Rattle.gatt_laws.specs.State.{State, Change, own_change, with_completed, after_completed, after_credit, all_changed, announced, after_replaced, change_of, finished, parts_finished, step}
@@ -234,52 +231,11 @@ keeps_rows_of_its_table state event rows =
           (finished-row attributes change.state.room change.state.bonds (change.raised ordinal) (change.state.parts ordinal) (after.own ordinal));
     }
 
--- so does each item that is taken in
-abbrev HasRows : Course → Type 0
-HasRows course = HasRowsOfItsTable course.intake.state
-
-result-rows : {E : Type 0} (old : Course) (result : Result Event E) → HasRows old → HasRows (after_result old result)
-result-rows old (Ok event) rows = keeps_rows_of_its_table old.intake.state event rows
-result-rows old (Err refused) rows = rows
-
-packet-rows : (old : Course) (packet : Packet) (result : Result Event Fault) → HasRows old → HasRows (packet_taken old packet result)
-packet-rows old packet (Ok event) rows = keeps_rows_of_its_table old.intake.state event rows
-packet-rows old packet (Err fault) rows = rows
-
-kept-rows : (old : Course) (packet : Packet) (rest : Octets) (long : Bool) → HasRows old
-    → HasRows (if long then with_unfinished old rest else after_packet (with_unfinished old rest) packet)
-kept-rows old packet rest true rows = rows
-kept-rows old packet rest false rows =
-    packet-rows (with_unfinished old rest) packet (packet_event old.intake.state old.intake.fragments packet) rows
-
-first-rows : (old : Course) (octets : Octets) (first : First) → HasRows old → HasRows (after_first old octets first)
-first-rows old octets (FirstPacket packet rest) rows = kept-rows old packet rest (is_long packet) rows
-first-rows old octets NoneYet rows = rows
-first-rows old octets (NoPacket indicator) rows = rows
-
-taken-rows : (old : Course) (item : Item) → HasRows old → HasRows (taken old item)
-taken-rows old (AnOctet octet) rows = first-rows old (old.intake.unfinished ++ octet ∷ []) (first_of (old.intake.unfinished ++ octet ∷ [])) rows
-taken-rows old (APacket packet) rows = packet-rows old packet (packet_event old.intake.state old.intake.fragments packet) rows
-taken-rows old (ACall call) rows = result-rows old (call_event old.intake.state call) rows
-taken-rows old (ATable table) rows = result-rows old (replacement_event old.intake.state table) rows
-taken-rows old TheEnd rows = rows
-
-unless-rows : (old new : Course) (fault : Option Fault) → HasRows old → HasRows new → HasRows (unless_stopped fault old new)
-unless-rows old new (Some fault) before after = before
-unless-rows old new None before after = after
-
-items-rows : (old : Course) (items : List Item) → HasRows old → HasRows (after_items old items)
-unfolding after_item
-items-rows old [] rows = rows
-items-rows old (item ∷ items) rows =
-    items-rows (unless_stopped old.intake.fault old (taken old item)) items
-    (unless-rows old (taken old item) old.intake.fault rows (taken-rows old item rows))
-
 pub always_has_rows_of_its_table : AlwaysHasRowsOfItsTable
 unfolding course
 always_has_rows_of_its_table start input fitted =
     let old : State = before_first_command start in
-    items-rows (at_start start) input (record {
+    always (λ table. Unit) HasRowsOfItsTable (λ state event possible rows. keeps_rows_of_its_table state event rows) (at_start start) input (any_tables input) (record {
       bonds = fitted;
       own = λ ordinal. sent-row start.table.attributes absent
           (nat_lt (length (command_of_init old.controller) + count_before ordinal old.parts old.slots) old.controller.credit) (no-row start.table.attributes);

@@ -1,6 +1,6 @@
 -- Whatever is written, a table stands.
-use Rattle.std.proofs.Common.{◌≡◌, ℕ, zero, suc, ◌+◌, ◌<◌, ◌≤◌, Bool, true, false, List, [], ◌∷◌, ◌++◌, length, Option, Some, None, refl, sym, ap, ◌∙◌, arith}
-use Rattle.std.specs.Prelude.{Result, Ok, Err, nat_lt, nat_le, ◌==◌, ◌&&◌, not, if◌then◌else◌}
+use Rattle.std.proofs.Common.{◌≡◌, ℕ, zero, suc, ◌+◌, ◌<◌, ◌≤◌, Bool, true, false, List, [], ◌∷◌, length, Option, Some, None, refl, sym, ap, ◌∙◌, arith}
+use Rattle.std.specs.Prelude.{Result, nat_lt, nat_le, ◌==◌, ◌&&◌, if◌then◌else◌}
 use Rattle.std.specs.Option.{option_map_or}
 use Rattle.std.proofs.lemmas.Bool.{eqb-true, leb-true, ltb-false}
 use Rattle.std.proofs.lemmas.List.{length-append, length-take, length-drop}
@@ -15,7 +15,7 @@ use Rattle.att_policy.specs.Refusal.{Refusal}
 use Rattle.att_table.proofs.Values.{length_stored, stored_alike}
 use Rattle.att_table.specs.declared.attr.Attr.{Attr}
 use Rattle.att_table.specs.Facts.{IsTable}
-use Rattle.att_table.specs.Table.{Contents, attribute_at, guard_at, is_value, is_configuration_at, is_fixed_at, is_value_at, largest_at, value_at, with_value}
+use Rattle.att_table.specs.Table.{Contents, attribute_at, guard_at, is_configuration_at, is_fixed_at, is_value_at, largest_at, value_at, with_value}
 use Rattle.att_values.specs.Cell.{value_with_part}
 use Rattle.att_writes.specs.Applied.{Stored, after_entry, after_entries, stored_in, stored_after as written_after, unless_refused as unless_entry}
 use Rattle.att_writes.specs.Entry.{Entry}
@@ -25,21 +25,15 @@ use Rattle.std.specs.List.{find}
 use Rattle.std.specs.Option.{option_map}
 use Rattle.att_pdu.specs.Grammar.{request_of, is_due}
 use Rattle.att_table.proofs.ServiceBefore.{of_a_changer}
-use Rattle.att_table.specs.Changer.{changer_of, is_changer}
+use Rattle.att_table.specs.Changer.{is_changer}
 use Rattle.gatt_conn.specs.Answer.{writing_asked}
 use Rattle.gatt_laws.specs.Event.{Ordinal, Own, Event, Connected, Gone, KeyAsked, Encrypted, Refreshed, Asks, Signals, Authorized, Of, Completed, Credit, Update, Tick, Replaced, Nothing}
 use Rattle.gatt_laws.specs.Headline.{MayUse}
-use Rattle.gatt_laws.specs.Calls.{Call, UpdateCall, AuthorizeCall, TickCall, NotAValue, BadLength, TimeWentBack, NoServiceChanged, holding, serving, has_length, update_event, authorize_event, call_event, same_changer, replacement_event}
-use Rattle.gatt_laws.specs.Controller.{is_ready}
-use Rattle.gatt_laws.specs.Input.{Item, AnOctet, APacket, ACall, ATable, TheEnd, Course, after_result, packet_taken, after_packet, with_unfinished, after_first, taken, unless_stopped, after_item, after_items, at_start, course}
-use Rattle.gatt_laws.specs.Packets.{Fault, answered, own_event, is_accepted, connection_event, reported_event, event_or_bad, frame_event, Fragments, Arrival, arrival, arrival_event, packet_event}
-use Rattle.gatt_laws.specs.ValuesOfTheTable.{HasTables, AlwaysHasATable}
-use Rattle.le_h4.specs.Division.{is_long}
-use Rattle.le_h4.specs.Packet.{Packet, AclPacket, EventPacket, ScoPacket, First, FirstPacket, NoneYet, NoPacket, first_of}
-use Rattle.le_hci.specs.declared.event.BadEvent.{BadEvent}
-use Rattle.le_hci.specs.declared.init.Init.{Init}
-use Rattle.le_hci.specs.Event as event
-use Rattle.le_hci.specs.Event.{Reported, event_of}
+use Rattle.gatt_laws.proofs.Always.{always}
+use Rattle.gatt_laws.specs.Calls.{has_length}
+use Rattle.gatt_laws.specs.Input.{at_start, course}
+use Rattle.gatt_laws.specs.Possible.{Possible}
+use Rattle.gatt_laws.specs.ValuesOfTheTable.{AlwaysHasATable}
 use Rattle.gatt_laws.specs.Part.{Part, is_live, row_of, mtu_of, connection_of, after_ending}
 use Rattle.gatt_laws.specs.Room.{Room}
 use Rattle.gatt_laws.specs.State.{State, own_change, all_changed, change_of, step}
@@ -212,13 +206,7 @@ announced-table table (Some attr) found is =
     value-used attributes zero value = cc value
     value-used attributes (suc handle) value = omega arith
 
--- an event that may come leaves a table: a value that is written fits, and a table that is handed in is one
-abbrev Fitting : State → Event → Type 0
-Fitting state (Update handle value) =
-    (attr : Attr) × (attribute_at state.room.table.attributes handle ≡ Some attr) × (has_length attr (length value) ≡ true)
-Fitting state (Replaced table) = IsTable table
-Fitting state event = Unit
-
+-- each possible event leaves a table
 has-largest : (attr : Attr) (count : ℕ) (fixed : Bool) → attr.fixed ≡ fixed → (if fixed then count == attr.largest else nat_le count attr.largest) ≡ true
     → (count ≤ attr.largest) × (attr.fixed ≡ true → count ≡ attr.largest)
 has-largest attr count true is has = let same : count ≡ attr.largest = eqb-true count attr.largest has in (omega (arith, same), λ so. same)
@@ -233,163 +221,22 @@ updated-table table (suc handle) value attr at has is =
     let fixed : is_fixed_at table.attributes (suc handle) ≡ attr.fixed = ap (λ (found : Option Attr). option_map_or (λ (a : Attr). a.fixed) found false) at in
     stored-table table (suc handle) value is (omega arith) (omega (arith, fits.0, largest)) (λ so. fits.1 (sym fixed ∙ so) ∙ sym largest)
 
-change-table : (state : State) (event : Event) → Fitting state event → IsTable state.room.table → IsTable (change_of state event).state.room.table
+change-table : (state : State) (event : Event) → Possible IsTable state event → IsTable state.room.table → IsTable (change_of state event).state.room.table
 unfolding change_of
 change-table state (Of ordinal own) fits is = own-table state ordinal own is
 change-table state (Completed entries) fits is = is
 change-table state (Credit allowed opcode status (Some init)) fits is = is
 change-table state (Credit allowed opcode status None) fits is = is
-change-table state (Update handle value) fits is = updated-table state.room.table handle value fits.0 fits.1 fits.2 is
+change-table state (Update handle value) fits is = updated-table state.room.table handle value fits.attr fits.there fits.fits is
 change-table state (Tick time) fits is = is
 change-table state (Replaced table) fits is = announced-table table (find (is_changer table) table.attributes) refl fits
 change-table state Nothing fits is = is
 
-step-table : (state : State) (event : Event) → Fitting state event → IsTable state.room.table → IsTable (step state event).room.table
+step-table : (state : State) (event : Event) → Possible IsTable state event → IsTable state.room.table → IsTable (step state event).room.table
 unfolding step
 step-table state event fits is = change-table state event fits is
 
--- all that comes in means such events
-abbrev FittingIfAny : {E : Type 0} → State → Result Event E → Type 0
-FittingIfAny state (Ok event) = Fitting state event
-FittingIfAny state (Err refused) = Unit
-
-answered-fits : (state : State) (allowed opcode : ℕ) (status : Option ℕ) (following : Result (Option Init) Fault) → FittingIfAny state (answered allowed opcode status following)
-answered-fits state allowed opcode status (Ok following) = tt
-answered-fits state allowed opcode status (Err fault) = tt
-
-own-fits : (state : State) (found : Option Ordinal) (own : Own) → Fitting state (own_event found own)
-own-fits state None own = tt
-own-fits state (Some ordinal) own = tt
-
-either-fits : (state : State) (test : Bool) (one other : Event) → Fitting state one → Fitting state other → Fitting state (if test then one else other)
-either-fits state true one other first second = first
-either-fits state false one other first second = second
-
-connection-fits : (state : State) (reported : Reported) → Fitting state (connection_event state reported)
-connection-fits state (event.DisconnectionComplete status handle reason) =
-    either-fits state (status == 0) (own_event (holding state handle) Gone) Nothing (own-fits state (holding state handle) Gone) tt
-connection-fits state (event.EncryptionChange status handle enabled) = own-fits state (serving state handle) (Encrypted status enabled)
-connection-fits state (event.CommandComplete allowed opcode returned) = tt
-connection-fits state (event.CommandStatus status allowed opcode) = tt
-connection-fits state (event.HardwareError code) = tt
-connection-fits state (event.NumberOfCompletedPackets entries) = tt
-connection-fits state (event.EncryptionKeyRefreshComplete status handle) = own-fits state (serving state handle) (Refreshed status)
-connection-fits state (event.ConnectionComplete status handle role peer interval latency timeout clock_accuracy) =
-    either-fits state (is_accepted state status handle role) (Of state.next (Connected handle peer)) Nothing tt tt
-connection-fits state (event.LongTermKeyRequest handle random_number diversifier) = own-fits state (serving state handle) (KeyAsked random_number diversifier)
-connection-fits state event.Other = tt
-
-if-ready : (state : State) (reported : Reported) → Fitting state (if is_ready state.controller then connection_event state reported else Nothing)
-if-ready state reported = either-fits state (is_ready state.controller) (connection_event state reported) Nothing (connection-fits state reported) tt
-
-reported-fits : (state : State) (reported : Reported) → FittingIfAny state (reported_event state reported)
-reported-fits state (event.CommandComplete allowed opcode returned) = answered-fits state allowed opcode _ _
-reported-fits state (event.CommandStatus status allowed opcode) = answered-fits state allowed opcode _ _
-reported-fits state (event.HardwareError code) = tt
-reported-fits state (event.DisconnectionComplete status handle reason) = if-ready state (event.DisconnectionComplete status handle reason)
-reported-fits state (event.EncryptionChange status handle enabled) = if-ready state (event.EncryptionChange status handle enabled)
-reported-fits state (event.NumberOfCompletedPackets entries) = if-ready state (event.NumberOfCompletedPackets entries)
-reported-fits state (event.EncryptionKeyRefreshComplete status handle) = if-ready state (event.EncryptionKeyRefreshComplete status handle)
-reported-fits state (event.ConnectionComplete status handle role peer interval latency timeout clock_accuracy) =
-    if-ready state (event.ConnectionComplete status handle role peer interval latency timeout clock_accuracy)
-reported-fits state (event.LongTermKeyRequest handle random_number diversifier) = if-ready state (event.LongTermKeyRequest handle random_number diversifier)
-reported-fits state event.Other = if-ready state event.Other
-
-bad-or-fits : (state : State) (read : Result Reported BadEvent) → FittingIfAny state (event_or_bad state read)
-bad-or-fits state (Ok reported) = reported-fits state reported
-bad-or-fits state (Err bad) = tt
-
-frame-fits : (state : State) (ordinal : Ordinal) (own : Option Own) → Fitting state (frame_event ordinal own)
-frame-fits state ordinal None = tt
-frame-fits state ordinal (Some own) = tt
-
-arrival-fits : (state : State) (fragments : Fragments) (arrived : Arrival) → Fitting state (arrival_event fragments arrived)
-arrival-fits state fragments None = tt
-arrival-fits state fragments (Some arrived) = frame-fits state arrived.0 _
-
-packet-fits : (state : State) (fragments : Fragments) (packet : Packet) → FittingIfAny state (packet_event state fragments packet)
-unfolding packet_event
-packet-fits state fragments (EventPacket octets) = bad-or-fits state (event_of octets)
-packet-fits state fragments (AclPacket handle boundary broadcast octets) = arrival-fits state fragments (arrival state (AclPacket handle boundary broadcast octets))
-packet-fits state fragments ScoPacket = arrival-fits state fragments (arrival state ScoPacket)
-
-update-fits : (state : State) (handle : Handle) (value : Octets) (found : Option Attr) → attribute_at state.room.table.attributes handle ≡ found
-    → FittingIfAny state (update_event handle value found)
-update-fits state handle value None at = tt
-update-fits state handle value (Some attr) at =
-    elim (is_value attr.role) as (λ is. FittingIfAny state (if not is then Err NotAValue else if not (has_length attr (length value)) then Err BadLength else Ok (Update handle value))) [
-      | false ↦ tt
-      | true ↦
-          elim (has_length attr (length value)) as (λ has. has_length attr (length value) ≡ has → FittingIfAny state (if not has then Err BadLength else Ok (Update handle value))) [
-            | false ↦ λ is. tt
-            | true ↦ λ is. (attr, at, is)
-          ] refl
-    ]
-
-authorize-fits : (state : State) (until : ℕ) (found : Option Ordinal) → FittingIfAny state (authorize_event until found)
-authorize-fits state until None = tt
-authorize-fits state until (Some ordinal) = tt
-
-call-fits : (state : State) (call : Call) → FittingIfAny state (call_event state call)
-call-fits state (UpdateCall handle value) = update-fits state handle value (attribute_at state.room.table.attributes handle) refl
-call-fits state (AuthorizeCall handle until) = authorize-fits state until (serving state handle)
-call-fits state (TickCall time) =
-    elim (nat_lt time state.room.time) as (λ back. FittingIfAny state (if back then Err TimeWentBack else Ok (Tick time))) [ true ↦ tt | false ↦ tt ]
-
-replacement-fits : (state : State) (table : Contents) → IsTable table → FittingIfAny state (replacement_event state table)
-replacement-fits state table is =
-    elim (same_changer state.room.changer (changer_of table)) as (λ same. FittingIfAny state (if same then Ok (Replaced table) else Err NoServiceChanged)) [ true ↦ is | false ↦ tt ]
-
--- so a table stands after each item
-abbrev HasATable : Course → Type 0
-HasATable course = IsTable course.intake.state.room.table
-
-result-table : {E : Type 0} (old : Course) (result : Result Event E) → FittingIfAny old.intake.state result → HasATable old → HasATable (after_result old result)
-result-table old (Ok event) fits is = step-table old.intake.state event fits is
-result-table old (Err refused) fits is = is
-
-packet-table : (old : Course) (packet : Packet) (result : Result Event Fault) → FittingIfAny old.intake.state result → HasATable old → HasATable (packet_taken old packet result)
-packet-table old packet (Ok event) fits is = step-table old.intake.state event fits is
-packet-table old packet (Err fault) fits is = is
-
-kept-table : (old : Course) (packet : Packet) (rest : Octets) (long : Bool) → HasATable old
-    → HasATable (if long then with_unfinished old rest else after_packet (with_unfinished old rest) packet)
-kept-table old packet rest true is = is
-kept-table old packet rest false is =
-    packet-table (with_unfinished old rest) packet (packet_event old.intake.state old.intake.fragments packet)
-    (packet-fits old.intake.state old.intake.fragments packet) is
-
-first-table : (old : Course) (octets : Octets) (first : First) → HasATable old → HasATable (after_first old octets first)
-first-table old octets (FirstPacket packet rest) is = kept-table old packet rest (is_long packet) is
-first-table old octets NoneYet is = is
-first-table old octets (NoPacket indicator) is = is
-
-unless-stopped-table : (old new : Course) (fault : Option Fault) → HasATable old → HasATable new → HasATable (unless_stopped fault old new)
-unless-stopped-table old new (Some fault) before after = before
-unless-stopped-table old new None before after = after
-
-items-table : (old : Course) (items : List Item) → HasTables items → HasATable old → HasATable (after_items old items)
-unfolding after_item
-items-table old [] tables is = is
-items-table old (AnOctet octet ∷ items) tables is =
-    items-table (unless_stopped old.intake.fault old (taken old (AnOctet octet))) items tables
-    (unless-stopped-table old (taken old (AnOctet octet)) old.intake.fault is
-    (first-table old (old.intake.unfinished ++ octet ∷ []) (first_of (old.intake.unfinished ++ octet ∷ [])) is))
-items-table old (APacket packet ∷ items) tables is =
-    items-table (unless_stopped old.intake.fault old (taken old (APacket packet))) items tables
-    (unless-stopped-table old (taken old (APacket packet)) old.intake.fault is
-    (packet-table old packet (packet_event old.intake.state old.intake.fragments packet) (packet-fits old.intake.state old.intake.fragments packet) is))
-items-table old (ACall call ∷ items) tables is =
-    items-table (unless_stopped old.intake.fault old (taken old (ACall call))) items tables
-    (unless-stopped-table old (taken old (ACall call)) old.intake.fault is
-    (result-table old (call_event old.intake.state call) (call-fits old.intake.state call) is))
-items-table old (ATable table ∷ items) tables is =
-    items-table (unless_stopped old.intake.fault old (taken old (ATable table))) items tables.1
-    (unless-stopped-table old (taken old (ATable table)) old.intake.fault is
-    (result-table old (replacement_event old.intake.state table) (replacement-fits old.intake.state table tables.0) is))
-items-table old (TheEnd ∷ items) tables is =
-    items-table (unless_stopped old.intake.fault old (taken old TheEnd)) items tables (unless-stopped-table old (taken old TheEnd) old.intake.fault is is)
-
 pub always_has_a_table : AlwaysHasATable
 unfolding course
-always_has_a_table start input is tables = items-table (at_start start) input tables is
+always_has_a_table start input is tables =
+    always IsTable (λ (state : State). IsTable state.room.table) step-table (at_start start) input tables is

@@ -1,4 +1,4 @@
--- The calls of an application: which are accepted, and what they mean.
+-- The calls of an application: which are accepted, and what they mean. They are this profile's own.
 use Rattle.std.specs.Prelude.{ℕ, ◌==◌, nat_lt, nat_le, Bool, false, ◌&&◌, not, if◌then◌else◌, [], ◌∷◌, length, Option, Some, None, Result, Ok, Err}
 use Rattle.att_numbers.specs.Types.{Handle}
 use Rattle.att_table.specs.Changer.{changer_of}

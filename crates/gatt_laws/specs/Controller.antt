@@ -104,6 +104,6 @@ is_enabling command = opcode_of command == opcode_of LeSetAdvertiseEnable
 abbrev pub controller_after : Controller → List Commanded → Controller
 controller_after controller commands = record controller {
   credit = controller.credit - length commands;
-  awaiting = controller.awaiting || is_some (command_awaited controller.init) && nat_lt 0 controller.credit;
+  awaiting = controller.awaiting || (is_some (command_awaited controller.init) && nat_lt 0 controller.credit);
   advertising = controller.advertising || list_any is_enabling commands;
 }

@@ -1,4 +1,4 @@
--- What happens to the host, one whole packet or one call at a time.
+-- What happens to the host, one whole packet or one call at a time: this profile's own.
 use Rattle.std.specs.Prelude.{ℕ, List, Option}
 use Rattle.att_numbers.specs.Types.{Handle}
 use Rattle.att_table.specs.Table.{Contents}

@@ -1,4 +1,5 @@
--- What a connection hears unasked at an event: what is raised for it, and what is released at the end.
+-- What a connection hears unasked at an event: what is raised for it, and what is released at the end. When is this
+-- profile's own, by Core 5.0, Vol 3 Part F, 3.4.7.
 use Rattle.std.specs.Prelude.{ℕ, ◌+◌, List, [], ◌∷◌, ◌++◌, length, map}
 use Rattle.std.specs.Option.{option_to_list}
 use Rattle.att_numbers.specs.Types.{Handle, Row, Values}

@@ -1,4 +1,5 @@
--- What the host takes in, in the order in which it comes, and what goes out.
+-- What the host takes in, in the order in which it comes, and what goes out: this profile's own, over the stream of Core
+-- 5.0, Vol 4 Part A, 2.
 use Rattle.std.specs.Prelude.{ℕ, if◌then◌else◌, List, [], ◌∷◌, ◌++◌, Option, Some, None, Result, Ok, Err}
 use Rattle.att_table.specs.Table.{Contents}
 use Rattle.gatt_laws.specs.Calls.{Call, call_event, replacement_event}

@@ -1,4 +1,3 @@
-pub mod RowsOfTheTable
 pub mod Calls
 pub mod Controller
 pub mod Event
@@ -6,9 +5,16 @@ pub mod Headline
 pub mod Heard
 pub mod Input
 pub mod Laws
+pub mod MayBeHeard
+pub mod OwnQueues
 pub mod Packets
 pub mod Part
+pub mod Possible
+pub mod Queued
+pub mod Refusals
 pub mod Room
+pub mod RowsOfTheTable
+pub mod Settled
 pub mod Silence
 pub mod Start
 pub mod State

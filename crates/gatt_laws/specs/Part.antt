@@ -1,4 +1,5 @@
--- What the host keeps of one connection: what happened to it, and what follows from that.
+-- What the host keeps of one connection: what happened to it, and what follows from that. Where no other source is
+-- named, it is this profile's own.
 use Rattle.std.specs.Prelude.{ℕ, Bool, true, false, is_some, if◌then◌else◌, List, [], ◌∷◌, ◌++◌, length, map, Option, Some, None}
 use Rattle.att_numbers.specs.Types.{Mtu, Row}
 use Rattle.att_policy.specs.declared.standing.KeyFacts.{KeyFacts}

@@ -1,4 +1,4 @@
--- What all connections share, and nothing of any connection.
+-- What all connections share, and nothing of any connection: this profile's own.
 use Rattle.std.specs.Prelude.{ℕ, Bool, List, Option, Some, None}
 use Rattle.att_numbers.specs.Types.{Handle, Mtu, Row}
 use Rattle.att_table.specs.Table.{Contents}

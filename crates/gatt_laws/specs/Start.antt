@@ -1,4 +1,4 @@
--- Where a host begins.
+-- Where a host begins: this profile's own.
 use Rattle.std.specs.Prelude.{ℕ, false, List, [], Option, None}
 use Rattle.arrayvec.specs.ArrayVec.{ArrayVec}
 use Rattle.att_numbers.specs.Types.{Mtu}

@@ -1,4 +1,5 @@
--- What happens to one connection by itself: each kind of event, and what it leaves.
+-- What happens to one connection by itself: each kind of event, and what it leaves. The requests are those of Core 5.0,
+-- Vol 3 Part F; when a connection is ended, and what is then dropped, is this profile's own.
 use Rattle.std.specs.Prelude.{ℕ, ◌==◌, nat_le, Bool, false, ◌&&◌, not, is_some, if◌then◌else◌, List, [], ◌∷◌, filter, map, Option, Some, None}
 use Rattle.std.specs.Option.{option_map, option_map_or, option_to_list}
 use Rattle.att_numbers.specs.Types.{Handle, Row, Values}

@@ -7,6 +7,7 @@ use Rattle.gatt_laws.specs.Input.{course, after_item}
 use Rattle.gatt_laws.specs.Packets.{packet_event, Desync}
 use Rattle.gatt_laws.specs.State.{step, change_of, out}
 use Rattle.gatt_laws.specs.Turn.{live_turn}
+use Rattle.octets.specs.Number.{Octets}
 use Rattle.gatt_laws.specs.Heard.{after_hearing}
 
 -- nothing is received yet, and Reset is sent
@@ -35,3 +36,21 @@ connection = refl
 desync : (course (host door 2) (stream (initialised 4 ++ 0x07 ∷ connected phone))).intake.fault ≡ Some (Desync 0x07)
 unfolding course after_item packet_event step change_of live_turn after_hearing commands_due out
 desync = refl
+
+-- a command waits until the controller takes one: here none with its first answer, and one with an answer to no command
+no_credit : Octets
+no_credit = 0x04 ∷ 0x0E ∷ 0x04 ∷ 0x00 ∷ 0x03 ∷ 0x0C ∷ 0x00 ∷ []
+
+credit : Octets
+credit = 0x04 ∷ 0x0E ∷ 0x03 ∷ 0x01 ∷ 0x00 ∷ 0x00 ∷ []
+
+set_event_mask : Octets
+set_event_mask = 0x01 ∷ 0x01 ∷ 0x0C ∷ 0x08 ∷ 0xFF ∷ 0xFF ∷ 0xFF ∷ 0xFF ∷ 0xFF ∷ 0x9F ∷ 0x00 ∷ 0x20 ∷ []
+
+waits : (course (host door 2) (stream no_credit)).gone ≡ (0x01 ∷ 0x03 ∷ 0x0C ∷ 0x00 ∷ []) ∷ []
+unfolding course after_item packet_event step change_of commands_due out no_credit
+waits = refl
+
+is_sent_once : (course (host door 2) (stream (no_credit ++ credit ++ connected phone ++ credit))).gone ≡ (0x01 ∷ 0x03 ∷ 0x0C ∷ 0x00 ∷ []) ∷ set_event_mask ∷ []
+unfolding course after_item packet_event step change_of live_turn after_hearing commands_due out no_credit credit set_event_mask
+is_sent_once = refl

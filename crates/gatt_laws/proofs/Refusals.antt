@@ -1,0 +1,74 @@
+-- What is refused, and by which code.
+use Rattle.std.proofs.Common.{◌≡◌, List, [], ◌∷◌, ◌++◌, length, map, Option, Some, None, refl, ap}
+use Rattle.std.specs.Prelude.{Result, Ok}
+use Rattle.att_numbers.specs.declared.opcode.TheConstants.{READ_MULTIPLE_REQUEST}
+use Rattle.att_numbers.specs.Types.{Handle, Code}
+use Rattle.att_pdu.specs.Request.{ExchangeMtuRequest, FindInformationRequest, FindByTypeValueRequest, ReadByTypeRequest, ReadRequest, ReadBlobRequest, ReadMultipleRequest, ReadByGroupTypeRequest, WriteRequest, PrepareWriteRequest, ExecuteWriteRequest, ConfirmationPdu, WriteCommandPdu}
+use Rattle.att_pdu.specs.Response.{Response, ErrorResponse}
+use Rattle.att_policy.specs.declared.policy.Access.TheVariants.{Read}
+use Rattle.att_policy.specs.declared.policy.Rule.{Rule}
+use Rattle.att_policy.specs.declared.standing.Standing.{Standing}
+use Rattle.att_policy.proofs.RulesInOrder.{is_first_broken}
+use Rattle.att_policy.specs.Refusal.{Refusal}
+use Rattle.att_policy.specs.Policy.{code_of, first_broken_rule_of}
+use Rattle.att_reads.specs.Access.{refusal_of}
+use Rattle.att_reads.specs.Answer.{value_answer, part_answer, multiple_answer}
+use Rattle.att_reads.specs.Refusals.{unless_refused}
+use Rattle.att_table.specs.declared.attr.Attr.{Attr}
+use Rattle.att_table.specs.Table.{guard_at, value_at}
+use Rattle.att_writes.specs.Applied.{Stored, after_entry, after_entries, unless_refused as unless_entry}
+use Rattle.att_writes.specs.Entry.{Entry}
+use Rattle.att_writes.specs.Fault.{fault_of}
+use Rattle.gatt_laws.specs.Headline.{Each, MayUse}
+use Rattle.gatt_laws.specs.Refusals.{RefusesByTheFirstBrokenRule, RefusesTheFirstHandle, RefusesTheFirstEntry}
+
+pub refuses_by_the_first_broken_rule : RefusesByTheFirstBrokenRule
+unfolding value_answer part_answer after_entries
+refuses_by_the_first_broken_rule table row conn (ReadRequest handle) rule = λ is. rw is refl
+refuses_by_the_first_broken_rule table row conn (ReadBlobRequest handle offset) rule = λ is. rw is refl
+refuses_by_the_first_broken_rule table row conn (WriteRequest handle value) rule = λ is. rw is refl
+refuses_by_the_first_broken_rule table row conn (PrepareWriteRequest handle offset part) rule = λ is. rw is refl
+refuses_by_the_first_broken_rule table row conn (ExchangeMtuRequest client_rx_mtu) rule = tt
+refuses_by_the_first_broken_rule table row conn (FindInformationRequest first last) rule = tt
+refuses_by_the_first_broken_rule table row conn (FindByTypeValueRequest first last kind value) rule = tt
+refuses_by_the_first_broken_rule table row conn (ReadByTypeRequest first last kind) rule = tt
+refuses_by_the_first_broken_rule table row conn (ReadMultipleRequest handles) rule = tt
+refuses_by_the_first_broken_rule table row conn (ReadByGroupTypeRequest first last kind) rule = tt
+refuses_by_the_first_broken_rule table row conn (ExecuteWriteRequest flags) rule = tt
+refuses_by_the_first_broken_rule table row conn ConfirmationPdu rule = tt
+refuses_by_the_first_broken_rule table row conn (WriteCommandPdu handle value) rule = tt
+
+-- the first handle of several
+permitted-none : (attributes : List Attr) (standing : Standing) (handle : Handle) (rule : Option Rule) → first_broken_rule_of Read (guard_at attributes handle) standing ≡ rule
+    → MayUse Read attributes standing handle → refusal_of attributes standing handle ≡ None
+permitted-none attributes standing handle None is may = rw is refl
+permitted-none attributes standing handle (Some rule) is may =
+    let broken = is_first_broken Read (guard_at attributes handle) standing rule is in
+    cc (broken.broken, may rule)
+
+first-of-several : (attributes : List Attr) (standing : Standing) (before after : List Handle) (handle : Handle) (code : Code) (answer : Response)
+    → Each (MayUse Read attributes standing) before → refusal_of attributes standing handle ≡ Some (record { handle = handle; code = code })
+    → unless_refused READ_MULTIPLE_REQUEST (map (refusal_of attributes standing) (before ++ handle ∷ after)) answer ≡ ErrorResponse READ_MULTIPLE_REQUEST handle code
+first-of-several attributes standing [] after handle code answer may is = rw is refl
+first-of-several attributes standing (first ∷ before) after handle code answer may is =
+    rw (permitted-none attributes standing first (first_broken_rule_of Read (guard_at attributes first) standing) refl may.0)
+    (first-of-several attributes standing before after handle code answer may.1 is)
+
+pub refuses_the_first_handle : RefusesTheFirstHandle
+unfolding multiple_answer
+refuses_the_first_handle table row conn before after handle rule may is =
+    ap Some (first-of-several table.attributes conn.standing before after handle (code_of Read conn.standing rule) _ may (rw is refl))
+
+-- the first of several entries
+entry-done : (entry : Entry) (code : Option Code) (rest : Result Stored Refusal) (new : Stored) → unless_entry entry code rest ≡ Ok new → (code ≡ None) × (rest ≡ Ok new)
+entry-done entry None rest new is = (refl, is)
+entry-done entry (Some code) rest new is = cc is
+
+pub refuses_the_first_entry : RefusesTheFirstEntry
+unfolding after_entries
+refuses_the_first_entry access attributes standing stored by [] after entry code done fault =
+    let same : stored ≡ by = cc done in
+    rw same (rw fault refl)
+refuses_the_first_entry access attributes standing stored by (first ∷ before) after entry code done fault =
+    let one = entry-done first (fault_of access attributes standing (length (value_at stored.values first.handle)) first) _ by done in
+    rw one.0 (refuses_the_first_entry access attributes standing (after_entry attributes stored first) by before after entry code one.1 fault)

@@ -1,0 +1,316 @@
+-- Each possible event keeps what is settled.
+use Rattle.std.proofs.Common.{◌≡◌, ℕ, zero, suc, ◌+◌, ◌-◌, ◌<◌, Bool, true, false, List, [], ◌∷◌, length, Option, Some, None, refl, sym, ap, subst, ◌∙◌, arith}
+use Rattle.std.specs.Prelude.{min, is_none, nat_lt, ◌&&◌, replicate, ◌==◌, ◌||◌, if◌then◌else◌}
+use Rattle.std.proofs.lemmas.Bool.{eq-eqb, eqb-true}
+use Rattle.std.proofs.lemmas.Bool.Decides.{nat_tests}
+use Rattle.att_numbers.specs.Types.{Handle}
+use Rattle.gatt_laws.proofs.Always.{always, any_tables}
+use Rattle.gatt_laws.proofs.Silence.{only_serves_the_live}
+use Rattle.gatt_laws.specs.Controller.{Controller, Slots, has_free, with_taken, with_freed, command_of_init, count_before, without_command, is_ready}
+use Rattle.gatt_laws.specs.Event.{Ordinal, Own, Event, Connected, Gone, KeyAsked, Encrypted, Refreshed, Asks, Signals, Authorized, Of, Completed, Credit, Update, Tick, Replaced, Nothing}
+use Rattle.gatt_laws.specs.Input.{at_start, course}
+use Rattle.gatt_laws.specs.Part.{Part, absent}
+use Rattle.gatt_laws.specs.Possible.{Possible}
+use Rattle.gatt_laws.specs.Room.{Room, Bonds}
+use Rattle.gatt_laws.specs.Settled.{is_slot_of, has_slot, HaveOneSlotEach, IsSettled, IsAlwaysSettled}
+use Rattle.gatt_laws.specs.Start.{Start, before_first_command, state_at}
+use Rattle.gatt_laws.specs.State.{State, Change, slots_after, slots_for, own_change, told_of, is_refusal, with_completed, after_completed, after_credit, part_replaced, change_of, finished, parts_finished, step}
+use Rattle.gatt_laws.specs.Turn.{turn_of}
+use Rattle.gatt_subs.specs.Indications.{after_tick}
+use Rattle.le_acl.specs.Shares.{usable}
+use Rattle.le_hci.specs.Init.{command_awaited}
+use Rattle.le_hci.specs.declared.init.Init.{Init}
+use Rattle.le_hci.specs.declared.init.Init.TheVariants.{Resetting, Masking, LeMasking, Sizing, SharedSizing, Addressing, Describing, Filling, Enabling, Ready}
+
+left-false : (one other : Bool) → (one || other) ≡ false → one ≡ false
+left-false false other is = refl
+left-false true other is = cc is
+
+right-false : (one other : Bool) → (one || other) ≡ false → other ≡ false
+right-false false other is = is
+right-false true other is = cc is
+
+both-false : (one other : Bool) → one ≡ false → other ≡ false → (one || other) ≡ false
+both-false false other is so = so
+both-false true other is so = cc is
+
+right-true : (one other : Bool) → other ≡ true → (one || other) ≡ true
+right-true true other is = refl
+right-true false other is = is
+
+-- a slot is taken
+taken-other : (ordinal other : Ordinal) (slots : Slots) → has_slot other (with_taken ordinal slots) ≡ false → has_slot other slots ≡ false
+taken-other ordinal other [] lacks = refl
+taken-other ordinal other (None ∷ slots) lacks = right-false (ordinal == other) (has_slot other slots) lacks
+taken-other ordinal other (Some one ∷ slots) lacks =
+    both-false (one == other) (has_slot other slots) (left-false (one == other) (has_slot other (with_taken ordinal slots)) lacks)
+    (taken-other ordinal other slots (right-false (one == other) (has_slot other (with_taken ordinal slots)) lacks))
+
+taken-own : (ordinal : Ordinal) (slots : Slots) → has_free slots ≡ true → has_slot ordinal (with_taken ordinal slots) ≡ true
+taken-own ordinal [] free = cc free
+taken-own ordinal (None ∷ slots) free = rw (eq-eqb ordinal ordinal refl) refl
+taken-own ordinal (Some one ∷ slots) free = right-true (one == ordinal) (has_slot ordinal (with_taken ordinal slots)) (taken-own ordinal slots free)
+
+taken-adds : (ordinal other : Ordinal) (slots : Slots) → (ordinal == other) ≡ false → has_slot other slots ≡ false → has_slot other (with_taken ordinal slots) ≡ false
+taken-adds ordinal other [] differs lacks = refl
+taken-adds ordinal other (None ∷ slots) differs lacks = both-false (ordinal == other) (has_slot other slots) differs lacks
+taken-adds ordinal other (Some one ∷ slots) differs lacks =
+    both-false (one == other) (has_slot other (with_taken ordinal slots)) (left-false (one == other) (has_slot other slots) lacks)
+    (taken-adds ordinal other slots differs (right-false (one == other) (has_slot other slots) lacks))
+
+-- and freed
+differs-too : (one ordinal other : Ordinal) → (one == ordinal) ≡ true → (other == ordinal) ≡ false → (one == other) ≡ false
+differs-too one ordinal other same differs = grind (arith, nat_tests)
+
+freed-one : (one ordinal other : Ordinal) (slots : Slots) (is : Bool) → (one == ordinal) ≡ is → (other == ordinal) ≡ false
+    → is_slot_of other (if is then None else Some one) ≡ false → (one == other) ≡ false
+freed-one one ordinal other slots true same differs lacks = differs-too one ordinal other same differs
+freed-one one ordinal other slots false same differs lacks = lacks
+
+freed-other : (ordinal other : Ordinal) (slots : Slots) → (other == ordinal) ≡ false → has_slot other (with_freed ordinal slots) ≡ false → has_slot other slots ≡ false
+freed-other ordinal other [] differs lacks = refl
+freed-other ordinal other (None ∷ slots) differs lacks = freed-other ordinal other slots differs lacks
+freed-other ordinal other (Some one ∷ slots) differs lacks =
+    let slot : Option Ordinal = if one == ordinal then None else Some one in
+    both-false (one == other) (has_slot other slots)
+    (freed-one one ordinal other slots (one == ordinal) refl differs (left-false (is_slot_of other slot) (has_slot other (with_freed ordinal slots)) lacks))
+    (freed-other ordinal other slots differs (right-false (is_slot_of other slot) (has_slot other (with_freed ordinal slots)) lacks))
+
+none-or-one : (one other : Ordinal) (is : Bool) → (one == other) ≡ false → is_slot_of other (if is then None else Some one) ≡ false
+none-or-one one other true differs = refl
+none-or-one one other false differs = differs
+
+freed-adds-none : (ordinal other : Ordinal) (slots : Slots) → has_slot other slots ≡ false → has_slot other (with_freed ordinal slots) ≡ false
+freed-adds-none ordinal other [] lacks = refl
+freed-adds-none ordinal other (None ∷ slots) lacks = freed-adds-none ordinal other slots lacks
+freed-adds-none ordinal other (Some one ∷ slots) lacks =
+    both-false (is_slot_of other (if one == ordinal then None else Some one)) (has_slot other (with_freed ordinal slots))
+    (none-or-one one other (one == ordinal) (left-false (one == other) (has_slot other slots) lacks))
+    (freed-adds-none ordinal other slots (right-false (one == other) (has_slot other slots) lacks))
+
+-- slots by ordinals below the next
+none-next : (next least : Ordinal) (slots : Slots) → next < least + 1 → HaveOneSlotEach next slots → has_slot least slots ≡ false
+none-next next least [] below each = refl
+none-next next least (None ∷ slots) below each = none-next next least slots below each
+none-next next least (Some one ∷ slots) below each =
+    let less : one < least = omega (arith, each.0) in
+    both-false (one == least) (has_slot least slots) (grind (arith, nat_tests)) (none-next next least slots below each.2)
+
+one-more : (next : Ordinal) (slots : Slots) → HaveOneSlotEach next slots → HaveOneSlotEach (next + 1) slots
+one-more next [] each = tt
+one-more next (None ∷ slots) each = one-more next slots each
+one-more next (Some one ∷ slots) each = (omega (arith, each.0), each.1, one-more next slots each.2)
+
+with-next : (next : Ordinal) (slots : Slots) → HaveOneSlotEach next slots → HaveOneSlotEach (next + 1) (with_taken next slots)
+with-next next [] each = tt
+with-next next (None ∷ slots) each = (omega arith, none-next next next slots (omega arith) each, one-more next slots each)
+with-next next (Some one ∷ slots) each =
+    let differs : (next == one) ≡ false = let less : one < next = each.0 in grind (arith, nat_tests) in
+    (omega (arith, each.0), taken-adds next one slots differs each.1, with-next next slots each.2)
+
+freed-one-each : (next ordinal one : Ordinal) (slots : Slots) (is : Bool) → one < next → has_slot one slots ≡ false → HaveOneSlotEach next slots
+    → HaveOneSlotEach next ((if is then None else Some one) ∷ slots)
+freed-one-each next ordinal one slots true below lacks each = each
+freed-one-each next ordinal one slots false below lacks each = (below, lacks, each)
+
+without-one : (next ordinal : Ordinal) (slots : Slots) → HaveOneSlotEach next slots → HaveOneSlotEach next (with_freed ordinal slots)
+without-one next ordinal [] each = tt
+without-one next ordinal (None ∷ slots) each = without-one next ordinal slots each
+without-one next ordinal (Some one ∷ slots) each =
+    freed-one-each next ordinal one (with_freed ordinal slots) (one == ordinal) each.0 (freed-adds-none ordinal one slots each.1) (without-one next ordinal slots each.2)
+
+all-free : (next count : ℕ) → HaveOneSlotEach next (replicate count None)
+all-free next zero = tt
+all-free next (suc count) = all-free next count
+
+-- a connection of which nothing is kept stays so
+completed-none : (count : ℕ) → with_completed absent count ≡ absent
+completed-none count =
+    let none : 0 + min count (0 - 0) ≡ 0 = omega arith in
+    ap (λ (done : ℕ). record absent { done = done }) none
+
+completed-gone : (ordinal : Ordinal) (entries : List (Ordinal × ℕ)) → after_completed ordinal entries absent ≡ absent
+completed-gone ordinal [] = refl
+completed-gone ordinal (entry ∷ entries) =
+    elim (entry.0 == ordinal) as (λ is. after_completed ordinal entries (if is then with_completed absent entry.1 else absent) ≡ absent) [
+      | true ↦ ap (after_completed ordinal entries) (completed-none entry.1) ∙ completed-gone ordinal entries
+      | false ↦ completed-gone ordinal entries
+    ]
+
+sent-gone : (part : Part) (sent : Bool) → part ≡ absent → (if sent then without_command part else part) ≡ absent
+sent-gone part true is = ap without_command is
+sent-gone part false is = is
+
+finished-gone : (room : Room) (bonds : Bonds) (handles : List Handle) (part : Part) → part ≡ absent → finished room bonds handles part ≡ absent
+finished-gone room bonds handles part is = ap (finished room bonds handles) is ∙ only_serves_the_live room bonds handles absent refl
+
+-- before the end of an event
+abbrev IsGone : State → Ordinal → Type 0
+IsGone state ordinal = has_slot ordinal state.slots ≡ false → state.parts ordinal ≡ absent
+
+other-gone : (state : State) (at ordinal : Ordinal) (own : Own) → IsSettled state → ((same : ordinal ≡ at) → IsGone (own_change state at own).state ordinal)
+    → (has_slot ordinal (slots_after own at state.slots) ≡ false → (ordinal == at) ≡ false → has_slot ordinal state.slots ≡ false)
+    → IsGone (own_change state at own).state ordinal
+other-gone state at ordinal own settled here before lacks =
+    elim (ordinal == at) as (λ is. (ordinal == at) ≡ is → (own_change state at own).state.parts ordinal ≡ absent) [
+      | true ↦ λ same. here (eqb-true ordinal at same) lacks
+      | false ↦ λ differs. rw differs (settled.gone ordinal (before lacks differs))
+    ] refl
+
+-- where nothing comes and nothing goes
+same-slots : (state : State) (at ordinal : Ordinal) (own : Own) → IsSettled state → slots_after own at state.slots ≡ state.slots
+    → (turn_of state.room (state.bonds absent.peer) (state.owed absent.peer) absent own).part ≡ absent → IsGone (own_change state at own).state ordinal
+same-slots state at ordinal own settled slots turn =
+    other-gone state at ordinal own settled
+    (λ same lacks.
+    let none : state.parts at ≡ absent = settled.gone at (ap (λ (one : Ordinal). has_slot one state.slots) (sym same) ∙ ap (has_slot ordinal) (sym slots) ∙ lacks) in
+    rw same (rw (eq-eqb at at refl)
+    (ap (λ (part : Part). (turn_of state.room (state.bonds part.peer) (state.owed part.peer) part own).part) none ∙ turn)))
+    (λ lacks differs. ap (has_slot ordinal) (sym slots) ∙ lacks)
+
+own-gone : (state : State) (at ordinal : Ordinal) (own : Own) → IsSettled state → Possible (λ table. Unit) state (Of at own) → IsGone (own_change state at own).state ordinal
+own-gone state at ordinal (Connected handle peer) settled may =
+    other-gone state at ordinal (Connected handle peer) settled
+    (λ same lacks.
+    let taken : has_slot ordinal (with_taken at state.slots) ≡ true = ap (λ (one : Ordinal). has_slot one (with_taken at state.slots)) same ∙ taken-own at state.slots may.free in
+    cc (taken, lacks))
+    (λ lacks differs. taken-other at ordinal state.slots lacks)
+own-gone state at ordinal Gone settled may =
+    other-gone state at ordinal Gone settled (λ same lacks. rw same (rw (eq-eqb at at refl) refl)) (λ lacks differs. freed-other at ordinal state.slots differs lacks)
+own-gone state at ordinal (KeyAsked random_number diversifier) settled may = same-slots state at ordinal (KeyAsked random_number diversifier) settled refl refl
+own-gone state at ordinal (Encrypted status enabled) settled may = same-slots state at ordinal (Encrypted status enabled) settled refl refl
+own-gone state at ordinal (Refreshed status) settled may = same-slots state at ordinal (Refreshed status) settled refl refl
+own-gone state at ordinal (Asks pdu) settled may = same-slots state at ordinal (Asks pdu) settled refl refl
+own-gone state at ordinal (Signals channel payload) settled may = same-slots state at ordinal (Signals channel payload) settled refl refl
+own-gone state at ordinal (Authorized until) settled may = same-slots state at ordinal (Authorized until) settled refl refl
+
+credit-gone : (state : State) (allowed opcode : ℕ) (status : Option ℕ) (init : Init) (ordinal : Ordinal) → IsSettled state → is_ready state.controller ≡ false
+    → IsGone (after_credit state allowed opcode status (Some init)) ordinal
+credit-gone state allowed opcode status init ordinal settled early lacks = settled.gone ordinal (ap (has_slot ordinal) (settled.early early))
+
+change-gone : (state : State) (event : Event) (ordinal : Ordinal) → Possible (λ table. Unit) state event → IsSettled state → IsGone (change_of state event).state ordinal
+unfolding change_of
+change-gone state (Of at own) ordinal possible settled lacks = own-gone state at ordinal own settled possible lacks
+change-gone state (Completed entries) ordinal possible settled lacks = ap (after_completed ordinal entries) (settled.gone ordinal lacks) ∙ completed-gone ordinal entries
+change-gone state (Credit allowed opcode status (Some init)) ordinal possible settled lacks = credit-gone state allowed opcode status init ordinal settled possible lacks
+change-gone state (Credit allowed opcode status None) ordinal possible settled lacks = settled.gone ordinal lacks
+change-gone state (Update handle value) ordinal possible settled lacks = settled.gone ordinal lacks
+change-gone state (Tick time) ordinal possible settled lacks =
+    ap (λ (part : Part). record part { pending = after_tick part.pending time }) (settled.gone ordinal lacks)
+change-gone state (Replaced table) ordinal possible settled lacks = ap (part_replaced state.room.table table) (settled.gone ordinal lacks)
+change-gone state Nothing ordinal possible settled lacks = settled.gone ordinal lacks
+
+-- the slots
+early-own : (own : Own) (at : Ordinal) (slots : Slots) → slots ≡ [] → slots_after own at slots ≡ []
+early-own (Connected handle peer) at slots is = ap (with_taken at) is
+early-own Gone at slots is = ap (with_freed at) is
+early-own (KeyAsked random_number diversifier) at slots is = is
+early-own (Encrypted status enabled) at slots is = is
+early-own (Refreshed status) at slots is = is
+early-own (Asks pdu) at slots is = is
+early-own (Signals channel payload) at slots is = is
+early-own (Authorized until) at slots is = is
+
+own-slots : (state : State) (at : Ordinal) (own : Own) → HaveOneSlotEach state.next state.slots → Possible (λ table. Unit) state (Of at own)
+    → HaveOneSlotEach (own_change state at own).state.next (slots_after own at state.slots)
+own-slots state at (Connected handle peer) each may =
+    subst (λ (one : Ordinal). HaveOneSlotEach (state.next + 1) (with_taken one state.slots)) (sym may.next) (with-next state.next state.slots each)
+own-slots state at Gone each may = without-one state.next at state.slots each
+own-slots state at (KeyAsked random_number diversifier) each may = each
+own-slots state at (Encrypted status enabled) each may = each
+own-slots state at (Refreshed status) each may = each
+own-slots state at (Asks pdu) each may = each
+own-slots state at (Signals channel payload) each may = each
+own-slots state at (Authorized until) each may = each
+
+init-slots : (next count : ℕ) (init : Init) (slots : Slots) → HaveOneSlotEach next slots → HaveOneSlotEach next (slots_for count init slots)
+init-slots next count (Ready length packets) slots each = all-free next (usable count packets)
+init-slots next count (Resetting settings) slots each = each
+init-slots next count (Masking settings) slots each = each
+init-slots next count (LeMasking settings) slots each = each
+init-slots next count (Sizing settings) slots each = each
+init-slots next count (SharedSizing settings) slots each = each
+init-slots next count (Addressing address advertising buffers) slots each = each
+init-slots next count (Describing own_address_type advertising buffers) slots each = each
+init-slots next count (Filling advertising buffers) slots each = each
+init-slots next count (Enabling buffers) slots each = each
+
+init-early : (count : ℕ) (init : Init) (slots : Slots) → slots ≡ [] → is_none (command_awaited init) ≡ false → slots_for count init slots ≡ []
+init-early count (Ready length packets) slots none early = cc early
+init-early count (Resetting settings) slots none early = none
+init-early count (Masking settings) slots none early = none
+init-early count (LeMasking settings) slots none early = none
+init-early count (Sizing settings) slots none early = none
+init-early count (SharedSizing settings) slots none early = none
+init-early count (Addressing address advertising buffers) slots none early = none
+init-early count (Describing own_address_type advertising buffers) slots none early = none
+init-early count (Filling advertising buffers) slots none early = none
+init-early count (Enabling buffers) slots none early = none
+
+-- initialisation stays where it is, but for the answer to its command
+told-early : (own : Own) (controller : Controller) → is_ready (told_of own controller) ≡ is_ready controller
+told-early (Connected handle peer) controller = refl
+told-early Gone controller = refl
+told-early (KeyAsked random_number diversifier) controller = refl
+told-early (Encrypted status enabled) controller = refl
+told-early (Refreshed status) controller = refl
+told-early (Asks pdu) controller = refl
+told-early (Signals channel payload) controller = refl
+told-early (Authorized until) controller = refl
+
+refused-early : (controller : Controller) (allowed : ℕ) (refused : Bool)
+    → is_ready (if refused then record controller { credit = allowed; advertising = false; refused = true } else record controller { credit = allowed }) ≡ is_ready controller
+refused-early controller allowed true = refl
+refused-early controller allowed false = refl
+
+record AreSettled (state : State) : Type 0 where
+  early : is_ready state.controller ≡ false → state.slots ≡ []
+  slots : HaveOneSlotEach state.next state.slots
+
+change-slots : (state : State) (event : Event) → Possible (λ table. Unit) state event → IsSettled state → AreSettled (change_of state event).state
+unfolding change_of
+change-slots state (Of at own) possible settled = record {
+  early = λ early. early-own own at state.slots (settled.early (sym (told-early own state.controller) ∙ early));
+  slots = own-slots state at own settled.slots possible;
+}
+change-slots state (Completed entries) possible settled = record { early = settled.early; slots = settled.slots }
+change-slots state (Credit allowed opcode status (Some init)) possible settled = record {
+  early = λ early. init-early state.room.slots init state.slots (settled.early possible) early;
+  slots = init-slots state.next state.room.slots init state.slots settled.slots;
+}
+change-slots state (Credit allowed opcode status None) possible settled = record {
+  early = λ early. settled.early (sym (refused-early state.controller allowed (is_ready state.controller && is_refusal opcode status)) ∙ early);
+  slots = settled.slots;
+}
+change-slots state (Update handle value) possible settled = record { early = settled.early; slots = settled.slots }
+change-slots state (Tick time) possible settled = record { early = settled.early; slots = settled.slots }
+change-slots state (Replaced table) possible settled = record { early = settled.early; slots = settled.slots }
+change-slots state Nothing possible settled = record { early = settled.early; slots = settled.slots }
+
+pub stays_settled : (state : State) (event : Event) → Possible (λ table. Unit) state event → IsSettled state → IsSettled (step state event)
+unfolding step
+stays_settled state event possible settled =
+    let change : Change = change_of state event in
+    let slots : AreSettled change.state = change-slots state event possible settled in
+    record {
+      early = slots.early;
+      slots = slots.slots;
+      gone = λ ordinal lacks.
+          sent-gone (parts_finished change ordinal)
+          (nat_lt (length (command_of_init change.state.controller) + count_before ordinal (parts_finished change) change.state.slots) change.state.controller.credit)
+          (finished-gone change.state.room change.state.bonds (change.raised ordinal) (change.state.parts ordinal) (change-gone state event ordinal possible settled lacks));
+    }
+
+pub settled_at_first : (start : Start) → IsSettled (state_at start)
+settled_at_first start =
+    let old : State = before_first_command start in
+    record {
+      early = λ early. refl;
+      slots = tt;
+      gone = λ ordinal lacks.
+          sent-gone absent (nat_lt (length (command_of_init old.controller) + count_before ordinal old.parts old.slots) old.controller.credit) refl;
+    }
+
+pub is_always_settled : IsAlwaysSettled
+unfolding course
+is_always_settled start input = always (λ table. Unit) IsSettled stays_settled (at_start start) input (any_tables input) (settled_at_first start)
