@@ -1,10 +1,10 @@
 -- What is refused, and by which code.
 use Rattle.std.proofs.Common.{◌≡◌, List, [], ◌∷◌, ◌++◌, length, map, Option, Some, None, refl, ap}
 use Rattle.std.specs.Prelude.{Result, Ok}
-use Rattle.att_numbers.specs.declared.opcode.TheConstants.{READ_MULTIPLE_REQUEST}
-use Rattle.att_numbers.specs.Types.{Handle, Code}
+use Rattle.att_numbers.specs.declared.opcode.TheConstants.{READ_BY_TYPE_REQUEST, READ_MULTIPLE_REQUEST}
+use Rattle.att_numbers.specs.Types.{Handle, Code, Mtu, Row}
 use Rattle.att_pdu.specs.Request.{ExchangeMtuRequest, FindInformationRequest, FindByTypeValueRequest, ReadByTypeRequest, ReadRequest, ReadBlobRequest, ReadMultipleRequest, ReadByGroupTypeRequest, WriteRequest, PrepareWriteRequest, ExecuteWriteRequest, ConfirmationPdu, WriteCommandPdu}
-use Rattle.att_pdu.specs.Response.{Response, ErrorResponse}
+use Rattle.att_pdu.specs.Response.{Response, ErrorResponse, ReadByTypeResponse}
 use Rattle.att_policy.specs.declared.policy.Access.TheVariants.{Read}
 use Rattle.att_policy.specs.declared.policy.Rule.{Rule}
 use Rattle.att_policy.specs.declared.standing.Standing.{Standing}
@@ -12,15 +12,20 @@ use Rattle.att_policy.proofs.RulesInOrder.{is_first_broken}
 use Rattle.att_policy.specs.Refusal.{Refusal}
 use Rattle.att_policy.specs.Policy.{code_of, first_broken_rule_of}
 use Rattle.att_reads.specs.Access.{refusal_of}
-use Rattle.att_reads.specs.Answer.{value_answer, part_answer, multiple_answer}
-use Rattle.att_reads.specs.Refusals.{unless_refused}
+use Rattle.att_reads.specs.Answer.{values_answer, value_answer, part_answer, multiple_answer}
+use Rattle.att_reads.specs.declared.list.Listing.TheVariants.{Values}
+use Rattle.att_reads.specs.List.{candidate_of}
+use Rattle.att_reads.specs.Listing.{Candidate, size_of_first, first_refusal, elements_within}
+use Rattle.att_pdu.specs.Uuid.{number_of}
+use Rattle.att_table.specs.OfType.{handles_of_type}
+use Rattle.att_reads.specs.Refusals.{unless_refused, range_refusal, not_found}
 use Rattle.att_table.specs.declared.attr.Attr.{Attr}
-use Rattle.att_table.specs.Table.{guard_at, value_at}
+use Rattle.att_table.specs.Table.{Contents, guard_at, value_at}
 use Rattle.att_writes.specs.Applied.{Stored, after_entry, after_entries, unless_refused as unless_entry}
 use Rattle.att_writes.specs.Entry.{Entry}
 use Rattle.att_writes.specs.Fault.{fault_of}
 use Rattle.gatt_laws.specs.Headline.{Each, MayUse}
-use Rattle.gatt_laws.specs.Refusals.{RefusesByTheFirstBrokenRule, RefusesTheFirstHandle, RefusesTheFirstEntry}
+use Rattle.gatt_laws.specs.Refusals.{RefusesByTheFirstBrokenRule, RefusesTheFirstListed, RefusesTheFirstHandle, RefusesTheFirstEntry}
 
 pub refuses_by_the_first_broken_rule : RefusesByTheFirstBrokenRule
 unfolding value_answer part_answer after_entries
@@ -37,6 +42,20 @@ refuses_by_the_first_broken_rule table row conn (ReadByGroupTypeRequest first la
 refuses_by_the_first_broken_rule table row conn (ExecuteWriteRequest flags) rule = tt
 refuses_by_the_first_broken_rule table row conn ConfirmationPdu rule = tt
 refuses_by_the_first_broken_rule table row conn (WriteCommandPdu handle value) rule = tt
+
+-- the first of a list
+first-listed : (table : Contents) (row : Row) (standing : Standing) (mtu : Mtu) (first last handle : Handle) (handles rest : List Handle) (code : Code)
+    → range_refusal first last ≡ None → handles ≡ handle ∷ rest → refusal_of table.attributes standing handle ≡ Some (record { handle = handle; code = code })
+    → (let values : List Candidate = map (candidate_of Values table row standing mtu) handles in
+    unless_refused READ_BY_TYPE_REQUEST (range_refusal first last ∷ not_found first values ∷ first_refusal values ∷ [])
+    (ReadByTypeResponse (size_of_first values) (elements_within mtu values))) ≡ ErrorResponse READ_BY_TYPE_REQUEST handle code
+first-listed table row standing mtu first last handle handles rest code in_range listed is = rw (listed, in_range, is) refl
+
+pub refuses_the_first_listed : RefusesTheFirstListed
+unfolding values_answer
+refuses_the_first_listed table row conn first last type handle rest rule in_range listed is =
+    ap Some (first-listed table row conn.standing conn.mtu first last handle (handles_of_type table.attributes (number_of type) first last) rest
+    (code_of Read conn.standing rule) in_range listed (rw is refl))
 
 -- the first handle of several
 permitted-none : (attributes : List Attr) (standing : Standing) (handle : Handle) (rule : Option Rule) → first_broken_rule_of Read (guard_at attributes handle) standing ≡ rule

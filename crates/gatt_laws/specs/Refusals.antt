@@ -1,14 +1,18 @@
 -- What is refused, and by which code: the first rule that is broken, at the first handle that breaks one.
 use Rattle.std.specs.Prelude.{◌≡◌, IfSome, List, ◌∷◌, ◌++◌, length, Option, Some, None, Ok, Err}
-use Rattle.att_numbers.specs.declared.opcode.TheConstants.{READ_REQUEST, READ_BLOB_REQUEST, READ_MULTIPLE_REQUEST, WRITE_REQUEST, PREPARE_WRITE_REQUEST}
+use Rattle.att_numbers.specs.declared.opcode.TheConstants.{READ_BY_TYPE_REQUEST, READ_REQUEST, READ_BLOB_REQUEST, READ_MULTIPLE_REQUEST, WRITE_REQUEST, PREPARE_WRITE_REQUEST}
 use Rattle.att_numbers.specs.Types.{Handle, Opcode, Code, Row}
-use Rattle.att_pdu.specs.Request.{Asked, ReadRequest, ReadBlobRequest, ReadMultipleRequest, WriteRequest, PrepareWriteRequest}
+use Rattle.att_pdu.specs.Request.{Asked, ReadByTypeRequest, ReadRequest, ReadBlobRequest, ReadMultipleRequest, WriteRequest, PrepareWriteRequest}
 use Rattle.att_pdu.specs.Response.{ErrorResponse}
+use Rattle.att_pdu.specs.declared.uuid.Uuid.{Uuid}
+use Rattle.att_pdu.specs.Uuid.{number_of}
 use Rattle.att_policy.specs.declared.policy.Access.{Access}
 use Rattle.att_policy.specs.declared.policy.Access.TheVariants.{Read, Write}
 use Rattle.att_policy.specs.declared.policy.Rule.{Rule}
 use Rattle.att_policy.specs.declared.standing.Standing.{Standing}
 use Rattle.att_policy.specs.Policy.{code_of, first_broken_rule_of}
+use Rattle.att_reads.specs.Refusals.{range_refusal}
+use Rattle.att_table.specs.OfType.{handles_of_type}
 use Rattle.att_table.specs.declared.attr.Attr.{Attr}
 use Rattle.att_table.specs.Table.{Contents, guard_at, value_at}
 use Rattle.att_writes.specs.Applied.{Stored, after_entries}
@@ -37,6 +41,15 @@ RefusesByTheFirstBrokenRule = (table : Contents) (row : Row) (conn : Connection)
     IfSome (named_by asked) (λ named.
     first_broken_rule_of named.access (guard_at table.attributes named.handle) conn.standing ≡ Some rule →
     response_to table row conn asked ≡ Some (ErrorResponse named.request named.handle (code_of named.access conn.standing rule)))
+
+-- a list of values is refused with its first attribute, where the client may not read that
+abbrev pub RefusesTheFirstListed : Type 0
+RefusesTheFirstListed = (table : Contents) (row : Row) (conn : Connection) (first last : Handle) (type : Uuid) (handle : Handle) (rest : List Handle) (rule : Rule) →
+    range_refusal first last ≡ None →
+    handles_of_type table.attributes (number_of type) first last ≡ handle ∷ rest →
+    first_broken_rule_of Read (guard_at table.attributes handle) conn.standing ≡ Some rule →
+    response_to table row conn (ReadByTypeRequest first last type)
+    ≡ Some (ErrorResponse READ_BY_TYPE_REQUEST handle (code_of Read conn.standing rule))
 
 -- several values are refused with the first handle of the request that is, and prepared writes with the first that is
 -- refused against what those before it leave
