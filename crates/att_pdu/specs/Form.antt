@@ -7,7 +7,7 @@ use Rattle.att_pdu.specs.declared.request.ExecuteFlags.TheVariants.{Cancel, Writ
 use Rattle.att_pdu.specs.declared.request.Request.{Request}
 use Rattle.att_pdu.specs.Uuid.{uuid_form}
 use Rattle.octets.specs.Number.{Octets, from_two}
-use Rattle.att_pdu.specs.Request.{Asked, asked, spelled, ExchangeMtuRequest, FindInformationRequest, FindByTypeValueRequest, ReadByTypeRequest, ReadRequest, ReadBlobRequest, ReadMultipleRequest, ReadByGroupTypeRequest, WriteRequest, PrepareWriteRequest, ExecuteWriteRequest, ConfirmationPdu, WriteCommandPdu}
+use Rattle.att_pdu.specs.Request.{Asked, asked, flags_octet, spelled, ExchangeMtuRequest, FindInformationRequest, FindByTypeValueRequest, ReadByTypeRequest, ReadRequest, ReadBlobRequest, ReadMultipleRequest, ReadByGroupTypeRequest, WriteRequest, PrepareWriteRequest, ExecuteWriteRequest, ConfirmationPdu, WriteCommandPdu}
 
 abbrev pub exchange_mtu_form : Octets → Option Asked
 exchange_mtu_form (low ∷ high ∷ []) = Some (ExchangeMtuRequest (from_two low high))
@@ -62,8 +62,8 @@ prepare_write_form _ = None
 
 abbrev pub flags_form : ℕ → Option Asked
 flags_form flags =
-    if flags == 0x00 then Some (ExecuteWriteRequest Cancel)
-    else if flags == 0x01 then Some (ExecuteWriteRequest Write)
+    if flags == flags_octet Cancel then Some (ExecuteWriteRequest Cancel)
+    else if flags == flags_octet Write then Some (ExecuteWriteRequest Write)
     else None
 
 abbrev pub execute_write_form : Octets → Option Asked

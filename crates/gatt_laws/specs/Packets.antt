@@ -22,6 +22,7 @@ use Rattle.le_l2cap.specs.declared.channel.TheConstants.{ATT, LE_SIGNALLING, SEC
 use Rattle.le_l2cap.specs.declared.frame.Skip.{Skip}
 use Rattle.le_l2cap.specs.Frame.{BasicFrame, frame_of}
 use Rattle.octets.specs.Number.{Octets}
+use Rattle.le_hci.specs.declared.event_code.TheConstants.{COMMAND_COMPLETE}
 
 -- why a host stops for good: an octet that begins no packet, an event that is no event, a controller that is not
 -- initialised, and one that reports an error of its own
@@ -38,7 +39,7 @@ bad_event bad = BadEventCode bad.0
 abbrev pub init_fault : InitFault → Fault
 init_fault (Refused opcode status) = InitFailed (Refused opcode status)
 init_fault BadBuffers = InitFailed BadBuffers
-init_fault Short = BadEventCode 0x0E
+init_fault Short = BadEventCode COMMAND_COMPLETE
 
 abbrev pub following_of : Result Init (InitFault × Init) → Result (Option Init) Fault
 following_of (Ok init) = Ok (Some init)
@@ -74,11 +75,18 @@ abbrev pub own_event : Option Ordinal → Own → Event
 own_event None own = Nothing
 own_event (Some ordinal) own = Of ordinal own
 
--- a connection is accepted where it was made, this side is the peripheral (role 01), its handle is a handle and not in
--- use, and a slot is free
+-- the role of this side, and the largest handle of a connection: Core 5.0, Vol 2 Part E, 7.7.65.1
+abbrev pub peripheral : ℕ
+peripheral = 0x01
+
+abbrev pub last_connection_handle : ℕ
+last_connection_handle = 0x0EFF
+
+-- a connection is accepted where it was made, this side is the peripheral, its handle is one and not in use, and a slot is
+-- free
 abbrev pub is_accepted : State → ℕ → ℕ → ℕ → Bool
 is_accepted state status handle role =
-    (status == 0) && (role == 0x01) && nat_le handle 0x0EFF && is_none (holding state handle) && has_free state.slots
+    (status == 0) && (role == peripheral) && nat_le handle last_connection_handle && is_none (holding state handle) && has_free state.slots
 
 abbrev pub completed_entries : State → List CompletedPackets → List (Ordinal × ℕ)
 completed_entries state entries =

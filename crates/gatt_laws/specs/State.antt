@@ -24,7 +24,8 @@ use Rattle.le_hci.specs.declared.init.Init.{Init}
 use Rattle.le_hci.specs.declared.init.Init.TheVariants.{Ready}
 use Rattle.le_hci.specs.declared.peer.Peer.{Peer}
 use Rattle.le_security.specs.Entry.{same_peer}
-use Rattle.octets.specs.Number.{Octets}
+use Rattle.octets.specs.Number.{Octets, two_octets}
+use Rattle.le_h4.specs.declared.indicator.TheConstants.{COMMAND}
 
 -- what all connections share; what each peer has configured and is owed; each connection, by its ordinal; the slots, and
 -- the ordinal that comes next; and the controller
@@ -135,7 +136,7 @@ after_credit state allowed opcode status None = record state {
 
 -- all attributes have changed: Core 5.0, Vol 3 Part G, 7.1
 abbrev pub all_changed : Octets
-all_changed = 0x01 ∷ 0x00 ∷ 0xFF ∷ 0xFF ∷ []
+all_changed = two_octets 1 ++ two_octets 65535
 
 abbrev pub announced : Contents → Contents
 announced table =
@@ -216,7 +217,7 @@ step state event = with_commands_sent (before_commands state event)
 -- What goes out at an event.
 
 abbrev pub command_octets : Commanded → Octets
-command_octets command = 0x01 ∷ packet_of command
+command_octets command = COMMAND ∷ packet_of command
 
 abbrev pub commands_out : State → List Octets
 commands_out state = map command_octets (commands_sent state.controller state.parts state.slots)

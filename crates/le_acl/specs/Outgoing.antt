@@ -3,6 +3,7 @@ use Rattle.std.specs.Prelude.{ℕ, ◌+◌, ◌-◌, ◌*◌, ◌^◌, ◌==◌,
 use Rattle.octets.specs.Number.{Octets, two_octets}
 use Rattle.le_acl.specs.Fragment.{Fragment, data_of, flag_of}
 use Rattle.le_acl.specs.Packets.{Pdu, fragments_of, rest}
+use Rattle.le_h4.specs.declared.indicator.TheConstants.{ACL}
 
 -- the packets not yet given of each PDU, how many packets are outstanding and how many may be, and the most octets of
 -- data in a packet
@@ -55,4 +56,4 @@ without_pdus old = record old { queue = [] }
 -- the octets of an ACL packet to the controller
 abbrev pub acl_octets : ℕ → Fragment → Octets
 acl_octets handle fragment =
-    0x02 ∷ two_octets (handle + 2 ^ 12 * flag_of fragment) ++ two_octets (length (data_of fragment)) ++ data_of fragment
+    ACL ∷ two_octets (handle + 2 ^ 12 * flag_of fragment) ++ two_octets (length (data_of fragment)) ++ data_of fragment

@@ -3,6 +3,7 @@ use Rattle.std.specs.Prelude.{◌≡◌, ℕ, ◌+◌, ◌*◌, ◌/◌, ◌%◌
 use Rattle.octets.specs.Number.{Octets, from_two}
 use Rattle.le_h4.specs.declared.packet.PacketRef.{PacketRef}
 use Rattle.le_h4.specs.declared.packet.PacketRef.TheVariants.{Acl, Event, Sco}
+use Rattle.le_h4.specs.declared.indicator.TheConstants.{ACL, SCO, EVENT}
 
 -- what a packet is: an event from its code on, and of a SCO packet nothing is kept
 pub data Packet : Type 0 where
@@ -49,18 +50,18 @@ event_form _ = NoneYet
 abbrev pub first_of : Octets → First
 first_of [] = NoneYet
 first_of (indicator ∷ octets) =
-    if indicator == 0x02 then acl_form octets
-    else if indicator == 0x03 then sco_form octets
-    else if indicator == 0x04 then event_form octets
+    if indicator == ACL then acl_form octets
+    else if indicator == SCO then sco_form octets
+    else if indicator == EVENT then event_form octets
     else NoPacket indicator
 
 -- these octets are a packet's
 abbrev pub Spells : Octets → Packet → Type 0
 Spells spelling (AclPacket handle pb bc octets) =
     (low : ℕ) × (high : ℕ) × (size_low : ℕ) × (size_high : ℕ)
-    × (spelling ≡ 0x02 ∷ low ∷ high ∷ size_low ∷ size_high ∷ octets)
+    × (spelling ≡ ACL ∷ low ∷ high ∷ size_low ∷ size_high ∷ octets)
     × (from_two low high ≡ handle + 2 ^ 12 * pb + 2 ^ 14 * bc) × (from_two size_low size_high ≡ length octets)
 Spells spelling (EventPacket octets) =
-    (code : ℕ) × (parameters : Octets) × (octets ≡ code ∷ length parameters ∷ parameters) × (spelling ≡ 0x04 ∷ octets)
+    (code : ℕ) × (parameters : Octets) × (octets ≡ code ∷ length parameters ∷ parameters) × (spelling ≡ EVENT ∷ octets)
 Spells spelling ScoPacket =
-    (low : ℕ) × (high : ℕ) × (octets : Octets) × (spelling ≡ 0x03 ∷ low ∷ high ∷ length octets ∷ octets)
+    (low : ℕ) × (high : ℕ) × (octets : Octets) × (spelling ≡ SCO ∷ low ∷ high ∷ length octets ∷ octets)

@@ -4,6 +4,7 @@ use Rattle.le_h4.specs.declared.progress.Progress.{Progress}
 use Rattle.le_h4.specs.declared.progress.Progress.TheVariants.{Lacks, Whole, Long, Desync}
 use Rattle.le_h4.specs.Packet.{Packet, EventPacket, ScoPacket, First, FirstPacket, NoneYet, NoPacket, first_of, acl_packet}
 use Rattle.octets.specs.Number.{Octets, from_two}
+use Rattle.le_h4.specs.declared.indicator.TheConstants.{ACL, SCO, EVENT}
 
 -- the progress of data of a size, of which so many octets are there
 abbrev pub short_progress : ℕ → ℕ → Progress
@@ -28,9 +29,9 @@ event_progress header = Lacks (2 - length header)
 abbrev pub progress_of : Octets → Progress
 progress_of [] = Lacks 1
 progress_of (indicator ∷ octets) =
-    if indicator == 0x02 then acl_progress octets
-    else if indicator == 0x03 then sco_progress octets
-    else if indicator == 0x04 then event_progress octets
+    if indicator == ACL then acl_progress octets
+    else if indicator == SCO then sco_progress octets
+    else if indicator == EVENT then event_progress octets
     else Desync indicator
 
 -- how many octets behind its indicator the header of a packet states, its own among them
@@ -49,9 +50,9 @@ event_size _ = None
 abbrev pub stated_size : Octets → Option ℕ
 stated_size [] = None
 stated_size (indicator ∷ octets) =
-    if indicator == 0x02 then acl_size octets
-    else if indicator == 0x03 then sco_size octets
-    else if indicator == 0x04 then event_size octets
+    if indicator == ACL then acl_size octets
+    else if indicator == SCO then sco_size octets
+    else if indicator == EVENT then event_size octets
     else None
 
 -- these octets begin with a packet of so many, which is kept
@@ -82,7 +83,7 @@ packet_in (NoPacket indicator) = None
 -- the packet of octets that are a packet's
 abbrev pub reading : Octets → Packet
 reading (indicator ∷ octets) =
-    if indicator == 0x02 then acl_reading octets else if indicator == 0x04 then EventPacket octets else ScoPacket
+    if indicator == ACL then acl_reading octets else if indicator == EVENT then EventPacket octets else ScoPacket
   where
     acl_reading : Octets → Packet
     acl_reading (low ∷ high ∷ size_low ∷ size_high ∷ octets) = acl_packet (from_two low high) octets

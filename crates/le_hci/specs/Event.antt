@@ -7,6 +7,7 @@ use Rattle.le_hci.specs.declared.event.BadEvent.{BadEvent}
 use Rattle.le_hci.specs.declared.event.Event.{Event}
 use Rattle.le_hci.specs.declared.event.Event.TheVariants as variant
 use Rattle.octets.specs.Number.{Octets, from_two}
+use Rattle.le_hci.specs.declared.event_code.TheConstants.{DISCONNECTION_COMPLETE, ENCRYPTION_CHANGE, COMMAND_COMPLETE, COMMAND_STATUS, HARDWARE_ERROR, NUMBER_OF_COMPLETED_PACKETS, ENCRYPTION_KEY_REFRESH_COMPLETE, LE_META, LE_CONNECTION_COMPLETE, LE_LONG_TERM_KEY_REQUEST}
 
 -- what an event reports, without where its octets lie
 pub data Reported : Type 0 where
@@ -116,8 +117,8 @@ long_term_key_request octets = option_and_then request_of (fields (2 ∷ 8 ∷ 2
 -- what the code of an event, or of a subevent, leads to; others are taken whatever their parameters
 abbrev pub subevent_form : ℕ → Octets → Option Reported
 subevent_form code parameters =
-    if code == 0x01 then connection_complete parameters
-    else if code == 0x05 then long_term_key_request parameters
+    if code == LE_CONNECTION_COMPLETE then connection_complete parameters
+    else if code == LE_LONG_TERM_KEY_REQUEST then long_term_key_request parameters
     else Some Other
 
 abbrev pub le_meta_form : Octets → Option Reported
@@ -126,14 +127,14 @@ le_meta_form [] = None
 
 abbrev pub form_of : ℕ → Octets → Option Reported
 form_of code parameters =
-    if code == 0x05 then disconnection_complete parameters
-    else if code == 0x08 then encryption_change parameters
-    else if code == 0x0E then command_complete parameters
-    else if code == 0x0F then command_status parameters
-    else if code == 0x10 then hardware_error parameters
-    else if code == 0x13 then number_of_completed_packets parameters
-    else if code == 0x30 then encryption_key_refresh_complete parameters
-    else if code == 0x3E then le_meta_form parameters
+    if code == DISCONNECTION_COMPLETE then disconnection_complete parameters
+    else if code == ENCRYPTION_CHANGE then encryption_change parameters
+    else if code == COMMAND_COMPLETE then command_complete parameters
+    else if code == COMMAND_STATUS then command_status parameters
+    else if code == HARDWARE_ERROR then hardware_error parameters
+    else if code == NUMBER_OF_COMPLETED_PACKETS then number_of_completed_packets parameters
+    else if code == ENCRYPTION_KEY_REFRESH_COMPLETE then encryption_key_refresh_complete parameters
+    else if code == LE_META then le_meta_form parameters
     else Some Other
 
 -- what is read from an event packet, or the code of a bad event

@@ -4,6 +4,7 @@ use Rattle.std.specs.List.{flat_map}
 use Rattle.le_hci.specs.declared.event.CompletedPackets.{CompletedPackets}
 use Rattle.le_hci.specs.Event.{Reported, DisconnectionComplete, EncryptionChange, CommandComplete, CommandStatus, HardwareError, NumberOfCompletedPackets, EncryptionKeyRefreshComplete, ConnectionComplete, LongTermKeyRequest, Other}
 use Rattle.octets.specs.Number.{Octets, two_octets}
+use Rattle.le_hci.specs.declared.event_code.TheConstants.{DISCONNECTION_COMPLETE, ENCRYPTION_CHANGE, COMMAND_COMPLETE, COMMAND_STATUS, HARDWARE_ERROR, NUMBER_OF_COMPLETED_PACKETS, ENCRYPTION_KEY_REFRESH_COMPLETE, LE_META, LE_CONNECTION_COMPLETE, LE_LONG_TERM_KEY_REQUEST}
 
 -- an event packet: its code, the length of its parameters, and the parameters
 abbrev pub packet : ℕ → Octets → Octets
@@ -11,15 +12,15 @@ packet code parameters = code ∷ length parameters ∷ parameters
 
 -- the code of an event; the last two are subevents of LE Meta. Of other events nothing is said
 abbrev pub code_of : Reported → ℕ
-code_of (DisconnectionComplete status handle reason) = 0x05
-code_of (EncryptionChange status handle enabled) = 0x08
-code_of (CommandComplete allowed opcode parameters) = 0x0E
-code_of (CommandStatus status allowed opcode) = 0x0F
-code_of (HardwareError code) = 0x10
-code_of (NumberOfCompletedPackets entries) = 0x13
-code_of (EncryptionKeyRefreshComplete status handle) = 0x30
-code_of (ConnectionComplete status handle role peer interval latency timeout clock_accuracy) = 0x3E
-code_of (LongTermKeyRequest handle random_number diversifier) = 0x3E
+code_of (DisconnectionComplete status handle reason) = DISCONNECTION_COMPLETE
+code_of (EncryptionChange status handle enabled) = ENCRYPTION_CHANGE
+code_of (CommandComplete allowed opcode parameters) = COMMAND_COMPLETE
+code_of (CommandStatus status allowed opcode) = COMMAND_STATUS
+code_of (HardwareError code) = HARDWARE_ERROR
+code_of (NumberOfCompletedPackets entries) = NUMBER_OF_COMPLETED_PACKETS
+code_of (EncryptionKeyRefreshComplete status handle) = ENCRYPTION_KEY_REFRESH_COMPLETE
+code_of (ConnectionComplete status handle role peer interval latency timeout clock_accuracy) = LE_META
+code_of (LongTermKeyRequest handle random_number diversifier) = LE_META
 code_of Other = 0x00
 
 abbrev pub entry_fields : CompletedPackets → Octets
@@ -35,9 +36,9 @@ fields_of (HardwareError code) = code ∷ []
 fields_of (NumberOfCompletedPackets entries) = length entries ∷ flat_map entry_fields entries
 fields_of (EncryptionKeyRefreshComplete status handle) = status ∷ two_octets handle
 fields_of (ConnectionComplete status handle role peer interval latency timeout clock_accuracy) =
-    0x01 ∷ status ∷ two_octets handle ++ role ∷ peer.kind ∷ peer.address
+    LE_CONNECTION_COMPLETE ∷ status ∷ two_octets handle ++ role ∷ peer.kind ∷ peer.address
     ++ two_octets interval ++ two_octets latency ++ two_octets timeout ++ clock_accuracy ∷ []
-fields_of (LongTermKeyRequest handle random_number diversifier) = 0x05 ∷ two_octets handle ++ random_number ++ two_octets diversifier
+fields_of (LongTermKeyRequest handle random_number diversifier) = LE_LONG_TERM_KEY_REQUEST ∷ two_octets handle ++ random_number ++ two_octets diversifier
 fields_of Other = []
 
 -- what has such fields, with these extra octets after them: addresses have 6 octets and random numbers 8, return

@@ -11,6 +11,7 @@ use Rattle.le_hci.specs.declared.init.InitFault.{InitFault}
 use Rattle.le_hci.specs.declared.init.InitFault.TheVariants.{Refused, Short}
 use Rattle.le_hci.specs.Buffers.{le_buffers_of, shared_buffers_of}
 use Rattle.le_hci.specs.Command.{Commanded, Reset, SetEventMask, ReadBufferSize, LeSetEventMask, LeReadBufferSize, LeSetRandomAddress, LeSetAdvertisingParameters, LeSetAdvertisingData, LeSetAdvertiseEnable, opcode_of}
+use Rattle.le_hci.specs.declared.peer.TheConstants.{PUBLIC_ADDRESS, RANDOM_ADDRESS}
 
 -- the default mask, with Encryption Key Refresh Complete (bit 47) and LE Meta (bit 61): Core 5.0, Vol 2 Part E, 7.3.1
 abbrev pub event_mask : ℕ
@@ -43,7 +44,7 @@ first_state address advertising = Resetting (record { address = address; adverti
 
 -- the state once the buffers are told: a random address (type 1) is set first, and the public one (type 0) is there
 abbrev pub addressed_from : Option Octets → ArrayVec ℕ → Buffers → Init
-addressed_from None advertising buffers = Describing 0x00 advertising buffers
+addressed_from None advertising buffers = Describing PUBLIC_ADDRESS advertising buffers
 addressed_from (Some address) advertising buffers = Addressing address advertising buffers
 
 abbrev pub with_buffers : Settings → Buffers → Init
@@ -65,7 +66,7 @@ next (Masking settings) returned = Ok (LeMasking settings)
 next (LeMasking settings) returned = Ok (Sizing settings)
 next (Sizing settings) returned = after_sizing settings (le_buffers_of returned)
 next (SharedSizing settings) returned = after_shared_sizing settings (shared_buffers_of returned)
-next (Addressing address advertising buffers) returned = Ok (Describing 0x01 advertising buffers)
+next (Addressing address advertising buffers) returned = Ok (Describing RANDOM_ADDRESS advertising buffers)
 next (Describing own_address_type advertising buffers) returned = Ok (Filling advertising buffers)
 next (Filling advertising buffers) returned = Ok (Enabling buffers)
 next (Enabling buffers) returned = Ok (Ready buffers.length buffers.packets)

@@ -6,6 +6,7 @@ use Rattle.le_hci.specs.declared.init.InitFault.{InitFault}
 use Rattle.le_hci.specs.Command.{Commanded, Reset, SetEventMask, ReadBufferSize, LeSetEventMask, LeReadBufferSize, LeSetRandomAddress, LeSetAdvertisingParameters, LeSetAdvertisingData, LeSetAdvertiseEnable}
 use Rattle.le_hci.specs.Init.{event_mask, le_event_mask, command_awaited, outcome_of}
 use Rattle.octets.specs.Number.{Octets, from_two}
+use Rattle.le_hci.specs.declared.peer.TheConstants.{PUBLIC_ADDRESS, RANDOM_ADDRESS}
 
 -- only where a random address is used
 abbrev pub address_commands : Option Octets → List Commanded
@@ -13,8 +14,8 @@ address_commands None = []
 address_commands (Some address) = LeSetRandomAddress address ∷ []
 
 abbrev pub own_address_type_of : Option Octets → ℕ
-own_address_type_of None = 0x00
-own_address_type_of (Some address) = 0x01
+own_address_type_of None = PUBLIC_ADDRESS
+own_address_type_of (Some address) = RANDOM_ADDRESS
 
 -- only where the buffers are shared
 abbrev pub shared_commands : Bool → List Commanded

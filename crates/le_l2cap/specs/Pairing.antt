@@ -1,6 +1,7 @@
 -- Pairing, which is not supported: Core 5.0, Vol 3 Part H, 3.3 and 3.5.5.
 use Rattle.std.specs.Prelude.{◌==◌, if◌then◌else◌, [], ◌∷◌, Option, Some, None}
 use Rattle.octets.specs.Number.{Octets}
+use Rattle.le_l2cap.specs.declared.pairing.TheConstants.{PAIRING_REQUEST}
 
 -- Pairing Failed, with the reason Pairing Not Supported
 abbrev pub pairing_failed : Octets
@@ -9,4 +10,4 @@ pairing_failed = 0x05 ∷ 0x05 ∷ []
 -- a Pairing Request is refused, and all else is ignored
 abbrev pub answer_of : Octets → Option Octets
 answer_of [] = None
-answer_of (code ∷ parameters) = if code == 0x01 then Some pairing_failed else None
+answer_of (code ∷ parameters) = if code == PAIRING_REQUEST then Some pairing_failed else None

@@ -2,6 +2,7 @@
 use Rattle.std.specs.Prelude.{◌≡◌, ◌≢◌, ℕ, ◌^◌, ◌<◌, Bool, false, ◌==◌, ◌&&◌, not, if◌then◌else◌, List, [], ◌∷◌, ◌++◌, length, Option, Some, None}
 use Rattle.std.specs.List.{list_any}
 use Rattle.octets.specs.Number.{Octets, two_octets, from_two}
+use Rattle.le_l2cap.specs.declared.signalling_command.TheConstants.{COMMAND_REJECT, DISCONNECTION_RESPONSE, CONNECTION_PARAMETER_UPDATE_RESPONSE, LE_CREDIT_BASED_CONNECTION_RESPONSE, LE_FLOW_CONTROL_CREDIT}
 
 pub record Command : Type 0 where
   pub code : ℕ
@@ -20,7 +21,9 @@ pub record HasOctetFields (command : Command) : Type 0 where
 -- the commands that nothing is due to: Command Reject, Disconnection Response, Connection Parameter Update
 -- Response, LE Credit Based Connection Response and LE Flow Control Credit
 abbrev pub ignored_codes : List ℕ
-ignored_codes = 0x01 ∷ 0x07 ∷ 0x13 ∷ 0x15 ∷ 0x16 ∷ []
+ignored_codes =
+    COMMAND_REJECT ∷ DISCONNECTION_RESPONSE ∷ CONNECTION_PARAMETER_UPDATE_RESPONSE ∷ LE_CREDIT_BASED_CONNECTION_RESPONSE
+    ∷ LE_FLOW_CONTROL_CREDIT ∷ []
 
 abbrev pub is_ignored_code : ℕ → Bool
 is_ignored_code code = list_any (λ ignored. code == ignored) ignored_codes
@@ -40,6 +43,10 @@ pub record IsRejected (payload : Octets) (identifier : ℕ) : Type 0 where
   pub not_ignored : is_ignored_code code ≡ false
   pub not_zero : identifier ≢ 0
 
+-- the reason of a command that is not known
+abbrev pub not_understood : ℕ
+not_understood = 0x0000
+
 -- Command Reject with the reason Command Not Understood: Core 5.0, Vol 3 Part A, 4.1
 abbrev pub command_reject : ℕ → Octets
-command_reject identifier = spelled (record { code = 0x01; identifier = identifier; payload = two_octets 0x0000 })
+command_reject identifier = spelled (record { code = COMMAND_REJECT; identifier = identifier; payload = two_octets not_understood })
