@@ -16,13 +16,14 @@ pub data Call : Type 0 where
   AuthorizeCall : (handle : ℕ) (until : ℕ) → Call
   TickCall : (time : ℕ) → Call
 
--- why a call is refused, in the order in which it is judged
+-- why a call is refused, or a table: first that the host has stopped, and then in this order
 pub data Refused : Type 0 where
   NoSuchHandle : Refused
   NotAValue : Refused
   BadLength : Refused
   NoSuchConnection : Refused
   TimeWentBack : Refused
+  Stopped : Refused
   NoServiceChanged : Refused
 
 -- the connection in a slot that a test finds

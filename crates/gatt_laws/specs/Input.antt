@@ -2,7 +2,7 @@
 -- 5.0, Vol 4 Part A, 2.
 use Rattle.std.specs.Prelude.{ℕ, if◌then◌else◌, List, [], ◌∷◌, ◌++◌, Option, Some, None, Result, Ok, Err}
 use Rattle.att_table.specs.Table.{Contents}
-use Rattle.gatt_laws.specs.Calls.{Call, call_event, replacement_event}
+use Rattle.gatt_laws.specs.Calls.{Call, Refused, Stopped, call_event, replacement_event}
 use Rattle.gatt_laws.specs.Event.{Event}
 use Rattle.gatt_laws.specs.Packets.{Fault, Desync, Fragments, arrival, with_arrival, packet_event}
 use Rattle.gatt_laws.specs.Start.{Start, state_at, first_out}
@@ -75,6 +75,18 @@ taken course (APacket packet) = after_packet course packet
 taken course (ACall call) = after_result course (call_event course.intake.state call)
 taken course (ATable table) = after_result course (replacement_event course.intake.state table)
 taken course TheEnd = with_unfinished course []
+
+-- why a call is refused, or a table that would replace the one that stands, if it is
+abbrev pub refusal_in : {A : Type 0} → Option Fault → Result A Refused → Option Refused
+refusal_in (Some fault) result = Some Stopped
+refusal_in None (Ok event) = None
+refusal_in None (Err refused) = Some refused
+
+abbrev pub call_refusal : Intake → Call → Option Refused
+call_refusal intake call = refusal_in intake.fault (call_event intake.state call)
+
+abbrev pub replacement_refusal : Intake → Contents → Option Refused
+replacement_refusal intake table = refusal_in intake.fault (replacement_event intake.state table)
 
 -- after a fault nothing changes
 abbrev pub unless_stopped : Option Fault → Course → Course → Course

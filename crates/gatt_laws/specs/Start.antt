@@ -1,5 +1,6 @@
 -- Where a host begins: this profile's own.
-use Rattle.std.specs.Prelude.{ℕ, false, List, [], Option, None}
+use Rattle.std.specs.Prelude.{ℕ, false, List, [], Option, None, Bool, true, nat_le, ◌&&◌, slice_index_or}
+use Rattle.std.specs.Option.{option_map_or}
 use Rattle.arrayvec.specs.ArrayVec.{ArrayVec}
 use Rattle.att_numbers.specs.Types.{Mtu}
 use Rattle.att_table.specs.Changer.{changer_of}
@@ -23,6 +24,15 @@ pub record Start : Type 0 where
   pub rx_mtu : Mtu
   pub address : Option Octets
   pub advertising : ArrayVec ℕ
+
+-- whether a host may be opened so: a static random address has its two most significant bits set (Core 5.0, Vol 6 Part B,
+-- 1.3.2.1), and the other limits are this profile's own
+abbrev pub is_static : Octets → Bool
+is_static address = nat_le 0xC0 (slice_index_or address 5 0)
+
+abbrev pub may_be_opened : ℕ → Mtu → Option Octets → Bool
+may_be_opened slots rx_mtu address =
+    nat_le 1 slots && nat_le slots 8 && nat_le 23 rx_mtu && nat_le rx_mtu 517 && option_map_or is_static address true
 
 -- the controller takes one command before it answers any: Core 5.0, Vol 2 Part E, 4.4
 abbrev pub new_controller : Start → Controller
