@@ -1,0 +1,4 @@
+pub mod Assembled
+pub mod FromHost
+pub mod Phones
+pub mod Told

@@ -1,0 +1,157 @@
+ghost use Rattle.std.specs.Prelude.{◌≡◌, if◌then◌else◌, Some, None};
+ghost use Rattle.std.specs.Option.{option_map};
+ghost use Rattle.sim_controller.specs.FromHost.{host_packet_of, taken_of, asked_by, command_in, data_in};
+
+use le_h4::indicator;
+use le_hci::opcode;
+
+/// What a command asks of a controller, as far as it matters to a simulated one.
+#[derive(Clone, Copy, PartialEq, Eq)]
+pub(crate) enum Asked {
+    /// To be answered with a status alone.
+    Status { opcode: u16 },
+    /// The buffers for ACL packets of any transport.
+    ReadBufferSize,
+    /// The buffers for ACL packets of LE connections.
+    LeReadBufferSize,
+    /// To advertise, or no longer.
+    Advertise { enable: bool },
+    /// To end a connection.
+    Disconnect { handle: u16, reason: u8 },
+    /// To encrypt a connection by the key that is given.
+    GiveKey { handle: u16 },
+    /// To tell that there is no such key.
+    RefuseKey { handle: u16 },
+}
+
+/// A packet from the host.
+#[derive(Clone, Copy, PartialEq, Eq)]
+pub(crate) enum HostPacket<'a> {
+    Command(Asked),
+    /// A fragment for the connection with a handle, that begins a frame or continues one.
+    Data {
+        handle: u16,
+        begins: bool,
+        octets: &'a [u8],
+    },
+}
+
+/// Reads a packet from the host, from its indicator on.
+pub(crate) fn read(octets: &[u8]) -> Option<HostPacket<'_>>
+    ensures { option_map taken_of result ≡ host_packet_of octets.now }
+{
+    let [indicator, rest @ ..] = octets else {
+        return None;
+    };
+    match *indicator {
+        indicator::COMMAND => Some(HostPacket::Command(read_command(rest)?)),
+        indicator::ACL => read_data(rest),
+        _ => None,
+    }
+}
+
+/// Reads a command packet from its opcode on: Core 5.0, Vol 2 Part E, 5.4.1.
+fn read_command(octets: &[u8]) -> Option<Asked>
+    ensures { result ≡ command_in octets.now }
+{
+    let [low, high, size, parameters @ ..] = octets else {
+        return None;
+    };
+    if parameters.len() != usize::from(*size) {
+        return None;
+    }
+    read_asked(u16::from_le_bytes([*low, *high]), parameters)
+}
+
+/// What a command with these parameters asks, where they are those of the command.
+#[tactic(auto, unfolding(crate::specs::FromHost::asked_by))]
+fn read_asked(opcode: u16, parameters: &[u8]) -> Option<Asked>
+    ensures { result ≡ asked_by opcode parameters.now }
+{
+    match opcode {
+        opcode::RESET => status_if(parameters.is_empty(), opcode),
+        opcode::SET_EVENT_MASK => status_if(parameters.len() == 8, opcode),
+        opcode::LE_SET_EVENT_MASK => status_if(parameters.len() == 8, opcode),
+        opcode::LE_SET_RANDOM_ADDRESS => status_if(parameters.len() == 6, opcode),
+        opcode::LE_SET_ADVERTISING_PARAMETERS => status_if(parameters.len() == 15, opcode),
+        opcode::LE_SET_ADVERTISING_DATA => status_if(parameters.len() == 32, opcode),
+        opcode::READ_BUFFER_SIZE => match parameters {
+            [] => Some(Asked::ReadBufferSize),
+            _ => None,
+        },
+        opcode::LE_READ_BUFFER_SIZE => match parameters {
+            [] => Some(Asked::LeReadBufferSize),
+            _ => None,
+        },
+        opcode::LE_SET_ADVERTISE_ENABLE => match parameters {
+            [enable] => Some(Asked::Advertise {
+                enable: *enable == 1,
+            }),
+            _ => None,
+        },
+        opcode::DISCONNECT => match parameters {
+            [low, high, reason] => Some(Asked::Disconnect {
+                handle: u16::from_le_bytes([*low, *high]),
+                reason: *reason,
+            }),
+            _ => None,
+        },
+        opcode::LE_LONG_TERM_KEY_REQUEST_REPLY => match parameters {
+            [low, high, key @ ..] if key.len() == 16 => Some(Asked::GiveKey {
+                handle: u16::from_le_bytes([*low, *high]),
+            }),
+            _ => None,
+        },
+        opcode::LE_LONG_TERM_KEY_REQUEST_NEGATIVE_REPLY => match parameters {
+            [low, high] => Some(Asked::RefuseKey {
+                handle: u16::from_le_bytes([*low, *high]),
+            }),
+            _ => None,
+        },
+        _ => None,
+    }
+}
+
+/// A command that is answered with a status alone, where its parameters are as they should be.
+fn status_if(fits: bool, opcode: u16) -> Option<Asked>
+    ensures { result ≡ (if fits then Some (Asked.Status opcode) else None) }
+{
+    if fits {
+        Some(Asked::Status { opcode })
+    } else {
+        None
+    }
+}
+
+/// Reads an ACL packet from its handle on: Core 5.0, Vol 2 Part E, 5.4.2.
+fn read_data(octets: &[u8]) -> Option<HostPacket<'_>>
+    ensures { option_map taken_of result ≡ data_in octets.now }
+{
+    let [low, high, size_low, size_high, octets @ ..] = octets else {
+        return None;
+    };
+    if octets.len() != usize::from(u16::from_le_bytes([*size_low, *size_high])) {
+        return None;
+    }
+    let field = u16::from_le_bytes([*low, *high]);
+    let handle = field & 0x0FFF;
+    match field >> 12 {
+        FIRST_FRAGMENT => Some(HostPacket::Data {
+            handle,
+            begins: true,
+            octets,
+        }),
+        CONTINUATION => Some(HostPacket::Data {
+            handle,
+            begins: false,
+            octets,
+        }),
+        _ => None,
+    }
+}
+
+/// The packet boundary flags of the fragments of a frame from the host, behind a broadcast flag of
+/// 00: Core 5.0, Vol 2 Part E, 5.4.2.
+const FIRST_FRAGMENT: u16 = 0b0000;
+
+const CONTINUATION: u16 = 0b0001;

@@ -1,0 +1,26 @@
+ghost use Rattle.std.specs.Prelude.{◌≡◌, ◌<◌, ◌^◌};
+ghost use Rattle.sim_controller.specs.Phones.{handle_of_phone, phone_with};
+
+/// How many phones there are.
+pub(crate) const PHONES: u8 = 8;
+
+/// The connection handle of the first phone. Each other one has the next.
+const FIRST_HANDLE: u16 = 0x0040;
+
+/// The connection handle of a phone.
+pub(crate) fn handle_of(phone: u8) -> u16
+    ensures { result ≡ handle_of_phone phone }
+{
+    FIRST_HANDLE + u16::from(phone)
+}
+
+/// The phone with a connection handle.
+pub(crate) fn phone_with(handle: u16) -> Option<u8>
+    ensures { result ≡ phone_with handle }
+{
+    if handle >= FIRST_HANDLE && handle < FIRST_HANDLE + u16::from(PHONES) {
+        Some((handle - FIRST_HANDLE) as u8)
+    } else {
+        None
+    }
+}

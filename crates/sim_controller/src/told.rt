@@ -1,0 +1,204 @@
+ghost use Rattle.std.specs.Prelude.{◌≡◌, ◌+◌, ◌≤◌, ◌++◌, length};
+ghost use Rattle.sim_controller.specs.Told.{event_octets, octets_of, sent_of, connection_sent, key_request_sent};
+
+use crate::handle::handle_of;
+use arrayvec::ArrayVec;
+use le_h4::{indicator, write_acl};
+use le_hci::{Peer, event_code};
+
+/// A packet that waits for the host.
+#[derive(Drop)]
+pub(crate) enum Told {
+    /// A command is complete, and returns these parameters.
+    CommandComplete {
+        opcode: u16,
+        parameters: ArrayVec<u8, 8>,
+    },
+    /// A command is under way.
+    CommandStatus {
+        opcode: u16,
+    },
+    /// A phone is connected.
+    ConnectionComplete {
+        phone: u8,
+        peer: Peer,
+    },
+    /// The connection of a phone has ended.
+    DisconnectionComplete {
+        phone: u8,
+        reason: u8,
+    },
+    /// The connection of a phone is encrypted, or no longer where `enabled` is 0.
+    EncryptionChange {
+        phone: u8,
+        enabled: u8,
+    },
+    /// A phone wants to encrypt its connection.
+    LongTermKeyRequest {
+        phone: u8,
+        rand: [u8; 8],
+        ediv: u16,
+    },
+    /// So many packets for a phone are completed.
+    CompletedPackets {
+        phone: u8,
+        packets: u16,
+    },
+    /// A frame of a phone begins.
+    Beginning {
+        phone: u8,
+        octets: ArrayVec<u8, 251>,
+    },
+    /// A frame of a phone goes on.
+    Continuation {
+        phone: u8,
+        octets: ArrayVec<u8, 251>,
+    },
+}
+
+/// The packet boundary flags of the fragments of a frame to the host: Core 5.0, Vol 2 Part E, 5.4.2.
+const FIRST_FRAGMENT: u8 = 0b10;
+
+const CONTINUATION: u8 = 0b01;
+
+/// The status of what was successful, in an event: Core 5.0, Vol 2 Part D, 1.3.
+const SUCCESS: u8 = 0x00;
+
+/// How many commands the host may send: one at a time.
+const ALLOWED: u8 = 1;
+
+/// The role of the controller in its connections: Core 5.0, Vol 2 Part E, 7.7.65.1.
+const PERIPHERAL: u8 = 0x01;
+
+/// 30 milliseconds, in units of 1.25.
+const INTERVAL: u16 = 0x0018;
+
+/// In connection events.
+const LATENCY: u16 = 0x0000;
+
+/// 720 milliseconds, in units of 10.
+const TIMEOUT: u16 = 0x0048;
+
+/// 500 parts in a million.
+const CLOCK_ACCURACY: u8 = 0x00;
+
+impl Told {
+    /// Writes the packet in place of what `out` holds.
+    pub(crate) fn write(&self, out: &mut ArrayVec<u8, 260>)
+        ensures { out.new.items ≡ octets_of (sent_of self.now) }
+    {
+        match self {
+            Told::CommandComplete { opcode, parameters } => {
+                let [low, high] = opcode.to_le_bytes();
+                write_event(
+                    event_code::COMMAND_COMPLETE,
+                    &[ALLOWED, low, high],
+                    parameters,
+                    out,
+                );
+            }
+            Told::CommandStatus { opcode } => {
+                let [low, high] = opcode.to_le_bytes();
+                write_event(
+                    event_code::COMMAND_STATUS,
+                    &[SUCCESS, ALLOWED, low, high],
+                    &[],
+                    out,
+                );
+            }
+            Told::ConnectionComplete { phone, peer } => write_connection(*phone, peer, out),
+            Told::DisconnectionComplete { phone, reason } => {
+                let [low, high] = handle_of(*phone).to_le_bytes();
+                write_event(
+                    event_code::DISCONNECTION_COMPLETE,
+                    &[SUCCESS, low, high, *reason],
+                    &[],
+                    out,
+                );
+            }
+            Told::EncryptionChange { phone, enabled } => {
+                let [low, high] = handle_of(*phone).to_le_bytes();
+                write_event(
+                    event_code::ENCRYPTION_CHANGE,
+                    &[SUCCESS, low, high, *enabled],
+                    &[],
+                    out,
+                );
+            }
+            Told::LongTermKeyRequest { phone, rand, ediv } => {
+                write_key_request(*phone, rand, *ediv, out);
+            }
+            Told::CompletedPackets { phone, packets } => {
+                let [low, high] = handle_of(*phone).to_le_bytes();
+                let [packets_low, packets_high] = packets.to_le_bytes();
+                let fields = [1, low, high, packets_low, packets_high];
+                write_event(event_code::NUMBER_OF_COMPLETED_PACKETS, &fields, &[], out);
+            }
+            Told::Beginning { phone, octets } => {
+                write_acl(handle_of(*phone), FIRST_FRAGMENT, octets, out);
+            }
+            Told::Continuation { phone, octets } => {
+                write_acl(handle_of(*phone), CONTINUATION, octets, out);
+            }
+        }
+    }
+}
+
+/// Writes an event in place of what `out` holds: its code, and its parameters, which stand in two
+/// places. (Core 5.0, Vol 2 Part E, 5.4.4)
+fn write_event(code: u8, first: &[u8], others: &[u8], out: &mut ArrayVec<u8, 260>)
+    requires { length first.now + length others.now ≤ 255 }
+    ensures { out.new.items ≡ event_octets code (first.now ++ others.now) }
+{
+    out.clear();
+    out.push(indicator::EVENT);
+    out.push(code);
+    out.push((first.len() + others.len()) as u8);
+    let _ = out.try_extend_from_slice(first);
+    let _ = out.try_extend_from_slice(others);
+}
+
+/// Connection Complete: Core 5.0, Vol 2 Part E, 7.7.65.1.
+fn write_connection(phone: u8, peer: &Peer, out: &mut ArrayVec<u8, 260>)
+    ensures { out.new.items ≡ octets_of (connection_sent phone peer.now) }
+{
+    let [low, high] = handle_of(phone).to_le_bytes();
+    let [interval_low, interval_high] = INTERVAL.to_le_bytes();
+    let [latency_low, latency_high] = LATENCY.to_le_bytes();
+    let [timeout_low, timeout_high] = TIMEOUT.to_le_bytes();
+    let first = [
+        event_code::LE_CONNECTION_COMPLETE,
+        SUCCESS,
+        low,
+        high,
+        PERIPHERAL,
+        peer.kind,
+    ];
+    let connection = [
+        interval_low,
+        interval_high,
+        latency_low,
+        latency_high,
+        timeout_low,
+        timeout_high,
+        CLOCK_ACCURACY,
+    ];
+    let mut others: ArrayVec<u8, 13> = ArrayVec::new();
+    // There is room, so these are proved to take all octets.
+    let _ = others.try_extend_from_slice(&peer.address);
+    let _ = others.try_extend_from_slice(&connection);
+    write_event(event_code::LE_META, &first, &others, out);
+}
+
+/// Long Term Key Request: Core 5.0, Vol 2 Part E, 7.7.65.5.
+fn write_key_request(phone: u8, rand: &[u8; 8], ediv: u16, out: &mut ArrayVec<u8, 260>)
+    ensures { out.new.items ≡ octets_of (key_request_sent phone rand.now ediv) }
+{
+    let [low, high] = handle_of(phone).to_le_bytes();
+    let [ediv_low, ediv_high] = ediv.to_le_bytes();
+    let mut others: ArrayVec<u8, 10> = ArrayVec::new();
+    let _ = others.try_extend_from_slice(rand);
+    let _ = others.try_extend_from_slice(&[ediv_low, ediv_high]);
+    let first = [event_code::LE_LONG_TERM_KEY_REQUEST, low, high];
+    write_event(event_code::LE_META, &first, &others, out);
+}
