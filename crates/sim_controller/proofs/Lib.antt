@@ -1,0 +1,4 @@
+pub mod GivenInOrder
+pub mod HeardFrames
+pub mod Pieces
+pub mod ReadWhole

@@ -1,4 +1,13 @@
+pub mod Acts
+pub mod Answers
 pub mod Assembled
+pub mod Calls
+pub mod Frames
 pub mod FromHost
+pub mod Hearing
+pub mod Phone
+pub mod PhoneFields
 pub mod Phones
+pub mod SimFault
+pub mod Simulated
 pub mod Told

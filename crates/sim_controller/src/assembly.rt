@@ -1,4 +1,4 @@
-ghost use Rattle.std.specs.Prelude.{◌≡◌, ◌++◌, ◌≤◌, [], length};
+ghost use Rattle.std.specs.Prelude.{◌≡◌, ◌++◌, ◌≤◌, [], length, is_some};
 ghost use Rattle.le_acl.specs.Reassembler.{assembled_of};
 ghost use Rattle.sim_controller.specs.Assembled.{assembly, assembly_by};
 
@@ -14,6 +14,15 @@ pub(crate) enum Assembled {
     Unfinished(ArrayVec<u8, 521>),
     /// A whole frame.
     Frame(ArrayVec<u8, 521>),
+}
+
+impl Assembled {
+    /// Whether a frame is whole.
+    pub(crate) fn is_frame(&self) -> bool
+        ensures { result ≡ is_some (assembly self.now).frame }
+    {
+        matches!(self, Assembled::Frame(_))
+    }
 }
 
 /// How many octets of a frame there are.

@@ -1,17 +1,36 @@
+ghost use Rattle.std.specs.Prelude.{◌≡◌};
+ghost use Rattle.sim_controller.specs.SimFault.{number_of};
+
 /// Why an act of a phone or a packet of the host is refused. Of several, the first applies. What is
 /// refused changes nothing.
 #[derive(Clone, Copy, Debug, PartialEq, Eq)]
 pub enum SimFault {
     /// The phone is not connected.
-    NotHere = 1,
+    NotHere,
     /// The phone is connected already.
-    AlreadyHere = 2,
+    AlreadyHere,
     /// The controller does not advertise.
-    NotAdvertising = 3,
+    NotAdvertising,
     /// More packets would wait for the host, or more frames for a phone, than there is room for.
-    Full = 4,
+    Full,
     /// The packet is no command that this controller knows, and no ACL packet.
-    BadPacket = 5,
+    BadPacket,
     /// A growth was refused.
-    OutOfMemory = 6,
+    OutOfMemory,
+}
+
+impl SimFault {
+    /// The number by which the fault is told, from 1.
+    pub fn number(self) -> u8
+        ensures { result ≡ number_of self }
+    {
+        match self {
+            SimFault::NotHere => 1,
+            SimFault::AlreadyHere => 2,
+            SimFault::NotAdvertising => 3,
+            SimFault::Full => 4,
+            SimFault::BadPacket => 5,
+            SimFault::OutOfMemory => 6,
+        }
+    }
 }

@@ -1,4 +1,4 @@
-ghost use Rattle.std.specs.Prelude.{◌≡◌, ◌<◌, ◌^◌};
+ghost use Rattle.std.specs.Prelude.{◌≡◌, ◌<◌, IfSome};
 ghost use Rattle.sim_controller.specs.Phones.{handle_of_phone, phone_with};
 
 /// How many phones there are.
@@ -16,7 +16,8 @@ pub(crate) fn handle_of(phone: u8) -> u16
 
 /// The phone with a connection handle.
 pub(crate) fn phone_with(handle: u16) -> Option<u8>
-    ensures { result ≡ phone_with handle }
+    ensures exact { result ≡ phone_with handle }
+    ensures below { IfSome result (λ phone. phone < 8) }
 {
     if handle >= FIRST_HANDLE && handle < FIRST_HANDLE + u16::from(PHONES) {
         Some((handle - FIRST_HANDLE) as u8)

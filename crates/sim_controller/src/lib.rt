@@ -3,13 +3,21 @@
 #![tactic(auto)]
 
 mod act;
+mod answer;
 mod assembly;
 mod command;
 mod config;
 mod fault;
+mod frame;
 mod handle;
+mod phone;
+mod phones;
+mod reason;
+mod sim;
 mod told;
+mod waiting;
 
 pub use act::PhoneAct;
 pub use config::SimConfig;
 pub use fault::SimFault;
+pub use sim::Sim;

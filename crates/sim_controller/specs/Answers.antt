@@ -1,0 +1,106 @@
+-- What a controller answers to the packets of a host: Core 5.0, Vol 2 Part E, 7, and Vol 3 Part A, 7.2.
+use Rattle.std.specs.Prelude.{ℕ, ◌||◌, if◌then◌else◌, List, [], ◌∷◌, ◌++◌, slice_index_or, is_some, Option, Some, None}
+use Rattle.std.specs.Option.{option_map, option_and_then, option_to_list}
+use Rattle.octets.specs.Number.{Octets, two_octets}
+use Rattle.le_hci.specs.declared.opcode.TheConstants as opcode
+use Rattle.le_acl.specs.Fragment.{Fragment}
+use Rattle.sim_controller.specs.declared.command.Asked.{Asked}
+use Rattle.sim_controller.specs.declared.command.Asked.TheVariants.{Status, ReadBufferSize, LeReadBufferSize, Advertise, Disconnect, GiveKey, RefuseKey}
+use Rattle.sim_controller.specs.declared.config.SimConfig.{SimConfig}
+use Rattle.sim_controller.specs.declared.fault.SimFault.{SimFault}
+use Rattle.sim_controller.specs.declared.fault.SimFault.TheVariants.{Full, BadPacket}
+use Rattle.sim_controller.specs.declared.reason.TheConstants.{LOCAL_HOST_ENDED}
+use Rattle.sim_controller.specs.declared.told.Told.{Told}
+use Rattle.sim_controller.specs.declared.told.Told.TheVariants as told
+use Rattle.sim_controller.specs.FromHost.{Taken, Command, Data}
+use Rattle.sim_controller.specs.Phone.{Phone, absent, assembled_in, with_assembly, hears_too_much, is_held}
+use Rattle.sim_controller.specs.Phones.{phone_with}
+use Rattle.sim_controller.specs.Simulated.{Simulated, phone_at, with_phone, with_told, is_too_much}
+
+-- the phone that is here and whose connection has a handle
+abbrev pub here_or_none : List Phone → ℕ → Option ℕ
+here_or_none phones phone = if is_some (slice_index_or phones phone absent).link then Some phone else None
+
+abbrev pub phone_here : List Phone → ℕ → Option ℕ
+phone_here phones handle = option_and_then (here_or_none phones) (phone_with handle)
+
+-- a command is complete, with the status of success and what else it returns
+abbrev pub completion : ℕ → Octets → Told
+completion code returned = told.CommandComplete code (record { items = 0x00 ∷ returned })
+
+-- the buffers of LE connections, none where they are shared: 7.8.2
+abbrev pub le_buffers : SimConfig → Octets
+le_buffers config = if config.shared then two_octets 0 ++ 0 ∷ [] else two_octets config.acl_len ++ config.packets ∷ []
+
+-- the buffers of any transport, none of them for SCO data: 7.4.5
+abbrev pub all_buffers : SimConfig → Octets
+all_buffers config = two_octets config.acl_len ++ 0 ∷ two_octets config.packets ++ two_octets 0
+
+-- the answer to a command, whether its phone is here or not
+abbrev pub answer_to : SimConfig → Asked → Told
+answer_to config (Status code) = completion code []
+answer_to config ReadBufferSize = completion opcode.READ_BUFFER_SIZE (all_buffers config)
+answer_to config LeReadBufferSize = completion opcode.LE_READ_BUFFER_SIZE (le_buffers config)
+answer_to config (Advertise enable) = completion opcode.LE_SET_ADVERTISE_ENABLE []
+answer_to config (Disconnect handle reason) = told.CommandStatus opcode.DISCONNECT
+answer_to config (GiveKey handle) = completion opcode.LE_LONG_TERM_KEY_REQUEST_REPLY (two_octets handle)
+answer_to config (RefuseKey handle) = completion opcode.LE_LONG_TERM_KEY_REQUEST_NEGATIVE_REPLY (two_octets handle)
+
+abbrev pub end_by_host : ℕ → Told
+end_by_host phone = told.DisconnectionComplete phone LOCAL_HOST_ENDED
+
+-- any key is taken as the phone's
+abbrev pub encryption_on : ℕ → Told
+encryption_on phone = told.EncryptionChange phone 0x01
+
+-- what follows the answer where its phone is here
+abbrev pub events_after : List Phone → Asked → List Told
+events_after phones (Disconnect handle reason) = option_to_list (option_map end_by_host (phone_here phones handle))
+events_after phones (GiveKey handle) = option_to_list (option_map encryption_on (phone_here phones handle))
+events_after phones _ = []
+
+abbrev pub answers : Simulated → Asked → List Told
+answers old asked = answer_to old.config asked ∷ events_after old.phones asked
+
+-- what a command changes besides
+abbrev pub with_end : Simulated → Option ℕ → ℕ → Simulated
+with_end old None reason = old
+with_end old (Some phone) reason = with_phone old phone (record (phone_at old phone) { link = None; ended = Some reason })
+
+abbrev pub after_answer : Simulated → Asked → Simulated
+after_answer old (Advertise enable) = record old { advertising = enable }
+after_answer old (Disconnect handle reason) = with_end old (phone_here old.phones handle) reason
+after_answer old _ = old
+
+abbrev pub command_fault : Simulated → Asked → Option SimFault
+command_fault old asked = if is_too_much old (answers old asked) then Some Full else None
+
+abbrev pub after_command : Simulated → Asked → Simulated
+after_command old asked = with_told (after_answer old asked) (answers old asked)
+
+-- a packet for a phone is completed, unless its packets are held
+abbrev pub completions_for : Simulated → ℕ → List Told
+completions_for old phone = if is_held (phone_at old phone).link then [] else told.CompletedPackets phone 1 ∷ []
+
+-- data for a phone that is not here are dropped, and not completed
+abbrev pub data_fault : Simulated → Option ℕ → Fragment → Option SimFault
+data_fault old None fragment = None
+data_fault old (Some phone) fragment =
+    if hears_too_much (phone_at old phone) (assembled_in (phone_at old phone).link fragment) || is_too_much old (completions_for old phone)
+    then Some Full else None
+
+abbrev pub after_data : Simulated → Option ℕ → Fragment → Simulated
+after_data old None fragment = old
+after_data old (Some phone) fragment =
+    with_told (with_phone old phone (with_assembly (phone_at old phone) (assembled_in (phone_at old phone).link fragment))) (completions_for old phone)
+
+-- a packet of the host, or octets that are none
+abbrev pub host_fault : Simulated → Option Taken → Option SimFault
+host_fault old None = Some BadPacket
+host_fault old (Some (Command asked)) = command_fault old asked
+host_fault old (Some (Data handle fragment)) = data_fault old (phone_here old.phones handle) fragment
+
+abbrev pub after_host : Simulated → Option Taken → Simulated
+after_host old None = old
+after_host old (Some (Command asked)) = after_command old asked
+after_host old (Some (Data handle fragment)) = after_data old (phone_here old.phones handle) fragment

@@ -1,0 +1,66 @@
+-- A phone, as the controller sees it: this profile's own.
+use Rattle.std.specs.Prelude.{ℕ, ◌+◌, nat_lt, Bool, true, false, List, [], ◌++◌, drop, length, Option, Some, None}
+use Rattle.std.specs.Option.{option_map, option_to_list}
+use Rattle.octets.specs.Number.{Octets}
+use Rattle.le_acl.specs.Fragment.{Fragment, Beginning, Continuation}
+use Rattle.le_acl.specs.Reassembler.{Assembly, assembled_of, with_more}
+
+-- its connection: whether packets are not completed by themselves, and the octets so far of a frame to it
+pub record Link : Type 0 where
+  pub held : Bool
+  pub unfinished : Option Octets
+
+-- its connection if it is here, the frames that wait to be heard, and the reason of a Disconnect that was not yet told
+pub record Phone : Type 0 where
+  pub link : Option Link
+  pub heard : List Octets
+  pub ended : Option ℕ
+
+-- a phone that never was here
+abbrev pub absent : Phone
+absent = record { link = None; heard = []; ended = None }
+
+abbrev pub new_link : Link
+new_link = record { held = false; unfinished = None }
+
+abbrev pub held_link : Link → Link
+held_link link = record link { held = true }
+
+abbrev pub is_held : Option Link → Bool
+is_held None = false
+is_held (Some link) = link.held
+
+-- the octets of a frame that is unfinished
+abbrev pub unfinished_in : Option Link → Option Octets
+unfinished_in None = None
+unfinished_in (Some link) = link.unfinished
+
+-- what a fragment comes to, behind what its connection has of a frame
+abbrev pub assembled_in : Option Link → Fragment → Assembly
+assembled_in link (Beginning octets) = assembled_of octets
+assembled_in link (Continuation octets) = with_more (unfinished_in link) octets
+
+-- with what a fragment came to, where the phone is here: a frame waits to be heard
+abbrev pub link_with : Link → Assembly → Link
+link_with link assembly = record link { unfinished = assembly.unfinished }
+
+abbrev pub heard_by : Option Link → List Octets → Assembly → List Octets
+heard_by None heard assembly = heard
+heard_by (Some link) heard assembly = heard ++ option_to_list assembly.frame
+
+abbrev pub with_assembly : Phone → Assembly → Phone
+with_assembly old assembly = record old {
+  link = option_map (λ link. link_with link assembly) old.link;
+  heard = heard_by old.link old.heard assembly;
+}
+
+-- at most 16 frames wait to be heard
+abbrev pub hears_too_much : Phone → Assembly → Bool
+hears_too_much phone assembly = nat_lt 16 (length phone.heard + length (option_to_list assembly.frame))
+
+-- once its first frame is heard, or none, and once the reason is told, or none
+abbrev pub after_hearing : Phone → Phone
+after_hearing old = record old { heard = drop 1 old.heard }
+
+abbrev pub after_telling : Phone → Phone
+after_telling old = record old { ended = None }

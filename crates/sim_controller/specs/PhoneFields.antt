@@ -1,0 +1,23 @@
+-- The fields of a phone, as one value.
+use Rattle.std.specs.Prelude.{◌≡◌, ℕ, ◌≤◌, List, length, map, Option}
+use Rattle.std.specs.Option.{option_map}
+use Rattle.arrayvec.specs.ArrayVec.{ArrayVec}
+use Rattle.circular_buffer.specs.Buffer.{Buffer}
+use Rattle.octets.specs.Number.{Octets}
+use Rattle.sim_controller.specs.Phone as model
+use Rattle.sim_controller.specs.declared.phone.Link.{Link}
+
+-- the octets of an array
+abbrev pub octets_in : ArrayVec ℕ → Octets
+octets_in array = array.items
+
+abbrev pub link_of : Link → model.Link
+link_of link = record { held = link.held; unfinished = option_map octets_in link.unfinished }
+
+abbrev pub phone_of : Option Link → List (ArrayVec ℕ) → Option ℕ → model.Phone
+phone_of link heard ended = record { link = option_map link_of link; heard = map octets_in heard; ended = ended }
+
+-- there is room for 16 frames, and there are no more
+pub record IsPhone (heard : Buffer (ArrayVec ℕ)) : Type 0 where
+  pub room : heard.capacity ≡ 16
+  pub within : length heard.items ≤ 16

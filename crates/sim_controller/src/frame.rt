@@ -1,0 +1,98 @@
+ghost use Rattle.std.specs.Prelude.{◌≡◌, ◌+◌, ◌<◌, ◌≤◌, ◌↔◌, ◌++◌, length, take, drop, IsOk, OnOk, OnErr, IfErr};
+ghost use Rattle.circular_buffer.specs.Buffer.{buffer};
+ghost use Rattle.le_acl.specs.Packets.{frame_of};
+ghost use Rattle.sim_controller.specs.Frames.{told_frame, told_others};
+
+use crate::fault::SimFault;
+use crate::told::Told;
+use crate::waiting::{MAX_PACKETS, put};
+use arrayvec::ArrayVec;
+use circular_buffer::HeapCircularBuffer;
+
+/// A payload of at most 517 octets as a frame: the length of the payload, the channel, and the
+/// payload. (Core 5.0, Vol 3 Part A, 3.1)
+pub(crate) fn frame_of(cid: u16, payload: &[u8]) -> ArrayVec<u8, 521>
+    requires { length payload.now ≤ 517 }
+    ensures { result.items ≡ frame_of (cid, payload.now) }
+{
+    let [size_low, size_high] = (payload.len() as u16).to_le_bytes();
+    let [low, high] = cid.to_le_bytes();
+    let mut frame = ArrayVec::new();
+    frame.push(size_low);
+    frame.push(size_high);
+    frame.push(low);
+    frame.push(high);
+    // There is room, so this is proved to take all octets.
+    let _ = frame.try_extend_from_slice(payload);
+    frame
+}
+
+/// Has a frame of a phone wait for the host, in fragments of at most `cut` octets, if there is room
+/// for all of them.
+#[tactic(auto, using(crate::proofs::Pieces::frame_length, crate::proofs::Pieces::frame_step, crate::proofs::Pieces::frame_count))]
+pub(crate) fn tell_frame(
+    waiting: &mut HeapCircularBuffer<Told>,
+    phone: u8,
+    frame: &[u8],
+    cut: usize,
+) -> Result<(), SimFault>
+    requires capacity { waiting.old.capacity ≡ 64 }
+    requires within { length waiting.old.items ≤ 64 }
+    requires cut_least { 1 ≤ cut }
+    requires cut_most { cut ≤ 251 }
+    requires some { 0 < length frame.now }
+    ensures room { IsOk result ↔ (length waiting.old.items + length (told_frame phone cut frame.now) ≤ 64) }
+    ensures told { OnOk result (waiting.new ≡ buffer (waiting.old.items ++ told_frame phone cut frame.now) 64) }
+    ensures full { IfErr result (λ fault. fault ≡ SimFault.Full) }
+    ensures unchanged { OnErr result (waiting.new ≡ waiting.old) }
+{
+    let room = MAX_PACKETS - waiting.len();
+    if frame.len() > room * cut {
+        return Err(SimFault::Full);
+    }
+    let octets = piece(front(frame, cut));
+    put(waiting, Told::Beginning { phone, octets });
+    tell_others(waiting, phone, behind(frame, cut), cut);
+    Ok(())
+}
+
+/// Has what continues a frame wait for the host, for which there is room.
+#[tactic(auto, using(crate::proofs::Pieces::others_parts, crate::proofs::Pieces::others_step, crate::proofs::Pieces::others_count, crate::proofs::Pieces::others_done))]
+fn tell_others(waiting: &mut HeapCircularBuffer<Told>, phone: u8, octets: &[u8], cut: usize)
+    requires capacity { waiting.old.capacity ≡ 64 }
+    requires cut_least { 1 ≤ cut }
+    requires cut_most { cut ≤ 251 }
+    requires room { length waiting.old.items + length (told_others phone cut octets.now) ≤ 64 }
+    ensures { waiting.new ≡ buffer (waiting.old.items ++ told_others phone cut octets.now) 64 }
+{
+    let mut left = octets;
+    while !left.is_empty() {
+        let octets = piece(front(left, cut));
+        put(waiting, Told::Continuation { phone, octets });
+        left = behind(left, cut);
+    }
+}
+
+/// The first octets, at most `count`.
+fn front(octets: &[u8], count: usize) -> &[u8]
+    ensures { result.now ≡ take count octets.now }
+{
+    &octets[..count.min(octets.len())]
+}
+
+/// The octets behind the first `count`.
+fn behind(octets: &[u8], count: usize) -> &[u8]
+    ensures { result.now ≡ drop count octets.now }
+{
+    &octets[count.min(octets.len())..]
+}
+
+/// At most 251 octets, copied.
+fn piece(octets: &[u8]) -> ArrayVec<u8, 251>
+    requires { length octets.now ≤ 251 }
+    ensures { result ≡ record { items = octets.now } }
+{
+    let mut piece = ArrayVec::new();
+    let _ = piece.try_extend_from_slice(octets);
+    piece
+}

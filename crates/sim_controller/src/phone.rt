@@ -1,0 +1,180 @@
+ghost use Rattle.std.specs.Prelude.{◌≡◌, ◌≤◌, [], length, drop, slice_get, is_some, None, Some, IfOk, IsFalse};
+ghost use Rattle.std.specs.Bool.{OnTrue, OnFalse};
+ghost use Rattle.std.specs.Option.{option_map};
+ghost use Rattle.sim_controller.specs.Assembled.{assembly};
+ghost use Rattle.sim_controller.specs.FromHost.{fragment_that};
+ghost use Rattle.sim_controller.specs.Phone.{absent, new_link, assembled_in, with_assembly, hears_too_much, held_link, is_held};
+
+use crate::assembly::{Assembled, assemble};
+use arrayvec::ArrayVec;
+use circular_buffer::HeapCircularBuffer;
+use std::alloc::{AllocError, Global};
+use std::marker::Model;
+
+/// How many frames wait for a phone at most.
+const MAX_FRAMES: usize = 16;
+
+/// What is kept of the connection of a phone.
+#[derive(Drop)]
+struct Link {
+    /// Packets are not completed by themselves.
+    held: bool,
+    /// The octets so far of a frame to the phone.
+    unfinished: Option<ArrayVec<u8, 521>>,
+}
+
+/// A phone, as the controller sees it.
+#[derive(Drop)]
+pub(crate) struct Phone {
+    link: Option<Link>,
+    /// The frames that wait to be heard.
+    heard: HeapCircularBuffer<ArrayVec<u8, 521>>,
+    /// The reason of a Disconnect of the host that was not yet told.
+    ended: Option<u8>,
+}
+
+impl Model for Phone {
+    ghost use Rattle.sim_controller.specs.Phone.{Phone};
+
+    ghost Value = { Phone };
+
+    ghost use Rattle.std.specs.Prelude.{◌≡◌, ◌≤◌, length};
+    ghost use Rattle.sim_controller.specs.PhoneFields.{phone_of, IsPhone};
+
+    ghost view = { λ p. phone_of p.link p.heard.items p.ended };
+
+    ghost invariant = { λ p. IsPhone p.heard };
+}
+
+impl Phone {
+    /// A phone that is not connected, with room for all that it may hear.
+    pub(crate) fn new(alloc: Global) -> Result<Phone, AllocError>
+        ensures { IfOk result (λ phone. phone ≡ absent) }
+    {
+        Ok(Phone {
+            link: None,
+            heard: HeapCircularBuffer::with_capacity(alloc, MAX_FRAMES)?,
+            ended: None,
+        })
+    }
+
+    /// Whether it is connected.
+    pub(crate) fn is_here(&self) -> bool
+        ensures { result ≡ is_some self.now.link }
+    {
+        self.link.is_some()
+    }
+
+    /// Whether its packets are not completed by themselves.
+    pub(crate) fn is_held(&self) -> bool
+        ensures { result ≡ is_held self.now.link }
+    {
+        match &self.link {
+            Some(link) => link.held,
+            None => false,
+        }
+    }
+
+    /// Whether what a fragment came to is a frame that finds no room to wait.
+    pub(crate) fn hears_too_much(&self, assembled: &Assembled) -> bool
+        ensures { result ≡ hears_too_much self.now (assembly assembled.now) }
+    {
+        self.heard.is_full() && assembled.is_frame()
+    }
+
+    /// Begins its connection.
+    pub(crate) fn connect(&mut self)
+        ensures { self.new ≡ record self.old { link = Some new_link } }
+    {
+        self.link = Some(Link {
+            held: false,
+            unfinished: None,
+        });
+    }
+
+    /// Ends its connection.
+    pub(crate) fn leave(&mut self)
+        ensures { self.new ≡ record self.old { link = None } }
+    {
+        self.link = None;
+    }
+
+    /// Ends its connection by a Disconnect of the host with this reason.
+    pub(crate) fn end(&mut self, reason: u8)
+        ensures { self.new ≡ record self.old { link = None; ended = Some reason } }
+    {
+        self.link = None;
+        self.ended = Some(reason);
+    }
+
+    /// Completes its packets no longer by themselves, as long as it is connected.
+    pub(crate) fn hold(&mut self)
+        ensures { self.new ≡ record self.old { link = option_map held_link self.old.link } }
+    {
+        if let Some(link) = &mut self.link {
+            link.held = true;
+        }
+    }
+
+    /// What a fragment from the host comes to.
+    pub(crate) fn assemble(&self, begins: bool, octets: &[u8]) -> Assembled
+        ensures { assembly result ≡ assembled_in self.now.link (fragment_that begins octets.now) }
+    {
+        if begins {
+            return assemble(&[], octets);
+        }
+        match &self.link {
+            Some(
+                Link {
+                    unfinished: Some(earlier),
+                    ..
+                },
+            ) => assemble(earlier, octets),
+            _ => Assembled::Nothing,
+        }
+    }
+
+    /// Takes in what a fragment came to: a frame waits to be heard.
+    pub(crate) fn take_in(&mut self, assembled: Assembled)
+        requires { IsFalse (hears_too_much self.old (assembly assembled)) }
+        ensures { self.new ≡ with_assembly self.old (assembly assembled) }
+    {
+        let Some(link) = &mut self.link else {
+            return;
+        };
+        match assembled {
+            Assembled::Nothing => link.unfinished = None,
+            Assembled::Unfinished(octets) => link.unfinished = Some(octets),
+            Assembled::Frame(frame) => {
+                link.unfinished = None;
+                // There is room.
+                let _ = self.heard.try_push_back(frame);
+            }
+        }
+    }
+
+    /// Writes the first frame that waits in place of what `out` holds, where there is one.
+    pub(crate) fn hear(&mut self, out: &mut ArrayVec<u8, 521>) -> bool
+        ensures frame { OnTrue result (slice_get self.old.heard 0 ≡ Some out.new.items) }
+        ensures none { OnFalse result (self.old.heard ≡ []) }
+        ensures out_unchanged { OnFalse result (out.new.items ≡ out.old.items) }
+        ensures within { length self.old.heard ≤ 16 }
+        ensures after { self.new ≡ record self.old { heard = drop 1 self.old.heard } }
+    {
+        match self.heard.pop_front() {
+            Some(frame) => {
+                *out = frame;
+                true
+            }
+            None => false,
+        }
+    }
+
+    /// The reason of a Disconnect that was not yet told.
+    pub(crate) fn ended(&mut self) -> Option<u8>
+        ensures reason { result ≡ self.old.ended }
+        ensures after { self.new ≡ record self.old { ended = None } }
+    {
+        self.ended.take()
+    }
+}

@@ -1,0 +1,302 @@
+ghost use Rattle.std.specs.Prelude.{◌≡◌, ◌<◌, ◌≤◌, [], ◌∷◌, length, drop, slice_get, Some, IfOk, IfErr, OnOk, OnErr};
+ghost use Rattle.std.specs.Bool.{OnTrue, OnFalse};
+ghost use Rattle.std.specs.Option.{option_map};
+ghost use Rattle.sim_controller.specs.Acts.{Act, act_of, phone_in, payload_in, act_fault, telling_fault, after_act, Does};
+ghost use Rattle.sim_controller.specs.Answers.{command_fault, after_command, data_fault, after_data, host_fault, after_host};
+ghost use Rattle.sim_controller.specs.Calls.{GivesInOrder, TellsWhatIsRead};
+ghost use Rattle.sim_controller.specs.FromHost.{host_packet_of, fragment_that};
+ghost use Rattle.sim_controller.specs.Hearing.{HearsItsFrames};
+ghost use Rattle.sim_controller.specs.Phone.{after_hearing, after_telling};
+ghost use Rattle.sim_controller.specs.Simulated.{at_start, phone_at, with_phone, with_told, refusal, IsDone};
+ghost use Rattle.sim_controller.specs.Told.{octets_of, sent_of};
+
+use crate::act::PhoneAct;
+use crate::answer::answer_to;
+use crate::command::{Asked, HostPacket, read};
+use crate::config::SimConfig;
+use crate::fault::SimFault;
+use crate::frame::{frame_of, tell_frame};
+use crate::phone::Phone;
+use crate::phones::{
+    absent_phones, assemble, connect, end, ended, hear, hears_too_much, here_with, hold, is_held,
+    is_here, leave, take_in,
+};
+use crate::reason::{LOCAL_HOST_ENDED, REMOTE_USER_ENDED};
+use crate::told::Told;
+use crate::waiting::{MAX_PACKETS, tell, tell_both};
+use arrayvec::ArrayVec;
+use circular_buffer::HeapCircularBuffer;
+use le_hci::Peer;
+use std::alloc::{AllocError, Global};
+use std::marker::Model;
+
+/// A controller with 8 phones, over memory. It takes none once it is made.
+#[derive(Drop)]
+pub struct Sim {
+    config: SimConfig,
+    advertising: bool,
+    /// The packets that wait for the host.
+    waiting: HeapCircularBuffer<Told>,
+    /// The phones by their numbers.
+    phones: Vec<Phone>,
+}
+
+impl Model for Sim {
+    ghost use Rattle.sim_controller.specs.Simulated.{Simulated, simulated_of, IsSimulated};
+
+    ghost Value = { Simulated };
+
+    ghost view = { λ s. simulated_of s.config s.advertising s.waiting.items s.phones.items };
+
+    ghost invariant = { λ s. IsSimulated s.config s.waiting s.phones.items };
+}
+
+impl Sim {
+    /// A controller that does not advertise yet, with no phone connected. All the room that it will
+    /// need is made here, with `alloc`.
+    #[tactic(auto, using(crate::proofs::GivenInOrder::gives_in_order, crate::proofs::HeardFrames::hears_its_frames))]
+    pub fn new(alloc: Global, config: SimConfig) -> Result<Sim, SimFault>
+        requires cut_least { 1 ≤ config.cut }
+        requires cut_most { config.cut ≤ 251 }
+        ensures start { IfOk result (λ sim. sim ≡ at_start config) }
+        ensures fault { IfErr result (λ fault. fault ≡ SimFault.OutOfMemory) }
+        // Whatever is done with it, it gives what its acts and its answers tell, in their order, and
+        // the host reads that without fault; and a phone hears the frames of the data for it.
+        ensures in_order { GivesInOrder config }
+        ensures read { TellsWhatIsRead }
+        ensures heard { HearsItsFrames config }
+    {
+        Sim::with_room(alloc, config).map_err(|_| SimFault::OutOfMemory)
+    }
+
+    fn with_room(alloc: Global, config: SimConfig) -> Result<Sim, AllocError>
+        requires cut_least { 1 ≤ config.cut }
+        requires cut_most { config.cut ≤ 251 }
+        ensures { IfOk result (λ sim. sim ≡ at_start config) }
+    {
+        Ok(Sim {
+            config,
+            advertising: false,
+            waiting: HeapCircularBuffer::with_capacity(alloc, MAX_PACKETS)?,
+            phones: absent_phones(alloc)?,
+        })
+    }
+
+    /// Does what a phone does: one of the 8, and what it sends has at most 517 octets. What is refused
+    /// changes nothing.
+    pub fn act(&mut self, act: PhoneAct<'_>) -> Result<(), SimFault>
+        requires phone { phone_in (act_of act) < 8 }
+        requires payload { length (payload_in (act_of act)) ≤ 517 }
+        ensures exact { result ≡ refusal (act_fault self.old (act_of act.entry)) }
+        ensures done { OnOk result (self.new ≡ after_act self.old (act_of act.entry)) }
+        ensures unchanged { OnErr result (self.new ≡ self.old) }
+    {
+        match act {
+            PhoneAct::Connect { phone, peer } => self.connect(phone, peer),
+            PhoneAct::Drop { phone } => self.leave(phone),
+            PhoneAct::Encrypt { phone, rand, ediv } => {
+                self.tell_of(phone, Told::LongTermKeyRequest { phone, rand, ediv })
+            },
+            PhoneAct::Clear { phone } => {
+                self.tell_of(phone, Told::EncryptionChange { phone, enabled: 0 })
+            },
+            PhoneAct::Send {
+                phone,
+                cid,
+                payload,
+            } => self.send(phone, cid, payload),
+            PhoneAct::Hold { phone } => self.hold(phone),
+            PhoneAct::Done { phone, packets } => {
+                self.tell_of(phone, Told::CompletedPackets { phone, packets })
+            },
+        }
+    }
+
+    fn connect(&mut self, phone: u8, peer: Peer) -> Result<(), SimFault>
+        requires { phone < 8 }
+        ensures { Does (Act.Connect phone peer) self.old self.new result }
+    {
+        if is_here(&self.phones, phone) {
+            return Err(SimFault::AlreadyHere);
+        }
+        if !self.advertising {
+            return Err(SimFault::NotAdvertising);
+        }
+        tell(&mut self.waiting, Told::ConnectionComplete { phone, peer })?;
+        connect(&mut self.phones, phone);
+        self.advertising = false;
+        Ok(())
+    }
+
+    fn leave(&mut self, phone: u8) -> Result<(), SimFault>
+        requires { phone < 8 }
+        ensures { Does (Act.Drop phone) self.old self.new result }
+    {
+        if !is_here(&self.phones, phone) {
+            return Err(SimFault::NotHere);
+        }
+        tell(
+            &mut self.waiting,
+            Told::DisconnectionComplete {
+                phone,
+                reason: REMOTE_USER_ENDED,
+            },
+        )?;
+        leave(&mut self.phones, phone);
+        Ok(())
+    }
+
+    /// Has the host told something of a phone that is connected.
+    fn tell_of(&mut self, phone: u8, told: Told) -> Result<(), SimFault>
+        requires { phone < 8 }
+        ensures { IsDone (telling_fault self.old phone (told ∷ [])) (with_told self.old (told ∷ [])) self.old self.new result }
+    {
+        if !is_here(&self.phones, phone) {
+            return Err(SimFault::NotHere);
+        }
+        tell(&mut self.waiting, told)
+    }
+
+    fn send(&mut self, phone: u8, cid: u16, payload: &[u8]) -> Result<(), SimFault>
+        requires phone { phone < 8 }
+        requires payload { length payload.now ≤ 517 }
+        ensures { Does (Act.Send phone cid payload.now) self.old self.new result }
+    {
+        if !is_here(&self.phones, phone) {
+            return Err(SimFault::NotHere);
+        }
+        let frame = frame_of(cid, payload);
+        let cut = usize::from(self.config.cut);
+        tell_frame(&mut self.waiting, phone, &frame, cut)
+    }
+
+    fn hold(&mut self, phone: u8) -> Result<(), SimFault>
+        requires { phone < 8 }
+        ensures { Does (Act.Hold phone) self.old self.new result }
+    {
+        if !is_here(&self.phones, phone) {
+            return Err(SimFault::NotHere);
+        }
+        hold(&mut self.phones, phone);
+        Ok(())
+    }
+
+    /// Answers a command.
+    fn answer(&mut self, asked: Asked) -> Result<(), SimFault>
+        ensures { IsDone (command_fault self.old asked) (after_command self.old asked) self.old self.new result }
+    {
+        let answer = answer_to(&self.config, asked);
+        match asked {
+            Asked::Disconnect { handle, reason } => match here_with(&self.phones, handle) {
+                Some(phone) => {
+                    let ended = Told::DisconnectionComplete {
+                        phone,
+                        reason: LOCAL_HOST_ENDED,
+                    };
+                    tell_both(&mut self.waiting, answer, ended)?;
+                    end(&mut self.phones, phone, reason);
+                    Ok(())
+                }
+                None => tell(&mut self.waiting, answer),
+            },
+            Asked::GiveKey { handle } => match here_with(&self.phones, handle) {
+                Some(phone) => {
+                    let encrypted = Told::EncryptionChange { phone, enabled: 1 };
+                    tell_both(&mut self.waiting, answer, encrypted)
+                }
+                None => tell(&mut self.waiting, answer),
+            },
+            Asked::Advertise { enable } => {
+                tell(&mut self.waiting, answer)?;
+                self.advertising = enable;
+                Ok(())
+            }
+            _ => tell(&mut self.waiting, answer),
+        }
+    }
+
+    /// Writes the first packet that waits for the host in place of what `out` holds. There is none,
+    /// and nothing changes, where it answers `false`.
+    pub fn next_to_host(&mut self, out: &mut ArrayVec<u8, 260>) -> bool
+        ensures packet { OnTrue result (option_map (λ told. octets_of (sent_of told)) (slice_get self.old.waiting 0) ≡ Some out.new.items) }
+        ensures none { OnFalse result (self.old.waiting ≡ []) }
+        ensures out_unchanged { OnFalse result (out.new.items ≡ out.old.items) }
+        ensures within { length self.old.waiting ≤ 64 }
+        ensures after { self.new ≡ record self.old { waiting = drop 1 self.old.waiting } }
+    {
+        match self.waiting.pop_front() {
+            Some(told) => {
+                told.write(out);
+                true
+            }
+            None => false,
+        }
+    }
+
+    /// Takes a packet of the host, from its indicator on. What is refused changes nothing.
+    pub fn from_host(&mut self, octets: &[u8]) -> Result<(), SimFault>
+        ensures exact { result ≡ refusal (host_fault self.old (host_packet_of octets.now)) }
+        ensures done { OnOk result (self.new ≡ after_host self.old (host_packet_of octets.now)) }
+        ensures unchanged { OnErr result (self.new ≡ self.old) }
+    {
+        match read(octets) {
+            Some(HostPacket::Command(asked)) => self.answer(asked),
+            Some(
+                HostPacket::Data {
+                    handle,
+                    begins,
+                    octets,
+                },
+            ) => match here_with(&self.phones, handle) {
+                Some(phone) => self.take_data(phone, begins, octets),
+                None => Ok(()),
+            },
+            None => Err(SimFault::BadPacket),
+        }
+    }
+
+    /// Takes a fragment for a phone that is connected.
+    fn take_data(&mut self, phone: u8, begins: bool, octets: &[u8]) -> Result<(), SimFault>
+        requires { phone < 8 }
+        ensures { let fragment = fragment_that begins octets.now in
+            IsDone (data_fault self.old (Some phone) fragment) (after_data self.old (Some phone) fragment) self.old self.new result }
+    {
+        let assembled = assemble(&self.phones, phone, begins, octets);
+        if hears_too_much(&self.phones, phone, &assembled) {
+            return Err(SimFault::Full);
+        }
+        if is_held(&self.phones, phone) {
+            take_in(&mut self.phones, phone, assembled);
+            return Ok(());
+        }
+        tell(
+            &mut self.waiting,
+            Told::CompletedPackets { phone, packets: 1 },
+        )?;
+        take_in(&mut self.phones, phone, assembled);
+        Ok(())
+    }
+
+    /// Writes the first frame that waits for a phone in place of what `out` holds, its header in front
+    /// of its payload. There is none, and nothing changes, where it answers `false`.
+    pub fn heard(&mut self, phone: u8, out: &mut ArrayVec<u8, 521>) -> bool
+        requires { phone < 8 }
+        ensures frame { OnTrue result (slice_get (phone_at self.old phone).heard 0 ≡ Some out.new.items) }
+        ensures none { OnFalse result ((phone_at self.old phone).heard ≡ []) }
+        ensures out_unchanged { OnFalse result (out.new.items ≡ out.old.items) }
+        ensures within { length (phone_at self.old phone).heard ≤ 16 }
+        ensures after { self.new ≡ with_phone self.old phone (after_hearing (phone_at self.old phone)) }
+    {
+        hear(&mut self.phones, phone, out)
+    }
+
+    /// The reason of a Disconnect of the host that ended the connection of a phone, where it was not
+    /// yet told.
+    pub fn ended(&mut self, phone: u8) -> Option<u8>
+        requires { phone < 8 }
+        ensures reason { result ≡ (phone_at self.old phone).ended }
+        ensures after { self.new ≡ with_phone self.old phone (after_telling (phone_at self.old phone)) }
+    {
+        ended(&mut self.phones, phone)
+    }
+}

@@ -1,0 +1,49 @@
+ghost use Rattle.std.specs.Prelude.{◌≡◌, ◌+◌, ◌<◌, ◌↔◌, [], ◌∷◌, ◌++◌, length, IsOk, OnOk, OnErr, IfErr};
+ghost use Rattle.circular_buffer.specs.Buffer.{buffer};
+
+use crate::fault::SimFault;
+use crate::told::Told;
+use circular_buffer::HeapCircularBuffer;
+
+/// How many packets wait for the host at most.
+pub(crate) const MAX_PACKETS: usize = 64;
+
+/// Has a packet wait for the host behind the others, if there is room.
+pub(crate) fn tell(waiting: &mut HeapCircularBuffer<Told>, told: Told) -> Result<(), SimFault>
+    requires { waiting.old.capacity ≡ 64 }
+    ensures room { IsOk result ↔ (length waiting.old.items < 64) }
+    ensures told { OnOk result (waiting.new ≡ buffer (waiting.old.items ++ told ∷ []) 64) }
+    ensures full { IfErr result (λ fault. fault ≡ SimFault.Full) }
+    ensures unchanged { OnErr result (waiting.new ≡ waiting.old) }
+{
+    waiting.try_push_back(told).map_err(|_| SimFault::Full)
+}
+
+/// Has two packets wait for the host behind the others, if there is room for both.
+pub(crate) fn tell_both(
+    waiting: &mut HeapCircularBuffer<Told>,
+    first: Told,
+    second: Told,
+) -> Result<(), SimFault>
+    requires { waiting.old.capacity ≡ 64 }
+    ensures room { IsOk result ↔ (length waiting.old.items < 63) }
+    ensures told { OnOk result (waiting.new ≡ buffer (waiting.old.items ++ first ∷ second ∷ []) 64) }
+    ensures full { IfErr result (λ fault. fault ≡ SimFault.Full) }
+    ensures unchanged { OnErr result (waiting.new ≡ waiting.old) }
+{
+    if waiting.len() + 2 > MAX_PACKETS {
+        return Err(SimFault::Full);
+    }
+    tell(waiting, first)?;
+    tell(waiting, second)
+}
+
+/// Has a packet wait for the host behind the others, where there is room.
+pub(crate) fn put(waiting: &mut HeapCircularBuffer<Told>, told: Told)
+    requires capacity { waiting.old.capacity ≡ 64 }
+    requires room { length waiting.old.items < 64 }
+    ensures told { waiting.new ≡ buffer (waiting.old.items ++ told ∷ []) 64 }
+    ensures len { length waiting.new.items ≡ length waiting.old.items + 1 }
+{
+    let _ = waiting.try_push_back(told);
+}
