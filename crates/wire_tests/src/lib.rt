@@ -23,4 +23,6 @@ mod sending;
 #[cfg(test)]
 mod signalling;
 #[cfg(test)]
+mod simulation;
+#[cfg(test)]
 mod streams;
