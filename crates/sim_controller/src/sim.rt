@@ -60,8 +60,7 @@ impl Sim {
         requires cut_most { config.cut ≤ 251 }
         ensures start { IfOk result (λ sim. sim ≡ at_start config) }
         ensures fault { IfErr result (λ fault. fault ≡ SimFault.OutOfMemory) }
-        // Whatever is done with it, it gives what its acts and its answers tell, in their order, and
-        // the host reads that without fault; and a phone hears the frames of the data for it.
+        // The same whatever is done with it.
         ensures in_order { GivesInOrder config }
         ensures read { TellsWhatIsRead }
         ensures heard { HearsItsFrames config }
@@ -82,8 +81,7 @@ impl Sim {
         })
     }
 
-    /// Does what a phone does: one of the 8, and what it sends has at most 517 octets. What is refused
-    /// changes nothing.
+    /// Does what one of the 8 phones does. What is refused changes nothing.
     pub fn act(&mut self, act: PhoneAct<'_>) -> Result<(), SimFault>
         requires phone { phone_in (act_of act) < 8 }
         requires payload { length (payload_in (act_of act)) ≤ 517 }
@@ -290,8 +288,7 @@ impl Sim {
         hear(&mut self.phones, phone, out)
     }
 
-    /// The reason of a Disconnect of the host that ended the connection of a phone, where it was not
-    /// yet told.
+    /// The reason of a Disconnect that ended the connection of a phone, where it was not yet told.
     pub fn ended(&mut self, phone: u8) -> Option<u8>
         requires { phone < 8 }
         ensures reason { result ≡ (phone_at self.old phone).ended }
