@@ -1,4 +1,5 @@
 pub mod Always
+pub mod AnswersAlike
 pub mod Courses
 pub mod Headline
 pub mod MayBeHeard
@@ -9,5 +10,7 @@ pub mod RowsOfTheTable
 pub mod Settled
 pub mod Silence
 pub mod Streams
+pub mod TurnsAlike
+pub mod TwoWorlds
 pub mod ValuesOfTheTable
 pub mod examples

@@ -1,3 +1,4 @@
+pub mod Alike
 pub mod Calls
 pub mod Controller
 pub mod Event
@@ -19,4 +20,5 @@ pub mod Silence
 pub mod Start
 pub mod State
 pub mod Turn
+pub mod TwoWorlds
 pub mod ValuesOfTheTable

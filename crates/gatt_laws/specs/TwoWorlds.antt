@@ -1,0 +1,58 @@
+-- Nothing crosses from one connection to those of another peer: two runs that differ in what the connections of a peer may
+-- not know are the same to them.
+use Rattle.std.specs.Prelude.{◌≡◌, Bool, false, ◌&&◌, is_some, List, Some}
+use Rattle.att_numbers.specs.Types.{Handle}
+use Rattle.att_pdu.specs.Grammar.{request_of, is_due}
+use Rattle.att_table.specs.Changer.{changer_of}
+use Rattle.att_table.specs.Table.{Contents}
+use Rattle.att_writes.specs.SameBut.{SameBut}
+use Rattle.gatt_laws.specs.Alike.{is_of, Alike, Hides}
+use Rattle.gatt_laws.specs.Event.{Ordinal, Own, Event, Asks, Signals, Of, Replaced}
+use Rattle.gatt_laws.specs.Part.{Part, is_live, mtu_of}
+use Rattle.gatt_laws.specs.Room.{Room}
+use Rattle.gatt_laws.specs.State.{State, before_commands, slot_out, step}
+use Rattle.gatt_laws.specs.Turn.{channel_answer, is_full}
+use Rattle.le_hci.specs.declared.peer.Peer.{Peer}
+use Rattle.octets.specs.Number.{Octets}
+
+-- tables that differ in the octets of hidden values alone, and tell of changes by the same value
+pub record SameTable (hidden : Handle → Bool) (one other : Contents) : Type 0 where
+  pub attributes : one.attributes ≡ other.attributes
+  pub changer : changer_of one ≡ changer_of other
+  pub values : SameBut hidden one.values other.values
+
+-- the table is replaced in both
+pub record IsReplacedToo (hidden : Handle → Bool) (table : Contents) (event : Event) : Type 0 where
+  pub its : Contents
+  pub is : event ≡ Replaced its
+  pub same : SameTable hidden table its
+
+-- what happens in one and in the other: the same, or replacements by tables that differ in what is hidden from then on
+abbrev pub Matched : (hidden following : Handle → Bool) → Event → Event → Type 0
+Matched hidden following (Replaced table) other = IsReplacedToo following table other
+Matched hidden following event other = (event ≡ other) × (hidden ≡ following)
+
+-- an answer to what happens is due, and there is no room for it
+abbrev pub is_answer_due : Room → Part → Own → Bool
+is_answer_due room part (Asks pdu) = is_due (request_of pdu (mtu_of room part))
+is_answer_due room part (Signals channel payload) = is_some (channel_answer channel payload)
+is_answer_due room part own = false
+
+abbrev pub finds_no_room : Room → Part → Own → Bool
+finds_no_room room part own = is_live part.mark && (is_answer_due room part own && is_full room part)
+
+-- no connection of another peer is ended for want of room
+abbrev pub Spared : Peer → State → Event → Type 0
+Spared peer state (Of ordinal own) =
+    is_of peer (state.parts ordinal) ≡ false → finds_no_room state.room (state.parts ordinal) own ≡ false
+Spared peer state event = Unit
+
+-- the packets that are given to one connection at an event
+abbrev pub given_to : Ordinal → State → Event → List Octets
+given_to ordinal state event = slot_out state (before_commands state event) (Some ordinal)
+
+-- one event from states that are alike leaves states that are alike
+abbrev pub KeepsAlike : Type 0
+KeepsAlike = (peer : Peer) (hidden following : Handle → Bool) (one other : State) (event its : Event) →
+    Alike peer hidden one other → Matched hidden following event its → Hides peer hidden one → Hides peer following (step one event) →
+    Spared peer one event → Spared peer other its → Alike peer following (step one event) (step other its)
