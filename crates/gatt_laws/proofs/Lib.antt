@@ -3,6 +3,7 @@ pub mod AnswersAlike
 pub mod Courses
 pub mod Headline
 pub mod MayBeHeard
+pub mod NextParts
 pub mod OwnQueues
 pub mod Queued
 pub mod Refusals

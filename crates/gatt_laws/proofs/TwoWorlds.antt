@@ -12,17 +12,18 @@ use Rattle.att_table.specs.Table.{Contents, value_at, with_value}
 use Rattle.att_writes.proofs.Lengths.{stored_both}
 use Rattle.att_writes.specs.SameBut.{SameBut}
 use Rattle.gatt_conn.specs.Transcript.{Dropped}
+use Rattle.gatt_laws.proofs.NextParts.{none_given, none_left}
 use Rattle.gatt_laws.proofs.Silence.{only_serves_the_live}
 use Rattle.gatt_laws.proofs.TurnsAlike.{both_choices, either_choice, SameTurn, OwnTurn, OtherTurn, own_turn, other_turn}
 use Rattle.gatt_laws.specs.Alike.{erased, is_of, Alike, MayNotKnow, HidesFrom, Hides}
 use Rattle.gatt_laws.specs.Controller.{Slots, command_of_init, command_for, commands_for, commands_due, count_before, without_command, enabling, controller_after}
 use Rattle.gatt_laws.specs.Event.{Ordinal, Own, Event, Of, Completed, Credit, Update, Tick, Replaced, Nothing}
 use Rattle.gatt_laws.specs.Heard.{Heard, heard_raised, hearer_of, hearer_after, after_responses, heard_in_turn, with_heard, after_hearing}
-use Rattle.gatt_laws.specs.Part.{Part, is_live, row_of, standing_of, after_giving}
+use Rattle.gatt_laws.specs.Part.{Part, is_live, is_there, row_of, standing_of, after_giving}
 use Rattle.gatt_laws.specs.Room.{Room, Bonds, Owed}
-use Rattle.gatt_laws.specs.State.{State, Change, with_values, at_peer, after_turn, own_change, with_completed, after_completed, all_changed, announced, part_dropped, part_replaced, change_of, finished, parts_finished, with_commands_sent, before_commands, step}
+use Rattle.gatt_laws.specs.State.{State, Change, with_values, at_peer, after_turn, own_change, with_completed, after_completed, all_changed, announced, part_dropped, part_replaced, change_of, finished, parts_finished, with_commands_sent, before_commands, packets_given, step}
 use Rattle.gatt_laws.specs.Turn.{Turn, turn_of}
-use Rattle.gatt_laws.specs.TwoWorlds.{SameTable, Matched, finds_no_room, Spared, KeepsAlike}
+use Rattle.gatt_laws.specs.TwoWorlds.{SameTable, Matched, finds_no_room, Spared, KeepsAlike, given_to, GivesTheSame, NothingCrossesInARun}
 use Rattle.gatt_subs.proofs.Undisclosed.{tells_only_what_is_heard}
 use Rattle.gatt_subs.specs.Hearing.{may_hear_at}
 use Rattle.gatt_subs.specs.Fit.{wants_changes}
@@ -527,8 +528,45 @@ changes-alike peer hidden following one other event its alike matched hides spar
 
 pub keeps_alike : KeepsAlike
 unfolding step
-keeps_alike peer hidden following one other event its alike matched hides hides_then spared spared_too =
-    commands-alike peer following (before_commands one event) (before_commands other its)
-    (ended-alike peer following (change_of one event) (change_of other its)
-    (changes-alike peer hidden following one other event its alike matched hides spared spared_too)
-    (hides-before peer following one event hides_then))
+keeps_alike peer hidden one other event its alike agrees =
+    commands-alike peer agrees.following (before_commands one event) (before_commands other its)
+    (ended-alike peer agrees.following (change_of one event) (change_of other its)
+    (changes-alike peer hidden agrees.following one other event its alike agrees.matched agrees.hides agrees.spared agrees.spared_too)
+    (hides-before peer agrees.following one event agrees.hides_then))
+
+-- what is given in both
+pub gives_the_same : GivesTheSame
+gives_the_same peer hidden one other event its alike agrees ordinal belongs =
+    let old : erased (one.parts ordinal) ≡ erased (other.parts ordinal) = alike.others ordinal in
+    let change : Change = change_of one event in
+    let too : Change = change_of other its in
+    let same : SameChange peer agrees.following change too =
+    changes-alike peer hidden agrees.following one other event its alike agrees.matched agrees.hides agrees.spared agrees.spared_too in
+    let room = same.state.room in
+    let new = same.state.others ordinal in
+    elim (is_there (one.parts ordinal).mark) as (λ (there : Bool). is_there (one.parts ordinal).mark ≡ there → given_to ordinal one event ≡ given_to ordinal other its) [
+      | false ↦ λ away. none_given one event ordinal away ∙ sym (none_given other its ordinal (sym (λ i. is_there (old i).mark) ∙ away))
+      | true ↦ λ there.
+          let mine : is_of peer (one.parts ordinal) ≡ true = belongs there in
+          let equal = alike.own ordinal mine in
+          elim (is_of peer (change.state.parts ordinal)) as (λ (is : Bool). is_of peer (change.state.parts ordinal) ≡ is → given_to ordinal one event ≡ given_to ordinal other its) [
+            | true ↦ λ still.
+                let ends = finished-both peer agrees.following change too same (hides-before peer agrees.following one event agrees.hides_then) ordinal still in
+                λ i. packets_given (room i) (equal i) (ends i)
+            | false ↦ λ gone.
+                none_left one event ordinal there (λ peers. cc (sym (ap (λ (p : Peer). same_peer p peer) peers) ∙ gone, mine))
+                ∙ sym (none_left other its ordinal (sym (λ i. is_there (old i).mark) ∙ there)
+                (λ peers. cc (sym (ap (λ (p : Peer). same_peer p peer) peers) ∙ sym (λ i. is_of peer (new i)) ∙ gone, sym (λ i. is_of peer (equal i)) ∙ mine)))
+          ] refl
+    ] refl
+
+pub nothing_crosses_in_a_run : NothingCrossesInARun
+nothing_crosses_in_a_run peer hidden one other [] [] alike agree ordinal belongs = refl
+nothing_crosses_in_a_run peer hidden one other (event ∷ events) [] alike agree ordinal belongs = absurd agree
+nothing_crosses_in_a_run peer hidden one other [] (its ∷ others) alike agree ordinal belongs = absurd agree
+nothing_crosses_in_a_run peer hidden one other (event ∷ events) (its ∷ others) alike agree ordinal belongs =
+    let first = gives_the_same peer hidden one other event its alike agree.0 ordinal belongs.0 in
+    let later =
+    nothing_crosses_in_a_run peer (agree.0).following (step one event) (step other its) events others
+    (keeps_alike peer hidden one other event its alike agree.0) agree.1 ordinal belongs.1 in
+    λ i. first i ++ later i

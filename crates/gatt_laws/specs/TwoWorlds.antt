@@ -1,6 +1,6 @@
 -- Nothing crosses from one connection to those of another peer: two runs that differ in what the connections of a peer may
 -- not know are the same to them.
-use Rattle.std.specs.Prelude.{◌≡◌, Bool, false, ◌&&◌, is_some, List, Some}
+use Rattle.std.specs.Prelude.{◌≡◌, Bool, true, false, ◌&&◌, is_some, List, [], ◌∷◌, ◌++◌, Some}
 use Rattle.att_numbers.specs.Types.{Handle}
 use Rattle.att_pdu.specs.Grammar.{request_of, is_due}
 use Rattle.att_table.specs.Changer.{changer_of}
@@ -8,7 +8,7 @@ use Rattle.att_table.specs.Table.{Contents}
 use Rattle.att_writes.specs.SameBut.{SameBut}
 use Rattle.gatt_laws.specs.Alike.{is_of, Alike, Hides}
 use Rattle.gatt_laws.specs.Event.{Ordinal, Own, Event, Asks, Signals, Of, Replaced}
-use Rattle.gatt_laws.specs.Part.{Part, is_live, mtu_of}
+use Rattle.gatt_laws.specs.Part.{Part, is_live, is_there, mtu_of}
 use Rattle.gatt_laws.specs.Room.{Room}
 use Rattle.gatt_laws.specs.State.{State, before_commands, slot_out, step}
 use Rattle.gatt_laws.specs.Turn.{channel_answer, is_full}
@@ -51,8 +51,52 @@ Spared peer state event = Unit
 abbrev pub given_to : Ordinal → State → Event → List Octets
 given_to ordinal state event = slot_out state (before_commands state event) (Some ordinal)
 
--- one event from states that are alike leaves states that are alike
+-- while a connection is there it is one of the peer
+abbrev pub BelongsTo : Peer → Part → Type 0
+BelongsTo peer part = is_there part.mark ≡ true → is_of peer part ≡ true
+
+-- what happens in both, where no connection of the peer may know what is hidden, before or after, and no connection of another
+-- peer is ended for want of room
+pub record Agrees (peer : Peer) (hidden : Handle → Bool) (one other : State) (event its : Event) : Type 0 where
+  pub following : Handle → Bool
+  pub matched : Matched hidden following event its
+  pub hides : Hides peer hidden one
+  pub hides_then : Hides peer following (step one event)
+  pub spared : Spared peer one event
+  pub spared_too : Spared peer other its
+
+-- one event from states that are alike leaves states that are alike, and gives the same packets to each connection of the peer
 abbrev pub KeepsAlike : Type 0
-KeepsAlike = (peer : Peer) (hidden following : Handle → Bool) (one other : State) (event its : Event) →
-    Alike peer hidden one other → Matched hidden following event its → Hides peer hidden one → Hides peer following (step one event) →
-    Spared peer one event → Spared peer other its → Alike peer following (step one event) (step other its)
+KeepsAlike = (peer : Peer) (hidden : Handle → Bool) (one other : State) (event its : Event) → Alike peer hidden one other →
+    (agrees : Agrees peer hidden one other event its) → Alike peer agrees.following (step one event) (step other its)
+
+abbrev pub GivesTheSame : Type 0
+GivesTheSame = (peer : Peer) (hidden : Handle → Bool) (one other : State) (event its : Event) → Alike peer hidden one other →
+    Agrees peer hidden one other event its → (ordinal : Ordinal) → BelongsTo peer (one.parts ordinal) →
+    given_to ordinal one event ≡ given_to ordinal other its
+
+-- the packets that are given to one connection in a run of events
+abbrev pub given_in : Ordinal → State → List Event → List Octets
+given_in ordinal state [] = []
+given_in ordinal state (event ∷ events) = given_to ordinal state event ++ given_in ordinal (step state event) events
+
+-- at each moment of a run it is one of the peer, if it is there
+abbrev pub BelongsThroughout : Peer → Ordinal → State → List Event → Type 0
+BelongsThroughout peer ordinal state [] = Unit
+BelongsThroughout peer ordinal state (event ∷ events) =
+    BelongsTo peer (state.parts ordinal) × BelongsThroughout peer ordinal (step state event) events
+
+-- two runs agree at each of their events; what is hidden stays so until the table is replaced
+abbrev pub Agree : Peer → (Handle → Bool) → State → State → List Event → List Event → Type 0
+Agree peer hidden one other [] [] = Unit
+Agree peer hidden one other (event ∷ events) [] = ⊥
+Agree peer hidden one other [] (its ∷ others) = ⊥
+Agree peer hidden one other (event ∷ events) (its ∷ others) =
+    (agrees : Agrees peer hidden one other event its)
+    × Agree peer agrees.following (step one event) (step other its) events others
+
+-- so a connection of the peer is given the same packets in both
+abbrev pub NothingCrossesInARun : Type 0
+NothingCrossesInARun = (peer : Peer) (hidden : Handle → Bool) (one other : State) (events others : List Event) → Alike peer hidden one other →
+    Agree peer hidden one other events others → (ordinal : Ordinal) → BelongsThroughout peer ordinal one events →
+    given_in ordinal one events ≡ given_in ordinal other others
