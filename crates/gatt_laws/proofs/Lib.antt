@@ -1,9 +1,12 @@
 pub mod Always
 pub mod AnswersAlike
+pub mod ChangersAlike
 pub mod Courses
 pub mod Headline
+pub mod ItemEvents
 pub mod MayBeHeard
 pub mod NextParts
+pub mod NothingCrosses
 pub mod OwnQueues
 pub mod Queued
 pub mod Refusals

@@ -116,10 +116,10 @@ without-erased part other same =
     (record other { reason = None }) (record other { reply = None }) (λ i. is_some (same i).reason)
     (λ is i. record (same i) { reason = None }) (λ is i. record (same i) { reply = None })
 
-commands-alike : (peer : Peer) (hidden : Handle → Bool) (one other : State) → Alike peer hidden one other
+pub commands_alike : (peer : Peer) (hidden : Handle → Bool) (one other : State) → Alike peer hidden one other
     → Alike peer hidden (with_commands_sent one) (with_commands_sent other)
 unfolding commands_due
-commands-alike peer hidden one other alike =
+commands_alike peer hidden one other alike =
     let controllers = alike.controller in
     let slots = alike.slots in
     let due : commands_for one.parts one.slots ≡ commands_for other.parts other.slots =
@@ -529,7 +529,7 @@ changes-alike peer hidden following one other event its alike matched hides spar
 pub keeps_alike : KeepsAlike
 unfolding step
 keeps_alike peer hidden one other event its alike agrees =
-    commands-alike peer agrees.following (before_commands one event) (before_commands other its)
+    commands_alike peer agrees.following (before_commands one event) (before_commands other its)
     (ended-alike peer agrees.following (change_of one event) (change_of other its)
     (changes-alike peer hidden agrees.following one other event its alike agrees.matched agrees.hides agrees.spared agrees.spared_too)
     (hides-before peer agrees.following one event agrees.hides_then))

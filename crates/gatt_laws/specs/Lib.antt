@@ -5,8 +5,10 @@ pub mod Event
 pub mod Headline
 pub mod Heard
 pub mod Input
+pub mod ItemEvents
 pub mod Laws
 pub mod MayBeHeard
+pub mod NothingCrosses
 pub mod OwnQueues
 pub mod Packets
 pub mod Part

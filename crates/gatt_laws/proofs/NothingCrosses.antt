@@ -1,0 +1,365 @@
+-- Two starts and inputs that agree for a peer give the same packets to its connections.
+use Rattle.std.proofs.Common.{◌≡◌, Bool, true, false, ◌==◌, ◌&&◌, ◌||◌, List, [], ◌∷◌, ◌++◌, Option, Some, None, refl, sym, ap, subst, ◌∙◌}
+use Rattle.std.specs.Prelude.{not, is_some, if◌then◌else◌, Ok, Err}
+use Rattle.std.specs.List.{list_any}
+use Rattle.std.proofs.lemmas.Bool.{eqb-true}
+use Rattle.att_numbers.specs.Types.{Handle}
+use Rattle.att_table.specs.Changer.{changer_of}
+use Rattle.att_table.specs.Facts.{IsTable}
+use Rattle.att_table.specs.Table.{Contents}
+use Rattle.gatt_laws.proofs.Always.{always, any_tables}
+use Rattle.gatt_laws.proofs.ChangersAlike.{tables_same}
+use Rattle.gatt_laws.proofs.ItemEvents.{means_its_event, looked_at, kept, same_events, item_kept, table_kept}
+use Rattle.gatt_laws.proofs.Settled.{stays_settled, is_always_settled}
+use Rattle.gatt_laws.proofs.TwoWorlds.{keeps_alike, gives_the_same, commands_alike}
+use Rattle.gatt_laws.specs.Alike.{is_of, Alike, Hides, may_read_at}
+use Rattle.gatt_laws.specs.Calls.{Refused, NoServiceChanged, same_changer}
+use Rattle.gatt_laws.specs.Event.{Ordinal, Event, Of, Completed, Credit, Update, Tick, Replaced, Nothing}
+use Rattle.gatt_laws.specs.Input.{Item, AnOctet, APacket, ACall, ATable, TheEnd, Course, after_item, at_start, course}
+use Rattle.gatt_laws.specs.ItemEvents.{event_if, event_at, after_if}
+use Rattle.gatt_laws.specs.NothingCrosses.{knows, knows_in, is_known, is_replaced, known_while, hidden_while, StartsAgree, ItemsAgree, InputsAgree, SparedIf, SparedIn, BelongsIn, given_if, given_by, NothingCrosses}
+use Rattle.gatt_laws.specs.Part.{Part, is_live, row_of, standing_of}
+use Rattle.gatt_laws.specs.Possible.{AllTables}
+use Rattle.gatt_laws.specs.Settled.{has_slot, IsSettled}
+use Rattle.gatt_laws.specs.Start.{Start, before_first_command}
+use Rattle.gatt_laws.specs.State.{State, with_values, step}
+use Rattle.gatt_laws.specs.TwoWorlds.{SameTable, Matched, Agrees, Spared, BelongsTo}
+use Rattle.gatt_subs.specs.Hearing.{may_hear_at}
+use Rattle.le_hci.specs.declared.peer.Peer.{Peer}
+
+-- Tests.
+
+first-false : (one other : Bool) → (one || other) ≡ false → one ≡ false
+first-false false other is = refl
+first-false true other is = cc is
+
+second-false : (one other : Bool) → (one || other) ≡ false → other ≡ false
+second-false false other is = is
+second-false true other is = cc is
+
+false-then : (one other : Bool) → one ≡ true → (one && other) ≡ false → other ≡ false
+false-then true other is both = both
+false-then false other is both = cc is
+
+not-true : (test : Bool) → not test ≡ true → test ≡ false
+not-true false is = refl
+not-true true is = cc is
+
+not-false : (test : Bool) → test ≡ false → not test ≡ true
+not-false false is = refl
+not-false true is = cc is
+
+-- What is hidden no connection of the peer may know.
+
+unknown-slot : (peer : Peer) (state : State) (handle : Handle) (ordinal other : Ordinal) (rest : Bool) (known more : Bool)
+    → knows peer state handle other ≡ known → (known || more) ≡ false → ((other == ordinal) || rest) ≡ true
+    → (rest ≡ true → more ≡ false → knows peer state handle ordinal ≡ false) → knows peer state handle ordinal ≡ false
+unknown-slot peer state handle ordinal other rest known more is none has later =
+    elim (other == ordinal) as (λ (same : Bool). (other == ordinal) ≡ same → (same || rest) ≡ true → knows peer state handle ordinal ≡ false) [
+      | true ↦ λ same there. ap (knows peer state handle) (sym (eqb-true other ordinal same)) ∙ is ∙ first-false known more none
+      | false ↦ λ same there. later there (second-false known more none)
+    ] refl has
+
+unknown-in : (peer : Peer) (state : State) (handle : Handle) (ordinal : Ordinal) (slots : List (Option Ordinal)) → list_any (knows_in peer state handle) slots ≡ false
+    → has_slot ordinal slots ≡ true → knows peer state handle ordinal ≡ false
+unknown-in peer state handle ordinal [] none has = cc has
+unknown-in peer state handle ordinal (None ∷ slots) none has = unknown-in peer state handle ordinal slots none has
+unknown-in peer state handle ordinal (Some other ∷ slots) none has =
+    unknown-slot peer state handle ordinal other (has_slot ordinal slots) (knows peer state handle other) (list_any (knows_in peer state handle) slots) refl none has
+    (λ there more. unknown-in peer state handle ordinal slots more there)
+
+live-has-slot : (state : State) (ordinal : Ordinal) → IsSettled state → is_live (state.parts ordinal).mark ≡ true → has_slot ordinal state.slots ≡ true
+live-has-slot state ordinal settled live =
+    elim (has_slot ordinal state.slots) as (λ (has : Bool). has_slot ordinal state.slots ≡ has → has ≡ true) [
+      | true ↦ λ is. refl
+      | false ↦ λ is. cc (sym (ap (λ (p : Part). is_live p.mark) (settled.gone ordinal is)) ∙ live)
+    ] refl
+
+hides-unknown : (peer : Peer) (hidden : Handle → Bool) (state : State) → IsSettled state → ((handle : Handle) → hidden handle ≡ true → is_known peer state handle ≡ false)
+    → Hides peer hidden state
+hides-unknown peer hidden state settled unknown ordinal live mine handle is =
+    let part : Part = state.parts ordinal in
+    let attributes = state.room.table.attributes in
+    let reads : Bool = may_read_at attributes (standing_of state.room part) handle in
+    let hears : Bool = may_hear_at attributes (row_of (state.bonds part.peer) part) (standing_of state.room part) handle in
+    let none : knows peer state handle ordinal ≡ false =
+    unknown-in peer state handle ordinal state.slots (unknown handle is) (live-has-slot state ordinal settled live) in
+    let neither : (reads || hears) ≡ false = false-then (is_of peer part) (reads || hears) mine (false-then (is_live part.mark) (is_of peer part && (reads || hears)) live none) in
+    record { unread = first-false reads hears neither; unheard = second-false reads hears neither }
+
+now-unknown : (peer : Peer) (course : Course) (items : List Item) (handle : Handle) → hidden_while peer course items handle ≡ true
+    → is_known peer course.intake.state handle ≡ false
+now-unknown peer course [] handle is = not-true (is_known peer course.intake.state handle) is
+now-unknown peer course (item ∷ items) handle is = first-false (is_known peer course.intake.state handle) _ (not-true _ is)
+
+later-unknown : (peer : Peer) (course : Course) (item : Item) (items : List Item) (handle : Handle) → is_replaced course.intake item ≡ false
+    → hidden_while peer course (item ∷ items) handle ≡ true → hidden_while peer (after_item course item) items handle ≡ true
+later-unknown peer course item items handle stays is =
+    let later : Bool = known_while peer (after_item course item) items handle in
+    let none : (if is_replaced course.intake item then false else later) ≡ false =
+    second-false (is_known peer course.intake.state handle) (if is_replaced course.intake item then false else later) (not-true _ is) in
+    not-false later (sym (ap (λ (replaced : Bool). if replaced then false else later) stays) ∙ none)
+
+-- more may be hidden
+alike-more : (peer : Peer) (hidden more : Handle → Bool) (one other : State) → ((handle : Handle) → hidden handle ≡ true → more handle ≡ true) → Alike peer hidden one other
+    → Alike peer more one other
+alike-more peer hidden more one other wider alike = record {
+  room = alike.room;
+  values = record {
+    count = alike.values.count;
+    lengths = alike.values.lengths;
+    shown = λ handle used shown. alike.values.shown handle used (not-hidden (hidden handle) handle refl shown);
+  };
+  bonds = alike.bonds;
+  owed = alike.owed;
+  own = alike.own;
+  others = alike.others;
+  slots = alike.slots;
+  next = alike.next;
+  controller = alike.controller;
+}
+  where
+    not-hidden : (test : Bool) (handle : Handle) → hidden handle ≡ test → more handle ≡ false → hidden handle ≡ false
+    not-hidden false handle is shown = is
+    not-hidden true handle is shown = cc (wider handle is, shown)
+
+-- One event, if there is one.
+
+same-table : (hidden : Handle → Bool) (table : Contents) → SameTable hidden table table
+same-table hidden table = record {
+  attributes = refl;
+  changer = refl;
+  values = record { count = refl; lengths = λ handle used. refl; shown = λ handle used shown. refl };
+}
+
+matched-itself : (hidden : Handle → Bool) (event its : Event) → event ≡ its → Matched hidden hidden event its
+matched-itself hidden (Of ordinal own) its is = (is, refl)
+matched-itself hidden (Completed entries) its is = (is, refl)
+matched-itself hidden (Credit allowed opcode status following) its is = (is, refl)
+matched-itself hidden (Update handle value) its is = (is, refl)
+matched-itself hidden (Tick time) its is = (is, refl)
+matched-itself hidden (Replaced table) its is = record { its = table; is = sym is; same = same-table hidden table }
+matched-itself hidden Nothing its is = (is, refl)
+
+record AfterBoth (peer : Peer) (hidden : Handle → Bool) (one other : State) (event its : Option Event) : Type 0 where
+  alike : Alike peer hidden (after_if one event) (after_if other its)
+  given : (ordinal : Ordinal) → BelongsTo peer (one.parts ordinal) → given_if ordinal one event ≡ given_if ordinal other its
+
+after-both : (peer : Peer) (hidden following : Handle → Bool) (one other : State) (event its : Event) → Alike peer hidden one other → Matched hidden following event its
+    → Hides peer hidden one → Hides peer following (step one event) → Spared peer one event → Spared peer other its
+    → AfterBoth peer following one other (Some event) (Some its)
+after-both peer hidden following one other event its alike matched hides then_hides spared spared_too =
+    let agrees : Agrees peer hidden one other event its =
+    record { following = following; matched = matched; hides = hides; hides_then = then_hides; spared = spared; spared_too = spared_too } in
+    record { alike = keeps_alike peer hidden one other event its alike agrees; given = gives_the_same peer hidden one other event its alike agrees }
+
+after-same : (peer : Peer) (hidden : Handle → Bool) (one other : State) (event its : Option Event) → event ≡ its → Alike peer hidden one other → Hides peer hidden one
+    → Hides peer hidden (after_if one event) → SparedIf peer one event → SparedIf peer other its → AfterBoth peer hidden one other event its
+after-same peer hidden one other None None equal alike hides then_hides spared spared_too = record { alike = alike; given = λ ordinal belongs. refl }
+after-same peer hidden one other (Some event) (Some its) equal alike hides then_hides spared spared_too =
+    after-both peer hidden hidden one other event its alike (matched-itself hidden event its (cc equal)) hides then_hides spared spared_too
+after-same peer hidden one other None (Some its) equal alike hides then_hides spared spared_too = cc equal
+after-same peer hidden one other (Some event) None equal alike hides then_hides spared spared_too = cc equal
+
+-- All that is so of two courses on their way.
+record Together (peer : Peer) (one other : Course) (items : List Item) : Type 0 where
+  settled : IsSettled one.intake.state
+  alike : Alike peer (hidden_while peer one items) one.intake.state other.intake.state
+  same : kept one ≡ kept other
+
+looks-same : (peer : Peer) (hidden : Handle → Bool) (one other : State) → Alike peer hidden one other → looked_at one ≡ looked_at other
+looks-same peer hidden one other alike =
+    let room = alike.room in
+    let others = alike.others in
+    let slots = alike.slots in
+    let next = alike.next in
+    let controller = alike.controller in
+    λ i. record {
+      room = with_values (room i) [];
+      bonds = λ named. [];
+      owed = λ named. false;
+      parts = λ ordinal. others ordinal i;
+      slots = slots i;
+      next = next i;
+      controller = controller i;
+    }
+
+settled-then : (course : Course) (item : Item) → IsSettled course.intake.state → IsSettled (after_item course item).intake.state
+settled-then course item settled = always (λ table. Unit) IsSettled stays_settled course (item ∷ []) (any_tables (item ∷ [])) settled
+
+-- an item that is no replacement
+module _ (peer : Peer) (ordinal : Ordinal) (one other : Course) (item : Item) (items : List Item) (together : Together peer one other (item ∷ items)) where
+  abbrev hidden : Handle → Bool
+  hidden = hidden_while peer one (item ∷ items)
+
+  abbrev hidden_then : Handle → Bool
+  hidden_then = hidden_while peer (after_item one item) items
+
+  hides-now : Hides peer hidden one.intake.state
+  hides-now = hides-unknown peer hidden one.intake.state together.settled (now-unknown peer one (item ∷ items))
+
+  hides-then : Hides peer hidden_then (after_item one item).intake.state
+  hides-then =
+      hides-unknown peer hidden_then (after_item one item).intake.state (settled-then one item together.settled) (now-unknown peer (after_item one item) items)
+
+  looks : looked_at one.intake.state ≡ looked_at other.intake.state
+  looks = looks-same peer hidden one.intake.state other.intake.state together.alike
+
+  record Next (its : Item) : Type 0 where
+    after : Together peer (after_item one item) (after_item other its) items
+    given : BelongsTo peer (one.intake.state.parts ordinal)
+        → given_if ordinal one.intake.state (event_at one.intake item) ≡ given_if ordinal other.intake.state (event_at other.intake its)
+
+  next-by : (its : Item) → AfterBoth peer hidden_then one.intake.state other.intake.state (event_at one.intake item) (event_at other.intake its)
+      → kept (after_item one item) ≡ kept (after_item other its) → Next its
+  next-by its both same =
+      let state = means_its_event one item in
+      let state_too = means_its_event other its in
+      record {
+        after = record {
+          settled = settled-then one item together.settled;
+          alike = subst (λ (s : State). Alike peer hidden_then s (after_item other its).intake.state) (sym state)
+              (subst (λ (s : State). Alike peer hidden_then (after_if one.intake.state (event_at one.intake item)) s) (sym state_too) both.alike);
+          same = same;
+        };
+        given = both.given ordinal;
+      }
+
+  next-same : is_replaced one.intake item ≡ false → SparedIf peer one.intake.state (event_at one.intake item) → SparedIf peer other.intake.state (event_at other.intake item) → Next item
+  next-same stays spared spared_too =
+      let wider : (handle : Handle) → hidden handle ≡ true → hidden_then handle ≡ true = λ handle is. later-unknown peer one item items handle stays is in
+      let then_hides : Hides peer hidden (after_if one.intake.state (event_at one.intake item)) =
+      subst (Hides peer hidden) (means_its_event one item) (λ at live mine handle is. hides-then at live mine handle (wider handle is)) in
+      let both = after-same peer hidden one.intake.state other.intake.state (event_at one.intake item) (event_at other.intake item)
+      (same_events one other looks together.same item) together.alike hides-now then_hides spared spared_too in
+      next-by item (record {
+        alike = alike-more peer hidden hidden_then (after_if one.intake.state (event_at one.intake item)) (after_if other.intake.state (event_at other.intake item)) wider both.alike;
+        given = both.given;
+      }) (item_kept one other looks together.same item)
+
+  -- a replacement, by tables that differ in what is hidden from then on
+  replaced-by : (stop test : Bool) (table : Contents)
+      → is_some (if stop then None else event_if {E = Refused} (if test then Ok (Replaced table) else Err NoServiceChanged)) ≡ true → (stop ≡ false) × (test ≡ true)
+  replaced-by false true table is = (refl, refl)
+  replaced-by false false table is = cc is
+  replaced-by true test table is = cc is
+
+  replacement : (stop test : Bool) (table : Contents) → stop ≡ false → test ≡ true
+      → (if stop then None else event_if {E = Refused} (if test then Ok (Replaced table) else Err NoServiceChanged)) ≡ Some (Replaced table)
+  replacement false true table goes is = refl
+  replacement false false table goes is = cc is
+  replacement true test table goes is = cc goes
+
+  next-replaced : (table its : Contents) → item ≡ ATable table → SameTable hidden_then table its → is_replaced one.intake (ATable table) ≡ true
+      → SparedIf peer one.intake.state (event_at one.intake item) → SparedIf peer other.intake.state (event_at other.intake (ATable its)) → Next (ATable its)
+  next-replaced table its is tables replaced spared spared_too =
+      let facts = replaced-by (is_some one.intake.fault) (same_changer one.intake.state.room.changer (changer_of table)) table replaced in
+      let same = together.same in
+      let changer = tables.changer in
+      let events : event_at one.intake item ≡ Some (Replaced table) =
+      ap (event_at one.intake) is ∙ replacement (is_some one.intake.fault) (same_changer one.intake.state.room.changer (changer_of table)) table facts.0 facts.1 in
+      let events_too : event_at other.intake (ATable its) ≡ Some (Replaced its) =
+      replacement (is_some other.intake.fault) (same_changer other.intake.state.room.changer (changer_of its)) its
+      (sym (λ i. is_some (same i).fault) ∙ facts.0) (sym (λ i. same_changer (looks i).room.changer (changer i)) ∙ facts.1) in
+      let then_hides : Hides peer hidden_then (step one.intake.state (Replaced table)) =
+      subst (Hides peer hidden_then) (means_its_event one item ∙ ap (after_if one.intake.state) events) hides-then in
+      let both : AfterBoth peer hidden_then one.intake.state other.intake.state (Some (Replaced table)) (Some (Replaced its)) =
+      after-both peer hidden hidden_then one.intake.state other.intake.state (Replaced table) (Replaced its) together.alike
+      (record { its = its; is = refl; same = tables }) hides-now then_hides tt tt in
+      next-by (ATable its)
+      (subst (λ (e : Option Event). AfterBoth peer hidden_then one.intake.state other.intake.state e (event_at other.intake (ATable its))) (sym events)
+      (subst (λ (e : Option Event). AfterBoth peer hidden_then one.intake.state other.intake.state (Some (Replaced table)) e) (sym events_too) both))
+      (ap (λ (x : Item). kept (after_item one x)) is ∙ table_kept one table ∙ same ∙ sym (table_kept other its))
+
+  next-equal : (its : Item) → item ≡ its → is_replaced one.intake item ≡ false → SparedIf peer one.intake.state (event_at one.intake item)
+      → SparedIf peer other.intake.state (event_at other.intake its) → Next its
+  next-equal its equal stays spared spared_too =
+      subst Next equal (next-same stays spared (subst (λ (x : Item). SparedIf peer other.intake.state (event_at other.intake x)) (sym equal) spared_too))
+
+-- any item
+next-table : (peer : Peer) (ordinal : Ordinal) (one other : Course) (table : Contents) (items : List Item) (together : Together peer one other (ATable table ∷ items)) (its : Item)
+    → (replaced : Bool) → is_replaced one.intake (ATable table) ≡ replaced → IsTable table
+    → ItemsAgree (hidden_while peer (after_item one (ATable table)) items) replaced (ATable table) its → SparedIf peer one.intake.state (event_at one.intake (ATable table))
+    → SparedIf peer other.intake.state (event_at other.intake its) → Next peer ordinal one other (ATable table) items together its
+next-table peer ordinal one other table items together its true is fine agree spared spared_too =
+    subst (Next peer ordinal one other (ATable table) items together) (sym agree.is)
+    (next-replaced peer ordinal one other (ATable table) items together table agree.its refl
+    (tables_same (hidden_while peer (after_item one (ATable table)) items) table agree.its fine agree.agree) is spared
+    (subst (λ (x : Item). SparedIf peer other.intake.state (event_at other.intake x)) agree.is spared_too))
+next-table peer ordinal one other table items together its false is fine agree spared spared_too =
+    next-equal peer ordinal one other (ATable table) items together its agree is spared spared_too
+
+next-item : (peer : Peer) (ordinal : Ordinal) (one other : Course) (item : Item) (items : List Item) (together : Together peer one other (item ∷ items)) (its : Item)
+    → AllTables IsTable (item ∷ items) → ItemsAgree (hidden_while peer (after_item one item) items) (is_replaced one.intake item) item its
+    → SparedIf peer one.intake.state (event_at one.intake item) → SparedIf peer other.intake.state (event_at other.intake its)
+    → Next peer ordinal one other item items together its
+next-item peer ordinal one other (AnOctet octet) items together its tables agree spared spared_too =
+    next-equal peer ordinal one other (AnOctet octet) items together its agree refl spared spared_too
+next-item peer ordinal one other (APacket packet) items together its tables agree spared spared_too =
+    next-equal peer ordinal one other (APacket packet) items together its agree refl spared spared_too
+next-item peer ordinal one other (ACall call) items together its tables agree spared spared_too =
+    next-equal peer ordinal one other (ACall call) items together its agree refl spared spared_too
+next-item peer ordinal one other (ATable table) items together its tables agree spared spared_too =
+    next-table peer ordinal one other table items together its (is_replaced one.intake (ATable table)) refl tables.0 agree spared spared_too
+next-item peer ordinal one other TheEnd items together its tables agree spared spared_too =
+    next-equal peer ordinal one other TheEnd items together its agree refl spared spared_too
+
+other-tables : (item : Item) (items : List Item) → AllTables IsTable (item ∷ items) → AllTables IsTable items
+other-tables (AnOctet octet) items tables = tables
+other-tables (APacket packet) items tables = tables
+other-tables (ACall call) items tables = tables
+other-tables (ATable table) items tables = tables.1
+other-tables TheEnd items tables = tables
+
+given-same : (peer : Peer) (ordinal : Ordinal) (items others : List Item) (one other : Course) → Together peer one other items → AllTables IsTable items
+    → InputsAgree peer one items others → SparedIn peer one items → SparedIn peer other others → BelongsIn peer ordinal one items
+    → given_by ordinal one items ≡ given_by ordinal other others
+given-same peer ordinal [] [] one other together tables agree spared spared_too belongs = refl
+given-same peer ordinal (item ∷ items) [] one other together tables agree spared spared_too belongs = absurd agree
+given-same peer ordinal [] (its ∷ others) one other together tables agree spared spared_too belongs = absurd agree
+given-same peer ordinal (item ∷ items) (its ∷ others) one other together tables agree spared spared_too belongs =
+    let next = next-item peer ordinal one other item items together its tables agree.0 spared.0 spared_too.0 in
+    let first = next.given belongs.0 in
+    let later = given-same peer ordinal items others (after_item one item) (after_item other its) next.after (other-tables item items tables) agree.1 spared.1 spared_too.1 belongs.1 in
+    λ i. first i ++ later i
+
+-- at first
+starts-alike : (peer : Peer) (hidden : Handle → Bool) (one other : Start) → IsTable one.table → StartsAgree hidden one other
+    → Alike peer hidden (before_first_command one) (before_first_command other)
+starts-alike peer hidden one other fine agree =
+    let tables = tables_same hidden one.table other.table fine agree.table in
+    let attributes = tables.attributes in
+    let changer = tables.changer in
+    let far : Start = record one { table = other.table } in
+    subst (λ (s : Start). Alike peer hidden (before_first_command one) (before_first_command s)) agree.rest (record {
+      room = λ i. record {
+        table = record { attributes = attributes i; values = other.table.values };
+        changer = changer i;
+        keys = one.keys;
+        slots = one.slots;
+        rx_mtu = one.rx_mtu;
+        time = 0;
+        told = None;
+      };
+      values = tables.values;
+      bonds = refl;
+      owed = refl;
+      own = λ ordinal mine. refl;
+      others = λ ordinal. refl;
+      slots = refl;
+      next = refl;
+      controller = refl;
+    })
+
+settled-start : (start : Start) → IsSettled (at_start start).intake.state
+unfolding course
+settled-start start = is_always_settled start []
+
+pub nothing_crosses : NothingCrosses
+nothing_crosses peer one other input its fine tables agree spared spared_too ordinal belongs =
+    given-same peer ordinal input its (at_start one) (at_start other) (record {
+      settled = settled-start one;
+      alike = commands_alike peer (hidden_while peer (at_start one) input) (before_first_command one) (before_first_command other)
+          (starts-alike peer (hidden_while peer (at_start one) input) one other fine agree.starts);
+      same = refl;
+    }) tables agree.inputs spared spared_too belongs
