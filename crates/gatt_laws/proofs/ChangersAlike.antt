@@ -13,7 +13,6 @@ use Rattle.att_policy.specs.declared.guard.TheConstants.Properties.{INDICATE}
 use Rattle.att_policy.specs.Policy.{has_property}
 use Rattle.att_table.specs.Changer.{changer_of, declares_generic_attribute, is_changer, last_service}
 use Rattle.att_table.specs.declared.attr.Attr.{Attr}
-use Rattle.att_table.specs.Facts.{IsTable}
 use Rattle.att_table.specs.Group.{is_service_type}
 use Rattle.att_table.specs.Table.{Contents, attribute_at, is_value, type_at, value_at, HaveHandlesFrom}
 use Rattle.att_writes.specs.SameBut.{SameBut}
@@ -97,13 +96,13 @@ weaken-and : (hidden service : Bool) → hidden ≡ false → (hidden && not ser
 weaken-and false service is = refl
 weaken-and true service is = cc is
 
-pub tables_same : (hidden : Handle → Bool) (one other : Contents) → IsTable one → TablesAgree hidden one other → SameTable hidden one other
-tables_same hidden one other is agree =
+pub tables_same : (hidden : Handle → Bool) (one other : Contents) → HaveHandlesFrom 1 one.attributes → TablesAgree hidden one other → SameTable hidden one other
+tables_same hidden one other handles agree =
     let attributes = agree.attributes in
     let whole : record { attributes = one.attributes; values = other.values } ≡ other = λ i. record { attributes = attributes i; values = other.values } in
     record {
       attributes = attributes;
-      changer = changer-same hidden one.attributes one.values other.values is.handles agree.values ∙ ap changer_of whole;
+      changer = changer-same hidden one.attributes one.values other.values handles agree.values ∙ ap changer_of whole;
       values = record {
         count = agree.values.count;
         lengths = agree.values.lengths;

@@ -6,7 +6,7 @@ use Rattle.std.proofs.lemmas.Bool.{eqb-true}
 use Rattle.att_numbers.specs.Types.{Handle}
 use Rattle.att_table.specs.Changer.{changer_of}
 use Rattle.att_table.specs.Facts.{IsTable}
-use Rattle.att_table.specs.Table.{Contents}
+use Rattle.att_table.specs.Table.{Contents, HaveHandlesFrom}
 use Rattle.gatt_laws.proofs.Always.{always, any_tables}
 use Rattle.gatt_laws.proofs.ChangersAlike.{tables_same}
 use Rattle.gatt_laws.proofs.ItemEvents.{means_its_event, looked_at, kept, same_events, item_kept, table_kept}
@@ -17,7 +17,7 @@ use Rattle.gatt_laws.specs.Calls.{Refused, NoServiceChanged, same_changer}
 use Rattle.gatt_laws.specs.Event.{Ordinal, Event, Of, Completed, Credit, Update, Tick, Replaced, Nothing}
 use Rattle.gatt_laws.specs.Input.{Item, AnOctet, APacket, ACall, ATable, TheEnd, Course, after_item, at_start, course}
 use Rattle.gatt_laws.specs.ItemEvents.{event_if, event_at, after_if}
-use Rattle.gatt_laws.specs.NothingCrosses.{knows, knows_in, is_known, is_replaced, known_while, hidden_while, StartsAgree, ItemsAgree, InputsAgree, SparedIf, SparedIn, BelongsIn, given_if, given_by, NothingCrosses}
+use Rattle.gatt_laws.specs.NothingCrosses.{Agree, knows, knows_in, is_known, is_replaced, known_while, hidden_while, StartsAgree, ItemsAgree, InputsAgree, SparedIf, SparedIn, BelongsIn, given_if, given_by, NothingCrosses}
 use Rattle.gatt_laws.specs.Part.{Part, is_live, row_of, standing_of}
 use Rattle.gatt_laws.specs.Possible.{AllTables}
 use Rattle.gatt_laws.specs.Settled.{has_slot, IsSettled}
@@ -276,9 +276,12 @@ module _ (peer : Peer) (ordinal : Ordinal) (one other : Course) (item : Item) (i
   next-equal its equal stays spared spared_too =
       subst Next equal (next-same stays spared (subst (λ (x : Item). SparedIf peer other.intake.state (event_at other.intake x)) (sym equal) spared_too))
 
--- any item
+-- any item, where each table that is handed in has its handles
+abbrev pub HasHandles : Contents → Type 0
+HasHandles table = HaveHandlesFrom 1 table.attributes
+
 next-table : (peer : Peer) (ordinal : Ordinal) (one other : Course) (table : Contents) (items : List Item) (together : Together peer one other (ATable table ∷ items)) (its : Item)
-    → (replaced : Bool) → is_replaced one.intake (ATable table) ≡ replaced → IsTable table
+    → (replaced : Bool) → is_replaced one.intake (ATable table) ≡ replaced → HasHandles table
     → ItemsAgree (hidden_while peer (after_item one (ATable table)) items) replaced (ATable table) its → SparedIf peer one.intake.state (event_at one.intake (ATable table))
     → SparedIf peer other.intake.state (event_at other.intake its) → Next peer ordinal one other (ATable table) items together its
 next-table peer ordinal one other table items together its true is fine agree spared spared_too =
@@ -290,7 +293,7 @@ next-table peer ordinal one other table items together its false is fine agree s
     next-equal peer ordinal one other (ATable table) items together its agree is spared spared_too
 
 next-item : (peer : Peer) (ordinal : Ordinal) (one other : Course) (item : Item) (items : List Item) (together : Together peer one other (item ∷ items)) (its : Item)
-    → AllTables IsTable (item ∷ items) → ItemsAgree (hidden_while peer (after_item one item) items) (is_replaced one.intake item) item its
+    → AllTables HasHandles (item ∷ items) → ItemsAgree (hidden_while peer (after_item one item) items) (is_replaced one.intake item) item its
     → SparedIf peer one.intake.state (event_at one.intake item) → SparedIf peer other.intake.state (event_at other.intake its)
     → Next peer ordinal one other item items together its
 next-item peer ordinal one other (AnOctet octet) items together its tables agree spared spared_too =
@@ -304,14 +307,14 @@ next-item peer ordinal one other (ATable table) items together its tables agree 
 next-item peer ordinal one other TheEnd items together its tables agree spared spared_too =
     next-equal peer ordinal one other TheEnd items together its agree refl spared spared_too
 
-other-tables : (item : Item) (items : List Item) → AllTables IsTable (item ∷ items) → AllTables IsTable items
+other-tables : (item : Item) (items : List Item) → AllTables HasHandles (item ∷ items) → AllTables HasHandles items
 other-tables (AnOctet octet) items tables = tables
 other-tables (APacket packet) items tables = tables
 other-tables (ACall call) items tables = tables
 other-tables (ATable table) items tables = tables.1
 other-tables TheEnd items tables = tables
 
-given-same : (peer : Peer) (ordinal : Ordinal) (items others : List Item) (one other : Course) → Together peer one other items → AllTables IsTable items
+given-same : (peer : Peer) (ordinal : Ordinal) (items others : List Item) (one other : Course) → Together peer one other items → AllTables HasHandles items
     → InputsAgree peer one items others → SparedIn peer one items → SparedIn peer other others → BelongsIn peer ordinal one items
     → given_by ordinal one items ≡ given_by ordinal other others
 given-same peer ordinal [] [] one other together tables agree spared spared_too belongs = refl
@@ -324,7 +327,7 @@ given-same peer ordinal (item ∷ items) (its ∷ others) one other together tab
     λ i. first i ++ later i
 
 -- at first
-starts-alike : (peer : Peer) (hidden : Handle → Bool) (one other : Start) → IsTable one.table → StartsAgree hidden one other
+starts-alike : (peer : Peer) (hidden : Handle → Bool) (one other : Start) → HasHandles one.table → StartsAgree hidden one other
     → Alike peer hidden (before_first_command one) (before_first_command other)
 starts-alike peer hidden one other fine agree =
     let tables = tables_same hidden one.table other.table fine agree.table in
@@ -355,11 +358,25 @@ settled-start : (start : Start) → IsSettled (at_start start).intake.state
 unfolding course
 settled-start start = is_always_settled start []
 
-pub nothing_crosses : NothingCrosses
-nothing_crosses peer one other input its fine tables agree spared spared_too ordinal belongs =
+pub crosses_nowhere : (peer : Peer) (one other : Start) (input its : List Item) → HasHandles one.table → AllTables HasHandles input → Agree peer one other input its
+    → SparedIn peer (at_start one) input → SparedIn peer (at_start other) its → (ordinal : Ordinal) → BelongsIn peer ordinal (at_start one) input
+    → given_by ordinal (at_start one) input ≡ given_by ordinal (at_start other) its
+crosses_nowhere peer one other input its handles tables agree spared spared_too ordinal belongs =
     given-same peer ordinal input its (at_start one) (at_start other) (record {
       settled = settled-start one;
       alike = commands_alike peer (hidden_while peer (at_start one) input) (before_first_command one) (before_first_command other)
-          (starts-alike peer (hidden_while peer (at_start one) input) one other fine agree.starts);
+          (starts-alike peer (hidden_while peer (at_start one) input) one other handles agree.starts);
       same = refl;
     }) tables agree.inputs spared spared_too belongs
+
+all-handles : (items : List Item) → AllTables IsTable items → AllTables HasHandles items
+all-handles [] tables = tt
+all-handles (AnOctet octet ∷ items) tables = all-handles items tables
+all-handles (APacket packet ∷ items) tables = all-handles items tables
+all-handles (ACall call ∷ items) tables = all-handles items tables
+all-handles (ATable table ∷ items) tables = (tables.0.handles, all-handles items tables.1)
+all-handles (TheEnd ∷ items) tables = all-handles items tables
+
+pub nothing_crosses : NothingCrosses
+nothing_crosses peer one other input its is tables agree spared spared_too ordinal belongs =
+    crosses_nowhere peer one other input its is.handles (all-handles input tables) agree spared spared_too ordinal belongs

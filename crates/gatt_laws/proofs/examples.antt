@@ -4,6 +4,7 @@ pub mod Initialisation
 pub mod Links
 pub mod Replacements
 pub mod Runs
+pub mod Secrets
 pub mod Shares
 pub mod Subscriptions
 pub mod Tables

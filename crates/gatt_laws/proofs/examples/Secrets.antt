@@ -1,0 +1,212 @@
+-- A value that a phone may not read, and of which it has asked to be notified: another phone, which is authorized, writes a
+-- part of it and reads it. Whatever the rest of it is, the first phone is given the same.
+use Rattle.std.proofs.Common.{◌≡◌, ℕ, Bool, true, false, ◌&&◌, ◌||◌, List, [], ◌∷◌, ◌++◌, map, Option, Some, None, refl, sym, ap, ◌∙◌, arith}
+use Rattle.std.specs.Prelude.{not}
+use Rattle.att_numbers.specs.Types.{Handle}
+use Rattle.att_table.specs.Group.{is_service_type}
+use Rattle.att_table.specs.Table.{Contents, type_at}
+use Rattle.att_writes.proofs.Lengths.{stored_both}
+use Rattle.gatt_laws.proofs.NothingCrosses.{HasHandles, crosses_nowhere}
+use Rattle.gatt_laws.proofs.examples.Runs.{host, initialised, connected, asks, frame}
+use Rattle.gatt_laws.proofs.examples.Tables.{table_of, declaration, value_of, configuration, guard, authorized, no_need, phone}
+use Rattle.gatt_laws.specs.Alike.{is_of}
+use Rattle.gatt_laws.specs.Calls.{AuthorizeCall}
+use Rattle.gatt_laws.specs.Controller.{commands_due}
+use Rattle.gatt_laws.specs.Event.{Ordinal, Event, Of, Completed, Credit, Update, Tick, Replaced, Nothing}
+use Rattle.gatt_laws.specs.Heard.{after_hearing}
+use Rattle.gatt_laws.specs.Input.{Item, AnOctet, APacket, ACall, ATable, TheEnd, Course, after_item, at_start, course}
+use Rattle.gatt_laws.specs.ItemEvents.{event_at}
+use Rattle.gatt_laws.specs.NothingCrosses.{hidden_while, Agree, InputsAgree, SparedIf, SparedIn, BelongsIn, given_by}
+use Rattle.gatt_laws.specs.Packets.{packet_event}
+use Rattle.gatt_laws.specs.Part.{Part, is_there}
+use Rattle.gatt_laws.specs.Possible.{AllTables}
+use Rattle.gatt_laws.specs.State.{State, step, change_of, out}
+use Rattle.gatt_laws.specs.Turn.{live_turn}
+use Rattle.gatt_laws.specs.TwoWorlds.{finds_no_room}
+use Rattle.le_acl.specs.Frame.{frame_at}
+use Rattle.le_acl.specs.Packets.{pieces}
+use Rattle.le_h4.specs.Packet.{First, FirstPacket, NoneYet, NoPacket, first_of}
+use Rattle.le_hci.specs.declared.peer.Peer.{Peer}
+use Rattle.att_pdu.specs.Form.{form_of}
+use Rattle.att_writes.specs.Applied.{after_entries}
+use Rattle.att_reads.specs.Answer.{value_answer}
+use Rattle.octets.specs.Number.{Octets}
+
+-- a value of two octets, the first of which differs, that is read where the client is authorized, and written by all
+abbrev safe : ℕ → Contents
+safe octet = table_of (
+    declaration 1 0x2800 (0xFB ∷ 0xFF ∷ []) 2
+    ∷ declaration 2 0x2803 (0x1A ∷ 0x03 ∷ 0x00 ∷ 0xFC ∷ 0xFF ∷ []) 5
+    ∷ value_of 3 0xFFFC (octet ∷ 0x00 ∷ []) 2 true (guard 0x1A authorized no_need)
+    ∷ configuration 4 no_need
+    ∷ [])
+
+abbrev first-packet : First → List Item
+first-packet (FirstPacket packet rest) = APacket packet ∷ []
+first-packet NoneYet = []
+first-packet (NoPacket indicator) = []
+
+abbrev packet : Octets → List Item
+packet octets = first-packet (first_of octets)
+
+abbrev stream-of : Octets → List Item
+stream-of octets = map AnOctet octets
+
+-- the other phone has the next handle
+abbrev other_connected : Octets
+other_connected =
+    0x04 ∷ 0x3E ∷ 0x13 ∷ 0x01 ∷ 0x00 ∷ 0x41 ∷ 0x00 ∷ 0x01 ∷ 0x01
+    ∷ 0x01 ∷ 0x00 ∷ 0x00 ∷ 0x00 ∷ 0x00 ∷ 0xC0 ∷ 0x18 ∷ 0x00 ∷ 0x00 ∷ 0x00 ∷ 0x48 ∷ 0x00 ∷ 0x00 ∷ []
+
+abbrev other_asks : Octets → Octets
+other_asks pdu = 0x02 ∷ 0x41 ∷ 0x20 ∷ frame pdu
+
+abbrev played : List Item
+played =
+    stream-of (initialised 8) ++ packet (connected phone) ++ packet other_connected ++ ACall (AuthorizeCall 0x0041 1000) ∷ []
+    ++ packet (asks (0x12 ∷ 0x04 ∷ 0x00 ∷ 0x01 ∷ 0x00 ∷ [])) ++ packet (asks (0x0A ∷ 0x03 ∷ 0x00 ∷ []))
+    ++ packet (other_asks (0x16 ∷ 0x03 ∷ 0x00 ∷ 0x01 ∷ 0x00 ∷ 0x41 ∷ [])) ++ packet (other_asks (0x18 ∷ 0x01 ∷ []))
+    ++ packet (other_asks (0x0A ∷ 0x03 ∷ 0x00 ∷ []))
+
+-- what they are given: the value goes to the other phone alone
+abbrev of_phone : List Octets
+of_phone =
+    (0x02 ∷ 0x40 ∷ 0x00 ∷ frame (0x13 ∷ [])) ∷ (0x02 ∷ 0x40 ∷ 0x00 ∷ frame (0x01 ∷ 0x0A ∷ 0x03 ∷ 0x00 ∷ 0x08 ∷ [])) ∷ []
+
+given_to_phone : given_by 0 (at_start (host (safe 0) 2)) played ≡ of_phone
+unfolding after_item packet_event step change_of live_turn after_hearing commands_due out frame_at form_of pieces after_entries value_answer
+given_to_phone = refl
+
+given_to_other : given_by 1 (at_start (host (safe 7) 2)) played
+    ≡ (0x02 ∷ 0x41 ∷ 0x00 ∷ frame (0x17 ∷ 0x03 ∷ 0x00 ∷ 0x01 ∷ 0x00 ∷ 0x41 ∷ [])) ∷ (0x02 ∷ 0x41 ∷ 0x00 ∷ frame (0x19 ∷ []))
+    ∷ (0x02 ∷ 0x41 ∷ 0x00 ∷ frame (0x0B ∷ 0x07 ∷ 0x41 ∷ [])) ∷ []
+unfolding after_item packet_event step change_of live_turn after_hearing commands_due out frame_at form_of pieces after_entries value_answer
+given_to_other = refl
+
+-- the first phone may know of it at no moment
+secret : hidden_while phone (at_start (host (safe 0) 2)) played 3 ≡ true
+unfolding after_item packet_event step change_of live_turn after_hearing commands_due out frame_at form_of pieces after_entries value_answer
+secret = refl
+
+-- Whether the others are spared, and the first connection is the phone's, can be tested.
+
+is_spared : Peer → State → Option Event → Bool
+is_spared peer state (Some (Of ordinal own)) = is_of peer (state.parts ordinal) || not (finds_no_room state.room (state.parts ordinal) own)
+is_spared peer state event = true
+
+are_spared : Peer → Course → List Item → Bool
+are_spared peer course [] = true
+are_spared peer course (item ∷ items) = is_spared peer course.intake.state (event_at course.intake item) && are_spared peer (after_item course item) items
+
+belongs : Peer → Ordinal → Course → List Item → Bool
+belongs peer ordinal course [] = true
+belongs peer ordinal course (item ∷ items) =
+    (not (is_there (course.intake.state.parts ordinal).mark) || is_of peer (course.intake.state.parts ordinal)) && belongs peer ordinal (after_item course item) items
+
+first-true : (one other : Bool) → (one && other) ≡ true → one ≡ true
+first-true true other is = refl
+first-true false other is = cc is
+
+second-true : (one other : Bool) → (one && other) ≡ true → other ≡ true
+second-true true other is = is
+second-true false other is = cc is
+
+or-not : (one other : Bool) → (one || not other) ≡ true → one ≡ false → other ≡ false
+or-not false false is none = refl
+or-not false true is none = cc is
+or-not true other is none = cc none
+
+not-or : (one other : Bool) → (not one || other) ≡ true → one ≡ true → other ≡ true
+not-or true other is there = is
+not-or false other is there = cc there
+
+spared-one : (peer : Peer) (state : State) (event : Option Event) → is_spared peer state event ≡ true → SparedIf peer state event
+unfolding is_spared
+spared-one peer state None is = tt
+spared-one peer state (Some (Of ordinal own)) is = or-not (is_of peer (state.parts ordinal)) (finds_no_room state.room (state.parts ordinal) own) is
+spared-one peer state (Some (Completed entries)) is = tt
+spared-one peer state (Some (Credit allowed opcode status following)) is = tt
+spared-one peer state (Some (Update handle value)) is = tt
+spared-one peer state (Some (Tick time)) is = tt
+spared-one peer state (Some (Replaced table)) is = tt
+spared-one peer state (Some Nothing) is = tt
+
+spared-all : (peer : Peer) (course : Course) (items : List Item) → are_spared peer course items ≡ true → SparedIn peer course items
+unfolding are_spared
+spared-all peer course [] is = tt
+spared-all peer course (item ∷ items) is = (
+  spared-one peer course.intake.state (event_at course.intake item) (first-true (is_spared peer course.intake.state (event_at course.intake item)) _ is),
+  spared-all peer (after_item course item) items (second-true (is_spared peer course.intake.state (event_at course.intake item)) _ is),
+)
+
+belongs-all : (peer : Peer) (ordinal : Ordinal) (course : Course) (items : List Item) → belongs peer ordinal course items ≡ true → BelongsIn peer ordinal course items
+unfolding belongs
+belongs-all peer ordinal course [] is = tt
+belongs-all peer ordinal course (item ∷ items) is =
+    let part : Part = course.intake.state.parts ordinal in (
+      not-or (is_there part.mark) (is_of peer part) (first-true (not (is_there part.mark) || is_of peer part) _ is),
+      belongs-all peer ordinal (after_item course item) items (second-true (not (is_there part.mark) || is_of peer part) _ is),
+    )
+
+-- no table is replaced here
+no_table : List Item → Bool
+no_table [] = true
+no_table (ATable table ∷ items) = false
+no_table (item ∷ items) = no_table items
+
+same-input : (peer : Peer) (course : Course) (items : List Item) → no_table items ≡ true → InputsAgree peer course items items
+unfolding no_table
+same-input peer course [] none = tt
+same-input peer course (AnOctet octet ∷ items) none = (refl, same-input peer (after_item course (AnOctet octet)) items none)
+same-input peer course (APacket packet ∷ items) none = (refl, same-input peer (after_item course (APacket packet)) items none)
+same-input peer course (ACall call ∷ items) none = (refl, same-input peer (after_item course (ACall call)) items none)
+same-input peer course (ATable table ∷ items) none = cc none
+same-input peer course (TheEnd ∷ items) none = (refl, same-input peer (after_item course TheEnd) items none)
+
+all-tables : (items : List Item) → no_table items ≡ true → AllTables HasHandles items
+unfolding no_table
+all-tables [] none = tt
+all-tables (AnOctet octet ∷ items) none = all-tables items none
+all-tables (APacket packet ∷ items) none = all-tables items none
+all-tables (ACall call ∷ items) none = all-tables items none
+all-tables (ATable table ∷ items) none = cc none
+all-tables (TheEnd ∷ items) none = all-tables items none
+
+-- So all premises hold, whatever the first octet is in the other run.
+
+hidden-there : (hidden : Handle → Bool) → hidden 3 ≡ true → (hidden 3 && not false) ≡ false → ⊥
+hidden-there hidden is shown = cc (sym (ap (λ (h : Bool). h && not false) is) ∙ shown)
+
+agree : (octet : ℕ) → Agree phone (host (safe 0) 2) (host (safe octet) 2) played played
+unfolding no_table
+agree octet =
+    let hidden : Handle → Bool = hidden_while phone (at_start (host (safe 0) 2)) played in
+    let values = (safe 0).values in
+    record {
+      starts = record {
+        table = record {
+          attributes = refl;
+          values = stored_both (λ handle. hidden handle && not (is_service_type (type_at (safe 0).attributes handle))) values values 3 (0x00 ∷ 0x00 ∷ []) (octet ∷ 0x00 ∷ []) (omega arith)
+              (record { count = refl; lengths = λ handle used. refl; shown = λ handle used shown. refl }) refl (λ shown. absurd (hidden-there hidden secret shown));
+        };
+        rest = refl;
+      };
+      inputs = same-input phone (at_start (host (safe 0) 2)) played refl;
+    }
+
+spared : (octet : ℕ) → are_spared phone (at_start (host (safe octet) 2)) played ≡ true
+unfolding are_spared is_spared after_item packet_event step change_of live_turn after_hearing commands_due out frame_at form_of pieces after_entries value_answer
+spared octet = refl
+
+is-the-phone : belongs phone 0 (at_start (host (safe 0) 2)) played ≡ true
+unfolding belongs after_item packet_event step change_of live_turn after_hearing commands_due out frame_at form_of pieces after_entries value_answer
+is-the-phone = refl
+
+-- and the phone is given the same
+no_secret_told : (octet : ℕ) → given_by 0 (at_start (host (safe octet) 2)) played ≡ of_phone
+unfolding no_table
+no_secret_told octet =
+    sym (crosses_nowhere phone (host (safe 0) 2) (host (safe octet) 2) played played (refl, (refl, (refl, (refl, tt)))) (all-tables played refl) (agree octet)
+    (spared-all phone (at_start (host (safe 0) 2)) played (spared 0)) (spared-all phone (at_start (host (safe octet) 2)) played (spared octet)) 0
+    (belongs-all phone 0 (at_start (host (safe 0) 2)) played is-the-phone))
+    ∙ given_to_phone
