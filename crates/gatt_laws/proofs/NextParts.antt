@@ -13,7 +13,7 @@ use Rattle.gatt_laws.specs.Part.{Part, Mark, Absent, Live, Ending, absent, come,
 use Rattle.gatt_laws.specs.Room.{Room, size_of}
 use Rattle.gatt_laws.specs.State.{State, Change, own_change, with_completed, after_completed, part_dropped, change_of, finished, packets_given}
 use Rattle.gatt_laws.specs.Turn.{Turn, turn_to, is_full, served, channel_answer, after_channel, with_step, lost_encryption, link_turn, live_turn, turn_of, authentication_failure, remote_user_terminated}
-use Rattle.gatt_laws.specs.TwoWorlds.{given_to}
+use Rattle.gatt_laws.specs.TwoWorlds.{given_to, GivesNothingToTheAbsent}
 use Rattle.gatt_subs.specs.Indications.{after_replacement}
 use Rattle.le_acl.specs.Outgoing.{acl_octets}
 use Rattle.le_acl.specs.Fragment.{Fragment}
@@ -213,3 +213,6 @@ module _ (state : State) (event : Event) (ordinal : Ordinal) where
   -- nor to one that was, and whose peer is not what it was
   pub none_left : is_there old.mark ≡ true → (new.peer ≡ old.peer → ⊥) → given_to ordinal state event ≡ []
   none_left there differs = one-of (given_to ordinal state event ≡ []) there (becomes state event ordinal) (λ is. absurd (differs is)) none_goes
+
+pub gives_nothing_to_the_absent : GivesNothingToTheAbsent
+gives_nothing_to_the_absent = none_given

@@ -11,19 +11,19 @@ use Rattle.gatt_laws.proofs.Always.{always, any_tables}
 use Rattle.gatt_laws.proofs.ChangersAlike.{tables_same}
 use Rattle.gatt_laws.proofs.ItemEvents.{means_its_event, looked_at, kept, same_events, item_kept, table_kept}
 use Rattle.gatt_laws.proofs.Settled.{stays_settled, is_always_settled}
-use Rattle.gatt_laws.proofs.TwoWorlds.{keeps_alike, gives_the_same, commands_alike}
+use Rattle.gatt_laws.proofs.TwoWorlds.{keeps_alike, given_alike, commands_alike}
 use Rattle.gatt_laws.specs.Alike.{is_of, Alike, Hides, may_read_at}
 use Rattle.gatt_laws.specs.Calls.{Refused, NoServiceChanged, same_changer}
 use Rattle.gatt_laws.specs.Event.{Ordinal, Event, Of, Completed, Credit, Update, Tick, Replaced, Nothing}
-use Rattle.gatt_laws.specs.Input.{Item, AnOctet, APacket, ACall, ATable, TheEnd, Course, after_item, at_start, course}
+use Rattle.gatt_laws.specs.Input.{Item, AnOctet, APacket, ACall, ATable, TheEnd, Course, after_item, after_items, at_start, course}
 use Rattle.gatt_laws.specs.ItemEvents.{event_if, event_at, after_if}
-use Rattle.gatt_laws.specs.NothingCrosses.{Agree, knows, knows_in, is_known, is_replaced, known_while, hidden_while, StartsAgree, ItemsAgree, InputsAgree, SparedIf, SparedIn, BelongsIn, given_if, given_by, NothingCrosses}
+use Rattle.gatt_laws.specs.NothingCrosses.{Agree, knows, knows_in, is_known, is_replaced, known_while, hidden_while, StartsAgree, ItemsAgree, InputsAgree, SparedIf, SparedIn, given_if, given_by, NothingCrosses, LeavesConnectionsTheSame}
 use Rattle.gatt_laws.specs.Part.{Part, is_live, row_of, standing_of}
 use Rattle.gatt_laws.specs.Possible.{AllTables}
 use Rattle.gatt_laws.specs.Settled.{has_slot, IsSettled}
 use Rattle.gatt_laws.specs.Start.{Start, before_first_command}
 use Rattle.gatt_laws.specs.State.{State, with_values, step}
-use Rattle.gatt_laws.specs.TwoWorlds.{SameTable, Matched, Agrees, Spared, BelongsTo}
+use Rattle.gatt_laws.specs.TwoWorlds.{SameTable, Matched, Agrees, Spared}
 use Rattle.gatt_subs.specs.Hearing.{may_hear_at}
 use Rattle.le_hci.specs.declared.peer.Peer.{Peer}
 
@@ -143,7 +143,7 @@ matched-itself hidden Nothing its is = (is, refl)
 
 record AfterBoth (peer : Peer) (hidden : Handle → Bool) (one other : State) (event its : Option Event) : Type 0 where
   alike : Alike peer hidden (after_if one event) (after_if other its)
-  given : (ordinal : Ordinal) → BelongsTo peer (one.parts ordinal) → given_if ordinal one event ≡ given_if ordinal other its
+  given : (ordinal : Ordinal) → given_if peer ordinal one event ≡ given_if peer ordinal other its
 
 after-both : (peer : Peer) (hidden following : Handle → Bool) (one other : State) (event its : Event) → Alike peer hidden one other → Matched hidden following event its
     → Hides peer hidden one → Hides peer following (step one event) → Spared peer one event → Spared peer other its
@@ -151,11 +151,11 @@ after-both : (peer : Peer) (hidden following : Handle → Bool) (one other : Sta
 after-both peer hidden following one other event its alike matched hides then_hides spared spared_too =
     let agrees : Agrees peer hidden one other event its =
     record { following = following; matched = matched; hides = hides; hides_then = then_hides; spared = spared; spared_too = spared_too } in
-    record { alike = keeps_alike peer hidden one other event its alike agrees; given = gives_the_same peer hidden one other event its alike agrees }
+    record { alike = keeps_alike peer hidden one other event its alike agrees; given = given_alike peer hidden one other event its alike agrees }
 
 after-same : (peer : Peer) (hidden : Handle → Bool) (one other : State) (event its : Option Event) → event ≡ its → Alike peer hidden one other → Hides peer hidden one
     → Hides peer hidden (after_if one event) → SparedIf peer one event → SparedIf peer other its → AfterBoth peer hidden one other event its
-after-same peer hidden one other None None equal alike hides then_hides spared spared_too = record { alike = alike; given = λ ordinal belongs. refl }
+after-same peer hidden one other None None equal alike hides then_hides spared spared_too = record { alike = alike; given = λ ordinal. refl }
 after-same peer hidden one other (Some event) (Some its) equal alike hides then_hides spared spared_too =
     after-both peer hidden hidden one other event its alike (matched-itself hidden event its (cc equal)) hides then_hides spared spared_too
 after-same peer hidden one other None (Some its) equal alike hides then_hides spared spared_too = cc equal
@@ -207,8 +207,7 @@ module _ (peer : Peer) (ordinal : Ordinal) (one other : Course) (item : Item) (i
 
   record Next (its : Item) : Type 0 where
     after : Together peer (after_item one item) (after_item other its) items
-    given : BelongsTo peer (one.intake.state.parts ordinal)
-        → given_if ordinal one.intake.state (event_at one.intake item) ≡ given_if ordinal other.intake.state (event_at other.intake its)
+    given : given_if peer ordinal one.intake.state (event_at one.intake item) ≡ given_if peer ordinal other.intake.state (event_at other.intake its)
 
   next-by : (its : Item) → AfterBoth peer hidden_then one.intake.state other.intake.state (event_at one.intake item) (event_at other.intake its)
       → kept (after_item one item) ≡ kept (after_item other its) → Next its
@@ -315,16 +314,24 @@ other-tables (ATable table) items tables = tables.1
 other-tables TheEnd items tables = tables
 
 given-same : (peer : Peer) (ordinal : Ordinal) (items others : List Item) (one other : Course) → Together peer one other items → AllTables HasHandles items
-    → InputsAgree peer one items others → SparedIn peer one items → SparedIn peer other others → BelongsIn peer ordinal one items
-    → given_by ordinal one items ≡ given_by ordinal other others
-given-same peer ordinal [] [] one other together tables agree spared spared_too belongs = refl
-given-same peer ordinal (item ∷ items) [] one other together tables agree spared spared_too belongs = absurd agree
-given-same peer ordinal [] (its ∷ others) one other together tables agree spared spared_too belongs = absurd agree
-given-same peer ordinal (item ∷ items) (its ∷ others) one other together tables agree spared spared_too belongs =
+    → InputsAgree peer one items others → SparedIn peer one items → SparedIn peer other others → given_by peer ordinal one items ≡ given_by peer ordinal other others
+given-same peer ordinal [] [] one other together tables agree spared spared_too = refl
+given-same peer ordinal (item ∷ items) [] one other together tables agree spared spared_too = absurd agree
+given-same peer ordinal [] (its ∷ others) one other together tables agree spared spared_too = absurd agree
+given-same peer ordinal (item ∷ items) (its ∷ others) one other together tables agree spared spared_too =
     let next = next-item peer ordinal one other item items together its tables agree.0 spared.0 spared_too.0 in
-    let first = next.given belongs.0 in
-    let later = given-same peer ordinal items others (after_item one item) (after_item other its) next.after (other-tables item items tables) agree.1 spared.1 spared_too.1 belongs.1 in
+    let first = next.given in
+    let later = given-same peer ordinal items others (after_item one item) (after_item other its) next.after (other-tables item items tables) agree.1 spared.1 spared_too.1 in
     λ i. first i ++ later i
+
+together-then : (peer : Peer) (items others : List Item) (one other : Course) → Together peer one other items → AllTables HasHandles items
+    → InputsAgree peer one items others → SparedIn peer one items → SparedIn peer other others → Together peer (after_items one items) (after_items other others) []
+together-then peer [] [] one other together tables agree spared spared_too = together
+together-then peer (item ∷ items) [] one other together tables agree spared spared_too = absurd agree
+together-then peer [] (its ∷ others) one other together tables agree spared spared_too = absurd agree
+together-then peer (item ∷ items) (its ∷ others) one other together tables agree spared spared_too =
+    let next = next-item peer 0 one other item items together its tables agree.0 spared.0 spared_too.0 in
+    together-then peer items others (after_item one item) (after_item other its) next.after (other-tables item items tables) agree.1 spared.1 spared_too.1
 
 -- at first
 starts-alike : (peer : Peer) (hidden : Handle → Bool) (one other : Start) → HasHandles one.table → StartsAgree hidden one other
@@ -358,16 +365,21 @@ settled-start : (start : Start) → IsSettled (at_start start).intake.state
 unfolding course
 settled-start start = is_always_settled start []
 
+together-at-first : (peer : Peer) (one other : Start) (input : List Item) → HasHandles one.table → StartsAgree (hidden_while peer (at_start one) input) one other
+    → Together peer (at_start one) (at_start other) input
+together-at-first peer one other input handles agree = record {
+  settled = settled-start one;
+  alike = commands_alike peer (hidden_while peer (at_start one) input) (before_first_command one) (before_first_command other)
+      (starts-alike peer (hidden_while peer (at_start one) input) one other handles agree);
+  same = refl;
+}
+
 pub crosses_nowhere : (peer : Peer) (one other : Start) (input its : List Item) → HasHandles one.table → AllTables HasHandles input → Agree peer one other input its
-    → SparedIn peer (at_start one) input → SparedIn peer (at_start other) its → (ordinal : Ordinal) → BelongsIn peer ordinal (at_start one) input
-    → given_by ordinal (at_start one) input ≡ given_by ordinal (at_start other) its
-crosses_nowhere peer one other input its handles tables agree spared spared_too ordinal belongs =
-    given-same peer ordinal input its (at_start one) (at_start other) (record {
-      settled = settled-start one;
-      alike = commands_alike peer (hidden_while peer (at_start one) input) (before_first_command one) (before_first_command other)
-          (starts-alike peer (hidden_while peer (at_start one) input) one other handles agree.starts);
-      same = refl;
-    }) tables agree.inputs spared spared_too belongs
+    → SparedIn peer (at_start one) input → SparedIn peer (at_start other) its → (ordinal : Ordinal)
+    → given_by peer ordinal (at_start one) input ≡ given_by peer ordinal (at_start other) its
+crosses_nowhere peer one other input its handles tables agree spared spared_too ordinal =
+    given-same peer ordinal input its (at_start one) (at_start other) (together-at-first peer one other input handles agree.starts)
+    tables agree.inputs spared spared_too
 
 all-handles : (items : List Item) → AllTables IsTable items → AllTables HasHandles items
 all-handles [] tables = tt
@@ -378,5 +390,12 @@ all-handles (ATable table ∷ items) tables = (tables.0.handles, all-handles ite
 all-handles (TheEnd ∷ items) tables = all-handles items tables
 
 pub nothing_crosses : NothingCrosses
-nothing_crosses peer one other input its is tables agree spared spared_too ordinal belongs =
-    crosses_nowhere peer one other input its is.handles (all-handles input tables) agree spared spared_too ordinal belongs
+nothing_crosses peer one other input its is tables agree spared spared_too ordinal =
+    crosses_nowhere peer one other input its is.handles (all-handles input tables) agree spared spared_too ordinal
+
+pub leaves_connections_the_same : LeavesConnectionsTheSame
+unfolding course
+leaves_connections_the_same peer one other input its is tables agree spared spared_too =
+    let end = together-then peer input its (at_start one) (at_start other) (together-at-first peer one other input is.handles agree.starts)
+    (all-handles input tables) agree.inputs spared spared_too in
+    end.alike.own

@@ -23,7 +23,7 @@ use Rattle.gatt_laws.specs.Part.{Part, is_live, is_there, row_of, standing_of, a
 use Rattle.gatt_laws.specs.Room.{Room, Bonds, Owed}
 use Rattle.gatt_laws.specs.State.{State, Change, with_values, at_peer, after_turn, own_change, with_completed, after_completed, all_changed, announced, part_dropped, part_replaced, change_of, finished, parts_finished, with_commands_sent, before_commands, packets_given, step}
 use Rattle.gatt_laws.specs.Turn.{Turn, turn_of}
-use Rattle.gatt_laws.specs.TwoWorlds.{SameTable, Matched, finds_no_room, Spared, KeepsAlike, given_to, GivesTheSame, NothingCrossesInARun}
+use Rattle.gatt_laws.specs.TwoWorlds.{SameTable, Matched, finds_no_room, Spared, Agrees, KeepsAlike, given_to, given_of, GivesTheSame, NothingCrossesInARun}
 use Rattle.gatt_subs.proofs.Undisclosed.{tells_only_what_is_heard}
 use Rattle.gatt_subs.specs.Hearing.{may_hear_at}
 use Rattle.gatt_subs.specs.Fit.{wants_changes}
@@ -560,13 +560,22 @@ gives_the_same peer hidden one other event its alike agrees ordinal belongs =
           ] refl
     ] refl
 
+-- and to the peer's own connections
+pub given_alike : (peer : Peer) (hidden : Handle → Bool) (one other : State) (event its : Event) → Alike peer hidden one other
+    → Agrees peer hidden one other event its → (ordinal : Ordinal) → given_of peer ordinal one event ≡ given_of peer ordinal other its
+given_alike peer hidden one other event its alike agrees ordinal =
+    let parts = alike.others ordinal in
+    both_choices (λ (a b : List Octets). a ≡ b) (is_of peer (one.parts ordinal)) (is_of peer (other.parts ordinal)) (given_to ordinal one event) []
+    (given_to ordinal other its) [] (λ i. is_of peer (parts i)) (λ mine. gives_the_same peer hidden one other event its alike agrees ordinal (λ there. mine))
+    (λ is. refl)
+
 pub nothing_crosses_in_a_run : NothingCrossesInARun
-nothing_crosses_in_a_run peer hidden one other [] [] alike agree ordinal belongs = refl
-nothing_crosses_in_a_run peer hidden one other (event ∷ events) [] alike agree ordinal belongs = absurd agree
-nothing_crosses_in_a_run peer hidden one other [] (its ∷ others) alike agree ordinal belongs = absurd agree
-nothing_crosses_in_a_run peer hidden one other (event ∷ events) (its ∷ others) alike agree ordinal belongs =
-    let first = gives_the_same peer hidden one other event its alike agree.0 ordinal belongs.0 in
+nothing_crosses_in_a_run peer hidden one other [] [] alike agree ordinal = refl
+nothing_crosses_in_a_run peer hidden one other (event ∷ events) [] alike agree ordinal = absurd agree
+nothing_crosses_in_a_run peer hidden one other [] (its ∷ others) alike agree ordinal = absurd agree
+nothing_crosses_in_a_run peer hidden one other (event ∷ events) (its ∷ others) alike agree ordinal =
+    let first = given_alike peer hidden one other event its alike agree.0 ordinal in
     let later =
     nothing_crosses_in_a_run peer (agree.0).following (step one event) (step other its) events others
-    (keeps_alike peer hidden one other event its alike agree.0) agree.1 ordinal belongs.1 in
+    (keeps_alike peer hidden one other event its alike agree.0) agree.1 ordinal in
     λ i. first i ++ later i

@@ -9,13 +9,13 @@ use Rattle.att_table.specs.Table.{Contents, type_at}
 use Rattle.att_writes.specs.SameBut.{SameBut}
 use Rattle.gatt_laws.specs.Alike.{is_of, may_read_at}
 use Rattle.gatt_laws.specs.Event.{Ordinal, Event}
-use Rattle.gatt_laws.specs.Input.{Item, ATable, Intake, Course, after_item, at_start}
+use Rattle.gatt_laws.specs.Input.{Item, ATable, Intake, Course, after_item, at_start, course}
 use Rattle.gatt_laws.specs.ItemEvents.{event_at}
 use Rattle.gatt_laws.specs.Part.{is_live, row_of, standing_of}
 use Rattle.gatt_laws.specs.Possible.{AllTables}
 use Rattle.gatt_laws.specs.Start.{Start}
 use Rattle.gatt_laws.specs.State.{State}
-use Rattle.gatt_laws.specs.TwoWorlds.{Spared, BelongsTo, given_to}
+use Rattle.gatt_laws.specs.TwoWorlds.{Spared, given_of}
 use Rattle.gatt_subs.specs.Hearing.{may_hear_at}
 use Rattle.le_hci.specs.declared.peer.Peer.{Peer}
 use Rattle.octets.specs.Number.{Octets}
@@ -26,7 +26,8 @@ knows peer state handle ordinal =
     let part = state.parts ordinal in
     let attributes = state.room.table.attributes in
     let standing = standing_of state.room part in
-    is_live part.mark && (is_of peer part && (may_read_at attributes standing handle || may_hear_at attributes (row_of (state.bonds part.peer) part) standing handle))
+    let row = row_of (state.bonds part.peer) part in
+    is_live part.mark && (is_of peer part && (may_read_at attributes standing handle || may_hear_at attributes row standing handle))
 
 abbrev pub knows_in : Peer → State → Handle → Option Ordinal → Bool
 knows_in peer state handle None = false
@@ -94,25 +95,25 @@ SparedIn peer course [] = Unit
 SparedIn peer course (item ∷ items) =
     SparedIf peer course.intake.state (event_at course.intake item) × SparedIn peer (after_item course item) items
 
--- whenever a connection is there it is one of the peer
-abbrev pub BelongsIn : Peer → Ordinal → Course → List Item → Type 0
-BelongsIn peer ordinal course [] = Unit
-BelongsIn peer ordinal course (item ∷ items) =
-    BelongsTo peer (course.intake.state.parts ordinal) × BelongsIn peer ordinal (after_item course item) items
+-- the packets that are given to a connection while it is one of the peer, in their order
+abbrev pub given_if : Peer → Ordinal → State → Option Event → List Octets
+given_if peer ordinal state None = []
+given_if peer ordinal state (Some event) = given_of peer ordinal state event
 
--- the packets that are given to one connection, in their order
-abbrev pub given_if : Ordinal → State → Option Event → List Octets
-given_if ordinal state None = []
-given_if ordinal state (Some event) = given_to ordinal state event
+abbrev pub given_by : Peer → Ordinal → Course → List Item → List Octets
+given_by peer ordinal course [] = []
+given_by peer ordinal course (item ∷ items) =
+    given_if peer ordinal course.intake.state (event_at course.intake item) ++ given_by peer ordinal (after_item course item) items
 
-abbrev pub given_by : Ordinal → Course → List Item → List Octets
-given_by ordinal course [] = []
-given_by ordinal course (item ∷ items) =
-    given_if ordinal course.intake.state (event_at course.intake item) ++ given_by ordinal (after_item course item) items
-
--- whatever is hidden from its peer, a connection is given the same
+-- whatever is hidden from a peer, its connections are given the same
 abbrev pub NothingCrosses : Type 0
 NothingCrosses = (peer : Peer) (one other : Start) (input its : List Item) → IsTable one.table → AllTables IsTable input →
     Agree peer one other input its → SparedIn peer (at_start one) input → SparedIn peer (at_start other) its →
-    (ordinal : Ordinal) → BelongsIn peer ordinal (at_start one) input →
-    given_by ordinal (at_start one) input ≡ given_by ordinal (at_start other) its
+    (ordinal : Ordinal) → given_by peer ordinal (at_start one) input ≡ given_by peer ordinal (at_start other) its
+
+-- and are the same at the end, with all that is queued for them
+abbrev pub LeavesConnectionsTheSame : Type 0
+LeavesConnectionsTheSame = (peer : Peer) (one other : Start) (input its : List Item) → IsTable one.table → AllTables IsTable input →
+    Agree peer one other input its → SparedIn peer (at_start one) input → SparedIn peer (at_start other) its →
+    (ordinal : Ordinal) → is_of peer ((course one input).intake.state.parts ordinal) ≡ true →
+    (course one input).intake.state.parts ordinal ≡ (course other its).intake.state.parts ordinal

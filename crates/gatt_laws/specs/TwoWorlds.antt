@@ -1,6 +1,6 @@
 -- Nothing crosses from one connection to those of another peer: two runs that differ in what the connections of a peer may
 -- not know are the same to them.
-use Rattle.std.specs.Prelude.{◌≡◌, Bool, true, false, ◌&&◌, is_some, List, [], ◌∷◌, ◌++◌, Some}
+use Rattle.std.specs.Prelude.{◌≡◌, Bool, true, false, ◌&&◌, is_some, if◌then◌else◌, List, [], ◌∷◌, ◌++◌, Some}
 use Rattle.att_numbers.specs.Types.{Handle}
 use Rattle.att_pdu.specs.Grammar.{request_of, is_due}
 use Rattle.att_table.specs.Changer.{changer_of}
@@ -75,16 +75,18 @@ GivesTheSame = (peer : Peer) (hidden : Handle → Bool) (one other : State) (eve
     Agrees peer hidden one other event its → (ordinal : Ordinal) → BelongsTo peer (one.parts ordinal) →
     given_to ordinal one event ≡ given_to ordinal other its
 
--- the packets that are given to one connection in a run of events
-abbrev pub given_in : Ordinal → State → List Event → List Octets
-given_in ordinal state [] = []
-given_in ordinal state (event ∷ events) = given_to ordinal state event ++ given_in ordinal (step state event) events
+-- nothing is given to a connection that is not there when it happens
+abbrev pub GivesNothingToTheAbsent : Type 0
+GivesNothingToTheAbsent = (state : State) (event : Event) (ordinal : Ordinal) → is_there (state.parts ordinal).mark ≡ false →
+    given_to ordinal state event ≡ []
 
--- at each moment of a run it is one of the peer, if it is there
-abbrev pub BelongsThroughout : Peer → Ordinal → State → List Event → Type 0
-BelongsThroughout peer ordinal state [] = Unit
-BelongsThroughout peer ordinal state (event ∷ events) =
-    BelongsTo peer (state.parts ordinal) × BelongsThroughout peer ordinal (step state event) events
+-- the packets that are given to a connection while it is one of the peer: at an event, and in a run of events
+abbrev pub given_of : Peer → Ordinal → State → Event → List Octets
+given_of peer ordinal state event = if is_of peer (state.parts ordinal) then given_to ordinal state event else []
+
+abbrev pub given_in : Peer → Ordinal → State → List Event → List Octets
+given_in peer ordinal state [] = []
+given_in peer ordinal state (event ∷ events) = given_of peer ordinal state event ++ given_in peer ordinal (step state event) events
 
 -- two runs agree at each of their events; what is hidden stays so until the table is replaced
 abbrev pub Agree : Peer → (Handle → Bool) → State → State → List Event → List Event → Type 0
@@ -95,8 +97,8 @@ Agree peer hidden one other (event ∷ events) (its ∷ others) =
     (agrees : Agrees peer hidden one other event its)
     × Agree peer agrees.following (step one event) (step other its) events others
 
--- so a connection of the peer is given the same packets in both
+-- so the connections of the peer are given the same packets in both
 abbrev pub NothingCrossesInARun : Type 0
 NothingCrossesInARun = (peer : Peer) (hidden : Handle → Bool) (one other : State) (events others : List Event) → Alike peer hidden one other →
-    Agree peer hidden one other events others → (ordinal : Ordinal) → BelongsThroughout peer ordinal one events →
-    given_in ordinal one events ≡ given_in ordinal other others
+    Agree peer hidden one other events others → (ordinal : Ordinal) →
+    given_in peer ordinal one events ≡ given_in peer ordinal other others

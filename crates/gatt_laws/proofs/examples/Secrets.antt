@@ -8,17 +8,16 @@ use Rattle.att_table.specs.Table.{Contents, type_at}
 use Rattle.att_writes.proofs.Lengths.{stored_both}
 use Rattle.gatt_laws.proofs.NothingCrosses.{HasHandles, crosses_nowhere}
 use Rattle.gatt_laws.proofs.examples.Runs.{host, initialised, connected, asks, frame}
-use Rattle.gatt_laws.proofs.examples.Tables.{table_of, declaration, value_of, configuration, guard, authorized, no_need, phone}
+use Rattle.gatt_laws.proofs.examples.Tables.{table_of, declaration, value_of, configuration, guard, authorized, no_need, phone, tablet}
 use Rattle.gatt_laws.specs.Alike.{is_of}
 use Rattle.gatt_laws.specs.Calls.{AuthorizeCall}
 use Rattle.gatt_laws.specs.Controller.{commands_due}
-use Rattle.gatt_laws.specs.Event.{Ordinal, Event, Of, Completed, Credit, Update, Tick, Replaced, Nothing}
+use Rattle.gatt_laws.specs.Event.{Event, Of, Completed, Credit, Update, Tick, Replaced, Nothing}
 use Rattle.gatt_laws.specs.Heard.{after_hearing}
 use Rattle.gatt_laws.specs.Input.{Item, AnOctet, APacket, ACall, ATable, TheEnd, Course, after_item, at_start, course}
 use Rattle.gatt_laws.specs.ItemEvents.{event_at}
-use Rattle.gatt_laws.specs.NothingCrosses.{hidden_while, Agree, InputsAgree, SparedIf, SparedIn, BelongsIn, given_by}
+use Rattle.gatt_laws.specs.NothingCrosses.{hidden_while, Agree, InputsAgree, SparedIf, SparedIn, given_by}
 use Rattle.gatt_laws.specs.Packets.{packet_event}
-use Rattle.gatt_laws.specs.Part.{Part, is_there}
 use Rattle.gatt_laws.specs.Possible.{AllTables}
 use Rattle.gatt_laws.specs.State.{State, step, change_of, out}
 use Rattle.gatt_laws.specs.Turn.{live_turn}
@@ -73,11 +72,11 @@ abbrev of_phone : List Octets
 of_phone =
     (0x02 ∷ 0x40 ∷ 0x00 ∷ frame (0x13 ∷ [])) ∷ (0x02 ∷ 0x40 ∷ 0x00 ∷ frame (0x01 ∷ 0x0A ∷ 0x03 ∷ 0x00 ∷ 0x08 ∷ [])) ∷ []
 
-given_to_phone : given_by 0 (at_start (host (safe 0) 2)) played ≡ of_phone
+given_to_phone : given_by phone 0 (at_start (host (safe 0) 2)) played ≡ of_phone
 unfolding after_item packet_event step change_of live_turn after_hearing commands_due out frame_at form_of pieces after_entries value_answer
 given_to_phone = refl
 
-given_to_other : given_by 1 (at_start (host (safe 7) 2)) played
+given_to_other : given_by tablet 1 (at_start (host (safe 7) 2)) played
     ≡ (0x02 ∷ 0x41 ∷ 0x00 ∷ frame (0x17 ∷ 0x03 ∷ 0x00 ∷ 0x01 ∷ 0x00 ∷ 0x41 ∷ [])) ∷ (0x02 ∷ 0x41 ∷ 0x00 ∷ frame (0x19 ∷ []))
     ∷ (0x02 ∷ 0x41 ∷ 0x00 ∷ frame (0x0B ∷ 0x07 ∷ 0x41 ∷ [])) ∷ []
 unfolding after_item packet_event step change_of live_turn after_hearing commands_due out frame_at form_of pieces after_entries value_answer
@@ -88,7 +87,7 @@ secret : hidden_while phone (at_start (host (safe 0) 2)) played 3 ≡ true
 unfolding after_item packet_event step change_of live_turn after_hearing commands_due out frame_at form_of pieces after_entries value_answer
 secret = refl
 
--- Whether the others are spared, and the first connection is the phone's, can be tested.
+-- Whether the others are spared can be tested.
 
 is_spared : Peer → State → Option Event → Bool
 is_spared peer state (Some (Of ordinal own)) = is_of peer (state.parts ordinal) || not (finds_no_room state.room (state.parts ordinal) own)
@@ -97,11 +96,6 @@ is_spared peer state event = true
 are_spared : Peer → Course → List Item → Bool
 are_spared peer course [] = true
 are_spared peer course (item ∷ items) = is_spared peer course.intake.state (event_at course.intake item) && are_spared peer (after_item course item) items
-
-belongs : Peer → Ordinal → Course → List Item → Bool
-belongs peer ordinal course [] = true
-belongs peer ordinal course (item ∷ items) =
-    (not (is_there (course.intake.state.parts ordinal).mark) || is_of peer (course.intake.state.parts ordinal)) && belongs peer ordinal (after_item course item) items
 
 first-true : (one other : Bool) → (one && other) ≡ true → one ≡ true
 first-true true other is = refl
@@ -115,10 +109,6 @@ or-not : (one other : Bool) → (one || not other) ≡ true → one ≡ false �
 or-not false false is none = refl
 or-not false true is none = cc is
 or-not true other is none = cc none
-
-not-or : (one other : Bool) → (not one || other) ≡ true → one ≡ true → other ≡ true
-not-or true other is there = is
-not-or false other is there = cc there
 
 spared-one : (peer : Peer) (state : State) (event : Option Event) → is_spared peer state event ≡ true → SparedIf peer state event
 unfolding is_spared
@@ -138,15 +128,6 @@ spared-all peer course (item ∷ items) is = (
   spared-one peer course.intake.state (event_at course.intake item) (first-true (is_spared peer course.intake.state (event_at course.intake item)) _ is),
   spared-all peer (after_item course item) items (second-true (is_spared peer course.intake.state (event_at course.intake item)) _ is),
 )
-
-belongs-all : (peer : Peer) (ordinal : Ordinal) (course : Course) (items : List Item) → belongs peer ordinal course items ≡ true → BelongsIn peer ordinal course items
-unfolding belongs
-belongs-all peer ordinal course [] is = tt
-belongs-all peer ordinal course (item ∷ items) is =
-    let part : Part = course.intake.state.parts ordinal in (
-      not-or (is_there part.mark) (is_of peer part) (first-true (not (is_there part.mark) || is_of peer part) _ is),
-      belongs-all peer ordinal (after_item course item) items (second-true (not (is_there part.mark) || is_of peer part) _ is),
-    )
 
 -- no table is replaced here
 no_table : List Item → Bool
@@ -198,15 +179,10 @@ spared : (octet : ℕ) → are_spared phone (at_start (host (safe octet) 2)) pla
 unfolding are_spared is_spared after_item packet_event step change_of live_turn after_hearing commands_due out frame_at form_of pieces after_entries value_answer
 spared octet = refl
 
-is-the-phone : belongs phone 0 (at_start (host (safe 0) 2)) played ≡ true
-unfolding belongs after_item packet_event step change_of live_turn after_hearing commands_due out frame_at form_of pieces after_entries value_answer
-is-the-phone = refl
-
 -- and the phone is given the same
-no_secret_told : (octet : ℕ) → given_by 0 (at_start (host (safe octet) 2)) played ≡ of_phone
+no_secret_told : (octet : ℕ) → given_by phone 0 (at_start (host (safe octet) 2)) played ≡ of_phone
 unfolding no_table
 no_secret_told octet =
     sym (crosses_nowhere phone (host (safe 0) 2) (host (safe octet) 2) played played (refl, (refl, (refl, (refl, tt)))) (all-tables played refl) (agree octet)
-    (spared-all phone (at_start (host (safe 0) 2)) played (spared 0)) (spared-all phone (at_start (host (safe octet) 2)) played (spared octet)) 0
-    (belongs-all phone 0 (at_start (host (safe 0) 2)) played is-the-phone))
+    (spared-all phone (at_start (host (safe 0) 2)) played (spared 0)) (spared-all phone (at_start (host (safe octet) 2)) played (spared octet)) 0)
     ∙ given_to_phone
