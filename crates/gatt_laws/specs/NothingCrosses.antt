@@ -41,7 +41,7 @@ abbrev pub is_replaced : Intake → Item → Bool
 is_replaced intake (ATable table) = is_some (event_at intake (ATable table))
 is_replaced intake item = false
 
--- it is so at some moment while the table stands that stands now
+-- a connection of the peer knows it at some moment while the table stands that stands now
 abbrev pub known_while : Peer → Course → List Item → Handle → Bool
 known_while peer course [] handle = is_known peer course.intake.state handle
 known_while peer course (item ∷ items) handle =

@@ -14,9 +14,9 @@ use Rattle.gatt_laws.specs.Calls.{AuthorizeCall}
 use Rattle.gatt_laws.specs.Controller.{commands_due}
 use Rattle.gatt_laws.specs.Event.{Event, Of, Completed, Credit, Update, Tick, Replaced, Nothing}
 use Rattle.gatt_laws.specs.Heard.{after_hearing}
-use Rattle.gatt_laws.specs.Input.{Item, AnOctet, APacket, ACall, ATable, TheEnd, Course, after_item, at_start, course}
+use Rattle.gatt_laws.specs.Input.{after_items, Item, AnOctet, APacket, ACall, ATable, TheEnd, Course, after_item, at_start, course}
 use Rattle.gatt_laws.specs.ItemEvents.{event_at}
-use Rattle.gatt_laws.specs.NothingCrosses.{hidden_while, Agree, InputsAgree, SparedIf, SparedIn, given_by}
+use Rattle.gatt_laws.specs.NothingCrosses.{is_replaced, IsTableToo, ItemsAgree, hidden_while, Agree, InputsAgree, SparedIf, SparedIn, given_by}
 use Rattle.gatt_laws.specs.Packets.{packet_event}
 use Rattle.gatt_laws.specs.Possible.{AllTables}
 use Rattle.gatt_laws.specs.State.{State, step, change_of, out}
@@ -186,3 +186,121 @@ no_secret_told octet =
     sym (crosses_nowhere phone (host (safe 0) 2) (host (safe octet) 2) played played (refl, (refl, (refl, (refl, tt)))) (all-tables played refl) (agree octet)
     (spared-all phone (at_start (host (safe 0) 2)) played (spared 0)) (spared-all phone (at_start (host (safe octet) 2)) played (spared octet)) 0)
     ∙ given_to_phone
+
+-- The same of a table that replaces another.
+
+abbrev fence : ℕ → Contents
+fence octet = table_of (
+    declaration 1 0x2800 (0x01 ∷ 0x18 ∷ []) 2
+    ∷ declaration 2 0x2803 (0x20 ∷ 0x03 ∷ 0x00 ∷ 0x05 ∷ 0x2A ∷ []) 5
+    ∷ value_of 3 0x2A05 (0x00 ∷ 0x00 ∷ 0x00 ∷ 0x00 ∷ []) 4 true (guard 0x20 no_need no_need)
+    ∷ configuration 4 no_need
+    ∷ declaration 5 0x2800 (0xF0 ∷ 0xFF ∷ []) 2
+    ∷ declaration 6 0x2803 (0x1A ∷ 0x07 ∷ 0x00 ∷ 0xF1 ∷ 0xFF ∷ []) 5
+    ∷ value_of 7 0xFFF1 (octet ∷ 0x00 ∷ []) 2 true (guard 0x1A authorized no_need)
+    ∷ configuration 8 no_need
+    ∷ [])
+
+abbrev before : List Item
+before =
+    stream-of (initialised 8) ++ packet (connected phone) ++ packet other_connected ++ ACall (AuthorizeCall 0x0041 1000) ∷ []
+    ++ packet (asks (0x12 ∷ 0x08 ∷ 0x00 ∷ 0x01 ∷ 0x00 ∷ []))
+
+abbrev behind : List Item
+behind =
+    packet (other_asks (0x16 ∷ 0x07 ∷ 0x00 ∷ 0x01 ∷ 0x00 ∷ 0x41 ∷ [])) ++ packet (other_asks (0x18 ∷ 0x01 ∷ []))
+    ++ packet (other_asks (0x0A ∷ 0x07 ∷ 0x00 ∷ [])) ++ packet (asks (0x0A ∷ 0x07 ∷ 0x00 ∷ []))
+
+abbrev replaced_by : ℕ → List Item
+replaced_by octet = before ++ ATable (fence octet) ∷ behind
+
+abbrev at_fence : Course
+at_fence = at_start (host (fence 0) 2)
+
+new_to_phone : given_by phone 0 at_fence (replaced_by 1)
+    ≡ (0x02 ∷ 0x40 ∷ 0x00 ∷ frame (0x13 ∷ [])) ∷ (0x02 ∷ 0x40 ∷ 0x00 ∷ frame (0x01 ∷ 0x0A ∷ 0x07 ∷ 0x00 ∷ 0x08 ∷ [])) ∷ []
+unfolding after_item packet_event step change_of live_turn after_hearing commands_due out frame_at form_of pieces after_entries value_answer
+new_to_phone = refl
+
+new_to_other : given_by tablet 1 at_fence (replaced_by 9)
+    ≡ (0x02 ∷ 0x41 ∷ 0x00 ∷ frame (0x17 ∷ 0x07 ∷ 0x00 ∷ 0x01 ∷ 0x00 ∷ 0x41 ∷ [])) ∷ (0x02 ∷ 0x41 ∷ 0x00 ∷ frame (0x19 ∷ []))
+    ∷ (0x02 ∷ 0x41 ∷ 0x00 ∷ frame (0x0B ∷ 0x09 ∷ 0x41 ∷ [])) ∷ []
+unfolding after_item packet_event step change_of live_turn after_hearing commands_due out frame_at form_of pieces after_entries value_answer
+new_to_other = refl
+
+abbrev after_replacement : Course
+after_replacement = after_item (after_items at_fence before) (ATable (fence 1))
+
+new_secret : hidden_while phone after_replacement behind 7 ≡ true
+unfolding after_item packet_event step change_of live_turn after_hearing commands_due out frame_at form_of pieces after_entries value_answer
+new_secret = refl
+
+table-stands : is_replaced (after_items at_fence before).intake (ATable (fence 1)) ≡ true
+unfolding after_item packet_event step change_of live_turn after_hearing commands_due out frame_at form_of pieces after_entries value_answer
+table-stands = refl
+
+new-spared : (octet : ℕ) → are_spared phone at_fence (replaced_by octet) ≡ true
+unfolding are_spared is_spared after_item packet_event step change_of live_turn after_hearing commands_due out frame_at form_of pieces after_entries value_answer
+new-spared octet = refl
+
+-- the same items before others
+same-before : (peer : Peer) (course : Course) (items rest others : List Item) → no_table items ≡ true → InputsAgree peer (after_items course items) rest others
+    → InputsAgree peer course (items ++ rest) (items ++ others)
+unfolding no_table
+same-before peer course [] rest others none later = later
+same-before peer course (AnOctet octet ∷ items) rest others none later = (refl, same-before peer (after_item course (AnOctet octet)) items rest others none later)
+same-before peer course (APacket packet ∷ items) rest others none later = (refl, same-before peer (after_item course (APacket packet)) items rest others none later)
+same-before peer course (ACall call ∷ items) rest others none later = (refl, same-before peer (after_item course (ACall call)) items rest others none later)
+same-before peer course (ATable table ∷ items) rest others none later = cc none
+same-before peer course (TheEnd ∷ items) rest others none later = (refl, same-before peer (after_item course TheEnd) items rest others none later)
+
+tables-before : (items rest : List Item) → no_table items ≡ true → AllTables HasHandles rest → AllTables HasHandles (items ++ rest)
+unfolding no_table
+tables-before [] rest none tables = tables
+tables-before (AnOctet octet ∷ items) rest none tables = tables-before items rest none tables
+tables-before (APacket packet ∷ items) rest none tables = tables-before items rest none tables
+tables-before (ACall call ∷ items) rest none tables = tables-before items rest none tables
+tables-before (ATable table ∷ items) rest none tables = cc none
+tables-before (TheEnd ∷ items) rest none tables = tables-before items rest none tables
+
+hidden-then : (hidden : Handle → Bool) → hidden 7 ≡ true → (hidden 7 && not false) ≡ false → ⊥
+hidden-then hidden is shown = cc (sym (ap (λ (h : Bool). h && not false) is) ∙ shown)
+
+new-tables-agree : (octet : ℕ) → IsTableToo (hidden_while phone after_replacement behind) (fence 1) (ATable (fence octet))
+new-tables-agree octet =
+    let hidden : Handle → Bool = hidden_while phone after_replacement behind in
+    let values = (fence 1).values in
+    record {
+      its = fence octet;
+      is = refl;
+      agree = record {
+        attributes = refl;
+        values = stored_both (λ handle. hidden handle && not (is_service_type (type_at (fence 1).attributes handle))) values values 7 (0x01 ∷ 0x00 ∷ []) (octet ∷ 0x00 ∷ []) (omega arith)
+            (record { count = refl; lengths = λ handle used. refl; shown = λ handle used shown. refl }) refl (λ shown. absurd (hidden-then hidden new_secret shown));
+      };
+    }
+
+items-agree : (octet : ℕ) (replaced : Bool) → replaced ≡ true → ItemsAgree (hidden_while phone after_replacement behind) replaced (ATable (fence 1)) (ATable (fence octet))
+items-agree octet true is = new-tables-agree octet
+items-agree octet false is = cc is
+
+new-agree : (octet : ℕ) → Agree phone (host (fence 0) 2) (host (fence 0) 2) (replaced_by 1) (replaced_by octet)
+unfolding no_table
+new-agree octet = record {
+  starts = record {
+    table = record { attributes = refl; values = record { count = refl; lengths = λ handle used. refl; shown = λ handle used shown. refl } };
+    rest = refl;
+  };
+  inputs = same-before phone at_fence before (ATable (fence 1) ∷ behind) (ATable (fence octet) ∷ behind) refl
+      (items-agree octet (is_replaced (after_items at_fence before).intake (ATable (fence 1))) table-stands, same-input phone after_replacement behind refl);
+}
+
+no_new_secret_told : (octet : ℕ) → given_by phone 0 at_fence (replaced_by octet)
+    ≡ (0x02 ∷ 0x40 ∷ 0x00 ∷ frame (0x13 ∷ [])) ∷ (0x02 ∷ 0x40 ∷ 0x00 ∷ frame (0x01 ∷ 0x0A ∷ 0x07 ∷ 0x00 ∷ 0x08 ∷ [])) ∷ []
+unfolding no_table
+no_new_secret_told octet =
+    let handles : HasHandles (fence 1) = (refl, (refl, (refl, (refl, (refl, (refl, (refl, (refl, tt)))))))) in
+    sym (crosses_nowhere phone (host (fence 0) 2) (host (fence 0) 2) (replaced_by 1) (replaced_by octet) handles
+    (tables-before before (ATable (fence 1) ∷ behind) refl (handles, all-tables behind refl)) (new-agree octet)
+    (spared-all phone at_fence (replaced_by 1) (new-spared 1)) (spared-all phone at_fence (replaced_by octet) (new-spared octet)) 0)
+    ∙ new_to_phone
