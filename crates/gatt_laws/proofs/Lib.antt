@@ -2,12 +2,14 @@ pub mod Always
 pub mod AnswersAlike
 pub mod ChangersAlike
 pub mod Courses
+pub mod Ends
 pub mod Headline
 pub mod ItemEvents
 pub mod MayBeHeard
 pub mod NextParts
 pub mod NothingCrosses
 pub mod OwnQueues
+pub mod OwnWrites
 pub mod Queued
 pub mod Refusals
 pub mod RowsOfTheTable

@@ -10,6 +10,7 @@ pub mod Laws
 pub mod MayBeHeard
 pub mod NothingCrosses
 pub mod OwnQueues
+pub mod OwnWrites
 pub mod Packets
 pub mod Part
 pub mod Possible
