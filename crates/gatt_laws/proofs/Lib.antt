@@ -10,9 +10,11 @@ pub mod NextParts
 pub mod NothingCrosses
 pub mod OwnQueues
 pub mod OwnWrites
+pub mod Preparing
 pub mod Queued
 pub mod Refusals
 pub mod RowsOfTheTable
+pub mod Runs
 pub mod Settled
 pub mod Silence
 pub mod Streams

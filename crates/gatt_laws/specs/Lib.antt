@@ -14,10 +14,12 @@ pub mod OwnWrites
 pub mod Packets
 pub mod Part
 pub mod Possible
+pub mod Preparing
 pub mod Queued
 pub mod Refusals
 pub mod Room
 pub mod RowsOfTheTable
+pub mod Runs
 pub mod Settled
 pub mod Silence
 pub mod Start
