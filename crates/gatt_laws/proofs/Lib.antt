@@ -15,8 +15,10 @@ pub mod Queued
 pub mod Refusals
 pub mod RowsOfTheTable
 pub mod Runs
+pub mod SameView
 pub mod Settled
 pub mod Silence
+pub mod Stores
 pub mod Streams
 pub mod TurnsAlike
 pub mod TwoWorlds

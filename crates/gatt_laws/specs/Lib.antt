@@ -20,6 +20,7 @@ pub mod Refusals
 pub mod Room
 pub mod RowsOfTheTable
 pub mod Runs
+pub mod SameView
 pub mod Settled
 pub mod Silence
 pub mod Start
@@ -27,3 +28,4 @@ pub mod State
 pub mod Turn
 pub mod TwoWorlds
 pub mod ValuesOfTheTable
+pub mod View
