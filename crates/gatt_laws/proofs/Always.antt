@@ -40,7 +40,7 @@ last-true true other is = is
 last-true false other is = cc is
 
 module _ (Fine : Contents → Type 0) where
-  abbrev PossibleIfAny : {E : Type 0} → State → Result Event E → Type 0
+  abbrev pub PossibleIfAny : {E : Type 0} → State → Result Event E → Type 0
   PossibleIfAny state (Ok event) = Possible Fine state event
   PossibleIfAny state (Err refused) = Unit
 
@@ -135,12 +135,12 @@ module _ (Fine : Contents → Type 0) where
   arrival-possible state fragments None = tt
   arrival-possible state fragments (Some arrived) = octets-possible state arrived.0 (frame_at (arrived.1 ∷ fragments arrived.0))
 
-  packet-possible : (state : State) (fragments : Fragments) (packet : Packet) → PossibleIfAny state (packet_event state fragments packet)
+  pub packet_possible : (state : State) (fragments : Fragments) (packet : Packet) → PossibleIfAny state (packet_event state fragments packet)
   unfolding packet_event
-  packet-possible state fragments (EventPacket octets) = bad-or-possible state (event_of octets)
-  packet-possible state fragments (AclPacket handle boundary broadcast octets) =
+  packet_possible state fragments (EventPacket octets) = bad-or-possible state (event_of octets)
+  packet_possible state fragments (AclPacket handle boundary broadcast octets) =
       arrival-possible state fragments (arrival state (AclPacket handle boundary broadcast octets))
-  packet-possible state fragments ScoPacket = arrival-possible state fragments (arrival state ScoPacket)
+  packet_possible state fragments ScoPacket = arrival-possible state fragments (arrival state ScoPacket)
 
   update-possible : (state : State) (handle : Handle) (value : Octets) (found : Option Attr) → attribute_at state.room.table.attributes handle ≡ found
       → PossibleIfAny state (update_event handle value found)
@@ -159,17 +159,17 @@ module _ (Fine : Contents → Type 0) where
   authorize-possible state until None = tt
   authorize-possible state until (Some ordinal) = tt
 
-  call-possible : (state : State) (call : Call) → PossibleIfAny state (call_event state call)
-  call-possible state (UpdateCall handle value) = update-possible state handle value (attribute_at state.room.table.attributes handle) refl
-  call-possible state (AuthorizeCall handle until) = authorize-possible state until (serving state handle)
-  call-possible state (TickCall time) =
+  pub call_possible : (state : State) (call : Call) → PossibleIfAny state (call_event state call)
+  call_possible state (UpdateCall handle value) = update-possible state handle value (attribute_at state.room.table.attributes handle) refl
+  call_possible state (AuthorizeCall handle until) = authorize-possible state until (serving state handle)
+  call_possible state (TickCall time) =
       elim (nat_lt time state.room.time) as (λ back. nat_lt time state.room.time ≡ back → PossibleIfAny state (if back then Err TimeWentBack else Ok (Tick time))) [
         | true ↦ λ is. tt
         | false ↦ λ is. omega (arith, ltb-false time state.room.time is)
       ] refl
 
-  replacement-possible : (state : State) (table : Contents) → Fine table → PossibleIfAny state (replacement_event state table)
-  replacement-possible state table is =
+  pub replacement_possible : (state : State) (table : Contents) → Fine table → PossibleIfAny state (replacement_event state table)
+  replacement_possible state table is =
       elim (same_changer state.room.changer (changer_of table)) as (λ same. PossibleIfAny state (if same then Ok (Replaced table) else Err NoServiceChanged)) [ true ↦ is | false ↦ tt ]
 
   -- what each of them keeps
@@ -190,7 +190,7 @@ module _ (Fine : Contents → Type 0) where
     long-or-taken old packet rest true is = is
     long-or-taken old packet rest false is =
         packet-keeps (with_unfinished old rest) packet (packet_event old.intake.state old.intake.fragments packet)
-        (packet-possible old.intake.state old.intake.fragments packet) is
+        (packet_possible old.intake.state old.intake.fragments packet) is
 
     first-keeps : (old : Course) (octets : Octets) (first : First) → IsSo old → IsSo (after_first old octets first)
     first-keeps old octets (FirstPacket packet rest) is = long-or-taken old packet rest (is_long packet) is
@@ -211,15 +211,15 @@ module _ (Fine : Contents → Type 0) where
     always old (APacket packet ∷ items) tables is =
         always (unless_stopped old.intake.fault old (taken old (APacket packet))) items tables
         (unless-stopped old (taken old (APacket packet)) old.intake.fault is
-        (packet-keeps old packet (packet_event old.intake.state old.intake.fragments packet) (packet-possible old.intake.state old.intake.fragments packet) is))
+        (packet-keeps old packet (packet_event old.intake.state old.intake.fragments packet) (packet_possible old.intake.state old.intake.fragments packet) is))
     always old (ACall call ∷ items) tables is =
         always (unless_stopped old.intake.fault old (taken old (ACall call))) items tables
         (unless-stopped old (taken old (ACall call)) old.intake.fault is
-        (result-keeps old (call_event old.intake.state call) (call-possible old.intake.state call) is))
+        (result-keeps old (call_event old.intake.state call) (call_possible old.intake.state call) is))
     always old (ATable table ∷ items) tables is =
         always (unless_stopped old.intake.fault old (taken old (ATable table))) items tables.1
         (unless-stopped old (taken old (ATable table)) old.intake.fault is
-        (result-keeps old (replacement_event old.intake.state table) (replacement-possible old.intake.state table tables.0) is))
+        (result-keeps old (replacement_event old.intake.state table) (replacement_possible old.intake.state table tables.0) is))
     always old (TheEnd ∷ items) tables is =
         always (unless_stopped old.intake.fault old (taken old TheEnd)) items tables (unless-stopped old (taken old TheEnd) old.intake.fault is is)
 

@@ -1,12 +1,15 @@
 -- The state to which an input leads is that to which its events lead.
-use Rattle.std.proofs.Common.{◌≡◌, Bool, true, false, List, [], ◌∷◌, ◌++◌, Option, Some, None, Result, Ok, Err, refl, sym, ap, ◌∙◌}
+use Rattle.std.proofs.Common.{◌≡◌, Bool, true, false, List, [], ◌∷◌, ◌++◌, Option, Some, None, Result, Ok, Err, refl, sym, subst, ap, ◌∙◌}
 use Rattle.std.specs.Prelude.{if◌then◌else◌}
 use Rattle.std.specs.Option.{option_to_list}
+use Rattle.att_table.specs.Table.{Contents}
+use Rattle.gatt_laws.proofs.Always.{PossibleIfAny, packet_possible, call_possible, replacement_possible}
+use Rattle.gatt_laws.specs.Possible.{Possible, AllTables}
 use Rattle.gatt_laws.specs.Calls.{call_event, replacement_event}
 use Rattle.gatt_laws.specs.Event.{Event}
 use Rattle.gatt_laws.specs.Input.{Item, AnOctet, APacket, ACall, ATable, TheEnd, Course, after_result, packet_taken, after_packet, with_unfinished, after_first, taken, unless_stopped, after_item, after_items, at_start, course}
 use Rattle.gatt_laws.specs.Packets.{Fault, packet_event}
-use Rattle.gatt_laws.specs.Runs.{after_events, event_if, event_of_packet, event_of_first, event_meant, event_unless, event_at, events_in, events_of, IsWhereEventsLead}
+use Rattle.gatt_laws.specs.Runs.{after_events, event_if, event_of_packet, event_of_first, event_meant, event_unless, event_at, events_in, events_of, IsWhereEventsLead, ArePossible, MeansPossibleEvents}
 use Rattle.gatt_laws.specs.State.{State}
 use Rattle.le_h4.specs.Division.{is_long}
 use Rattle.le_h4.specs.Packet.{Packet, First, FirstPacket, NoneYet, NoPacket, first_of}
@@ -46,9 +49,9 @@ unless-led : (old new : Course) (event : Option Event) (fault : Option Fault) �
 unless-led old new event (Some fault) is = refl
 unless-led old new event None is = is
 
-item-led : (old : Course) (item : Item) → (after_item old item).intake.state ≡ led old.intake.state (event_at old item)
+pub item_led : (old : Course) (item : Item) → (after_item old item).intake.state ≡ led old.intake.state (event_at old item)
 unfolding after_item
-item-led old item = unless-led old (taken old item) (event_meant old.intake item) old.intake.fault (taken-led old item)
+item_led old item = unless-led old (taken old item) (event_meant old.intake item) old.intake.fault (taken-led old item)
 
 then-led : (state : State) (event : Option Event) (events : List Event) → after_events state (option_to_list event ++ events) ≡ after_events (led state event) events
 then-led state None events = refl
@@ -58,9 +61,63 @@ pub items_lead : (old : Course) (items : List Item) → (after_items old items).
 items_lead old [] = refl
 items_lead old (item ∷ items) =
     items_lead (after_item old item) items
-    ∙ ap (λ (state : State). after_events state (events_in (after_item old item) items)) (item-led old item)
+    ∙ ap (λ (state : State). after_events state (events_in (after_item old item) items)) (item_led old item)
     ∙ sym (then-led old.intake.state (event_at old item) (events_in (after_item old item) items))
 
 pub is_where_events_lead : IsWhereEventsLead
 unfolding course events_of
 is_where_events_lead start input = items_lead (at_start start) input
+
+-- Each of the events is possible.
+
+module _ (Fine : Contents → Type 0) where
+  abbrev PossibleAny : State → Option Event → Type 0
+  PossibleAny state None = Unit
+  PossibleAny state (Some event) = Possible Fine state event
+
+  result-possible : {E : Type 0} (state : State) (result : Result Event E) → PossibleIfAny Fine state result → PossibleAny state (event_if result)
+  result-possible state (Ok event) possible = possible
+  result-possible state (Err refused) possible = tt
+
+  packet-meant : (old : Course) (packet : Packet) → PossibleAny old.intake.state (event_of_packet old.intake packet)
+  packet-meant old packet =
+      result-possible old.intake.state (packet_event old.intake.state old.intake.fragments packet) (packet_possible Fine old.intake.state old.intake.fragments packet)
+
+  long-meant : (old : Course) (packet : Packet) (long : Bool) → PossibleAny old.intake.state (if long then None else event_of_packet old.intake packet)
+  long-meant old packet true = tt
+  long-meant old packet false = packet-meant old packet
+
+  first-meant : (old : Course) (first : First) → PossibleAny old.intake.state (event_of_first old.intake first)
+  first-meant old (FirstPacket packet rest) = long-meant old packet (is_long packet)
+  first-meant old NoneYet = tt
+  first-meant old (NoPacket indicator) = tt
+
+  unless-meant : (old : Course) (event : Option Event) (fault : Option Fault) → PossibleAny old.intake.state event → PossibleAny old.intake.state (event_unless fault event)
+  unless-meant old event (Some fault) possible = tt
+  unless-meant old event None possible = possible
+
+  item-possible : (old : Course) (item : Item) (items : List Item) → AllTables Fine (item ∷ items) → PossibleAny old.intake.state (event_meant old.intake item) × AllTables Fine items
+  item-possible old (AnOctet octet) items tables = (first-meant old (first_of (old.intake.unfinished ++ octet ∷ [])), tables)
+  item-possible old (APacket packet) items tables = (packet-meant old packet, tables)
+  item-possible old (ACall call) items tables =
+      (result-possible old.intake.state (call_event old.intake.state call) (call_possible Fine old.intake.state call), tables)
+  item-possible old (ATable table) items tables =
+      (result-possible old.intake.state (replacement_event old.intake.state table) (replacement_possible Fine old.intake.state table tables.0), tables.1)
+  item-possible old TheEnd items tables = (tt, tables)
+
+  then-possible : (state new : State) (event : Option Event) (events : List Event) → PossibleAny state event → new ≡ led state event → ArePossible Fine new events
+      → ArePossible Fine state (option_to_list event ++ events)
+  then-possible state new None events possible is later = subst (λ (of : State). ArePossible Fine of events) is later
+  then-possible state new (Some event) events possible is later = (possible, subst (λ (of : State). ArePossible Fine of events) is later)
+
+  pub items_possible : (old : Course) (items : List Item) → AllTables Fine items → ArePossible Fine old.intake.state (events_in old items)
+  items_possible old [] tables = tt
+  items_possible old (item ∷ items) tables =
+      let both = item-possible old item items tables in
+      then-possible old.intake.state (after_item old item).intake.state (event_at old item) (events_in (after_item old item) items)
+      (unless-meant old (event_meant old.intake item) old.intake.fault both.0) (item_led old item)
+      (items_possible (after_item old item) items both.1)
+
+pub means_possible_events : (Fine : Contents → Type 0) → MeansPossibleEvents Fine
+unfolding events_of
+means_possible_events Fine start input tables = items_possible Fine (at_start start) input tables

@@ -5,8 +5,10 @@ use Rattle.gatt_laws.specs.Calls.{call_event, replacement_event}
 use Rattle.gatt_laws.specs.Event.{Event}
 use Rattle.gatt_laws.specs.Input.{Item, AnOctet, APacket, ACall, ATable, TheEnd, Intake, Course, after_item, at_start, course}
 use Rattle.gatt_laws.specs.Packets.{Fault, packet_event}
+use Rattle.gatt_laws.specs.Possible.{Possible, AllTables}
 use Rattle.gatt_laws.specs.Start.{Start, state_at}
 use Rattle.gatt_laws.specs.State.{State, step}
+use Rattle.att_table.specs.Table.{Contents}
 use Rattle.le_h4.specs.Division.{is_long}
 use Rattle.le_h4.specs.Packet.{Packet, First, FirstPacket, NoneYet, NoPacket, first_of}
 
@@ -54,3 +56,12 @@ events_of start input = events_in (at_start start) input
 -- the state to which an input leads is that to which its events lead
 abbrev pub IsWhereEventsLead : Type 0
 IsWhereEventsLead = (start : Start) (input : List Item) → (course start input).intake.state ≡ after_events (state_at start) (events_of start input)
+
+-- each of some events may come in the state that those before it lead to
+abbrev pub ArePossible : (Contents → Type 0) → State → List Event → Type 0
+ArePossible Fine state [] = Unit
+ArePossible Fine state (event ∷ events) = Possible Fine state event × ArePossible Fine (step state event) events
+
+abbrev pub MeansPossibleEvents : (Contents → Type 0) → Type 0
+MeansPossibleEvents Fine = (start : Start) (input : List Item) → AllTables Fine input
+    → ArePossible Fine (state_at start) (events_of start input)
