@@ -15,6 +15,7 @@ pub mod Queued
 pub mod Refusals
 pub mod RowsOfTheTable
 pub mod Runs
+pub mod SameCourse
 pub mod SameView
 pub mod Settled
 pub mod Silence

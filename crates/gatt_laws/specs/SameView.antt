@@ -2,11 +2,14 @@
 use Rattle.std.specs.Prelude.{◌≡◌, Bool, true, false, is_some, List, [], ◌∷◌, ◌++◌, Option, Some, None}
 use Rattle.att_numbers.specs.Types.{Row}
 use Rattle.gatt_laws.specs.Event.{Ordinal, Event}
+use Rattle.gatt_laws.specs.Input.{Item}
 use Rattle.gatt_laws.specs.Part.{Part, absent, is_there}
 use Rattle.gatt_laws.specs.Room.{Room}
+use Rattle.gatt_laws.specs.Runs.{events_of}
 use Rattle.gatt_laws.specs.Silence.{IsAllGiven}
+use Rattle.gatt_laws.specs.Start.{Start, state_at}
 use Rattle.gatt_laws.specs.State.{State, before_commands, step, slot_out}
-use Rattle.gatt_laws.specs.View.{Shown, shown, shown_in}
+use Rattle.gatt_laws.specs.View.{Shown, shown, shown_in, view}
 use Rattle.gatt_subs.specs.Indications.{Indications}
 use Rattle.le_hci.specs.declared.buffers.Buffers.{Buffers}
 use Rattle.le_hci.specs.declared.peer.Peer.{Peer}
@@ -90,3 +93,22 @@ SameViewSamePacketsOfEvents =
     → seen told peer one state ≡ seen told peer other another
     → shown_in peer one state events ≡ shown_in peer other another further
     → packets_in one state events ≡ packets_in other another further
+
+-- and in every course: no event ends with an indication that waits for the connection and that nothing holds back
+abbrev pub IsReleasedThroughout : Ordinal → State → List Event → Type 0
+IsReleasedThroughout ordinal state [] = Unit
+IsReleasedThroughout ordinal state (event ∷ events) =
+    IsReleased ((step state event).parts ordinal).pending × IsReleasedThroughout ordinal (step state event) events
+
+abbrev pub IsAlwaysReleased : Ordinal → Start → List Item → Type 0
+IsAlwaysReleased ordinal start input = IsReleasedThroughout ordinal (state_at start) (events_of start input)
+
+abbrev pub packets_to : Ordinal → Start → List Item → List Octets
+packets_to ordinal start input = packets_in ordinal (state_at start) (events_of start input)
+
+-- equal views from one start give the same packets, whichever connections they are of
+abbrev pub SameViewSamePackets : Type 0
+SameViewSamePackets = (start : Start) (one other : Ordinal) (input another : List Item)
+    → view one start input ≡ view other start another
+    → IsAlwaysReleased one start input → IsAlwaysReleased other start another
+    → packets_to one start input ≡ packets_to other start another

@@ -1,17 +1,21 @@
 -- What one connection sees of a run: what happens to it and to the table, and of what happens to others what they write.
 use Rattle.std.specs.Prelude.{ℕ, ◌==◌, Bool, true, false, ◌&&◌, not, is_some, if◌then◌else◌, List, [], ◌∷◌, ◌++◌, filter, map, Option, Some, None}
-use Rattle.std.specs.Option.{option_to_list}
+use Rattle.std.specs.Option.{option_map_or, option_to_list}
 use Rattle.att_numbers.specs.Types.{Handle, Row, Values}
 use Rattle.att_pdu.specs.Grammar.{request_of, is_due}
 use Rattle.att_table.specs.declared.attr.Attr.{Attr}
 use Rattle.att_table.specs.ConfigRow.{bits_at}
 use Rattle.att_table.specs.Table.{Contents, is_configuration_at, value_at}
 use Rattle.gatt_conn.specs.Answer.{handles_by}
-use Rattle.gatt_laws.specs.Event.{Ordinal, Own, Event, Asks, Of, Completed, Credit, Update, Tick, Replaced, Nothing}
-use Rattle.gatt_laws.specs.Part.{Part, is_live, key_of, row_of, mtu_of, connection_of}
+use Rattle.gatt_laws.specs.Event.{Ordinal, Own, Event, Connected, Asks, Of, Completed, Credit, Update, Tick, Replaced, Nothing}
+use Rattle.gatt_laws.specs.Input.{Item, course}
+use Rattle.gatt_laws.specs.Part.{nobody, Part, is_live, key_of, row_of, mtu_of, connection_of}
 use Rattle.gatt_laws.specs.Room.{Room}
+use Rattle.gatt_laws.specs.Runs.{events_of}
+use Rattle.gatt_laws.specs.Start.{Start, state_at}
 use Rattle.gatt_laws.specs.State.{State, step}
 use Rattle.gatt_laws.specs.Turn.{is_full, turn_of}
+use Rattle.le_hci.specs.declared.buffers.Buffers.{Buffers}
 use Rattle.le_hci.specs.declared.peer.Peer.{Peer}
 use Rattle.le_security.specs.Entry.{same_peer}
 use Rattle.octets.specs.Number.{Octets}
@@ -96,3 +100,29 @@ abbrev pub shown_in : Peer → Ordinal → State → List Event → List Shown
 shown_in peer ordinal state [] = []
 shown_in peer ordinal state (event ∷ events) =
     option_to_list (shown peer ordinal state event) ++ shown_in peer ordinal (step state event) events
+
+-- the peer of a connection, by the event with which it comes
+abbrev pub own_coming : Own → Option Peer
+own_coming (Connected handle peer) = Some peer
+own_coming own = None
+
+abbrev pub peer_coming : Ordinal → Event → Option Peer
+peer_coming ordinal (Of other own) = if ordinal == other then own_coming own else None
+peer_coming ordinal event = None
+
+abbrev pub peer_in : Ordinal → List Event → Peer
+peer_in ordinal [] = nobody
+peer_in ordinal (event ∷ events) = option_map_or (λ peer. peer) (peer_coming ordinal event) (peer_in ordinal events)
+
+-- the view of a connection: the buffers that the controller told, and then what it sees of the events
+pub record View : Type 0 where
+  pub told : Option Buffers
+  pub items : List Shown
+
+abbrev pub view : Ordinal → Start → List Item → View
+view ordinal start input =
+    let events = events_of start input in
+    record {
+      told = (course start input).intake.state.room.told;
+      items = shown_in (peer_in ordinal events) ordinal (state_at start) events;
+    }
