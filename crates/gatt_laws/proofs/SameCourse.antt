@@ -21,7 +21,7 @@ use Rattle.gatt_laws.specs.Part.{Mark, Absent, Live, Ending, Part, nobody, absen
 use Rattle.gatt_laws.specs.Possible.{Possible}
 use Rattle.gatt_laws.specs.Room.{Room}
 use Rattle.gatt_laws.specs.Runs.{after_events, events_of, ArePossible}
-use Rattle.gatt_laws.specs.SameView.{without_commands, seen, IsReleased, IsKnown, IsKnownThroughout, IsReleasedThroughout, SameViewSamePackets}
+use Rattle.gatt_laws.specs.SameView.{Seen, without_commands, seen, IsReleased, IsKnown, IsKnownThroughout, IsReleasedThroughout, SameViewSamePackets}
 use Rattle.gatt_laws.specs.Settled.{has_slot, IsSettled}
 use Rattle.gatt_laws.specs.Silence.{IsAllGiven}
 use Rattle.gatt_laws.specs.Start.{Start, before_first_command, state_at}
@@ -475,6 +475,13 @@ same_view_same_packets start one other input another same released released_too 
     let known_too : IsKnownThroughout told peer other state others =
     subst (λ (of : Peer). IsKnownThroughout told of other state others) (sym peers)
     (subst (λ (of : Option Buffers). IsKnownThroughout of (peer_in other others) other state others) (sym tells) (start-known start other another released_too)) in
-    same_view_same_packets_of_events told peer one other state state events others (start-known start one input released) known_too
+    let alike = same_view_same_packets_of_events told peer one other state state events others (start-known start one input released) known_too
     (λ i. record (seen told peer one state) { part = without_commands ((start-absent start one ∙ sym (start-absent start other)) i) })
-    (items ∙ ap (λ (of : Peer). shown_in of other state others) (sym peers))
+    (items ∙ ap (λ (of : Peer). shown_in of other state others) (sym peers)) in
+    record {
+      packets = alike.packets;
+      part =
+          ap (λ (of : State). without_commands (of.parts one)) (is_where_events_lead start input)
+          ∙ ap (λ (of : Seen). of.part) alike.seen
+          ∙ sym (ap (λ (of : State). without_commands (of.parts other)) (is_where_events_lead start another));
+    }

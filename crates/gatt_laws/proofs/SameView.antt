@@ -26,6 +26,7 @@ use Rattle.gatt_laws.specs.Event.{Ordinal, Own, Event, Connected, Gone, KeyAsked
 use Rattle.gatt_laws.specs.Heard.{Heard, heard_in_turn, hearer_of, with_heard, after_hearing}
 use Rattle.gatt_laws.specs.Part.{Mark, Absent, Live, Ending, Part, absent, come, is_live, is_there, key_of, row_of, mtu_of, connection_of, with_pdus, after_giving, after_ending}
 use Rattle.gatt_laws.specs.Room.{Room, Bonds, share_of, size_of}
+use Rattle.gatt_laws.specs.Runs.{after_events}
 use Rattle.gatt_laws.specs.SameView.{Seen, without_commands, seen, IsReleased, IsKnown, packets_at, LeavesWhoSeesNothing, DoesTheSameToWhoSeesTheSame, IsKnownThroughout, packets_in, SameViewSamePacketsOfEvents}
 use Rattle.gatt_laws.specs.Silence.{IsAllGiven}
 use Rattle.gatt_laws.specs.State.{State, Change, at_peer, with_values, own_change, with_completed, after_completed, announced, part_replaced, change_of, finished, parts_finished, packets_given, step}
@@ -662,6 +663,10 @@ gained : Seen → List Shown → List Octets
 gained old [] = []
 gained old (item ∷ items) = gain old (seen_next old item) ++ gained (seen_next old item) items
 
+after_shown : Seen → List Shown → Seen
+after_shown old [] = old
+after_shown old (item ∷ items) = after_shown (seen_next old item) items
+
 gained-next : (old : Seen) (found : Option Shown) (items : List Shown) → gained old (option_to_list found ++ items) ≡ gain old (seen_any old found) ++ gained (seen_any old found) items
 unfolding gained
 gained-next old None items = ap (λ packets. packets ++ gained old items) (sym (no-gain old))
@@ -705,6 +710,21 @@ module _ (told : Option Buffers) (peer : Peer) (ordinal : Ordinal) where
       ∙ ap (λ (after : Seen). gain old after ++ gained after (shown_in peer ordinal new events)) next
       ∙ sym (gained-next old (shown peer ordinal state event) (shown_in peer ordinal new events))
 
+  shown-more : (old : Seen) (found : Option Shown) (items : List Shown) → after_shown old (option_to_list found ++ items) ≡ after_shown (seen_any old found) items
+  unfolding after_shown
+  shown-more old None items = refl
+  shown-more old (Some item) items = refl
+
+  run-seen : (state : State) (events : List Event) → IsKnownThroughout told peer ordinal state events
+      → seen told peer ordinal (after_events state events) ≡ after_shown (seen told peer ordinal state) (shown_in peer ordinal state events)
+  unfolding after_shown
+  run-seen state [] known = refl
+  run-seen state (event ∷ events) known =
+      let new : State = step state event in
+      run-seen new events known.1
+      ∙ ap (λ (old : Seen). after_shown old (shown_in peer ordinal new events)) (step_seen told peer ordinal state event known.0 (known-now new events known.1))
+      ∙ sym (shown-more (seen told peer ordinal state) (shown peer ordinal state event) (shown_in peer ordinal new events))
+
 -- The laws.
 
 pub leaves_who_sees_nothing : LeavesWhoSeesNothing
@@ -730,5 +750,7 @@ does_the_same_to_who_sees_the_same told peer one other state another event furth
     }
 
 pub same_view_same_packets_of_events : SameViewSamePacketsOfEvents
-same_view_same_packets_of_events told peer one other state another events further known known_too same items =
-    packets-gained told peer one state events known ∙ (λ i. gained (same i) (items i)) ∙ sym (packets-gained told peer other another further known_too)
+same_view_same_packets_of_events told peer one other state another events further known known_too same items = record {
+  seen = run-seen told peer one state events known ∙ (λ i. after_shown (same i) (items i)) ∙ sym (run-seen told peer other another further known_too);
+  packets = packets-gained told peer one state events known ∙ (λ i. gained (same i) (items i)) ∙ sym (packets-gained told peer other another further known_too);
+}

@@ -2,10 +2,10 @@
 use Rattle.std.specs.Prelude.{◌≡◌, Bool, true, false, is_some, List, [], ◌∷◌, ◌++◌, Option, Some, None}
 use Rattle.att_numbers.specs.Types.{Row}
 use Rattle.gatt_laws.specs.Event.{Ordinal, Event}
-use Rattle.gatt_laws.specs.Input.{Item}
+use Rattle.gatt_laws.specs.Input.{Item, course}
 use Rattle.gatt_laws.specs.Part.{Part, absent, is_there}
 use Rattle.gatt_laws.specs.Room.{Room}
-use Rattle.gatt_laws.specs.Runs.{events_of}
+use Rattle.gatt_laws.specs.Runs.{after_events, events_of}
 use Rattle.gatt_laws.specs.Silence.{IsAllGiven}
 use Rattle.gatt_laws.specs.Start.{Start, state_at}
 use Rattle.gatt_laws.specs.State.{State, before_commands, step, slot_out}
@@ -86,13 +86,18 @@ abbrev pub packets_in : Ordinal → State → List Event → List Octets
 packets_in ordinal state [] = []
 packets_in ordinal state (event ∷ events) = packets_at ordinal state event ++ packets_in ordinal (step state event) events
 
+-- runs that lead to the same and give the same packets
+pub record LeadsToTheSame (told : Option Buffers) (peer : Peer) (one other : Ordinal) (state another : State) (events further : List Event) : Type 0 where
+  pub seen : seen told peer one (after_events state events) ≡ seen told peer other (after_events another further)
+  pub packets : packets_in one state events ≡ packets_in other another further
+
 abbrev pub SameViewSamePacketsOfEvents : Type 0
 SameViewSamePacketsOfEvents =
     (told : Option Buffers) (peer : Peer) (one other : Ordinal) (state another : State) (events further : List Event)
     → IsKnownThroughout told peer one state events → IsKnownThroughout told peer other another further
     → seen told peer one state ≡ seen told peer other another
     → shown_in peer one state events ≡ shown_in peer other another further
-    → packets_in one state events ≡ packets_in other another further
+    → LeadsToTheSame told peer one other state another events further
 
 -- and in every course: no event ends with an indication that waits for the connection and that nothing holds back
 abbrev pub IsReleasedThroughout : Ordinal → State → List Event → Type 0
@@ -106,9 +111,14 @@ IsAlwaysReleased ordinal start input = IsReleasedThroughout ordinal (state_at st
 abbrev pub packets_to : Ordinal → Start → List Item → List Octets
 packets_to ordinal start input = packets_in ordinal (state_at start) (events_of start input)
 
+-- two connections are given the same packets, and in the end have the same, but for the commands that wait for them
+pub record AreServedAlike (start : Start) (one other : Ordinal) (input another : List Item) : Type 0 where
+  pub packets : packets_to one start input ≡ packets_to other start another
+  pub part : without_commands ((course start input).intake.state.parts one) ≡ without_commands ((course start another).intake.state.parts other)
+
 -- equal views from one start give the same packets, whichever connections they are of
 abbrev pub SameViewSamePackets : Type 0
 SameViewSamePackets = (start : Start) (one other : Ordinal) (input another : List Item)
     → view one start input ≡ view other start another
     → IsAlwaysReleased one start input → IsAlwaysReleased other start another
-    → packets_to one start input ≡ packets_to other start another
+    → AreServedAlike start one other input another
