@@ -2,9 +2,11 @@ pub mod Authorizations
 pub mod Frames
 pub mod Initialisation
 pub mod Links
+pub mod Queues
 pub mod Replacements
 pub mod Runs
 pub mod Secrets
 pub mod Shares
 pub mod Subscriptions
 pub mod Tables
+pub mod Views
