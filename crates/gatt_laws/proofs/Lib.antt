@@ -3,6 +3,7 @@ pub mod AnswersAlike
 pub mod ChangersAlike
 pub mod Courses
 pub mod Ends
+pub mod Given
 pub mod Headline
 pub mod ItemEvents
 pub mod MayBeHeard
@@ -10,6 +11,7 @@ pub mod NextParts
 pub mod NothingCrosses
 pub mod OwnQueues
 pub mod OwnWrites
+pub mod Places
 pub mod Preparing
 pub mod Queued
 pub mod Refusals

@@ -2,6 +2,7 @@ pub mod Alike
 pub mod Calls
 pub mod Controller
 pub mod Event
+pub mod Given
 pub mod Headline
 pub mod Heard
 pub mod Input

@@ -27,15 +27,15 @@ pub record IsAcceptedExecution (state : State) (ordinal : Ordinal) (pdu : Octets
   pub live : is_live (state.parts ordinal).mark ≡ true
   pub asked : request_of pdu (mtu_of state.room (state.parts ordinal)) ≡ Ok (ExecuteWriteRequest flags.Write)
   pub room : is_full state.room (state.parts ordinal) ≡ false
-  pub accepted : response_to state.room.table (row_in state ordinal) (connection_of state.room (state.parts ordinal)) (ExecuteWriteRequest flags.Write)
-      ≡ Some ExecuteWriteResponse
+  pub accepted : response_to state.room.table (row_in state ordinal) (connection_of state.room (state.parts ordinal))
+      (ExecuteWriteRequest flags.Write) ≡ Some ExecuteWriteResponse
 
 -- the values and the row in force are those that its own prepared writes lead to. Each value at another handle stays, and
 -- so do the own rows of other connections, the bond rows of other peers, and its own row or its bond's, whichever is not
 -- in force
 pub record WritesItsOwn (old new : State) (ordinal : Ordinal) : Type 0 where
-  pub applied : applied_to Write old.room.table (row_in old ordinal) (standing_of old.room (old.parts ordinal)) (prepared_of (old.parts ordinal))
-      ≡ Ok (record { values = new.room.table.values; row = row_in new ordinal })
+  pub applied : applied_to Write old.room.table (row_in old ordinal) (standing_of old.room (old.parts ordinal))
+      (prepared_of (old.parts ordinal)) ≡ Ok (record { values = new.room.table.values; row = row_in new ordinal })
   pub values : (handle : Handle) → 0 < handle → is_touched (prepared_of (old.parts ordinal)) handle ≡ false
       → value_at new.room.table.values handle ≡ value_at old.room.table.values handle
   pub rows : (other : Ordinal) → (other == ordinal) ≡ false → (new.parts other).row ≡ (old.parts other).row

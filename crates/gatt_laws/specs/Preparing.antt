@@ -137,7 +137,8 @@ concerns_of ordinal (event ∷ events) = option_to_list (concern_of ordinal even
 -- it is ended after none of them
 abbrev pub IsNeverEnded : Ordinal → State → List Event → Type 0
 IsNeverEnded ordinal state [] = Unit
-IsNeverEnded ordinal state (event ∷ events) = (is_ended (step state event) ordinal ≡ false) × IsNeverEnded ordinal (step state event) events
+IsNeverEnded ordinal state (event ∷ events) =
+    (is_ended (step state event) ordinal ≡ false) × IsNeverEnded ordinal (step state event) events
 
 -- so until it is ended it has prepared the same in all runs in which the same concerns it
 abbrev pub PreparesTheSame : Type 0

@@ -55,7 +55,8 @@ events_of start input = events_in (at_start start) input
 
 -- the state to which an input leads is that to which its events lead
 abbrev pub IsWhereEventsLead : Type 0
-IsWhereEventsLead = (start : Start) (input : List Item) → (course start input).intake.state ≡ after_events (state_at start) (events_of start input)
+IsWhereEventsLead = (start : Start) (input : List Item) →
+    (course start input).intake.state ≡ after_events (state_at start) (events_of start input)
 
 -- each of some events may come in the state that those before it lead to
 abbrev pub ArePossible : (Contents → Type 0) → State → List Event → Type 0

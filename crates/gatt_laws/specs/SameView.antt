@@ -63,7 +63,8 @@ LeavesWhoSeesNothing = (told : Option Buffers) (peer : Peer) (ordinal : Ordinal)
     → shown peer ordinal state event ≡ None → Leaves told peer ordinal state event
 
 -- events of which two connections see the same, where the same decides, leave that the same, and give the same packets
-pub record DoesTheSame (told : Option Buffers) (peer : Peer) (one other : Ordinal) (state another : State) (event further : Event) : Type 0 where
+pub record DoesTheSame (told : Option Buffers) (peer : Peer) (one other : Ordinal) (state another : State) (event further : Event)
+    : Type 0 where
   pub seen : seen told peer one (step state event) ≡ seen told peer other (step another further)
   pub packets : packets_at one state event ≡ packets_at other another further
 
@@ -87,7 +88,8 @@ packets_in ordinal state [] = []
 packets_in ordinal state (event ∷ events) = packets_at ordinal state event ++ packets_in ordinal (step state event) events
 
 -- runs that lead to the same and give the same packets
-pub record LeadsToTheSame (told : Option Buffers) (peer : Peer) (one other : Ordinal) (state another : State) (events further : List Event) : Type 0 where
+pub record LeadsToTheSame (told : Option Buffers) (peer : Peer) (one other : Ordinal) (state another : State) (events further : List Event)
+    : Type 0 where
   pub seen : seen told peer one (after_events state events) ≡ seen told peer other (after_events another further)
   pub packets : packets_in one state events ≡ packets_in other another further
 
@@ -114,7 +116,8 @@ packets_to ordinal start input = packets_in ordinal (state_at start) (events_of 
 -- two connections are given the same packets, and in the end have the same, but for the commands that wait for them
 pub record AreServedAlike (start : Start) (one other : Ordinal) (input another : List Item) : Type 0 where
   pub packets : packets_to one start input ≡ packets_to other start another
-  pub part : without_commands ((course start input).intake.state.parts one) ≡ without_commands ((course start another).intake.state.parts other)
+  pub part : without_commands ((course start input).intake.state.parts one)
+      ≡ without_commands ((course start another).intake.state.parts other)
 
 -- equal views from one start give the same packets, whichever connections they are of
 abbrev pub SameViewSamePackets : Type 0

@@ -41,7 +41,8 @@ pub data Shown : Type 0 where
 abbrev pub handles_written : Room → Row → Part → Own → List Handle
 handles_written room bond part (Asks pdu) =
     let asked = request_of pdu (mtu_of room part) in
-    if is_live part.mark && not (is_due asked && is_full room part) then handles_by room.table (row_of bond part) (connection_of room part) asked
+    if is_live part.mark && not (is_due asked && is_full room part)
+    then handles_by room.table (row_of bond part) (connection_of room part) asked
     else []
 handles_written room bond part own = []
 
