@@ -1,0 +1,8 @@
+//! The connections of a host, each in its slot: what an event does to one, what it hears, and what
+//! goes out on it.
+#![tactic(auto)]
+
+mod going_out;
+mod slot;
+
+pub use slot::Slot;
