@@ -1,3 +1,4 @@
 pub mod Kept
 pub mod Use
 pub mod Commands
+pub mod Hearing

@@ -3,6 +3,7 @@
 #![tactic(auto)]
 
 mod going_out;
+mod hearing;
 mod slot;
 
 pub use slot::Slot;

@@ -10,4 +10,5 @@ pub mod Unfitted
 pub mod Rows
 pub mod RowsLends
 pub mod Fit
+pub mod Changes
 pub mod RowsText

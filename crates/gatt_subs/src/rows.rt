@@ -16,6 +16,7 @@ ghost use Rattle.gatt_subs.specs.Fit.{fitted_bond, fitted_rows, row_fitted, HasF
 ghost use Rattle.gatt_subs.specs.InOrder.{Ascends};
 ghost use Rattle.gatt_subs.specs.RowEntry.{is_at, rank_of};
 ghost use Rattle.gatt_subs.specs.Rows.{place_of, bond_of, row_of, row_in, row_read, owes, bonds_with, with_bond, with_row, with_set, with_owed, kept_bond, subscriptions_read, ChangesBond};
+ghost use Rattle.gatt_subs.specs.Changes.{with_changes_owed};
 ghost use Rattle.gatt_subs.specs.RowsText.{text_of, WritesFront};
 
 use crate::bond::Bond;
@@ -163,6 +164,14 @@ impl Rows {
         }
     }
 
+    /// The row of a peer, if it has one.
+    pub fn row(&self, peer: &Peer) -> Option<&ConfigRow>
+        ensures { option_copied result ≡ row_of self.now peer.now }
+    {
+        let place = place_of(&self.peers, peer)?;
+        Some(&self.bonds[place].row)
+    }
+
     /// Lends the row of a peer, if it has one.
     pub fn of(&mut self, peer: &Peer) -> Option<&mut ConfigRow>
         ensures* writes_back { sem 𝓛 (LendsRow self.entry peer.now result) }
@@ -202,6 +211,25 @@ impl Rows {
         ensures each { (peer : Peer) → bond_of self.new peer ≡ option_map (kept_bond old.now.attributes new.now.attributes) (bond_of self.old peer) }
     {
         keep_rows(&mut self.bonds, old, new);
+    }
+
+    /// Sets that each peer whose row asks for indications of this changer is owed one, and no other.
+    pub fn owe_changes(&mut self, changer: Option<u16>)
+        requires most { IfSome changer (λ handle. handle ≤ 1024) }
+        ensures owed { self.new ≡ record self.old { bonds = map (with_changes_owed changer) self.old.bonds } }
+        ensures each { (peer : Peer) → bond_of self.new peer ≡ option_map (with_changes_owed changer) (bond_of self.old peer) }
+    {
+        owe_where_wanted(&mut self.bonds, changer);
+    }
+}
+
+/// Sets of each bond that it is owed where its row asks for indications of this changer.
+fn owe_where_wanted(bonds: &mut Vec<Bond>, changer: Option<u16>)
+    requires { IfSome changer (λ handle. handle ≤ 1024) }
+    ensures { bonds.new.items ≡ map (with_changes_owed changer) bonds.old.items }
+{
+    for place in 0..bonds.len() {
+        bonds[place].owe_changes(changer);
     }
 }
 

@@ -1,0 +1,169 @@
+//! What a connection hears unasked at the end of an event: Core 5.0, Vol 3 Part F, 3.4.7.
+
+ghost use Rattle.std.specs.Prelude.{◌≡◌, ◌-◌, ◌≤◌, ◌<◌, true, [], ◌∷◌, ◌++◌, length, take, Some, IsSome, is_some, if◌then◌else◌, unwrap_or};
+ghost use Rattle.std.specs.Option.{option_map, option_copied};
+ghost use Rattle.att_table.specs.Table.{attribute_at, is_value_at, value_at};
+ghost use Rattle.gatt_laws.specs.Heard.{att_pdu};
+ghost use Rattle.gatt_slots.specs.Hearing.{after_hearing, row_in_force, told_in_turn, told_raised, told_released, with_told};
+ghost use Rattle.gatt_slots.specs.Kept.{standing_of};
+ghost use Rattle.gatt_subs.specs.Rows.{row_of};
+ghost use Rattle.le_acl.specs.Outgoing.{with_pdu};
+ghost use Rattle.octets.specs.Number.{two_octets};
+
+use crate::slot::{Slot, Use};
+use arrayvec::ArrayVec;
+use att_numbers::opcode::{HANDLE_VALUE_INDICATION, HANDLE_VALUE_NOTIFICATION};
+use att_policy::Standing;
+use att_table::{ConfigRow, Table};
+use gatt_subs::{Pending, Rows};
+use le_acl::Sender;
+use le_hci::Peer;
+use le_l2cap::channel::ATT;
+use le_security::Link;
+
+/// By what a connection hears.
+#[derive(Clone, Copy)]
+struct Ear<'a> {
+    /// What it has configured.
+    row: &'a ConfigRow,
+    standing: Standing,
+    mtu: u16,
+}
+
+/// Tells of values that were written, and of what is then due.
+fn tell(
+    table: &Table,
+    row: &ConfigRow,
+    standing: Standing,
+    mtu: u16,
+    now: u64,
+    handles: &[u16],
+    pending: &mut Pending,
+    sender: &mut Sender,
+)
+    requires least { 23 ≤ mtu }
+    requires most { mtu ≤ 517 }
+    ensures { record { pending = pending.new; outgoing = sender.new.outgoing }
+        ≡ told_in_turn table.now (record { row = row.now; standing = standing; mtu = mtu }) now handles.now
+        (record { pending = pending.old; outgoing = sender.old.outgoing }) }
+{
+    let ear = Ear {
+        row,
+        standing,
+        mtu,
+    };
+    tell_in_turn(table, &ear, now, handles, pending, sender);
+}
+
+/// Raises values in their order, and then releases what is due.
+fn tell_in_turn(
+    table: &Table,
+    ear: &Ear<'_>,
+    now: u64,
+    handles: &[u16],
+    pending: &mut Pending,
+    sender: &mut Sender,
+)
+    requires least { 23 ≤ ear.now.mtu }
+    requires most { ear.now.mtu ≤ 517 }
+    ensures { record { pending = pending.new; outgoing = sender.new.outgoing }
+        ≡ told_in_turn table.now (record { row = ear.now.row.now; standing = ear.now.standing; mtu = ear.now.mtu }) now handles.now
+        (record { pending = pending.old; outgoing = sender.old.outgoing }) }
+{
+    for handle in handles {
+        raise(table, ear, *handle, pending, sender);
+    }
+    release(table, ear, now, pending, sender);
+}
+
+/// Tells of a value that was written.
+fn raise(table: &Table, ear: &Ear<'_>, handle: u16, pending: &mut Pending, sender: &mut Sender)
+    requires least { 23 ≤ ear.now.mtu }
+    requires most { ear.now.mtu ≤ 517 }
+    ensures { record { pending = pending.new; outgoing = sender.new.outgoing }
+        ≡ told_raised table.now (record { row = ear.now.row.now; standing = ear.now.standing; mtu = ear.now.mtu }) handle
+        (record { pending = pending.old; outgoing = sender.old.outgoing }) }
+{
+    if pending.raise(table, handle, ear.row, &ear.standing, sender.backlog()) {
+        queue_value(HANDLE_VALUE_NOTIFICATION, handle, table.value(handle), ear.mtu, sender);
+    }
+}
+
+/// Sends the indication that is due, if one is.
+fn release(table: &Table, ear: &Ear<'_>, now: u64, pending: &mut Pending, sender: &mut Sender)
+    requires least { 23 ≤ ear.now.mtu }
+    requires most { ear.now.mtu ≤ 517 }
+    ensures { record { pending = pending.new; outgoing = sender.new.outgoing }
+        ≡ told_released table.now (record { row = ear.now.row.now; standing = ear.now.standing; mtu = ear.now.mtu }) now
+        (record { pending = pending.old; outgoing = sender.old.outgoing }) }
+{
+    if let Some(handle) = pending.release(table, ear.row, &ear.standing, sender.backlog(), now) {
+        queue_value(HANDLE_VALUE_INDICATION, handle, table.value(handle), ear.mtu, sender);
+    }
+}
+
+/// Queues a PDU that tells a value: its opcode, the handle, and as much of the value as fits.
+fn queue_value(opcode: u8, handle: u16, value: &[u8], mtu: u16, sender: &mut Sender)
+    requires least { 23 ≤ mtu }
+    requires most { mtu ≤ 517 }
+    requires room { length sender.old.outgoing.queue < 16 }
+    ensures { sender.new.outgoing ≡ with_pdu sender.old.outgoing (ATT, opcode ∷ two_octets handle ++ take (mtu - 3) value.now) }
+{
+    let Ok(room) = sender.room() else {
+        unreachable!()
+    };
+    write_value(opcode, handle, value, mtu, room);
+    sender.push(ATT);
+}
+
+/// Writes the PDU into an empty buffer.
+fn write_value(opcode: u8, handle: u16, value: &[u8], mtu: u16, out: &mut ArrayVec<u8, 517>)
+    requires least { 23 ≤ mtu }
+    requires most { mtu ≤ 517 }
+    requires empty { out.old.items ≡ [] }
+    ensures { out.new.items ≡ opcode ∷ two_octets handle ++ take (mtu - 3) value.now }
+{
+    let [low, high] = handle.to_le_bytes();
+    let front = &value[..value.len().min(usize::from(mtu) - 3)];
+    let _ = out.try_extend_from_slice(&[opcode, low, high]);
+    let _ = out.try_extend_from_slice(front);
+}
+
+/// The row of the peer's bond where the link has a key, else the connection's own.
+fn row_in_force<'a>(link: &Link, peer: &Peer, own: &'a ConfigRow, rows: &'a Rows) -> &'a ConfigRow
+    ensures { result.now ≡ (if is_some link.now.key then unwrap_or (row_of rows.now peer.now) own.now else own.now) }
+{
+    if link.facts().is_some() {
+        if let Some(row) = rows.row(peer) {
+            return row;
+        }
+    }
+    own
+}
+
+impl Slot {
+    /// Tells the connection of values that were written, and then what is due.
+    pub fn hear(&mut self, table: &Table, rows: &Rows, handles: &[u16], now: u64)
+        ensures { self.new ≡ option_map (λ kept. after_hearing table.now now (row_of rows.now kept.peer) handles.now kept) self.old }
+    {
+        if self.used != Use::Live {
+            return;
+        }
+        let standing = self.standing(now);
+        let mtu = self.conn.mtu();
+        let row = row_in_force(&self.link, &self.peer, &self.row, rows);
+        tell(table, row, standing, mtu, now, handles, &mut self.pending, &mut self.sender);
+    }
+
+    /// What the policy sees of the connection.
+    pub(crate) fn standing(&self, now: u64) -> Standing
+        ensures { option_map (standing_of now) self.now ≡ option_map (λ kept. result) self.now }
+    {
+        Standing {
+            key: self.link.facts(),
+            key_known: self.key_known,
+            until: self.until,
+            now,
+        }
+    }
+}
