@@ -2,3 +2,4 @@ pub mod Kept
 pub mod Use
 pub mod Commands
 pub mod Hearing
+pub mod Turn

@@ -5,5 +5,6 @@
 mod going_out;
 mod hearing;
 mod slot;
+mod turn;
 
 pub use slot::Slot;

@@ -1,0 +1,247 @@
+//! What happens to the connection of a slot, beside requests of the Attribute Protocol.
+
+ghost use Rattle.std.specs.Prelude.{◌≡◌, ◌<◌, ◌≤◌, ◌^◌, ◌==◌, ◌&&◌, not, is_some, [], ◌++◌, length, if◌then◌else◌, Some, None, IfOk, IfSome};
+ghost use Rattle.std.specs.Option.{option_copied, option_map};
+ghost use Rattle.gatt_laws.specs.Turn.{channel_answer, gained_encryption};
+ghost use Rattle.gatt_slots.specs.Turn.{come, after_authorizing, after_completed, after_ending, after_key_asked, after_link_step, after_loss, after_signal, after_table, after_time, with_answer};
+ghost use Rattle.gatt_subs.specs.Indications.{no_indications};
+ghost use Rattle.le_acl.specs.Outgoing.{with_pdu};
+ghost use Rattle.le_security.specs.Keys.{answer_of};
+ghost use Rattle.le_security.specs.Link.{Encryption, Refresh, after_step};
+
+use crate::slot::{Slot, Use};
+use arrayvec::ArrayVec;
+use att_table::{ConfigRow, Table};
+use gatt_conn::Conn;
+use gatt_subs::Pending;
+use le_acl::{MAX_PDUS, Sender};
+use le_hci::Peer;
+use le_l2cap::channel::{LE_SIGNALLING, SECURITY_MANAGER};
+use le_l2cap::{security, signalling};
+use le_security::{Key, Keys, Link};
+use std::alloc::{AllocError, Global};
+
+/// Why a connection is ended that lost its encryption: Authentication Failure, Core 5.0, Vol 2
+/// Part D, 2.5. Which reason is told is this profile's own.
+const AUTHENTICATION_FAILURE: u8 = 0x05;
+/// Why one is ended that has no room for an answer: Remote User Terminated Connection, 2.19.
+pub(crate) const REMOTE_USER_TERMINATED: u8 = 0x13;
+
+impl Slot {
+    /// A free slot, with room for all that it may come to keep.
+    pub fn new(alloc: Global) -> Result<Slot, AllocError>
+        ensures { IfOk result (λ slot. slot ≡ None) }
+    {
+        Ok(Slot {
+            used: Use::Free,
+            handle: 0,
+            peer: Peer {
+                kind: 0,
+                address: [0; 6],
+            },
+            key_known: false,
+            until: 0,
+            row: ConfigRow::new(),
+            link: Link::new(),
+            conn: Conn::new(alloc)?,
+            pending: Pending::new(),
+            sender: Sender::new(alloc, 1, 27)?,
+            reply: None,
+            reason: None,
+        })
+    }
+
+    /// Takes in a new connection, to a server that receives PDUs of `rx_mtu` octets. At most `share`
+    /// of its packets may be outstanding, with at most `acl_len` octets of data each.
+    pub fn come(
+        &mut self,
+        handle: u16,
+        peer: Peer,
+        key_known: bool,
+        rx_mtu: u16,
+        share: u16,
+        acl_len: u16,
+    )
+        requires handle { handle < 2 ^ 12 }
+        requires rx_mtu_least { 23 ≤ rx_mtu }
+        requires rx_mtu_most { rx_mtu ≤ 517 }
+        requires share { 0 < share }
+        requires acl_len_least { 27 ≤ acl_len }
+        requires acl_len_most { acl_len ≤ 251 }
+        ensures { self.new ≡ Some (come handle peer key_known rx_mtu share acl_len) }
+    {
+        self.used = Use::Live;
+        self.handle = handle;
+        self.peer = peer;
+        self.key_known = key_known;
+        self.until = 0;
+        self.row = ConfigRow::new();
+        self.link = Link::new();
+        self.conn.renew();
+        self.conn.limit(rx_mtu);
+        self.pending = Pending::new();
+        self.sender.reset(share, acl_len);
+        self.reply = None;
+        self.reason = None;
+    }
+
+    /// Frees the slot.
+    pub fn go(&mut self)
+        ensures { self.new ≡ None }
+    {
+        self.used = Use::Free;
+    }
+
+    /// Authorizes the connection while the time is below a moment, in milliseconds.
+    pub fn authorize(&mut self, until: u64)
+        ensures { self.new ≡ option_map (after_authorizing until) self.old }
+    {
+        self.until = until;
+    }
+
+    /// The controller asked for the key of the link: it is looked up, and a reply is due.
+    pub fn ask_key(&mut self, keys: &Keys, random_number: [u8; 8], diversifier: u16)
+        ensures { self.new ≡ option_map (λ kept. after_key_asked (answer_of keys.now kept.peer random_number diversifier) kept) self.old }
+    {
+        let found = keys.answer(&self.peer, random_number, diversifier);
+        self.link.request(found);
+        self.reply = Some(long_term_key(found));
+    }
+
+    /// Encryption of the link was changed, or could not be: `true` where it has a key now and had
+    /// none. Where it lost its key the connection is ended.
+    pub fn encrypt(&mut self, status: u8, enabled: u8) -> bool
+        ensures after { self.new ≡ option_map (after_link_step (Encryption status enabled)) self.old }
+        ensures gained { IfSome self.old (λ kept. result ≡ gained_encryption kept.link.key (after_step kept.link (Encryption status enabled)).key) }
+    {
+        let had_key = self.link.facts().is_some();
+        self.link.encryption(status, enabled);
+        self.judge_link(had_key)
+    }
+
+    /// The key of the link was refreshed, or could not be.
+    pub fn refresh(&mut self, status: u8) -> bool
+        ensures after { self.new ≡ option_map (after_link_step (Refresh status)) self.old }
+        ensures gained { IfSome self.old (λ kept. result ≡ gained_encryption kept.link.key (after_step kept.link (Refresh status)).key) }
+    {
+        let had_key = self.link.facts().is_some();
+        self.link.refresh(status);
+        self.judge_link(had_key)
+    }
+
+    /// Ends the connection where its link had a key and has none: `true` where it has one and had
+    /// none.
+    fn judge_link(&mut self, had_key: bool) -> bool
+        ensures after { self.new ≡ option_map (after_loss had_key) self.old }
+        ensures gained { IfSome self.old (λ kept. result ≡ (not had_key && is_some kept.link.key)) }
+    {
+        let has_key = self.link.facts().is_some();
+        if had_key && !has_key {
+            self.end(AUTHENTICATION_FAILURE);
+        }
+        !had_key && has_key
+    }
+
+    /// Takes in a payload on the channel of LE signalling or of the Security Manager.
+    pub fn signal(&mut self, channel: u16, payload: &[u8])
+        ensures { self.new ≡ option_map (after_signal channel payload.now) self.old }
+    {
+        match channel {
+            LE_SIGNALLING => {
+                if let Some(reject) = signalling(payload) {
+                    self.answer(channel, &reject.octets());
+                }
+            }
+            SECURITY_MANAGER => {
+                if let Some(answer) = security(payload) {
+                    self.answer(channel, &answer);
+                }
+            }
+            _ => {}
+        }
+    }
+
+    /// Queues an answer, or ends the connection where there is no room for it.
+    fn answer(&mut self, channel: u16, octets: &[u8])
+        requires { length octets.now ≤ 517 }
+        ensures { self.new ≡ option_map (with_answer channel (Some octets.now)) self.old }
+    {
+        if self.sender.backlog() == MAX_PDUS {
+            self.end(REMOTE_USER_TERMINATED);
+        } else {
+            queue_octets(channel, octets, &mut self.sender);
+        }
+    }
+
+    /// Ends the connection for a reason, which the Disconnect will tell.
+    pub(crate) fn end(&mut self, reason: u8)
+        ensures { self.new ≡ option_map (after_ending reason) self.old }
+    {
+        if self.used == Use::Live {
+            self.used = Use::Ending;
+        }
+        self.conn.cancel();
+        self.pending.end();
+        self.sender.flush();
+        self.reply = None;
+        self.reason = Some(reason);
+    }
+
+    /// Counts packets as completed, at most those that are outstanding.
+    pub fn complete(&mut self, count: u16)
+        ensures { self.new ≡ option_map (after_completed count) self.old }
+    {
+        self.sender.completed(count);
+    }
+
+    /// Takes in the time, in milliseconds.
+    pub fn tick(&mut self, now: u64)
+        ensures { self.new ≡ option_map (after_time now) self.old }
+    {
+        self.pending.tick(now);
+    }
+
+    /// Takes in that a table replaces another: what is configured stays where it has its meaning, and
+    /// nothing is prepared or waits any more.
+    pub fn replace(&mut self, old: &Table, new: &Table)
+        ensures { self.new ≡ option_map (after_table old.now.attributes new.now.attributes) self.old }
+    {
+        self.row.keep(old, new);
+        if self.used == Use::Live {
+            self.conn.cancel();
+            self.pending.replaced();
+        }
+    }
+}
+
+/// The octets of a key, if one was found.
+fn long_term_key(found: Option<&Key>) -> Option<[u8; 16]>
+    ensures { result ≡ option_map (λ key. key.ltk) (option_copied found.entry) }
+{
+    match found {
+        Some(key) => Some(key.ltk),
+        None => None,
+    }
+}
+
+/// Queues octets as a PDU on a channel.
+fn queue_octets(channel: u16, octets: &[u8], sender: &mut Sender)
+    requires fits { length octets.now ≤ 517 }
+    requires room { length sender.old.outgoing.queue < 16 }
+    ensures { sender.new.outgoing ≡ with_pdu sender.old.outgoing (channel, octets.now) }
+{
+    let Ok(room) = sender.room() else {
+        unreachable!()
+    };
+    write_octets(octets, room);
+    sender.push(channel);
+}
+
+/// Writes octets into an empty buffer.
+fn write_octets(octets: &[u8], out: &mut ArrayVec<u8, 517>)
+    requires fits { length octets.now ≤ 517 }
+    requires empty { out.old.items ≡ [] }
+    ensures { out.new.items ≡ octets.now }
+{
+    let _ = out.try_extend_from_slice(octets);
+}
