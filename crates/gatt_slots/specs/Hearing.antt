@@ -1,10 +1,9 @@
 -- What a connection hears unasked, by what its slot keeps.
-use Rattle.std.specs.Prelude.{ℕ, Bool, true, is_some, if◌then◌else◌, unwrap_or, List, [], ◌∷◌, length, map, Option}
-use Rattle.att_numbers.specs.Types.{Handle, Mtu, Row, Values}
+use Rattle.std.specs.Prelude.{ℕ, true, is_some, if◌then◌else◌, unwrap_or, List, [], ◌∷◌, length, map, Option}
+use Rattle.att_numbers.specs.Types.{Handle, Mtu, Row}
 use Rattle.att_policy.specs.declared.standing.Standing.{Standing}
-use Rattle.att_table.specs.declared.attr.Attr.{Attr}
 use Rattle.att_table.specs.Table.{Contents}
-use Rattle.gatt_laws.specs.Heard.{Heard, att_pdu, heard_raised, heard_released, heard_in_turn}
+use Rattle.gatt_laws.specs.Heard.{Heard, att_pdu, heard_raised, heard_released}
 use Rattle.gatt_slots.specs.Kept.{Kept, standing_of}
 use Rattle.gatt_subs.specs.Indications.{Indications}
 use Rattle.gatt_subs.specs.Told.{Hearer}

@@ -1,5 +1,5 @@
 -- What a slot keeps of its connection: of all that happened to it, what later events ask for.
-use Rattle.std.specs.Prelude.{ℕ, Bool, true, false, is_some, if◌then◌else◌, List, length, Option, Some, None}
+use Rattle.std.specs.Prelude.{ℕ, Bool, is_some, if◌then◌else◌, List, length, Option, Some, None}
 use Rattle.att_numbers.specs.Types.{Mtu, Row}
 use Rattle.att_policy.specs.declared.standing.Standing.{Standing}
 use Rattle.att_writes.specs.Entry.{Entry}

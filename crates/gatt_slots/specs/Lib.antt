@@ -3,3 +3,4 @@ pub mod Use
 pub mod Commands
 pub mod Hearing
 pub mod Turn
+pub mod Request

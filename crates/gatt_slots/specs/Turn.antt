@@ -1,5 +1,5 @@
 -- What happens to one connection, by what its slot keeps.
-use Rattle.std.specs.Prelude.{ℕ, Bool, true, false, not, ◌==◌, ◌&&◌, is_some, if◌then◌else◌, List, [], ◌∷◌, Option, Some, None}
+use Rattle.std.specs.Prelude.{ℕ, Bool, true, false, not, ◌==◌, ◌&&◌, is_some, if◌then◌else◌, List, [], Option, Some, None}
 use Rattle.std.specs.Option.{option_map}
 use Rattle.att_numbers.specs.Types.{Mtu}
 use Rattle.att_table.specs.declared.attr.Attr.{Attr}

@@ -5,7 +5,6 @@ ghost use Rattle.std.specs.Option.{option_map, option_copied};
 ghost use Rattle.att_table.specs.Table.{attribute_at, is_value_at, value_at};
 ghost use Rattle.gatt_laws.specs.Heard.{att_pdu};
 ghost use Rattle.gatt_slots.specs.Hearing.{after_hearing, row_in_force, told_in_turn, told_raised, told_released, with_told};
-ghost use Rattle.gatt_slots.specs.Kept.{standing_of};
 ghost use Rattle.gatt_subs.specs.Rows.{row_of};
 ghost use Rattle.le_acl.specs.Outgoing.{with_pdu};
 ghost use Rattle.octets.specs.Number.{two_octets};
@@ -149,21 +148,21 @@ impl Slot {
         if self.used != Use::Live {
             return;
         }
-        let standing = self.standing(now);
+        let standing = standing(&self.link, self.key_known, self.until, now);
         let mtu = self.conn.mtu();
         let row = row_in_force(&self.link, &self.peer, &self.row, rows);
         tell(table, row, standing, mtu, now, handles, &mut self.pending, &mut self.sender);
     }
+}
 
-    /// What the policy sees of the connection.
-    pub(crate) fn standing(&self, now: u64) -> Standing
-        ensures { option_map (standing_of now) self.now ≡ option_map (λ kept. result) self.now }
-    {
-        Standing {
-            key: self.link.facts(),
-            key_known: self.key_known,
-            until: self.until,
-            now,
-        }
+/// What the policy sees of a connection.
+pub(crate) fn standing(link: &Link, key_known: bool, until: u64, now: u64) -> Standing
+    ensures { result ≡ record { key = link.now.key; key_known = key_known; until = until; now = now } }
+{
+    Standing {
+        key: link.facts(),
+        key_known,
+        until,
+        now,
     }
 }

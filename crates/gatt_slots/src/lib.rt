@@ -4,6 +4,7 @@
 
 mod going_out;
 mod hearing;
+mod request;
 mod slot;
 mod turn;
 

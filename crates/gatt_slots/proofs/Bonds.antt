@@ -1,0 +1,66 @@
+-- Changes of a peer's bond, one after another.
+use Rattle.std.proofs.Common.{◌≡◌, Bool, true, false, Option, Some, None, refl, sym, ap, ◌∙◌}
+use Rattle.std.specs.Prelude.{◌&&◌}
+use Rattle.std.specs.Option.{option_map}
+use Rattle.gatt_slots.specs.Request.{with_owed_after}
+use Rattle.gatt_subs.specs.declared.bond.Bond.{Bond}
+use Rattle.gatt_subs.specs.Rows.{Subscriptions, bond_of, with_owed, ChangesBond}
+use Rattle.le_hci.specs.declared.peer.Peer.{Peer}
+
+-- a change that is the same is the same on a bond that may not be there
+mapped : (f g : Bond → Bond) → ((bond : Bond) → f bond ≡ g bond) → (found : Option Bond) → option_map f found ≡ option_map g found
+mapped f g same None = refl
+mapped f g same (Some bond) = ap (λ (b : Bond). Some b) (same bond)
+
+mapped-twice : (f g : Bond → Bond) (found : Option Bond) → option_map g (option_map f found) ≡ option_map (λ bond. g (f bond)) found
+mapped-twice f g None = refl
+mapped-twice f g (Some bond) = refl
+
+mapped-same : (f : Bond → Bond) → ((bond : Bond) → f bond ≡ bond) → (found : Option Bond) → found ≡ option_map f found
+mapped-same f same None = refl
+mapped-same f same (Some bond) = ap (λ (b : Bond). Some b) (sym (same bond))
+
+pub changes-as : (f g : Bond → Bond) (peer : Peer) (old new : Subscriptions) → ((bond : Bond) → f bond ≡ g bond) → ChangesBond f peer old new
+    → ChangesBond g peer old new
+changes-as f g peer old new same changes = record {
+  bond = changes.bond ∙ mapped f g same (bond_of old peer);
+  others = changes.others;
+  unfitted = changes.unfitted;
+  peers = changes.peers;
+}
+
+pub changes-twice : (f g : Bond → Bond) (peer : Peer) (old mid new : Subscriptions) → ChangesBond f peer old mid → ChangesBond g peer mid new
+    → ChangesBond (λ bond. g (f bond)) peer old new
+changes-twice f g peer old mid new first second = record {
+  bond = second.bond ∙ ap (λ (found : Option Bond). option_map g found) first.bond ∙ mapped-twice f g (bond_of old peer);
+  others = λ other apart. second.others other apart ∙ first.others other apart;
+  unfitted = second.unfitted ∙ first.unfitted;
+  peers = second.peers ∙ first.peers;
+}
+
+pub changes-nothing : (f : Bond → Bond) (peer : Peer) (rows : Subscriptions) → ((bond : Bond) → f bond ≡ bond) → ChangesBond f peer rows rows
+changes-nothing f peer rows same = record {
+  bond = mapped-same f same (bond_of rows peer);
+  others = λ other apart. refl;
+  unfitted = refl;
+  peers = refl;
+}
+
+and-false : (test : Bool) → (test && false) ≡ false
+and-false true = refl
+and-false false = refl
+
+and-true : (test : Bool) → (test && true) ≡ test
+and-true true = refl
+and-true false = refl
+
+-- a peer that has confirmed is owed nothing, and another stays as it was
+pub confirmed_owed : (peer : Peer) (old new : Subscriptions) → ChangesBond (with_owed false) peer old new → ChangesBond (with_owed_after true) peer old new
+confirmed_owed peer old new changes =
+    changes-as (with_owed false) (with_owed_after true) peer old new
+    (λ bond. ap (λ (owed : Bool). record { row = bond.row; owed = owed }) (sym (and-false bond.owed))) changes
+
+pub unconfirmed_owed : (peer : Peer) (rows : Subscriptions) → ChangesBond (with_owed_after false) peer rows rows
+unconfirmed_owed peer rows =
+    changes-nothing (with_owed_after false) peer rows
+    (λ bond. ap (λ (owed : Bool). record { row = bond.row; owed = owed }) (and-true bond.owed))

@@ -1,0 +1,169 @@
+//! Requests of the Attribute Protocol on the connection of a slot.
+
+ghost use Rattle.std.specs.Prelude.{◌≡◌, ◌<◌, ◌≤◌, ◌==◌, ◌&&◌, true, false, IsSome, is_some, length, map, unwrap_or, if◌then◌else◌, IfSome};
+ghost use Rattle.std.specs.Bool.{OnFalse};
+ghost use Rattle.std.specs.Option.{option_map, option_map_or, option_to_list};
+ghost use Rattle.att_pdu.specs.Grammar.{request_of, is_due};
+ghost use Rattle.att_table.specs.ConfigRow.{IsRowOf};
+ghost use Rattle.gatt_conn.specs.Answer.{answer_to, stored_by, handles_by, conn_after, is_confirmation};
+ghost use Rattle.gatt_laws.specs.Heard.{att_pdu};
+ghost use Rattle.gatt_slots.specs.Hearing.{row_in_force, with_pdus};
+ghost use Rattle.gatt_slots.specs.Request.{bond_after, bond_served, handles_of, kept_served, own_row_after, table_after, with_owed_after};
+ghost use Rattle.gatt_subs.specs.Indications.{after_confirmation, is_told};
+ghost use Rattle.gatt_subs.specs.Rows.{row_of, ChangesBond};
+
+use crate::hearing::standing;
+use crate::slot::Slot;
+use crate::turn::REMOTE_USER_TERMINATED;
+use arrayvec::ArrayVec;
+use att_pdu::answer_due;
+use att_table::{ConfigRow, Table};
+use gatt_conn::{Answered, Conn, answer_into};
+use gatt_subs::{Pending, Rows};
+use le_acl::{MAX_PDUS, Sender};
+use le_hci::Peer;
+use le_l2cap::channel::ATT;
+use le_security::Link;
+
+impl Slot {
+    /// Serves a PDU of the Attribute Protocol, and gives the handles that it wrote. The connection is
+    /// ended where an answer is due and there is no room for it.
+    pub fn serve(
+        &mut self,
+        table: &mut Table,
+        rows: &mut Rows,
+        changer: Option<u16>,
+        now: u64,
+        pdu: &[u8],
+    ) -> ArrayVec<u16, 32>
+        requires there { IsSome self.old }
+        requires row { IfSome self.old (λ kept. IsRowOf table.old.attributes (row_in_force (row_of rows.old kept.peer) kept)) }
+        ensures after { self.new ≡ option_map (λ kept. kept_served table.old now (row_of rows.old kept.peer) pdu.now kept) self.old }
+        ensures table { IfSome self.old (λ kept. table.new ≡ table_after table.old now (row_of rows.old kept.peer) pdu.now kept) }
+        ensures bond { IfSome self.old (λ kept. ChangesBond (bond_served table.old now changer (row_of rows.old kept.peer) pdu.now kept) kept.peer rows.old rows.new) }
+        ensures written { IfSome self.old (λ kept. result.items ≡ handles_of table.old now (row_of rows.old kept.peer) pdu.now kept) }
+    {
+        if is_full(&self.conn, &self.sender, pdu) {
+            self.end(REMOTE_USER_TERMINATED);
+            return ArrayVec::new();
+        }
+        let has_key = self.link.facts().is_some();
+        let knows_change = knows_change(&self.link, &self.pending, changer);
+        let standing = standing(&self.link, self.key_known, self.until, now);
+        self.conn.stand(standing);
+        let answered = answer_by_row(
+            table,
+            rows,
+            &self.peer,
+            has_key,
+            &mut self.row,
+            &mut self.conn,
+            pdu,
+            &mut self.sender,
+        );
+        owe_unless(answered.confirmed, knows_change, &self.peer, rows);
+        take_confirmation(answered.confirmed, &mut self.pending);
+        answered.touched
+    }
+}
+
+/// Whether an answer is due and there is no room for it.
+fn is_full(conn: &Conn, sender: &Sender, pdu: &[u8]) -> bool
+    ensures full { result ≡ (is_due (request_of pdu.now conn.now.mtu) && (length sender.now.outgoing.queue == 16)) }
+    ensures room { OnFalse result (is_due (request_of pdu.now conn.now.mtu) ≡ true → length sender.now.outgoing.queue < 16) }
+{
+    sender.backlog() == MAX_PDUS && answer_due(pdu, conn.mtu())
+}
+
+/// Whether a confirmation, if it came now, would tell that the peer knows that the table was
+/// replaced.
+fn knows_change(link: &Link, pending: &Pending, changer: Option<u16>) -> bool
+    ensures { result ≡ (is_some link.now.key && option_map_or (is_told pending.now) changer false) }
+{
+    match changer {
+        Some(handle) => link.facts().is_some() && pending.told(handle),
+        None => false,
+    }
+}
+
+/// Takes in a confirmation, if there is one.
+fn take_confirmation(confirmed: bool, pending: &mut Pending)
+    ensures { pending.new ≡ (if confirmed then after_confirmation pending.old else pending.old) }
+{
+    if confirmed {
+        pending.confirm();
+    }
+}
+
+/// Takes in that a peer is owed nothing more, once it has confirmed that it knows of the change.
+#[tactic(auto, using(crate::proofs::Bonds::confirmed_owed, crate::proofs::Bonds::unconfirmed_owed))]
+fn owe_unless(confirmed: bool, knows_change: bool, peer: &Peer, rows: &mut Rows)
+    ensures { ChangesBond (with_owed_after (confirmed && knows_change)) peer.now rows.old rows.new }
+{
+    if confirmed && knows_change {
+        rows.owe(peer, false);
+    }
+}
+
+/// Serves a PDU by the row in force: that of the peer's bond where the link has a key, else the
+/// connection's own.
+fn answer_by_row(
+    table: &mut Table,
+    rows: &mut Rows,
+    peer: &Peer,
+    has_key: bool,
+    own: &mut ConfigRow,
+    conn: &mut Conn,
+    pdu: &[u8],
+    sender: &mut Sender,
+) -> Answered
+    requires row { IsRowOf table.old.attributes (if has_key then unwrap_or (row_of rows.old peer.now) own.old else own.old) }
+    requires room { is_due (request_of pdu.now conn.old.mtu) ≡ true → length sender.old.outgoing.queue < 16 }
+    ensures queued { sender.new.outgoing ≡ with_pdus sender.old.outgoing
+        (map att_pdu (option_to_list (answer_to table.old (if has_key then unwrap_or (row_of rows.old peer.now) own.old else own.old) conn.old (request_of pdu.now conn.old.mtu)))) }
+    ensures confirmed { result.confirmed ≡ is_confirmation pdu.now }
+    ensures touched { result.touched.items ≡ handles_by table.old (if has_key then unwrap_or (row_of rows.old peer.now) own.old else own.old) conn.old (request_of pdu.now conn.old.mtu) }
+    ensures table { table.new ≡ record table.old { values =
+        (stored_by table.old (if has_key then unwrap_or (row_of rows.old peer.now) own.old else own.old) conn.old (request_of pdu.now conn.old.mtu)).values } }
+    ensures own { own.new ≡ own_row_after has_key (row_of rows.old peer.now) own.old
+        (stored_by table.old (if has_key then unwrap_or (row_of rows.old peer.now) own.old else own.old) conn.old (request_of pdu.now conn.old.mtu)).row }
+    ensures bond { ChangesBond (bond_after has_key
+        (stored_by table.old (if has_key then unwrap_or (row_of rows.old peer.now) own.old else own.old) conn.old (request_of pdu.now conn.old.mtu)).row) peer.now rows.old rows.new }
+    ensures conn { conn.new ≡ conn_after table.old.attributes conn.old (request_of pdu.now conn.old.mtu) }
+{
+    if has_key {
+        if let Some(row) = rows.of(peer) {
+            return answer(table, row, conn, pdu, sender);
+        }
+    }
+    answer(table, own, conn, pdu, sender)
+}
+
+/// Serves a PDU, and queues its answer. There is room for one that is due.
+fn answer(
+    table: &mut Table,
+    row: &mut ConfigRow,
+    conn: &mut Conn,
+    pdu: &[u8],
+    sender: &mut Sender,
+) -> Answered
+    requires row { IsRowOf table.old.attributes row.old }
+    requires room { is_due (request_of pdu.now conn.old.mtu) ≡ true → length sender.old.outgoing.queue < 16 }
+    ensures queued { sender.new.outgoing ≡ with_pdus sender.old.outgoing
+        (map att_pdu (option_to_list (answer_to table.old row.old conn.old (request_of pdu.now conn.old.mtu)))) }
+    ensures confirmed { result.confirmed ≡ is_confirmation pdu.now }
+    ensures touched { result.touched.items ≡ handles_by table.old row.old conn.old (request_of pdu.now conn.old.mtu) }
+    ensures table { table.new ≡ record table.old { values = (stored_by table.old row.old conn.old (request_of pdu.now conn.old.mtu)).values } }
+    ensures row { row.new ≡ (stored_by table.old row.old conn.old (request_of pdu.now conn.old.mtu)).row }
+    ensures conn { conn.new ≡ conn_after table.old.attributes conn.old (request_of pdu.now conn.old.mtu) }
+{
+    let Ok(room) = sender.room() else {
+        let mut unsent = ArrayVec::new();
+        return answer_into(table, row, conn, pdu, &mut unsent);
+    };
+    let answered = answer_into(table, row, conn, pdu, room);
+    if answered.due {
+        sender.push(ATT);
+    }
+    answered
+}
