@@ -1,2 +1,3 @@
 pub mod Bonds
 pub mod Served
+pub mod EachSlot

@@ -4,3 +4,4 @@ pub mod Commands
 pub mod Hearing
 pub mod Turn
 pub mod Request
+pub mod Slots

@@ -6,6 +6,8 @@ mod going_out;
 mod hearing;
 mod request;
 mod slot;
+mod slots;
 mod turn;
 
 pub use slot::Slot;
+pub use slots::{complete_all, find_free, find_holding, find_serving, hear_all, replace_all, tick_all};

@@ -1,0 +1,64 @@
+-- All slots of a host, in their order.
+use Rattle.std.specs.Prelude.{ℕ, ◌+◌, ◌==◌, ◌&&◌, Bool, false, is_none, if◌then◌else◌, List, [], ◌∷◌, map, set, slice_get, Option}
+use Rattle.std.specs.List.{position}
+use Rattle.std.specs.Option.{option_map, option_map_or}
+use Rattle.att_numbers.specs.Types.{Handle}
+use Rattle.att_table.specs.declared.attr.Attr.{Attr}
+use Rattle.att_table.specs.Table.{Contents}
+use Rattle.gatt_slots.specs.Hearing.{after_hearing}
+use Rattle.gatt_slots.specs.Kept.{Kept}
+use Rattle.gatt_slots.specs.Turn.{after_completed, after_table, after_time}
+use Rattle.gatt_subs.specs.Rows.{Subscriptions, row_of}
+use Rattle.le_hci.specs.declared.event.CompletedPackets.{CompletedPackets}
+
+-- what each slot keeps
+abbrev pub Held : Type 0
+Held = List (Option Kept)
+
+-- the slot of a connection by its handle: of one that serves, and of one that may be ending
+abbrev pub is_serving : ℕ → Option Kept → Bool
+is_serving handle slot = option_map_or (λ (kept : Kept). kept.live && (kept.handle == handle)) slot false
+
+abbrev pub is_holding : ℕ → Option Kept → Bool
+is_holding handle slot = option_map_or (λ (kept : Kept). kept.handle == handle) slot false
+
+abbrev pub place_serving : Held → ℕ → Option ℕ
+place_serving slots handle = position (is_serving handle) slots
+
+abbrev pub place_holding : Held → ℕ → Option ℕ
+place_holding slots handle = position (is_holding handle) slots
+
+abbrev pub place_free : Held → Option ℕ
+place_free slots = position is_none slots
+
+-- all hear at the end of an event: the one of the connection that it happened to of some values, and the others of others
+abbrev pub handles_for : Option ℕ → List Handle → List Handle → ℕ → List Handle
+handles_for own here handles place = if option_map_or (λ (at : ℕ). at == place) own false then here else handles
+
+abbrev pub heard_by : Contents → ℕ → Subscriptions → List Handle → Option Kept → Option Kept
+heard_by table now rows handles slot = option_map (λ (kept : Kept). after_hearing table now (row_of rows kept.peer) handles kept) slot
+
+abbrev pub heard_from : ℕ → (ℕ → Option Kept → Option Kept) → Held → Held
+heard_from place hear [] = []
+heard_from place hear (slot ∷ slots) = hear place slot ∷ heard_from (place + 1) hear slots
+
+abbrev pub all_heard : Contents → ℕ → Subscriptions → Option ℕ → List Handle → List Handle → Held → Held
+all_heard table now rows own here handles slots =
+    heard_from 0 (λ place slot. heard_by table now rows (handles_for own here handles place) slot) slots
+
+-- time has gone by for all, and the table is replaced for all
+abbrev pub all_after_time : ℕ → Held → Held
+all_after_time now slots = map (λ (slot : Option Kept). option_map (after_time now) slot) slots
+
+abbrev pub all_after_table : List Attr → List Attr → Held → Held
+all_after_table old new slots = map (λ (slot : Option Kept). option_map (after_table old new) slot) slots
+
+-- packets are completed, entry by entry: one of an unknown handle counts for nothing
+abbrev pub after_entry : CompletedPackets → Held → Held
+after_entry entry slots =
+    option_map_or (λ (place : ℕ). option_map_or (λ slot. set slots place (option_map (after_completed entry.packets) slot)) (slice_get slots place) slots)
+    (place_holding slots entry.handle) slots
+
+abbrev pub after_entries : List CompletedPackets → Held → Held
+after_entries [] slots = slots
+after_entries (entry ∷ entries) slots = after_entries entries (after_entry entry slots)
