@@ -1,0 +1,210 @@
+ghost use Rattle.std.specs.Prelude.{◌≡◌, ℕ, false, IfOk, IfErr, IfSome, IsOk, IsSome, Some, None, Ok};
+ghost use Rattle.gatt_laws.specs.Controller as laws;
+ghost use Rattle.gatt_laws.specs.Event.{Credit, Connected, Gone};
+ghost use Rattle.gatt_laws.specs.Packets.{completed_event, status_event, status_of, is_awaited, init_fault, following_of};
+ghost use Rattle.gatt_laws.specs.State.{told_of, is_refusal};
+ghost use Rattle.gatt_host.specs.Answers.{answered_by, following_if, following_stop, stop_of, told_fault};
+ghost use Rattle.le_hci.specs.Init.{command_awaited, first_state, outcome_of};
+ghost use Rattle.le_hci.specs.InitTold.{AreUsable, told_in};
+ghost use Rattle.le_hci.specs.declared.peer.Peer.{Peer};
+
+use crate::host_fault::HostFault;
+use arrayvec::ArrayVec;
+use le_hci::event_code::COMMAND_COMPLETE;
+use le_hci::{Buffers, Init, InitFault, opcode};
+use std::marker::Model;
+use std::mem;
+
+/// What a host knows of its controller.
+#[derive(Drop)]
+pub struct Controller {
+    /// How many commands it takes now.
+    pub(crate) credit: u8,
+    pub(crate) init: Init,
+    /// The command that initialisation awaits was sent.
+    pub(crate) awaiting: bool,
+    /// It advertises, as far as the host knows.
+    pub(crate) advertising: bool,
+    /// It refused to advertise since a connection last ended.
+    pub(crate) refused: bool,
+}
+
+impl Model for Controller {
+    ghost use Rattle.gatt_laws.specs.Controller as laws;
+
+    ghost Value = { laws.Controller };
+
+    ghost use Rattle.le_hci.specs.InitTold.{KnowsUsable};
+
+    ghost view = { λ c. record { credit = c.credit; init = c.init; awaiting = c.awaiting; advertising = c.advertising; refused = c.refused } };
+
+    // Buffers that it has told are enough for a peripheral.
+    ghost invariant = { λ c. KnowsUsable c.init };
+}
+
+impl Controller {
+    /// A controller that is not initialised, and takes one command before it answers any: Core 5.0,
+    /// Vol 2 Part E, 4.4.
+    pub fn new(address: Option<[u8; 6]>, advertising: ArrayVec<u8, 31>) -> Controller
+        ensures { result ≡ record { credit = 1; init = first_state address advertising; awaiting = false; advertising = false; refused = false } }
+    {
+        Controller {
+            credit: 1,
+            init: Init::new(address, advertising),
+            awaiting: false,
+            advertising: false,
+            refused: false,
+        }
+    }
+
+    /// The controller is initialised.
+    pub fn is_ready(&self) -> bool
+        ensures { result ≡ laws.is_ready self.now }
+    {
+        self.init.command().is_none()
+    }
+
+    /// A connection has come, and the controller stops advertising.
+    pub fn came(&mut self)
+        ensures { (handle : ℕ) (peer : Peer) → self.new ≡ told_of (Connected handle peer) self.old }
+    {
+        self.advertising = false;
+    }
+
+    /// A connection has gone, and advertising may be enabled again.
+    pub fn went(&mut self)
+        ensures { self.new ≡ told_of Gone self.old }
+    {
+        self.refused = false;
+    }
+
+    /// The command with this opcode is awaited.
+    pub(crate) fn awaits(&self, opcode: u16) -> bool
+        ensures { result ≡ is_awaited self.now opcode }
+    {
+        if !self.awaiting {
+            return false;
+        }
+        let Some(command) = self.init.command() else {
+            return false;
+        };
+        opcode == command.opcode()
+    }
+
+    /// The buffers that it has told, which are enough for a peripheral.
+    pub fn told(&self) -> Option<Buffers>
+        ensures told { result ≡ told_in self.now.init }
+        ensures usable { IfSome result AreUsable }
+    {
+        buffers_in(&self.init)
+    }
+
+    /// Takes in a Command Complete: how many commands the controller takes now, the opcode, and what
+    /// the command returned. Says whether another state of initialisation follows.
+    pub fn completed(
+        &mut self,
+        allowed: u8,
+        opcode: u16,
+        returned: &[u8],
+    ) -> Result<bool, HostFault>
+        ensures event { IfOk result (λ followed. completed_event self.old allowed opcode returned.now ≡ Ok (Credit allowed opcode (status_of returned.now) (following_if followed self.new))) }
+        ensures after { IfOk result (λ followed. self.new ≡ answered_by self.old allowed opcode (status_of returned.now) (following_if followed self.new)) }
+        ensures stops { IfErr result (λ fault. stop_of (completed_event self.old allowed opcode returned.now) ≡ Some fault) }
+        ensures unchanged { IfErr result (λ fault. self.new ≡ self.old) }
+    {
+        if self.awaits(opcode) {
+            self.advance(allowed, returned)?;
+            return Ok(true);
+        }
+        self.credited(allowed, opcode, returned.first().copied());
+        Ok(false)
+    }
+
+    /// Takes in a Command Status: the status, how many commands the controller takes now, and the
+    /// opcode. Says whether another state of initialisation follows.
+    pub fn status(&mut self, status: u8, allowed: u8, opcode: u16) -> Result<bool, HostFault>
+        ensures event { IfOk result (λ followed. status_event self.old status allowed opcode ≡ Ok (Credit allowed opcode (Some status) (following_if followed self.new))) }
+        ensures after { IfOk result (λ followed. self.new ≡ answered_by self.old allowed opcode (Some status) (following_if followed self.new)) }
+        ensures stops { IfErr result (λ fault. stop_of (status_event self.old status allowed opcode) ≡ Some fault) }
+        ensures unchanged { IfErr result (λ fault. self.new ≡ self.old) }
+    {
+        if self.awaits(opcode) && status != 0 {
+            self.advance(allowed, &[status])?;
+            return Ok(true);
+        }
+        self.credited(allowed, opcode, Some(status));
+        Ok(false)
+    }
+
+    /// Goes on after the command that initialisation awaits.
+    fn advance(&mut self, allowed: u8, returned: &[u8]) -> Result<(), HostFault>
+        requires { IsSome (command_awaited self.old.init) }
+        ensures follows { IsOk result → following_of (outcome_of self.old.init returned.now) ≡ Ok (Some self.new.init) }
+        ensures after { IsOk result → self.new ≡ record self.old { credit = allowed; init = self.new.init; awaiting = false } }
+        ensures stops { IfErr result (λ fault. following_stop (following_of (outcome_of self.old.init returned.now)) ≡ Some fault) }
+        ensures unchanged { IfErr result (λ fault. self.new ≡ self.old) }
+    {
+        let init = mem::replace(&mut self.init, NO_STATE);
+        match init.complete(returned) {
+            Ok(following) => {
+                self.init = following;
+                self.credit = allowed;
+                self.awaiting = false;
+                Ok(())
+            }
+            Err((fault, init)) => {
+                self.init = init;
+                Err(host_fault(fault))
+            }
+        }
+    }
+
+    /// Takes in how many commands the controller takes now, where no state of initialisation follows.
+    fn credited(&mut self, allowed: u8, opcode: u16, status: Option<u8>)
+        ensures { self.new ≡ answered_by self.old allowed opcode status None }
+    {
+        if self.is_ready() && is_refusal(opcode, status) {
+            self.advertising = false;
+            self.refused = true;
+        }
+        self.credit = allowed;
+    }
+}
+
+/// Stands for a moment where a state of initialisation is taken out.
+const NO_STATE: Init = Init::Ready {
+    length: 27,
+    packets: 1,
+};
+
+fn buffers_in(init: &Init) -> Option<Buffers>
+    ensures { result ≡ told_in init.now }
+{
+    match init {
+        Init::Addressing { buffers, .. }
+        | Init::Describing { buffers, .. }
+        | Init::Filling { buffers, .. }
+        | Init::Enabling { buffers } => Some(*buffers),
+        Init::Ready { length, packets } => Some(Buffers {
+            length: *length,
+            packets: *packets,
+        }),
+        _ => None,
+    }
+}
+
+/// Enabling is refused by any status but 0.
+fn is_refusal(opcode: u16, status: Option<u8>) -> bool
+    ensures { result ≡ is_refusal opcode status }
+{
+    opcode == opcode::LE_SET_ADVERTISE_ENABLE && status.is_some_and(|status| status != 0)
+}
+
+fn host_fault(fault: InitFault) -> HostFault
+    ensures { result ≡ told_fault (init_fault fault) }
+{
+    match fault {
+        InitFault::Short => HostFault::BadEvent(COMMAND_COMPLETE),
+        fault => HostFault::Init(fault),
+    }
+}
