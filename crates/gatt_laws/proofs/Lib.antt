@@ -13,6 +13,7 @@ pub mod OwnQueues
 pub mod OwnWrites
 pub mod Places
 pub mod Preparing
+pub mod Placed
 pub mod Queued
 pub mod Refusals
 pub mod RowsOfTheTable

@@ -249,7 +249,7 @@ module _ (share size : ℕ) where
     turn-within bond owed part (Authorized until) is = if-live bond owed part (Authorized until) (is_live part.mark) is
 
     -- and at the end of an event
-    heard-within : (bond : Row) (handles : List Handle) (part : Part) → Within part → Within (after_hearing room bond handles part)
+    pub heard-within : (bond : Row) (handles : List Handle) (part : Part) → Within part → Within (after_hearing room bond handles part)
     unfolding after_hearing left
     heard-within bond handles part is =
         let hearer : Hearer = hearer_of room bond part in
@@ -306,9 +306,9 @@ module _ (share size : ℕ) where
       ]
 
 -- all connections
-record IsKept (state : State) : Type 0 where
-  settled : IsSettled state
-  queued : HasBoundedQueues state
+pub record IsKept (state : State) : Type 0 where
+  pub settled : IsSettled state
+  pub queued : HasBoundedQueues state
 
 own-queued : (state : State) (at : Ordinal) (own : Own) → HasBoundedQueues state → HasBoundedQueues (own_change state at own).state
 own-queued state at own queued = λ ordinal.
@@ -326,7 +326,7 @@ early-queued state share size ordinal settled early =
     let none : state.parts ordinal ≡ absent = settled.gone ordinal (ap (has_slot ordinal) (settled.early early)) in
     subst (λ (part : Part). IsWithinBounds share size part) (sym none) (nothing-queued share size absent refl refl refl)
 
-change-queued : (state : State) (event : Event) → Possible (λ table. Unit) state event → IsKept state → HasBoundedQueues (change_of state event).state
+pub change-queued : (state : State) (event : Event) → Possible (λ table. Unit) state event → IsKept state → HasBoundedQueues (change_of state event).state
 unfolding change_of
 change-queued state (Of at own) possible kept = own-queued state at own kept.queued
 change-queued state (Completed entries) possible kept = λ ordinal. completed-within _ _ ordinal entries (state.parts ordinal) (kept.queued ordinal)

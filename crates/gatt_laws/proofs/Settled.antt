@@ -14,7 +14,7 @@ use Rattle.gatt_laws.specs.Possible.{Possible}
 use Rattle.gatt_laws.specs.Room.{Room, Bonds}
 use Rattle.gatt_laws.specs.Settled.{is_slot_of, has_slot, HaveOneSlotEach, IsSettled, IsAlwaysSettled}
 use Rattle.gatt_laws.specs.Start.{Start, before_first_command, state_at}
-use Rattle.gatt_laws.specs.State.{State, Change, slots_after, slots_for, own_change, told_of, is_refusal, with_completed, after_completed, after_credit, part_replaced, change_of, finished, parts_finished, step}
+use Rattle.gatt_laws.specs.State.{State, Change, slots_after, slots_for, own_change, told_of, is_refusal, with_completed, after_completed, after_credit, part_replaced, change_of, finished, parts_finished, before_commands, step}
 use Rattle.gatt_laws.specs.Turn.{turn_of}
 use Rattle.gatt_subs.specs.Indications.{after_tick}
 use Rattle.le_acl.specs.Shares.{usable}
@@ -287,18 +287,29 @@ change-slots state (Tick time) possible settled = record { early = settled.early
 change-slots state (Replaced table) possible settled = record { early = settled.early; slots = settled.slots }
 change-slots state Nothing possible settled = record { early = settled.early; slots = settled.slots }
 
-pub stays_settled : (state : State) (event : Event) → Possible (λ table. Unit) state event → IsSettled state → IsSettled (step state event)
-unfolding step
-stays_settled state event possible settled =
+pub settled_before_commands : (state : State) (event : Event) → Possible (λ table. Unit) state event → IsSettled state → IsSettled (before_commands state event)
+settled_before_commands state event possible settled =
     let change : Change = change_of state event in
     let slots : AreSettled change.state = change-slots state event possible settled in
     record {
       early = slots.early;
       slots = slots.slots;
       gone = λ ordinal lacks.
+          finished-gone change.state.room change.state.bonds (change.raised ordinal) (change.state.parts ordinal) (change-gone state event ordinal possible settled lacks);
+    }
+
+pub stays_settled : (state : State) (event : Event) → Possible (λ table. Unit) state event → IsSettled state → IsSettled (step state event)
+unfolding step
+stays_settled state event possible settled =
+    let change : Change = change_of state event in
+    let before : IsSettled (before_commands state event) = settled_before_commands state event possible settled in
+    record {
+      early = before.early;
+      slots = before.slots;
+      gone = λ ordinal lacks.
           sent-gone (parts_finished change ordinal)
           (nat_lt (length (command_of_init change.state.controller) + count_before ordinal (parts_finished change) change.state.slots) change.state.controller.credit)
-          (finished-gone change.state.room change.state.bonds (change.raised ordinal) (change.state.parts ordinal) (change-gone state event ordinal possible settled lacks));
+          (before.gone ordinal lacks);
     }
 
 pub settled_at_first : (start : Start) → IsSettled (state_at start)

@@ -14,6 +14,7 @@ pub mod OwnQueues
 pub mod OwnWrites
 pub mod Packets
 pub mod Part
+pub mod Placed
 pub mod Possible
 pub mod Preparing
 pub mod Queued
