@@ -2,7 +2,9 @@
 #![tactic(auto)]
 
 mod controller;
+mod going_out;
 mod host_fault;
 
 pub use controller::Controller;
+pub use going_out::{is_drained, next_out};
 pub use host_fault::HostFault;

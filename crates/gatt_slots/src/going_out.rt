@@ -1,6 +1,6 @@
 //! What goes out for the connection of a slot: the command that is due for it, and its packets.
 
-ghost use Rattle.std.specs.Prelude.{◌≡◌, Some};
+ghost use Rattle.std.specs.Prelude.{◌≡◌, is_none, Some};
 ghost use Rattle.std.specs.Bool.{OnTrue, OnFalse};
 ghost use Rattle.std.specs.Option.{option_and_then, option_map};
 ghost use Rattle.le_hci.specs.Command.{command_of};
@@ -37,6 +37,20 @@ impl Slot {
         } else {
             self.reply = None;
         }
+    }
+
+    /// No connection has the slot.
+    pub fn is_free(&self) -> bool
+        ensures { result ≡ is_none self.now }
+    {
+        self.used == Use::Free
+    }
+
+    /// A packet may be given.
+    pub fn gives(&self) -> bool
+        ensures { result ≡ gives self.now }
+    {
+        self.used != Use::Free && self.sender.may_give()
     }
 
     /// Writes the next packet in place of what `out` holds. There is none, and nothing changes, where

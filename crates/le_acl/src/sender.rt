@@ -129,6 +129,13 @@ impl Sender {
         true
     }
 
+    /// A packet may be given now.
+    pub fn may_give(&self) -> bool
+        ensures { result ≡ may_give self.now.outgoing }
+    {
+        self.outstanding < self.share && self.backlog() > 0
+    }
+
     /// Counts packets as completed, at most those that are outstanding.
     pub fn completed(&mut self, count: u16)
         ensures { self.new ≡ record self.old { outgoing = with_completed self.old.outgoing count } }

@@ -1,0 +1,12 @@
+use Rattle.std.proofs.Common.{Some, sym, ◌∙◌}
+use Rattle.gatt_host.proofs.Nexts.{takes_init, then_controller, there_where}
+use Rattle.gatt_host.specs.GoingOut.{init_command}
+use Rattle.gatt_host.proofs.going_out.command_out.Goals as goal
+
+pub returns-then-init_command_out-clause-controller : goal.returns-then-init_command_out-clause-controller
+returns-then-init_command_out-clause-controller c =
+    let controller = c.args.controller.now in
+    let slots = c.args.slots.now in
+    let first = there_where (init_command controller) (sym c.init_command_out.ensures.goes ∙ c.if-init_command_out.true) in
+    c.init_command_out.ensures.after first.x first.is
+    ∙ sym (then_controller controller slots (Some first.x) (takes_init controller slots first.x (sym c.takes.ensures ∙ c.if-not-takes.false) first.is))

@@ -1,0 +1,83 @@
+-- What is still to go out after an event, piece by piece: commands that the controller takes, and packets that connections
+-- were given.
+use Rattle.std.specs.Prelude.{◌≡◌, ℕ, ◌≤◌, true, false, List, [], ◌∷◌, ◌++◌, map, drop, take, Option, Some, None}
+use Rattle.std.specs.List.{flat_map}
+use Rattle.gatt_host.specs.GoingOut.{next_out, controller_then, slots_then}
+use Rattle.gatt_laws.specs.Controller.{Controller}
+use Rattle.gatt_laws.specs.Event.{Ordinal}
+use Rattle.gatt_laws.specs.Part.{Part, is_live}
+use Rattle.gatt_laws.specs.Placed.{IsPlaced}
+use Rattle.gatt_laws.specs.Room.{Room, share_of, size_of}
+use Rattle.gatt_laws.specs.Settled.{has_slot, IsSettled}
+use Rattle.gatt_laws.specs.State.{State, with_commands_sent, commands_out}
+use Rattle.gatt_slots.specs.Kept.{Kept, kept_if_there}
+use Rattle.le_acl.specs.History.{packets_allowed}
+use Rattle.le_acl.specs.Outgoing.{acl_octets}
+use Rattle.le_acl.specs.Packets.{packets_of}
+use Rattle.octets.specs.Number.{Octets}
+
+-- how many packets of each connection are handed out
+abbrev pub Handed : Type 0
+Handed = Ordinal → ℕ
+
+abbrev pub all_given : State → Handed
+all_given state ordinal = (state.parts ordinal).given
+
+-- what the slots keep then
+abbrev pub slot_held : State → Handed → Option Ordinal → Option Kept
+slot_held state handed None = None
+slot_held state handed (Some ordinal) = kept_if_there state.room (state.parts ordinal) (handed ordinal)
+
+abbrev pub slots_held : State → Handed → List (Option Kept)
+slots_held state handed = map (slot_held state handed) state.slots
+
+-- the packets that a connection was given, but for those that are handed out
+abbrev pub packets_left : Room → Part → ℕ → List Octets
+packets_left room part handed = map (acl_octets part.handle) (drop handed (take part.given (packets_of (size_of room.told) part.pdus)))
+
+abbrev pub slot_left : State → Handed → Option Ordinal → List Octets
+slot_left state handed None = []
+slot_left state handed (Some ordinal) = packets_left state.room (state.parts ordinal) (handed ordinal)
+
+-- what is still to go out where no command of a state is sent
+abbrev pub left_of : State → Handed → List Octets
+left_of state handed = commands_out state ++ flat_map (slot_left state handed) state.slots
+
+-- of who serves all is given that may be, and some of it is handed out; of who does not, all that was given is
+pub record IsPartway (room : Room) (part : Part) (handed : ℕ) : Type 0 where
+  pub serving : is_live part.mark ≡ true → part.given ≡ packets_allowed (share_of room.slots room.told) (size_of room.told) part.pdus part.done
+  pub most : is_live part.mark ≡ true → handed ≤ part.given
+  pub done : part.done ≤ handed
+  pub others : is_live part.mark ≡ false → handed ≡ part.given
+
+-- these octets are still to go out on the way to a state, where the controller and the slots are so
+pub record IsOwing (final : State) (owed : List Octets) (controller : Controller) (slots : List (Option Kept)) : Type 0 where
+  pub state : State
+  pub handed : Handed
+  pub settled : IsSettled state
+  pub placed : IsPlaced state
+  pub partway : (ordinal : Ordinal) → has_slot ordinal state.slots ≡ true → IsPartway state.room (state.parts ordinal) (handed ordinal)
+  pub arrives : with_commands_sent state ≡ final
+  pub owes : owed ≡ left_of state handed
+  pub controller_is : controller ≡ state.controller
+  pub slots_are : slots ≡ slots_held state handed
+
+-- nothing is to go out
+pub record IsDone (final : State) (owed : List Octets) (controller : Controller) (slots : List (Option Kept)) : Type 0 where
+  pub none : owed ≡ []
+  pub controller_is : controller ≡ final.controller
+  pub slots_are : slots ≡ slots_held final (all_given final)
+
+-- what goes out next is the first of what is owed, and the others are owed then; where nothing goes out, nothing is owed
+pub record GivesTheFirst (final : State) (owed : List Octets) (controller : Controller) (slots : List (Option Kept)) (octets : Octets) : Type 0 where
+  pub others : List Octets
+  pub first : owed ≡ octets ∷ others
+  pub owing : IsOwing final others (controller_then controller slots) (slots_then controller slots)
+
+abbrev pub GoesOn : State → List Octets → Controller → List (Option Kept) → Option Octets → Type 0
+GoesOn final owed controller slots None = IsDone final owed controller slots
+GoesOn final owed controller slots (Some octets) = GivesTheFirst final owed controller slots octets
+
+abbrev pub HandsOutWhatIsOwed : Type 0
+HandsOutWhatIsOwed = (final : State) (owed : List Octets) (controller : Controller) (slots : List (Option Kept)) →
+    IsOwing final owed controller slots → GoesOn final owed controller slots (next_out controller slots)

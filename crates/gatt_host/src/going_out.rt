@@ -1,0 +1,230 @@
+//! What goes out next: a command that is due, while the controller takes any, and else a packet of the
+//! first slot that may give one.
+
+ghost use Rattle.std.specs.Prelude.{◌≡◌, ◌&&◌, not, nat_lt, is_some, is_none, true, Some, ◌∷◌, []};
+ghost use Rattle.std.specs.Bool.{OnTrue, OnFalse};
+ghost use Rattle.std.specs.List.{list_any, position};
+ghost use Rattle.std.specs.Option.{option_map};
+ghost use Rattle.gatt_laws.specs.Controller as laws;
+ghost use Rattle.gatt_laws.specs.Controller.{controller_after};
+ghost use Rattle.gatt_laws.specs.State.{command_octets};
+ghost use Rattle.gatt_slots.specs.Commands.{gives, without_command, without_packet};
+ghost use Rattle.gatt_host.specs.GoingOut.{command_in, command_next, controller_then, enabling_command, has_command, has_room, init_command, is_drained, next_out, packet_in, slots_commanded, slots_then, with_first};
+ghost use Rattle.le_hci.specs.Command.{Commanded, LeSetAdvertiseEnable, command_of, opcode_of};
+
+use crate::controller::Controller;
+use arrayvec::ArrayVec;
+use gatt_slots::Slot;
+use le_hci::{Command, opcode};
+
+impl Controller {
+    /// It takes a command now.
+    fn takes(&self) -> bool
+        ensures { result ≡ nat_lt 0 self.now.credit }
+    {
+        self.credit > 0
+    }
+
+    /// Takes in that the command with this opcode is sent.
+    fn sent(&mut self, opcode: u16)
+        requires { nat_lt 0 self.old.credit ≡ true }
+        ensures { (command : Commanded) → opcode ≡ opcode_of command → self.new ≡ controller_after self.old (command ∷ []) }
+    {
+        if self.init.command().is_some() {
+            self.awaiting = true;
+        }
+        if opcode == opcode::LE_SET_ADVERTISE_ENABLE {
+            self.advertising = true;
+        }
+        self.credit -= 1;
+    }
+
+    /// Writes the command of initialisation, once its turn has come, and takes in that it is sent.
+    fn init_command_out(&mut self, out: &mut ArrayVec<u8, 260>) -> bool
+        requires { nat_lt 0 self.old.credit ≡ true }
+        ensures goes { result ≡ is_some (init_command self.old) }
+        ensures octets { OnTrue result (option_map command_octets (init_command self.old) ≡ Some out.new.items) }
+        ensures after { (command : Commanded) → init_command self.old ≡ Some command → self.new ≡ controller_after self.old (command ∷ []) }
+        ensures unchanged { OnFalse result (self.new ≡ self.old) }
+        ensures out_unchanged { OnFalse result (out.new.items ≡ out.old.items) }
+    {
+        if self.awaiting {
+            return false;
+        }
+        let Some(command) = self.init.command() else {
+            return false;
+        };
+        write_command(&command, out);
+        let opcode = command.opcode();
+        self.sent(opcode);
+        true
+    }
+
+    /// The command of initialisation is due.
+    fn has_init_command(&self) -> bool
+        ensures { result ≡ is_some (init_command self.now) }
+    {
+        !self.awaiting && self.init.command().is_some()
+    }
+
+    /// It is to be told to advertise: a slot is free, it does not, and it has not refused to.
+    fn is_to_advertise(&self, free: bool) -> bool
+        ensures { result ≡ (free && not self.now.advertising && not self.now.refused) }
+    {
+        free && !self.advertising && !self.refused
+    }
+
+    /// Writes the command to advertise where it is due, and takes in that it is sent.
+    fn enabling_out(&mut self, free: bool, out: &mut ArrayVec<u8, 260>) -> bool
+        requires { nat_lt 0 self.old.credit ≡ true }
+        ensures goes { result ≡ (free && not self.old.advertising && not self.old.refused) }
+        ensures octets { OnTrue result (out.new.items ≡ command_octets LeSetAdvertiseEnable) }
+        ensures after { OnTrue result (self.new ≡ controller_after self.old (LeSetAdvertiseEnable ∷ [])) }
+        ensures unchanged { OnFalse result (self.new ≡ self.old) }
+        ensures out_unchanged { OnFalse result (out.new.items ≡ out.old.items) }
+    {
+        if !self.is_to_advertise(free) {
+            return false;
+        }
+        write_command(&Command::LeSetAdvertiseEnable, out);
+        self.sent(opcode::LE_SET_ADVERTISE_ENABLE);
+        true
+    }
+}
+
+/// Writes a command with its indicator in place of what `out` holds.
+fn write_command(command: &Command<'_>, out: &mut ArrayVec<u8, 260>)
+    ensures { out.new.items ≡ command_octets (command_of command.now) }
+{
+    let mut packet = ArrayVec::new();
+    le_hci::write_command(command, &mut packet);
+    le_h4::write_command(&packet, out);
+}
+
+/// The first slot for which a command is due.
+fn place_with_command(slots: &[Slot]) -> Option<usize>
+    ensures { result ≡ position has_command slots.now }
+{
+    slots.iter().position(|slot| slot.command().is_some())
+}
+
+/// The first slot that may give a packet.
+fn place_that_gives(slots: &[Slot]) -> Option<usize>
+    ensures { result ≡ position gives slots.now }
+{
+    slots.iter().position(|slot| slot.gives())
+}
+
+/// A slot is free.
+fn has_room(slots: &[Slot]) -> bool
+    ensures { result ≡ has_room slots.now }
+{
+    slots.iter().any(|slot| slot.is_free())
+}
+
+/// Writes the packet of the first slot that may give one.
+fn packet_out(slots: &mut [Slot], out: &mut ArrayVec<u8, 260>) -> bool
+    ensures goes { result ≡ is_some (packet_in slots.old) }
+    ensures octets { OnTrue result (packet_in slots.old ≡ Some out.new.items) }
+    ensures after { slots.new ≡ with_first gives (option_map without_packet) slots.old }
+    ensures out_unchanged { OnFalse result (out.new.items ≡ out.old.items) }
+{
+    let Some(place) = place_that_gives(slots) else {
+        return false;
+    };
+    slots[place].next_packet(out)
+}
+
+/// Writes the first command that is due for a slot, and takes in that it is sent. Says its opcode.
+fn slot_command_out(slots: &mut [Slot], out: &mut ArrayVec<u8, 260>) -> Option<u16>
+    ensures opcode { result ≡ option_map opcode_of (command_in slots.old) }
+    ensures octets { (command : Commanded) → command_in slots.old ≡ Some command → out.new.items ≡ command_octets command }
+    ensures after { slots.new ≡ with_first has_command (option_map without_command) slots.old }
+    ensures unchanged { OnFalse (is_some result) (slots.new ≡ slots.old) }
+    ensures out_unchanged { OnFalse (is_some result) (out.new.items ≡ out.old.items) }
+{
+    let Some(place) = place_with_command(slots) else {
+        return None;
+    };
+    let Some(command) = slots[place].command() else {
+        unreachable!()
+    };
+    write_command(&command, out);
+    slots[place].command_sent();
+    Some(command.opcode())
+}
+
+/// Writes the next command that is due, where the controller takes one, and takes in that it is sent.
+fn command_out(controller: &mut Controller, slots: &mut [Slot], out: &mut ArrayVec<u8, 260>) -> bool
+    ensures goes { result ≡ is_some (command_next controller.old slots.old) }
+    ensures octets { OnTrue result (option_map command_octets (command_next controller.old slots.old) ≡ Some out.new.items) }
+    ensures controller { controller.new ≡ controller_then controller.old slots.old }
+    ensures slots { OnTrue result (slots.new ≡ slots_commanded controller.old slots.old) }
+    ensures unchanged { OnFalse result (slots.new ≡ slots.old) }
+    ensures out_unchanged { OnFalse result (out.new.items ≡ out.old.items) }
+{
+    if !controller.takes() {
+        return false;
+    }
+    if controller.init_command_out(out) {
+        return true;
+    }
+    if let Some(opcode) = slot_command_out(slots, out) {
+        controller.sent(opcode);
+        return true;
+    }
+    controller.enabling_out(has_room(slots), out)
+}
+
+/// Writes what goes out next in place of what `out` holds: a command that is due, while the controller
+/// takes any, and else a packet of the first slot that may give one. There is nothing, and nothing
+/// changes, once all is out.
+pub fn next_out(
+    controller: &mut Controller,
+    slots: &mut [Slot],
+    out: &mut ArrayVec<u8, 260>,
+) -> bool
+    ensures goes { result ≡ is_some (next_out controller.old slots.old) }
+    ensures octets { OnTrue result (next_out controller.old slots.old ≡ Some out.new.items) }
+    ensures controller { controller.new ≡ controller_then controller.old slots.old }
+    ensures slots { slots.new ≡ slots_then controller.old slots.old }
+    ensures out_unchanged { OnFalse result (out.new.items ≡ out.old.items) }
+{
+    if command_out(controller, slots, out) {
+        return true;
+    }
+    packet_out(slots, out)
+}
+
+/// A command is due, and the controller takes one.
+fn has_command(controller: &Controller, slots: &[Slot]) -> bool
+    ensures { result ≡ is_some (command_next controller.now slots.now) }
+{
+    if !controller.takes() {
+        return false;
+    }
+    if controller.has_init_command() {
+        return true;
+    }
+    if place_with_command(slots).is_some() {
+        return true;
+    }
+    controller.is_to_advertise(has_room(slots))
+}
+
+/// Nothing is to go out.
+pub fn is_drained(controller: &Controller, slots: &[Slot]) -> bool
+    ensures { result ≡ is_drained controller.now slots.now }
+{
+    if has_command(controller, slots) {
+        return false;
+    }
+    !any_gives(slots)
+}
+
+/// A slot may give a packet.
+fn any_gives(slots: &[Slot]) -> bool
+    ensures { result ≡ list_any gives slots.now }
+{
+    slots.iter().any(|slot| slot.gives())
+}
