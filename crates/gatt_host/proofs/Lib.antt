@@ -1,2 +1,3 @@
 pub mod Firsts
 pub mod Nexts
+pub mod Places

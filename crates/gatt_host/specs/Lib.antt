@@ -1,3 +1,5 @@
 pub mod Answers
 pub mod GoingOut
 pub mod Owing
+pub mod Held
+pub mod Stands
