@@ -1,24 +1,22 @@
 -- A command that goes out is the first of what is owed, and the others are owed then.
-use Rattle.std.proofs.Common.{◌≡◌, ℕ, zero, suc, ◌+◌, ◌-◌, ◌<◌, Bool, true, false, List, [], ◌∷◌, ◌++◌, length, map, take, Option, Some, None, refl, sym, ap, subst, ◌∙◌, inl, inr, arith}
-use Rattle.std.specs.Prelude.{is_some, is_none, nat_lt, ◌&&◌, ◌||◌, ◌==◌, not, if◌then◌else◌}
+use Rattle.std.proofs.Common.{◌≡◌, ℕ, zero, suc, ◌-◌, ◌<◌, Bool, true, false, List, [], ◌∷◌, ◌++◌, length, map, take, Option, Some, None, refl, sym, ap, subst, ◌∙◌, arith}
+use Rattle.std.specs.Prelude.{is_some, nat_lt, ◌&&◌, ◌||◌, ◌==◌, if◌then◌else◌}
 use Rattle.std.specs.List.{flat_map, list_any}
-use Rattle.std.specs.Option.{option_map, option_map_or, option_or, option_to_list}
-use Rattle.std.proofs.lemmas.Bool.{cases_lt, eq-eqb, eqb-true, le-ltb, lt-ltb, ltb-true}
+use Rattle.std.specs.Option.{option_map}
+use Rattle.std.proofs.lemmas.Bool.{eq-eqb, eqb-true, lt-ltb, ltb-true}
 use Rattle.gatt_host.proofs.Nexts.{clash, is_none_where, then_controller}
-use Rattle.gatt_host.specs.GoingOut.{with_first, has_command, init_command, command_in, command_next, next_out, packet_in, controller_then, slots_commanded, slots_then}
-use Rattle.gatt_host.specs.Owing.{Handed, slot_held, slots_held, packets_left, slot_left, left_of, IsPartway, IsOwing, GivesTheFirst}
-use Rattle.gatt_laws.specs.Controller.{Controller, Slots, command_for, commands_for, command_of_init, commands_due, commands_sent, controller_after, count_before, disconnect_or, enabling, is_enabling, is_ready, reply_due, without_command, after_sending}
+use Rattle.gatt_host.specs.GoingOut.{with_first, command_next, slots_commanded}
+use Rattle.gatt_host.specs.Owing.{Handed, slots_held, packets_left, slot_left, left_of, IsPartway, GivesTheFirst}
+use Rattle.gatt_laws.specs.Controller.{Controller, Slots, command_for, commands_due, commands_sent, controller_after, disconnect_or, is_enabling, reply_due, without_command, after_sending}
 use Rattle.gatt_laws.specs.Event.{Ordinal}
 use Rattle.gatt_laws.specs.Part.{Part, KeyReply, absent, is_live, is_there}
 use Rattle.gatt_laws.specs.Placed.{WaitsOnce, IsPlaced}
 use Rattle.gatt_laws.specs.Room.{Room}
-use Rattle.gatt_laws.specs.Settled.{is_slot_of, has_slot, HaveOneSlotEach, IsSettled}
-use Rattle.gatt_laws.specs.State.{State, at_ordinal, command_octets, commands_out, with_commands_sent}
+use Rattle.gatt_laws.specs.Settled.{has_slot, IsSettled}
+use Rattle.gatt_laws.specs.State.{State, command_octets, with_commands_sent}
 use Rattle.gatt_slots.specs.Commands as kept
-use Rattle.gatt_slots.specs.Kept.{Kept, kept_of, kept_if_there}
 use Rattle.le_hci.specs.Command.{Commanded}
 use Rattle.le_hci.specs.Init.{command_awaited}
-use Rattle.octets.specs.Number.{Octets}
 
 -- tests
 pub left_false : (one other : Bool) → (one || other) ≡ false → one ≡ false

@@ -1,24 +1,23 @@
 -- What is owed while a command is due that the controller takes, and what is so once none is.
-use Rattle.std.proofs.Common.{◌≡◌, ℕ, zero, suc, ◌+◌, ◌-◌, ◌<◌, ◌≤◌, Bool, true, false, List, [], ◌∷◌, ◌++◌, length, map, take, Option, Some, None, refl, sym, ap, subst, ◌∙◌, inl, inr, arith}
+use Rattle.std.proofs.Common.{◌≡◌, ℕ, zero, suc, ◌+◌, ◌-◌, ◌<◌, ◌≤◌, Bool, true, false, List, [], ◌∷◌, ◌++◌, length, take, Option, Some, None, refl, sym, ap, subst, ◌∙◌, inl, inr, arith}
 use Rattle.std.specs.Prelude.{is_some, is_none, nat_lt, ◌&&◌, ◌||◌, ◌==◌, not, if◌then◌else◌}
 use Rattle.std.specs.Option.{option_map, option_or, option_to_list}
 use Rattle.std.proofs.Math.Bool.{or-false}
 use Rattle.std.proofs.lemmas.Bool.{cases_lt, eqb-true, le-ltb, lt-ltb, ltb-false, ltb-true}
-use Rattle.gatt_host.proofs.Commands.{Touched, OneSent, Facts, command_goes, either_unchanged, none_after, right_true, sent_state}
+use Rattle.gatt_host.proofs.Commands.{Touched, OneSent, Facts, command_goes, either_unchanged, none_after, right_true}
 use Rattle.gatt_host.proofs.Nexts.{clash, some_of, takes_enabling, takes_init, takes_none, takes_slot}
 use Rattle.gatt_host.proofs.SlotCommands.{NoneDue, Other, Behind, Without, FirstDue, NoCommand, ACommand, moved, other_part, own_part, room_same, search_slots, told_same}
-use Rattle.gatt_host.specs.GoingOut.{with_first, has_command, init_command, command_in, command_next, has_room, next_out, packet_in, slots_commanded}
+use Rattle.gatt_host.specs.GoingOut.{with_first, has_command, init_command, command_in, command_next, has_room, slots_commanded}
 use Rattle.gatt_host.specs.Owing.{Handed, slots_held, left_of, GivesTheFirst}
-use Rattle.gatt_laws.specs.Controller.{Controller, Slots, command_for, commands_for, command_of_init, commands_due, commands_sent, controller_after, count_before, disconnect_or, enabling, has_free, is_enabling, reply_due, without_command, after_sending}
+use Rattle.gatt_laws.specs.Controller.{Controller, command_for, commands_for, command_of_init, commands_due, commands_sent, controller_after, count_before, disconnect_or, enabling, has_free, is_enabling, reply_due, without_command, after_sending}
 use Rattle.gatt_laws.specs.Event.{Ordinal}
-use Rattle.gatt_laws.specs.Part.{Part, KeyReply, absent}
+use Rattle.gatt_laws.specs.Part.{Part, KeyReply}
 use Rattle.gatt_laws.specs.Settled.{has_slot}
 use Rattle.gatt_laws.specs.State.{State, at_ordinal, command_octets, with_commands_sent}
 use Rattle.gatt_slots.specs.Commands as kept
 use Rattle.gatt_slots.specs.Kept.{Kept}
 use Rattle.le_hci.specs.Command.{Commanded, LeSetAdvertiseEnable}
 use Rattle.le_hci.specs.Init.{command_awaited}
-use Rattle.octets.specs.Number.{Octets}
 
 -- the command of initialisation
 record Turn (awaiting : Bool) (awaited : Option Commanded) (command : Commanded) : Type 0 where

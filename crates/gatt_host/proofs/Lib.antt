@@ -1,6 +1,9 @@
 pub mod Commands
 pub mod CommandsFirst
+pub mod Entering
 pub mod Firsts
 pub mod Nexts
 pub mod Places
+pub mod Owing
+pub mod Packets
 pub mod SlotCommands

@@ -1,10 +1,9 @@
 -- The first command that slots wait for, by the connections that have them and by what is kept of these.
-use Rattle.std.proofs.Common.{◌≡◌, ℕ, zero, suc, ◌+◌, ◌-◌, ◌<◌, Bool, true, false, List, [], ◌∷◌, ◌++◌, length, map, Option, Some, None, refl, sym, ap, subst, ◌∙◌, inl, inr, arith}
-use Rattle.std.specs.Prelude.{is_some, is_none, nat_lt, ◌||◌, ◌==◌, if◌then◌else◌}
-use Rattle.std.specs.List.{list_any}
+use Rattle.std.proofs.Common.{◌≡◌, ℕ, ◌+◌, Bool, true, false, [], ◌∷◌, ◌++◌, length, map, Some, None, refl, sym, ap, ◌∙◌, arith}
+use Rattle.std.specs.Prelude.{is_some, is_none, ◌||◌, ◌==◌, if◌then◌else◌}
 use Rattle.std.specs.Option.{option_map, option_or, option_to_list}
 use Rattle.std.proofs.lemmas.Bool.{eq-eqb, eqb-true}
-use Rattle.gatt_host.proofs.Commands.{Touched, left_false, left_true, none_after, right_false, right_true, same_too}
+use Rattle.gatt_host.proofs.Commands.{left_false, left_true, none_after, right_false, right_true, same_too}
 use Rattle.gatt_host.proofs.Nexts.{clash}
 use Rattle.gatt_host.specs.GoingOut.{with_first, has_command, command_in, has_room}
 use Rattle.gatt_host.specs.Owing.{Handed, slot_held}
@@ -12,11 +11,10 @@ use Rattle.gatt_laws.specs.Controller.{Controller, Slots, command_for, commands_
 use Rattle.gatt_laws.specs.Event.{Ordinal}
 use Rattle.gatt_laws.specs.Part.{Part, is_there}
 use Rattle.gatt_laws.specs.Placed.{WaitsOnce}
-use Rattle.gatt_laws.specs.Room.{Room}
-use Rattle.gatt_laws.specs.Settled.{is_slot_of, has_slot, HaveOneSlotEach}
+use Rattle.gatt_laws.specs.Settled.{has_slot, HaveOneSlotEach}
 use Rattle.gatt_laws.specs.State.{State, at_ordinal}
 use Rattle.gatt_slots.specs.Commands as kept
-use Rattle.gatt_slots.specs.Kept.{Kept, kept_of, kept_if_there}
+use Rattle.gatt_slots.specs.Kept.{kept_of, kept_if_there}
 use Rattle.le_hci.specs.Command.{Commanded}
 
 -- a state with another part at one ordinal, and another controller

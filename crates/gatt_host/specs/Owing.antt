@@ -1,15 +1,18 @@
 -- What is still to go out after an event, piece by piece: commands that the controller takes, and packets that connections
 -- were given.
-use Rattle.std.specs.Prelude.{◌≡◌, ℕ, ◌≤◌, true, false, List, [], ◌∷◌, ◌++◌, map, drop, take, Option, Some, None}
+use Rattle.std.specs.Prelude.{◌≡◌, ℕ, ◌≤◌, true, false, is_none, List, [], ◌∷◌, ◌++◌, map, drop, take, Option, Some, None}
 use Rattle.std.specs.List.{flat_map}
-use Rattle.gatt_host.specs.GoingOut.{next_out, controller_then, slots_then}
+use Rattle.gatt_host.specs.GoingOut.{next_out, is_drained, controller_then, slots_then}
 use Rattle.gatt_laws.specs.Controller.{Controller}
-use Rattle.gatt_laws.specs.Event.{Ordinal}
+use Rattle.gatt_laws.specs.Event.{Ordinal, Event}
 use Rattle.gatt_laws.specs.Part.{Part, is_live}
 use Rattle.gatt_laws.specs.Placed.{IsPlaced}
+use Rattle.gatt_laws.specs.Possible.{Possible}
+use Rattle.gatt_laws.specs.Queued.{HasBoundedQueues}
 use Rattle.gatt_laws.specs.Room.{Room, share_of, size_of}
 use Rattle.gatt_laws.specs.Settled.{has_slot, IsSettled}
-use Rattle.gatt_laws.specs.State.{State, with_commands_sent, commands_out}
+use Rattle.gatt_laws.specs.Start.{Start, new_controller, state_at, first_out}
+use Rattle.gatt_laws.specs.State.{State, with_commands_sent, commands_out, before_commands, step, out}
 use Rattle.gatt_slots.specs.Kept.{Kept, kept_if_there}
 use Rattle.le_acl.specs.History.{packets_allowed}
 use Rattle.le_acl.specs.Outgoing.{acl_octets}
@@ -81,3 +84,18 @@ GoesOn final owed controller slots (Some octets) = GivesTheFirst final owed cont
 abbrev pub HandsOutWhatIsOwed : Type 0
 HandsOutWhatIsOwed = (final : State) (owed : List Octets) (controller : Controller) (slots : List (Option Kept)) →
     IsOwing final owed controller slots → GoesOn final owed controller slots (next_out controller slots)
+
+-- and nothing is owed just where the host is drained
+abbrev pub IsDrainedWhereNothingGoesOut : Type 0
+IsDrainedWhereNothingGoesOut = (final : State) (owed : List Octets) (controller : Controller) (slots : List (Option Kept)) →
+    IsOwing final owed controller slots → is_drained controller slots ≡ is_none (next_out controller slots)
+
+-- what an event brings out is owed once all but its end is done: its commands and its packets are then still to go out
+abbrev pub OwesWhatAnEventBrings : Type 0
+OwesWhatAnEventBrings = (state : State) (event : Event) → Possible (λ table. Unit) state event →
+    IsSettled state → HasBoundedQueues state → IsPlaced state →
+    IsOwing (step state event) (out state event) (before_commands state event).controller (slots_held (before_commands state event) (all_given state))
+
+-- and so is the first command, where nothing has happened
+abbrev pub OwesTheFirstCommand : Type 0
+OwesTheFirstCommand = (start : Start) → IsOwing (state_at start) (first_out start) (new_controller start) []

@@ -165,13 +165,13 @@ freed-has ordinal other [] has = has
 freed-has ordinal other (None ∷ slots) has = freed-has ordinal other slots has
 freed-has ordinal other (Some one ∷ slots) has = freed-slot ordinal other one slots (one == ordinal) (freed-has ordinal other slots) has
 
-freed-lacks : (ordinal : Ordinal) (slots : Slots) → has_slot ordinal (with_freed ordinal slots) ≡ false
-freed-lacks ordinal [] = refl
-freed-lacks ordinal (None ∷ slots) = freed-lacks ordinal slots
-freed-lacks ordinal (Some one ∷ slots) =
+pub freed_lacks : (ordinal : Ordinal) (slots : Slots) → has_slot ordinal (with_freed ordinal slots) ≡ false
+freed_lacks ordinal [] = refl
+freed_lacks ordinal (None ∷ slots) = freed_lacks ordinal slots
+freed_lacks ordinal (Some one ∷ slots) =
     elim (one == ordinal) as (λ (is : Bool). (one == ordinal) ≡ is → (is_slot_of ordinal (if is then None else Some one) || has_slot ordinal (with_freed ordinal slots)) ≡ false) [
-      | true ↦ λ is. freed-lacks ordinal slots
-      | false ↦ λ is. rw is (freed-lacks ordinal slots)
+      | true ↦ λ is. freed_lacks ordinal slots
+      | false ↦ λ is. rw is (freed_lacks ordinal slots)
     ] refl
 
 all-free : (ordinal : Ordinal) (count : ℕ) → has_slot ordinal (replicate count None) ≡ false
@@ -217,7 +217,7 @@ come-there part handle peer false is = refl
 turn-there : (room : Room) (bond : Row) (owed : Bool) (part : Part) (own : Own) (at : Ordinal) (slots : Slots)
     → (has_slot at slots ≡ true → is_there part.mark ≡ true) → has_slot at (slots_after own at slots) ≡ true → is_there (turn_of room bond owed part own).part.mark ≡ true
 turn-there room bond owed part (Connected handle peer) at slots there has = come-there part handle peer (is_there part.mark) refl
-turn-there room bond owed part Gone at slots there has = cc (has, freed-lacks at slots)
+turn-there room bond owed part Gone at slots there has = cc (has, freed_lacks at slots)
 turn-there room bond owed part (KeyAsked random_number diversifier) at slots there has =
     (if-live room bond owed part (KeyAsked random_number diversifier) (is_live part.mark) refl).there (there has)
 turn-there room bond owed part (Encrypted status enabled) at slots there has = (if-live room bond owed part (Encrypted status enabled) (is_live part.mark) refl).there (there has)

@@ -89,12 +89,12 @@ freed-adds-none ordinal other (Some one ∷ slots) lacks =
     (freed-adds-none ordinal other slots (right-false (one == other) (has_slot other slots) lacks))
 
 -- slots by ordinals below the next
-none-next : (next least : Ordinal) (slots : Slots) → next < least + 1 → HaveOneSlotEach next slots → has_slot least slots ≡ false
-none-next next least [] below each = refl
-none-next next least (None ∷ slots) below each = none-next next least slots below each
-none-next next least (Some one ∷ slots) below each =
+pub none_next : (next least : Ordinal) (slots : Slots) → next < least + 1 → HaveOneSlotEach next slots → has_slot least slots ≡ false
+none_next next least [] below each = refl
+none_next next least (None ∷ slots) below each = none_next next least slots below each
+none_next next least (Some one ∷ slots) below each =
     let less : one < least = omega (arith, each.0) in
-    both-false (one == least) (has_slot least slots) (grind (arith, nat_tests)) (none-next next least slots below each.2)
+    both-false (one == least) (has_slot least slots) (grind (arith, nat_tests)) (none_next next least slots below each.2)
 
 one-more : (next : Ordinal) (slots : Slots) → HaveOneSlotEach next slots → HaveOneSlotEach (next + 1) slots
 one-more next [] each = tt
@@ -103,7 +103,7 @@ one-more next (Some one ∷ slots) each = (omega (arith, each.0), each.1, one-mo
 
 with-next : (next : Ordinal) (slots : Slots) → HaveOneSlotEach next slots → HaveOneSlotEach (next + 1) (with_taken next slots)
 with-next next [] each = tt
-with-next next (None ∷ slots) each = (omega arith, none-next next next slots (omega arith) each, one-more next slots each)
+with-next next (None ∷ slots) each = (omega arith, none_next next next slots (omega arith) each, one-more next slots each)
 with-next next (Some one ∷ slots) each =
     let differs : (next == one) ≡ false = let less : one < next = each.0 in grind (arith, nat_tests) in
     (omega (arith, each.0), taken-adds next one slots differs each.1, with-next next slots each.2)
