@@ -1,12 +1,13 @@
 -- What a host holds, and what each event makes of it before anything goes out.
-use Rattle.std.specs.Prelude.{◌≡◌, ℕ, ◌&&◌, if◌then◌else◌, List, [], ◌∷◌, set, map, slice_get, length, Option, Some, None}
+use Rattle.std.specs.Prelude.{◌≡◌, ℕ, ◌&&◌, if◌then◌else◌, List, [], ◌∷◌, take, set, map, slice_get, length, Option, Some, None, Result, Ok}
 use Rattle.std.specs.Option.{option_map, option_map_or, option_to_list}
 use Rattle.att_numbers.specs.Types.{Handle, Mtu, Row}
 use Rattle.att_table.specs.Changer.{changer_of}
 use Rattle.att_table.specs.Table.{Contents, with_value}
-use Rattle.gatt_host.specs.declared.host_fault.HostFault.{HostFault}
+use Rattle.gatt_host.specs.Answers.{answered_by}
 use Rattle.gatt_laws.specs.Controller.{Controller, is_ready}
-use Rattle.gatt_laws.specs.Event.{Connected, Gone}
+use Rattle.gatt_laws.specs.Event.{Event, Connected, Gone, Credit}
+use Rattle.gatt_laws.specs.Packets.{Fault}
 use Rattle.gatt_laws.specs.Room.{share_of, size_of}
 use Rattle.gatt_laws.specs.State.{announced, told_of}
 use Rattle.gatt_laws.specs.Turn.{gained_encryption}
@@ -17,9 +18,10 @@ use Rattle.gatt_slots.specs.Turn as turn
 use Rattle.gatt_slots.specs.Turn.{after_authorizing, after_key_asked, after_link_step, after_signal}
 use Rattle.gatt_subs.specs.Changes.{with_changes_owed}
 use Rattle.gatt_subs.specs.Rows.{Subscriptions, row_of, owes, kept_bond, ChangesBond}
-use Rattle.le_acl.specs.Reassembler.{Assembly, nothing}
-use Rattle.le_h4.specs.Deframer.{Deframing}
+use Rattle.le_acl.specs.Shares.{usable}
 use Rattle.le_hci.specs.declared.event.CompletedPackets.{CompletedPackets}
+use Rattle.le_hci.specs.declared.init.Init.{Init}
+use Rattle.le_hci.specs.declared.init.Init.TheVariants.{Ready}
 use Rattle.le_hci.specs.declared.peer.Peer.{Peer}
 use Rattle.le_hci.specs.InitTold.{told_in}
 use Rattle.le_security.specs.declared.entry.Entry.{Entry}
@@ -28,7 +30,7 @@ use Rattle.le_security.specs.Link.{Step, after_step}
 use Rattle.octets.specs.Number.{Octets}
 
 -- the table with its changer, the keys, and what peers have configured; the largest PDU that is received; the time; the
--- controller; what each slot keeps, and the frame that is put together for it; the packet that is unfinished; and the fault
+-- controller; and what each slot keeps
 pub record Held : Type 0 where
   pub table : Contents
   pub changer : Option Handle
@@ -38,9 +40,6 @@ pub record Held : Type 0 where
   pub time : ℕ
   pub controller : Controller
   pub slots : List (Option Kept)
-  pub frames : List Assembly
-  pub stream : Deframing
-  pub fault : Option HostFault
 
 -- no connection has a slot before the controller is initialised
 abbrev pub open_slots : Held → List (Option Kept)
@@ -128,13 +127,23 @@ abbrev pub after_coming : ℕ → ℕ → Peer → Held → Held
 after_coming place handle peer held = after_end None [] [] (record held {
   controller = told_of (Connected handle peer) held.controller;
   slots = at_place place (λ slot. Some (turn.come handle peer (is_known held.keys peer) held.rx_mtu (share_in held) (size_in held))) held.slots;
-  frames = at_place place (λ frame. nothing) held.frames;
 })
 
 abbrev pub after_going : ℕ → Held → Held
 after_going place held = after_end None [] [] (record held {
   controller = told_of Gone held.controller;
   slots = at_place place (λ slot. None) held.slots;
+})
+
+-- a command is answered: once the controller is initialised, slots are opened as far as there are packets for them
+abbrev pub opened : {A : Type 0} → Option Init → List A → List A
+opened (Some (Ready told packets)) xs = take (usable (length xs) packets) xs
+opened following xs = xs
+
+abbrev pub after_credit : ℕ → ℕ → Option ℕ → Option Init → Held → Held
+after_credit allowed opcode status following held = after_end None [] [] (record held {
+  controller = answered_by held.controller allowed opcode status following;
+  slots = opened following held.slots;
 })
 
 -- a table replaces another
@@ -149,3 +158,9 @@ after_replacing table held =
       };
       slots = all_after_table held.table.attributes table.attributes held.slots;
     })
+
+-- what an answer leads to: the event that it means, and what is held then
+pub record Credits (event : Result Event Fault) (allowed opcode : ℕ) (status : Option ℕ) (old new : Held) : Type 0 where
+  pub following : Option Init
+  pub means : event ≡ Ok (Credit allowed opcode status following)
+  pub held : new ≡ after_credit allowed opcode status following old

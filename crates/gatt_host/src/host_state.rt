@@ -1,7 +1,12 @@
-ghost use Rattle.std.specs.Prelude.{◌≡◌, ◌<◌, ◌≤◌, length, map, true, Some, IfSome, IsSome};
+ghost use Rattle.std.specs.Prelude.{◌≡◌, ◌<◌, ◌≤◌, ◌^◌, [], if◌then◌else◌, length, map, true, Some, IfSome, IsSome, IsOk, IfErr, OnErr};
+ghost use Rattle.std.specs.Option.{option_to_list};
 ghost use Rattle.att_table.specs.ConfigRow.{IsRowOf};
 ghost use Rattle.att_table.specs.Table.{attribute_at, is_fixed_at, room_at};
-ghost use Rattle.gatt_host.specs.Held.{after_ask_key, after_authorize, after_coming, after_completing, after_going, after_link, after_nothing, after_replacing, after_signals, after_tick, after_update, kept_at, row_at, Serves};
+ghost use Rattle.gatt_host.specs.Answers.{following_if, stop_of};
+ghost use Rattle.gatt_laws.specs.Packets.{completed_event, status_event, status_of};
+ghost use Rattle.le_acl.specs.Shares.{acl_len, share};
+ghost use Rattle.le_hci.specs.InitTold.{told_in};
+ghost use Rattle.gatt_host.specs.Held.{after_end, opened, Credits, after_ask_key, after_authorize, after_coming, after_completing, after_going, after_link, after_nothing, after_replacing, after_signals, after_tick, after_update, kept_at, row_at, Serves};
 ghost use Rattle.gatt_slots.specs.Slots.{all_heard};
 ghost use Rattle.gatt_slots.specs.Hearing.{row_in_force};
 ghost use Rattle.le_hci.specs.Event.{completed_packets_of};
@@ -12,8 +17,6 @@ use crate::host_fault::HostFault;
 use att_table::Table;
 use gatt_slots::{Slot, complete_all, hear_all, replace_all, tick_all};
 use gatt_subs::Rows;
-use le_acl::Reassembler;
-use le_h4::Deframer;
 use le_hci::Peer;
 use le_security::Keys;
 use std::marker::Model;
@@ -34,24 +37,30 @@ pub(crate) struct HostState {
     pub(crate) controller: Controller,
     /// As many as connections may come to have.
     pub(crate) slots: Vec<Slot>,
-    /// The frame that is put together for each slot.
-    pub(crate) frames: Vec<Reassembler>,
-    pub(crate) deframer: Deframer,
-    pub(crate) fault: Option<HostFault>,
 }
 
 impl Model for HostState {
     ghost use Rattle.std.specs.Prelude.{◌≡◌, ◌≤◌, length};
-    ghost use Rattle.gatt_host.specs.Held.{Held};
+    ghost use Rattle.gatt_host.specs.Answers.{following_if, stop_of};
+    ghost use Rattle.gatt_laws.specs.Packets.{completed_event, status_event, status_of};
+    ghost use Rattle.le_acl.specs.Shares.{acl_len, share};
+    ghost use Rattle.le_hci.specs.InitTold.{told_in};
+    ghost use Rattle.gatt_host.specs.Held.{after_end, opened, Credits, Held};
 
     ghost Value = { Held };
 
     ghost view = { λ h. record {
-      table = h.table; changer = h.changer; keys = h.keys; rows = h.rows; rx_mtu = h.rx_mtu; time = h.time; controller = h.controller;
-      slots = h.slots.items; frames = h.frames.items; stream = h.deframer; fault = h.fault;
+      table = h.table;
+      changer = h.changer;
+      keys = h.keys;
+      rows = h.rows;
+      rx_mtu = h.rx_mtu;
+      time = h.time;
+      controller = h.controller;
+      slots = h.slots.items;
     } };
 
-    ghost invariant = { λ h. (23 ≤ h.rx_mtu) × (h.rx_mtu ≤ 517) × (length h.frames.items ≡ length h.slots.items) };
+    ghost invariant = { λ h. (23 ≤ h.rx_mtu) × (h.rx_mtu ≤ 517) × (length h.slots.items ≤ 8) };
 }
 
 // Each event: what it changes, and then what is heard.
@@ -60,7 +69,15 @@ impl HostState {
     pub(crate) fn nothing(&mut self)
         ensures { self.new ≡ after_nothing self.old }
     {
-        hear(&mut self.slots, &self.table, &self.rows, None, &[], &[], self.time);
+        hear(
+            &mut self.slots,
+            &self.table,
+            &self.rows,
+            None,
+            &[],
+            &[],
+            self.time,
+        );
     }
 
     /// Time goes by, in milliseconds.
@@ -69,7 +86,15 @@ impl HostState {
     {
         self.time = now;
         tick_all(self.slots.as_mut_slice(), now);
-        hear(&mut self.slots, &self.table, &self.rows, None, &[], &[], now);
+        hear(
+            &mut self.slots,
+            &self.table,
+            &self.rows,
+            None,
+            &[],
+            &[],
+            now,
+        );
     }
 
     /// The application writes a value.
@@ -80,7 +105,15 @@ impl HostState {
         ensures { self.new ≡ after_update handle value.now self.old }
     {
         self.table.set(handle, value);
-        hear(&mut self.slots, &self.table, &self.rows, None, &[], &[handle], self.time);
+        hear(
+            &mut self.slots,
+            &self.table,
+            &self.rows,
+            None,
+            &[],
+            &[handle],
+            self.time,
+        );
     }
 
     /// The application authorizes the connection of a slot up to a moment.
@@ -89,7 +122,15 @@ impl HostState {
         ensures { self.new ≡ after_authorize place until self.old }
     {
         self.slots[place].authorize(until);
-        hear(&mut self.slots, &self.table, &self.rows, None, &[], &[], self.time);
+        hear(
+            &mut self.slots,
+            &self.table,
+            &self.rows,
+            None,
+            &[],
+            &[],
+            self.time,
+        );
     }
 
     /// The controller asks for the key of the connection of a slot.
@@ -98,7 +139,15 @@ impl HostState {
         ensures { self.new ≡ after_ask_key place random_number diversifier self.old }
     {
         self.slots[place].ask_key(&self.keys, random_number, diversifier);
-        hear(&mut self.slots, &self.table, &self.rows, None, &[], &[], self.time);
+        hear(
+            &mut self.slots,
+            &self.table,
+            &self.rows,
+            None,
+            &[],
+            &[],
+            self.time,
+        );
     }
 
     /// A payload comes on a channel that is not that of the Attribute Protocol.
@@ -107,7 +156,15 @@ impl HostState {
         ensures { self.new ≡ after_signals place channel payload.now self.old }
     {
         self.slots[place].signal(channel, payload);
-        hear(&mut self.slots, &self.table, &self.rows, None, &[], &[], self.time);
+        hear(
+            &mut self.slots,
+            &self.table,
+            &self.rows,
+            None,
+            &[],
+            &[],
+            self.time,
+        );
     }
 
     /// Packets are completed.
@@ -115,7 +172,15 @@ impl HostState {
         ensures { self.new ≡ after_completing (map completed_packets_of entries.now) self.old }
     {
         complete_all(self.slots.as_mut_slice(), entries);
-        hear(&mut self.slots, &self.table, &self.rows, None, &[], &[], self.time);
+        hear(
+            &mut self.slots,
+            &self.table,
+            &self.rows,
+            None,
+            &[],
+            &[],
+            self.time,
+        );
     }
 
     /// A connection goes.
@@ -125,7 +190,159 @@ impl HostState {
     {
         self.slots[place].go();
         self.controller.went();
-        hear(&mut self.slots, &self.table, &self.rows, None, &[], &[], self.time);
+        hear(
+            &mut self.slots,
+            &self.table,
+            &self.rows,
+            None,
+            &[],
+            &[],
+            self.time,
+        );
+    }
+
+    /// A PDU of the Attribute Protocol comes from the connection of a slot.
+    pub(crate) fn ask(&mut self, place: usize, pdu: &[u8])
+        requires place { place < length self.old.slots }
+        requires there { IsSome (kept_at self.old place) }
+        requires row { IfSome (kept_at self.old place) (λ kept. IsRowOf self.old.table.attributes (row_in_force (row_at self.old kept) kept)) }
+        ensures { IfSome (kept_at self.old place) (λ kept. Serves place pdu.now kept self.old self.new) }
+    {
+        let written = self.slots[place].serve(
+            &mut self.table,
+            &mut self.rows,
+            self.changer,
+            self.time,
+            pdu,
+        );
+        hear(
+            &mut self.slots,
+            &self.table,
+            &self.rows,
+            Some(place),
+            &[],
+            written.as_slice(),
+            self.time,
+        );
+    }
+
+    /// Encryption of the link of the connection of a slot was changed, or could not be.
+    pub(crate) fn encrypt(&mut self, place: usize, status: u8, enabled: u8)
+        requires place { place < length self.old.slots }
+        requires there { IsSome (kept_at self.old place) }
+        ensures { self.new ≡ after_link place (Encryption status enabled) self.old }
+    {
+        let owed = self.slots[place].is_owed(&self.rows);
+        let gained = self.slots[place].encrypt(status, enabled);
+        self.hear_changes(place, gained && owed);
+    }
+
+    /// The key of the link of the connection of a slot was refreshed, or could not be.
+    pub(crate) fn refresh(&mut self, place: usize, status: u8)
+        requires place { place < length self.old.slots }
+        requires there { IsSome (kept_at self.old place) }
+        ensures { self.new ≡ after_link place (Refresh status) self.old }
+    {
+        let owed = self.slots[place].is_owed(&self.rows);
+        let gained = self.slots[place].refresh(status);
+        self.hear_changes(place, gained && owed);
+    }
+
+    /// Ends an event: the connection of a slot hears that the table was replaced, if it is to, and all
+    /// of what is then due.
+    fn hear_changes(&mut self, place: usize, due: bool)
+        ensures { self.new ≡ after_end (Some place) (if due then option_to_list self.old.changer else []) [] self.old }
+    {
+        match self.changer {
+            Some(changer) if due => hear(
+                &mut self.slots,
+                &self.table,
+                &self.rows,
+                Some(place),
+                &[changer],
+                &[],
+                self.time,
+            ),
+            _ => hear(
+                &mut self.slots,
+                &self.table,
+                &self.rows,
+                Some(place),
+                &[],
+                &[],
+                self.time,
+            ),
+        }
+    }
+
+    /// A connection comes, and takes a slot.
+    pub(crate) fn come(&mut self, place: usize, handle: u16, peer: Peer)
+        requires place { place < length self.old.slots }
+        requires handle { handle < 2 ^ 12 }
+        requires told { IsSome (told_in self.old.controller.init) }
+        ensures { self.new ≡ after_coming place handle peer self.old }
+    {
+        let Some(buffers) = self.controller.told() else {
+            unreachable!()
+        };
+        let share = share(self.slots.len(), buffers.packets);
+        let acl_len = acl_len(buffers.length);
+        let key_known = self.keys.known(&peer);
+        self.slots[place].come(handle, peer, key_known, self.rx_mtu, share, acl_len);
+        self.controller.came();
+        hear(
+            &mut self.slots,
+            &self.table,
+            &self.rows,
+            None,
+            &[],
+            &[],
+            self.time,
+        );
+    }
+
+    /// A command is complete.
+    pub(crate) fn completed(
+        &mut self,
+        allowed: u8,
+        opcode: u16,
+        returned: &[u8],
+    ) -> Result<(), HostFault>
+        ensures credits { IsOk result → Credits (completed_event self.old.controller allowed opcode returned.now) allowed opcode (status_of returned.now) self.old self.new }
+        ensures stops { IfErr result (λ fault. stop_of (completed_event self.old.controller allowed opcode returned.now) ≡ Some fault) }
+        ensures unchanged { OnErr result (self.new ≡ self.old) }
+    {
+        let followed = self.controller.completed(allowed, opcode, returned)?;
+        self.open_slots(followed);
+        self.nothing();
+        Ok(())
+    }
+
+    /// A command is under way, or refused.
+    pub(crate) fn status(&mut self, status: u8, allowed: u8, opcode: u16) -> Result<(), HostFault>
+        ensures credits { IsOk result → Credits (status_event self.old.controller status allowed opcode) allowed opcode (Some status) self.old self.new }
+        ensures stops { IfErr result (λ fault. stop_of (status_event self.old.controller status allowed opcode) ≡ Some fault) }
+        ensures unchanged { OnErr result (self.new ≡ self.old) }
+    {
+        let followed = self.controller.status(status, allowed, opcode)?;
+        self.open_slots(followed);
+        self.nothing();
+        Ok(())
+    }
+
+    /// Where the controller is now initialised, as many slots are opened as it takes packets.
+    fn open_slots(&mut self, followed: bool)
+        ensures { self.new ≡ record self.old {
+          slots = opened (following_if followed self.old.controller) self.old.slots;
+        } }
+    {
+        if !followed || !self.controller.is_ready() {
+            return;
+        }
+        if let Some(buffers) = self.controller.told() {
+            let count = self.slots.len().min(usize::from(buffers.packets));
+            self.slots.truncate(count);
+        }
     }
 
     /// A table replaces the one that stands, which is given back.
@@ -141,9 +358,25 @@ impl HostState {
         match self.changer {
             Some(changer) => {
                 self.table.set(changer, &ALL_CHANGED);
-                hear(&mut self.slots, &self.table, &self.rows, None, &[], &[changer], self.time);
+                hear(
+                    &mut self.slots,
+                    &self.table,
+                    &self.rows,
+                    None,
+                    &[],
+                    &[changer],
+                    self.time,
+                );
             }
-            None => hear(&mut self.slots, &self.table, &self.rows, None, &[], &[], self.time),
+            None => hear(
+                &mut self.slots,
+                &self.table,
+                &self.rows,
+                None,
+                &[],
+                &[],
+                self.time,
+            ),
         }
         old
     }
@@ -163,6 +396,23 @@ fn hear(
     ensures count { length slots.new.items ≡ length slots.old.items }
 {
     hear_all(slots.as_mut_slice(), table, rows, own, here, handles, now);
+}
+
+/// How many packets of one connection may be outstanding.
+fn share(slots: usize, packets: u16) -> u16
+    requires slots { 0 < slots }
+    requires packets { 0 < packets }
+    ensures share { result ≡ share slots packets }
+    ensures some { 0 < result }
+{
+    (usize::from(packets) / slots.min(usize::from(packets))) as u16
+}
+
+/// The most octets of data in a packet.
+fn acl_len(told: u16) -> u16
+    ensures { result ≡ acl_len told }
+{
+    told.min(251)
 }
 
 /// The value of a changer where all attributes have changed, from the first handle to the last: Core

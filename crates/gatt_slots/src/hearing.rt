@@ -1,11 +1,11 @@
 //! What a connection hears unasked at the end of an event: Core 5.0, Vol 3 Part F, 3.4.7.
 
-ghost use Rattle.std.specs.Prelude.{◌≡◌, ◌-◌, ◌≤◌, ◌<◌, true, [], ◌∷◌, ◌++◌, length, take, Some, IsSome, is_some, if◌then◌else◌, unwrap_or};
+ghost use Rattle.std.specs.Prelude.{◌≡◌, ◌-◌, ◌≤◌, ◌<◌, true, [], ◌∷◌, ◌++◌, length, take, Some, IsSome, is_some, if◌then◌else◌, unwrap_or, IfSome};
 ghost use Rattle.std.specs.Option.{option_map, option_copied};
 ghost use Rattle.att_table.specs.Table.{attribute_at, is_value_at, value_at};
 ghost use Rattle.gatt_laws.specs.Heard.{att_pdu};
 ghost use Rattle.gatt_slots.specs.Hearing.{after_hearing, row_in_force, told_in_turn, told_raised, told_released, with_told};
-ghost use Rattle.gatt_subs.specs.Rows.{row_of};
+ghost use Rattle.gatt_subs.specs.Rows.{owes, row_of};
 ghost use Rattle.le_acl.specs.Outgoing.{with_pdu};
 ghost use Rattle.octets.specs.Number.{two_octets};
 
@@ -152,6 +152,13 @@ impl Slot {
         let mtu = self.conn.mtu();
         let row = row_in_force(&self.link, &self.peer, &self.row, rows);
         tell(table, row, standing, mtu, now, handles, &mut self.pending, &mut self.sender);
+    }
+
+    /// Whether the peer of the connection is owed an indication of a changed table.
+    pub fn is_owed(&self, rows: &Rows) -> bool
+        ensures { IfSome self.now (λ kept. result ≡ owes rows.now kept.peer) }
+    {
+        rows.owed(&self.peer)
     }
 }
 

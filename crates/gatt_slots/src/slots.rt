@@ -42,12 +42,6 @@ impl Slot {
     {
         self.used != Use::Free && self.handle == handle
     }
-
-    fn is_free(&self) -> bool
-        ensures { result ≡ is_none self.now }
-    {
-        self.used == Use::Free
-    }
 }
 
 /// Ends an event: the connections hear of the values that it raised for them, in the order of their

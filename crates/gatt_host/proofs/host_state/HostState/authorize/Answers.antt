@@ -8,6 +8,6 @@ use Rattle.gatt_host.proofs.host_state.HostState.authorize.Goals as goal
 pub returns : goal.returns
 returns c =
     let within : c.args.place < length (the_view c.self.inside).slots =
-        subst (λ (held : Held). c.args.place < length held.slots) (sym c.self.view_is) c.requires in
+    subst (λ (held : Held). c.args.place < length held.slots) (sym c.self.view_is) c.requires in
     changed_then_heard (the_view c.self.inside) c.args.self.now c.self.view_is c.args.place c.index_mut.result.now within c.index_mut.ensures.value
     (after_authorizing c.args.until) c.authorize.new.self c.hear.new.slots.items c.authorize.ensures c.hear.ensures.heard

@@ -1,0 +1,22 @@
+use Rattle.std.proofs.Common.{◌≡◌, ℕ, ◌<◌, Option, length, subst, sym, ap, ◌∙◌, arith}
+use Rattle.std.specs.Vec.{vec_len}
+use Rattle.gatt_host.specs.contracts.host_state.HostState.{the_view}
+use Rattle.gatt_host.specs.Held.{Held}
+use Rattle.gatt_host.proofs.Places.{come_then_heard}
+use Rattle.gatt_laws.specs.Room.{share_of, size_of}
+use Rattle.le_acl.specs.Shares.{share}
+use Rattle.le_hci.specs.declared.buffers.Buffers.{Buffers}
+use Rattle.gatt_host.proofs.host_state.HostState.come.Goals as goal
+
+pub returns : goal.returns
+returns c =
+    let old : Held = the_view c.self.inside in
+    let within : c.args.place < length old.slots =
+    subst (λ (held : Held). c.args.place < length held.slots) (sym c.self.view_is) c.requires.place in
+    let count-is : vec_len c.self.inside.slots ≡ length old.slots = omega (arith, c.self.inside.slots.ok.0) in
+    come_then_heard old c.args.self.now c.self.view_is c.args.place c.args.handle c.args.peer c.share-share.result c.acl_len-acl_len.result c.known-key_known.result
+    c.index_mut.result.now c.come.new.self c.came.new.self c.hear.new.slots.items within c.index_mut.ensures.value
+    (c.share-share.ensures.share ∙ ap (λ (count : ℕ). share count c.in-Some.buffers.packets) (c.len.ensures ∙ count-is)
+    ∙ ap (λ (told : Option Buffers). share_of (length old.slots) told) (sym c.in-Some.is ∙ c.told.ensures.told))
+    (c.acl_len-acl_len.ensures ∙ ap (λ (told : Option Buffers). size_of told) (sym c.in-Some.is ∙ c.told.ensures.told))
+    c.known-key_known.ensures c.come.ensures (c.came.ensures c.args.handle c.args.peer) c.hear.ensures.heard
