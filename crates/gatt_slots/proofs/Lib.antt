@@ -1,3 +1,4 @@
 pub mod Bonds
 pub mod Served
 pub mod EachSlot
+pub mod parts
