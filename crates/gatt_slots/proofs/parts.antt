@@ -1,3 +1,4 @@
+pub mod Events
 pub mod Heard
 pub mod Kept
 pub mod Requests

@@ -1,6 +1,6 @@
 -- What a connection hears, by what its slot keeps and by what the state machine knows of it.
-use Rattle.std.proofs.Common.{◌≡◌, ℕ, ◌+◌, ◌≤◌, Bool, true, false, List, [], ◌∷◌, ◌++◌, length, map, Option, Some, None, refl, sym, ap, subst, ◌∙◌, arith, append_assoc, append-nil}
-use Rattle.std.specs.Prelude.{min, is_some, if◌then◌else◌, not, nat_lt, ◌&&◌}
+use Rattle.std.proofs.Common.{◌≡◌, ℕ, ◌+◌, Bool, true, false, List, [], ◌∷◌, ◌++◌, length, map, Option, Some, None, refl, sym, ap, subst, ◌∙◌, arith, append_assoc, append-nil}
+use Rattle.std.specs.Prelude.{is_some, if◌then◌else◌, not, nat_lt, ◌&&◌}
 use Rattle.std.specs.Option.{option_map, option_map_or, option_to_list}
 use Rattle.std.proofs.lemmas.List.{length-append, length-map, map-append}
 use Rattle.att_numbers.specs.Types.{Handle, Row}
@@ -15,14 +15,14 @@ use Rattle.gatt_laws.specs.Queued.{IsWithinBounds}
 use Rattle.gatt_laws.specs.Room.{Room, Bonds, share_of, size_of}
 use Rattle.gatt_laws.specs.State.{finished}
 use Rattle.gatt_laws.specs.Turn.{values_among}
-use Rattle.gatt_slots.proofs.parts.Kept.{backlog_kept, becomes, live_there, outgoing_live, row_kept, standing_kept}
+use Rattle.gatt_slots.proofs.parts.Kept.{backlog_kept, becomes, outgoing_live, row_kept, standing_kept}
 use Rattle.gatt_slots.specs.Hearing.{Ear, Told, after_hearing, ear_of, hearer_of, told_in_turn, told_of, told_raised, with_heard, with_pdus, with_told}
-use Rattle.gatt_slots.specs.Kept.{Kept, kept_of, kept_if_there, outgoing_of}
+use Rattle.gatt_slots.specs.Kept.{Kept, kept_of, kept_if_there}
 use Rattle.gatt_subs.specs.Hearing.{bits_for, may_hear_at, wants_indications}
 use Rattle.gatt_subs.specs.Indications.{hears, with_handle}
 use Rattle.gatt_subs.specs.Told.{Hearer, notification_of}
 use Rattle.le_acl.proofs.Histories.{follows_history}
-use Rattle.le_acl.specs.History.{packets_allowed, StandsAt, FollowsHistory}
+use Rattle.le_acl.specs.History.{packets_allowed, StandsAt}
 use Rattle.le_acl.specs.Outgoing.{Outgoing, outgoing_after, with_pdu}
 use Rattle.le_acl.specs.Packets.{Pdu, fragments_of}
 

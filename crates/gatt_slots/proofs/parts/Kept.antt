@@ -1,6 +1,6 @@
 -- What a slot keeps tells of its connection what the state machine knows of it.
-use Rattle.std.proofs.Common.{◌≡◌, ℕ, Bool, true, false, Option, Some, None, refl, sym, ap, ◌∙◌}
-use Rattle.std.specs.Prelude.{is_some, if◌then◌else◌, length, map, unwrap_or}
+use Rattle.std.proofs.Common.{◌≡◌, ℕ, Bool, true, Option, Some, None, refl, sym, ap, ◌∙◌}
+use Rattle.std.specs.Prelude.{is_some, if◌then◌else◌, length, unwrap_or}
 use Rattle.std.specs.Option.{option_map}
 use Rattle.att_numbers.specs.Types.{Row}
 use Rattle.att_policy.specs.declared.standing.KeyFacts.{KeyFacts}
@@ -10,9 +10,8 @@ use Rattle.gatt_conn.specs.Transcript.{first_exchange}
 use Rattle.gatt_slots.specs.Hearing.{row_in_force}
 use Rattle.gatt_slots.specs.Kept.{Kept, kept_of, kept_if_there, outgoing_of, standing_of, connection_of, backlog_of}
 use Rattle.le_acl.specs.Outgoing.{Outgoing, outgoing_after, without_pdus}
-use Rattle.le_acl.specs.Packets.{fragments_of, rest}
 use Rattle.le_security.proofs.Links.{asked_after, key_of_steps}
-use Rattle.le_security.specs.Link.{last_asked, after_steps}
+use Rattle.le_security.specs.Link.{last_asked}
 
 -- who serves is there
 pub live_there : (mark : Mark) → is_live mark ≡ true → is_there mark ≡ true

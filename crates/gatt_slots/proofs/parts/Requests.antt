@@ -1,37 +1,33 @@
 -- A request of the Attribute Protocol, by what a slot keeps of its connection and by what the state machine knows of it.
-use Rattle.std.proofs.Common.{◌≡◌, ℕ, Bool, true, false, List, [], ◌∷◌, map, Option, Some, None, refl, sym, ap, ◌∙◌}
-use Rattle.std.specs.Prelude.{is_some, if◌then◌else◌, ◌==◌, ◌&&◌, not, unwrap_or, Ok, Err}
+use Rattle.std.proofs.Common.{◌≡◌, Bool, true, false, List, [], ◌∷◌, map, Option, Some, None, refl, sym, ap, ◌∙◌}
+use Rattle.std.specs.Prelude.{is_some, if◌then◌else◌, ◌&&◌, not, Ok, Err}
 use Rattle.std.specs.Option.{option_map, option_map_or, option_to_list}
 use Rattle.std.proofs.Math.Bool.{and_assoc}
 use Rattle.att_numbers.specs.Types.{Handle, Mtu, Row}
 use Rattle.att_pdu.specs.declared.grammar.PduFault.TheVariants.{Ignored, Invalid, Unsupported}
 use Rattle.att_pdu.specs.Grammar.{request_of, is_due}
 use Rattle.att_pdu.specs.Request.{ExchangeMtuRequest, FindInformationRequest, FindByTypeValueRequest, ReadByTypeRequest, ReadRequest, ReadBlobRequest, ReadMultipleRequest, ReadByGroupTypeRequest, WriteRequest, PrepareWriteRequest, ExecuteWriteRequest, ConfirmationPdu, WriteCommandPdu}
-use Rattle.att_pdu.specs.Response.{Response}
 use Rattle.att_policy.specs.declared.standing.KeyFacts.{KeyFacts}
 use Rattle.att_table.specs.declared.attr.Attr.{Attr}
-use Rattle.att_table.specs.Table.{Contents}
 use Rattle.att_writes.specs.Applied.{Stored}
 use Rattle.gatt_conn.proofs.Transcripts.{asked_next}
 use Rattle.gatt_conn.specs.Answer.{Question, answer_to, stored_by, handles_by, conn_after, is_confirmation}
 use Rattle.gatt_conn.specs.Connection.{Connection, mtu_between}
-use Rattle.gatt_conn.specs.Transcript.{Said, Answered, Follows, first_exchange, mtu_in, prepared_in}
+use Rattle.gatt_conn.specs.Transcript.{Answered, Follows, mtu_in}
 use Rattle.gatt_laws.specs.Event.{Asks}
 use Rattle.gatt_laws.specs.Heard.{att_pdu}
-use Rattle.gatt_laws.specs.Part.{Part, is_live, is_there, key_of, row_of, mtu_of, connection_of as part_connection, with_pdus as part_with, after_ending as part_ending}
+use Rattle.gatt_laws.specs.Part.{Part, is_live, is_there, key_of, row_of, mtu_of, connection_of as part_connection, after_ending as part_ending}
 use Rattle.gatt_laws.specs.Queued.{IsWithinBounds}
 use Rattle.gatt_laws.specs.Room.{Room, share_of, size_of}
-use Rattle.gatt_laws.specs.Turn.{Turn, turn_of, turn_to, live_turn, is_full as part_full, request_turn, served, values_among, owed_after, own_row_after as part_row_after, bond_after as part_bond_after, remote_user_terminated}
+use Rattle.gatt_laws.specs.Turn.{Turn, turn_of, turn_to, live_turn, is_full as part_full, served, values_among, owed_after, bond_after as part_bond_after, remote_user_terminated}
 use Rattle.gatt_slots.proofs.parts.Kept.{becomes, connection_kept, link_key, live_there, row_kept}
 use Rattle.gatt_slots.proofs.parts.Turns.{ended_kept, full_kept, live_turned, queued_kept}
 use Rattle.gatt_slots.specs.Hearing.{row_in_force, with_pdus}
-use Rattle.gatt_slots.specs.Kept.{Kept, kept_of, kept_if_there, outgoing_of, backlog_of, connection_of}
-use Rattle.gatt_slots.specs.Request.{asked_of, is_full, stored_of, handles_of, table_after, own_row_after, bond_after, bond_served, confirms_changes, kept_served, pending_after, with_conn, with_owed_after}
+use Rattle.gatt_slots.specs.Kept.{Kept, kept_of, kept_if_there, outgoing_of, connection_of}
+use Rattle.gatt_slots.specs.Request.{is_full, stored_of, handles_of, table_after, own_row_after, bond_after, bond_served, confirms_changes, kept_served, pending_after, with_conn, with_owed_after}
 use Rattle.gatt_slots.specs.Turn.{after_ending}
 use Rattle.gatt_subs.specs.declared.bond.Bond.{Bond}
 use Rattle.gatt_subs.specs.Indications.{is_told}
-use Rattle.le_acl.specs.Outgoing.{Outgoing}
-use Rattle.le_acl.specs.Packets.{Pdu}
 use Rattle.octets.specs.Number.{Octets}
 
 -- what the server receives stays as it was
@@ -213,7 +209,7 @@ module _ (room : Room) (found : Option Row) (bond : Row) (owed : Bool) (part : P
       ap (λ (confirms : Bool). owed && not confirms) (and_assoc (is_confirmation pdu) (is_some (key_of part)) knows)
       ∙ (λ i. owed && not (is_confirmation pdu && (is_some (sym (link_key room part part.given) i) && knows)))
       ∙ ap (λ (was : Bool). was && not (confirms_changes room.changer pdu kept))
-        (bond-owed (is_some kept.link.key) bonded (stored_of room.table room.time found pdu kept).row)
+      (bond-owed (is_some kept.link.key) bonded (stored_of room.table room.time found pdu kept).row)
 
   pub served_bond : (turn_of room bond owed part (Asks pdu)).bond ≡ (bond_served room.table room.time room.changer found pdu kept bonded).row
   served_bond =

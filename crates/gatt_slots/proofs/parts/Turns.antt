@@ -1,14 +1,13 @@
 -- What happens to one connection, by what its slot keeps and by what the state machine knows of it.
-use Rattle.std.proofs.Common.{◌≡◌, ℕ, ◌+◌, ◌<◌, ◌≤◌, Bool, true, false, List, [], ◌∷◌, ◌++◌, length, map, Option, Some, None, refl, sym, ap, ◌∙◌, arith, inl, inr}
+use Rattle.std.proofs.Common.{◌≡◌, ℕ, ◌≤◌, Bool, true, false, List, [], ◌∷◌, Option, Some, None, refl, sym, ap, ◌∙◌, arith}
 use Rattle.std.specs.Prelude.{is_some, if◌then◌else◌, nat_le, ◌==◌, ◌&&◌}
 use Rattle.std.specs.Option.{option_map, option_map_or, option_or, option_to_list}
-use Rattle.std.proofs.lemmas.Bool.{cases_lt, eq-eqb, ne_eqb, leb-true}
+use Rattle.std.proofs.lemmas.Bool.{eq-eqb, ne_eqb, leb-true}
 use Rattle.att_numbers.specs.Types.{Mtu, Row}
-use Rattle.att_policy.specs.declared.standing.KeyFacts.{KeyFacts}
 use Rattle.gatt_conn.specs.Connection.{mtu_between}
 use Rattle.gatt_conn.specs.Transcript.{first_exchange}
 use Rattle.gatt_laws.specs.Event.{Own, KeyAsked, Encrypted, Refreshed, Signals, Authorized}
-use Rattle.gatt_laws.specs.Part.{Part, Mark, Absent, Live, Ending, is_live, is_there, key_of, with_pdus as part_with, after_ending as part_ending, backlog_of as part_backlog}
+use Rattle.gatt_laws.specs.Part.{Part, is_live, is_there, key_of, with_pdus as part_with, after_ending as part_ending, backlog_of as part_backlog}
 use Rattle.gatt_laws.specs.Queued.{IsWithinBounds}
 use Rattle.gatt_laws.specs.Room.{Room, share_of, size_of}
 use Rattle.gatt_laws.specs.Turn.{Turn, turn_of, turn_to, live_turn, is_full, with_step, after_channel, channel_answer, lost_encryption, gained_encryption, authentication_failure, remote_user_terminated}
@@ -17,7 +16,6 @@ use Rattle.gatt_slots.proofs.parts.Kept.{backlog_kept, becomes, live_there, outg
 use Rattle.gatt_slots.specs.Hearing.{with_pdus}
 use Rattle.gatt_slots.specs.Kept.{Kept, kept_of, kept_if_there, outgoing_of, backlog_of}
 use Rattle.gatt_slots.specs.Turn.{after_authorizing, after_ending, after_key_asked, after_link_step, after_signal, with_answer}
-use Rattle.gatt_subs.specs.Indications.{after_end}
 use Rattle.le_acl.specs.Outgoing.{Outgoing, outgoing_after, without_pdus}
 use Rattle.le_acl.specs.Packets.{Pdu}
 use Rattle.le_security.proofs.Links.{key_of_steps}
@@ -69,7 +67,7 @@ module _ (room : Room) (bond : Row) (owed : Bool) (part : Part) (is : is_live pa
   turned : (own : Own) (change : Kept → Kept) → is_there (live_turn room bond owed part own).part.mark ≡ true
       → kept_of room (live_turn room bond owed part own).part part.given ≡ change kept
       → kept_if_there room (if is_live part.mark then live_turn room bond owed part own else turn_to room bond owed part).part part.given
-        ≡ option_map change (kept_if_there room part part.given)
+      ≡ option_map change (kept_if_there room part part.given)
   turned own change stays same =
       ap (λ (turn : Turn). kept_if_there room turn.part part.given) (live_turned own)
       ∙ becomes room part (live_turn room bond owed part own).part part.given change there stays same
@@ -82,7 +80,7 @@ module _ (room : Room) (bond : Row) (owed : Bool) (part : Part) (is : is_live pa
 
   pub key_asked_kept : (random_number : Octets) (diversifier : ℕ)
       → kept_if_there room (turn_of room bond owed part (KeyAsked random_number diversifier)).part part.given
-        ≡ option_map (after_key_asked (answer_of room.keys part.peer random_number diversifier)) (kept_if_there room part part.given)
+      ≡ option_map (after_key_asked (answer_of room.keys part.peer random_number diversifier)) (kept_if_there room part part.given)
   unfolding live_turn
   key_asked_kept random_number diversifier =
       turned (KeyAsked random_number diversifier) (after_key_asked (answer_of room.keys part.peer random_number diversifier)) there refl
@@ -109,7 +107,7 @@ module _ (room : Room) (bond : Row) (owed : Bool) (part : Part) (is : is_live pa
 
   pub encrypted_kept : (status enabled : ℕ)
       → kept_if_there room (turn_of room bond owed part (Encrypted status enabled)).part part.given
-        ≡ option_map (after_link_step (Encryption status enabled)) (kept_if_there room part part.given)
+      ≡ option_map (after_link_step (Encryption status enabled)) (kept_if_there room part part.given)
   unfolding live_turn
   encrypted_kept status enabled =
       let step : Step = Encryption status enabled in
@@ -117,7 +115,7 @@ module _ (room : Room) (bond : Row) (owed : Bool) (part : Part) (is : is_live pa
 
   pub refreshed_kept : (status : ℕ)
       → kept_if_there room (turn_of room bond owed part (Refreshed status)).part part.given
-        ≡ option_map (after_link_step (Refresh status)) (kept_if_there room part part.given)
+      ≡ option_map (after_link_step (Refresh status)) (kept_if_there room part part.given)
   unfolding live_turn
   refreshed_kept status =
       let step : Step = Refresh status in
@@ -131,13 +129,13 @@ module _ (room : Room) (bond : Row) (owed : Bool) (part : Part) (is : is_live pa
 
   pub encrypted_raised : (status enabled : ℕ)
       → (turn_of room bond owed part (Encrypted status enabled)).raised_here
-        ≡ (if gained_encryption kept.link.key (after_step kept.link (Encryption status enabled)).key && owed then option_to_list room.changer else [])
+      ≡ (if gained_encryption kept.link.key (after_step kept.link (Encryption status enabled)).key && owed then option_to_list room.changer else [])
   unfolding live_turn
   encrypted_raised status enabled = ap (λ (turn : Turn). turn.raised_here) (live_turned (Encrypted status enabled)) ∙ link-raised (Encryption status enabled)
 
   pub refreshed_raised : (status : ℕ)
       → (turn_of room bond owed part (Refreshed status)).raised_here
-        ≡ (if gained_encryption kept.link.key (after_step kept.link (Refresh status)).key && owed then option_to_list room.changer else [])
+      ≡ (if gained_encryption kept.link.key (after_step kept.link (Refresh status)).key && owed then option_to_list room.changer else [])
   unfolding live_turn
   refreshed_raised status = ap (λ (turn : Turn). turn.raised_here) (live_turned (Refreshed status)) ∙ link-raised (Refresh status)
 
@@ -173,7 +171,7 @@ module _ (room : Room) (bond : Row) (owed : Bool) (part : Part) (is : is_live pa
 
     pub signal_kept : (channel : ℕ) (payload : Octets)
         → kept_if_there room (turn_of room bond owed part (Signals channel payload)).part part.given
-          ≡ option_map (after_signal channel payload) (kept_if_there room part part.given)
+        ≡ option_map (after_signal channel payload) (kept_if_there room part part.given)
     unfolding live_turn
     signal_kept channel payload =
         turned (Signals channel payload) (after_signal channel payload) (signal-there channel (channel_answer channel payload)) (signal-kept channel (channel_answer channel payload))
