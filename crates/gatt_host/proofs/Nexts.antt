@@ -1,12 +1,12 @@
 -- What goes out next, by what is due.
-use Rattle.std.proofs.Common.{◌≡◌, ℕ, Bool, true, false, List, [], ◌∷◌, Option, Some, None, refl, sym, ap, ◌∙◌}
+use Rattle.std.proofs.Common.{◌≡◌, Bool, true, false, List, [], ◌∷◌, Option, Some, None, refl, sym, ap, ◌∙◌}
 use Rattle.std.specs.Prelude.{nat_lt, ◌&&◌, not, is_some, if◌then◌else◌}
 use Rattle.std.specs.Option.{option_map, option_map_or, option_or}
 use Rattle.gatt_laws.specs.Controller.{Controller, controller_after}
 use Rattle.gatt_host.specs.GoingOut.{init_command, command_in, has_room, enabling_command, command_next, controller_then, next_out, packet_in}
 use Rattle.gatt_laws.specs.State.{command_octets}
 use Rattle.gatt_slots.specs.Kept.{Kept}
-use Rattle.le_hci.specs.Command.{Commanded, LeSetAdvertiseEnable, opcode_of}
+use Rattle.le_hci.specs.Command.{Commanded, LeSetAdvertiseEnable}
 
 pub is_none_where : {A : Type 0} (found : Option A) → is_some found ≡ false → found ≡ None
 is_none_where None lacks = refl
@@ -24,24 +24,8 @@ pub there_where : {A : Type 0} (found : Option A) → is_some found ≡ true →
 there_where (Some x) has = record { x = x; is = refl }
 there_where None has = absurd (clash has)
 
-pub record Named (due : Option Commanded) (opcode : ℕ) : Type 0 where
-  pub command : Commanded
-  pub is : due ≡ Some command
-  pub names : opcode ≡ opcode_of command
-
 pub some_of : {A : Type 0} (x y : A) → Some x ≡ Some y → x ≡ y
 some_of x y e = cc e
-
-pub named_where : (due : Option Commanded) (opcode : ℕ) → option_map opcode_of due ≡ Some opcode → Named due opcode
-named_where (Some command) opcode is = record { command = command; is = refl; names = sym (some_of (opcode_of command) opcode is) }
-named_where None opcode is = absurd (none-some is)
-  where
-    none-some : {A : Type 0} {x : A} → None ≡ Some x → ⊥
-    none-some e = cc e
-
-pub none_named : (due : Option Commanded) → option_map opcode_of due ≡ None → due ≡ None
-none_named None is = refl
-none_named (Some command) is = cc is
 
 module _ (controller : Controller) (slots : List (Option Kept)) where
   abbrev Is : Option Commanded → Type 0

@@ -1,15 +1,15 @@
 -- What goes out next is the first of what is owed.
-use Rattle.std.proofs.Common.{◌≡◌, ◌+◌, Bool, true, false, List, ◌∷◌, ◌++◌, map, Option, Some, None, refl, sym, ap, subst, ◌∙◌}
+use Rattle.std.proofs.Common.{[], ◌≡◌, ◌≢◌, ◌+◌, Bool, true, false, List, ◌∷◌, ◌++◌, map, Option, Some, None, refl, sym, ap, subst, ◌∙◌}
 use Rattle.std.specs.Prelude.{is_some, is_none, ◌&&◌, ◌==◌, not, if◌then◌else◌}
 use Rattle.std.specs.List.{flat_map, list_any}
 use Rattle.std.specs.Option.{option_map, option_or}
 use Rattle.std.proofs.lemmas.Bool.{eqb-true}
 use Rattle.gatt_host.proofs.Commands.{Facts}
 use Rattle.gatt_host.proofs.CommandsFirst.{Quiet, CommandGoes, NoneGoes, commanding}
-use Rattle.gatt_host.proofs.Nexts.{packet_next, then_controller}
+use Rattle.gatt_host.proofs.Nexts.{is_none_where, packet_next, then_controller, there_where}
 use Rattle.gatt_host.proofs.Packets.{NoPacket, APacket, NonePacket, OnePacket, search_packets, with_handed}
-use Rattle.gatt_host.specs.GoingOut.{with_first, command_next, packet_in, next_out, is_drained, slots_commanded}
-use Rattle.gatt_host.specs.Owing.{Handed, IsPartway, slots_held, slot_left, left_of, all_given, IsOwing, IsDone, GivesTheFirst, GoesOn, HandsOutWhatIsOwed, IsDrainedWhereNothingGoesOut}
+use Rattle.gatt_host.specs.GoingOut.{with_first, command_next, packet_in, next_out, is_drained, controller_then, slots_commanded, slots_then}
+use Rattle.gatt_host.specs.Owing.{Handed, IsPartway, slots_held, slot_left, left_of, all_given, IsOwing, IsDone, OwesTheRest, GivesTheFirst, GoesOn, HandsOutWhatIsOwed, IsDrainedWhereNothingGoesOut}
 use Rattle.gatt_laws.specs.Controller.{Controller}
 use Rattle.gatt_laws.specs.Event.{Ordinal}
 use Rattle.gatt_laws.specs.State.{State, command_octets, with_commands_sent}
@@ -114,3 +114,47 @@ pub is_drained_where_nothing_goes_out : IsDrainedWhereNothingGoesOut
 is_drained_where_nothing_goes_out final owed controller slots owing =
     let now = drained owing.state owing.handed (facts-of final owed controller slots owing) in
     (λ i. is_drained (owing.controller_is i) (owing.slots_are i)) ∙ now ∙ sym (λ i. is_none (next_out (owing.controller_is i) (owing.slots_are i)))
+
+-- the same by what is so afterwards
+pub rest_is_owed : (final : State) (owed : List Octets) (octets : Octets) (old new : Controller) (before after : List (Option Kept)) → IsOwing final owed old before
+    → next_out old before ≡ Some octets → new ≡ controller_then old before → after ≡ slots_then old before → OwesTheRest final owed octets new after
+rest_is_owed final owed octets old new before after owing goes controllers slots =
+    let first : OwesTheRest final owed octets (controller_then old before) (slots_then old before) =
+    subst (GoesOn final owed old before) goes (hands_out_what_is_owed final owed old before owing) in
+    record {
+      others = first.others;
+      first = first.first;
+      owing = subst (λ told. IsOwing final first.others told after) (sym controllers)
+          (subst (λ held. IsOwing final first.others (controller_then old before) held) (sym slots) first.owing);
+    }
+
+pub none_is_owed : (final : State) (owed : List Octets) (controller : Controller) (slots : List (Option Kept)) → IsOwing final owed controller slots
+    → is_some (next_out controller slots) ≡ false → IsDone final owed controller slots
+none_is_owed final owed controller slots owing none =
+    subst (GoesOn final owed controller slots) (is_none_where (next_out controller slots) none) (hands_out_what_is_owed final owed controller slots owing)
+
+some-where : {A : Type 0} (found : Option A) → is_none found ≡ false → is_some found ≡ true
+some-where (Some x) is = refl
+some-where None is = sym is
+
+none-where : {A : Type 0} (found : Option A) → is_none found ≡ true → is_some found ≡ false
+none-where None is = refl
+none-where (Some x) is = sym is
+
+pub drained_is_done : (final : State) (owed : List Octets) (controller : Controller) (slots : List (Option Kept)) → IsOwing final owed controller slots
+    → is_drained controller slots ≡ true → IsDone final owed controller slots
+drained_is_done final owed controller slots owing is =
+    none_is_owed final owed controller slots owing
+    (none-where (next_out controller slots) (sym (is_drained_where_nothing_goes_out final owed controller slots owing) ∙ is))
+
+pub some_is_owed : (final : State) (owed : List Octets) (controller : Controller) (slots : List (Option Kept)) → IsOwing final owed controller slots
+    → is_drained controller slots ≡ false → owed ≢ []
+some_is_owed final owed controller slots owing is =
+    let found = there_where (next_out controller slots)
+    (some-where (next_out controller slots) (sym (is_drained_where_nothing_goes_out final owed controller slots owing) ∙ is)) in
+    let first : GoesOn final owed controller slots (Some found.x) =
+    subst (GoesOn final owed controller slots) found.is (hands_out_what_is_owed final owed controller slots owing) in
+    λ none. some-none (sym first.first ∙ none)
+  where
+    some-none : {A : Type 0} {x : A} {xs : List A} → x ∷ xs ≡ [] → ⊥
+    some-none e = cc e

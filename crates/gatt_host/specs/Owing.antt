@@ -71,11 +71,15 @@ pub record IsDone (final : State) (owed : List Octets) (controller : Controller)
   pub controller_is : controller ≡ final.controller
   pub slots_are : slots ≡ slots_held final (all_given final)
 
--- what goes out next is the first of what is owed, and the others are owed then; where nothing goes out, nothing is owed
-pub record GivesTheFirst (final : State) (owed : List Octets) (controller : Controller) (slots : List (Option Kept)) (octets : Octets) : Type 0 where
+-- these octets are the first of what is owed, and the others are still to go out
+pub record OwesTheRest (final : State) (owed : List Octets) (octets : Octets) (controller : Controller) (slots : List (Option Kept)) : Type 0 where
   pub others : List Octets
   pub first : owed ≡ octets ∷ others
-  pub owing : IsOwing final others (controller_then controller slots) (slots_then controller slots)
+  pub owing : IsOwing final others controller slots
+
+-- what goes out next is the first of what is owed; where nothing goes out, nothing is owed
+abbrev pub GivesTheFirst : State → List Octets → Controller → List (Option Kept) → Octets → Type 0
+GivesTheFirst final owed controller slots octets = OwesTheRest final owed octets (controller_then controller slots) (slots_then controller slots)
 
 abbrev pub GoesOn : State → List Octets → Controller → List (Option Kept) → Option Octets → Type 0
 GoesOn final owed controller slots None = IsDone final owed controller slots

@@ -4,6 +4,7 @@ ghost use Rattle.gatt_laws.specs.Event.{Credit, Connected, Gone};
 ghost use Rattle.gatt_laws.specs.Packets.{completed_event, status_event, status_of, is_awaited, init_fault, following_of};
 ghost use Rattle.gatt_laws.specs.State.{told_of, is_refusal};
 ghost use Rattle.gatt_host.specs.Answers.{answered_by, following_if, following_stop, stop_of, told_fault};
+ghost use Rattle.gatt_host.specs.Owing.{OwesTheFirstCommand};
 ghost use Rattle.le_hci.specs.Init.{command_awaited, first_state, outcome_of};
 ghost use Rattle.le_hci.specs.InitTold.{AreUsable, told_in};
 ghost use Rattle.le_hci.specs.declared.peer.Peer.{Peer};
@@ -45,8 +46,11 @@ impl Model for Controller {
 impl Controller {
     /// A controller that is not initialised, and takes one command before it answers any: Core 5.0,
     /// Vol 2 Part E, 4.4.
+    #[tactic(auto, using(crate::proofs::Entering::owes_the_first_command))]
     pub fn new(address: Option<[u8; 6]>, advertising: ArrayVec<u8, 31>) -> Controller
-        ensures { result ≡ record { credit = 1; init = first_state address advertising; awaiting = false; advertising = false; refused = false } }
+        ensures new { result ≡ record { credit = 1; init = first_state address advertising; awaiting = false; advertising = false; refused = false } }
+        // Its first command is owed then.
+        ensures owing { OwesTheFirstCommand }
     {
         Controller {
             credit: 1,

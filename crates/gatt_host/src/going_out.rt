@@ -1,15 +1,17 @@
 //! What goes out next: a command that is due, while the controller takes any, and else a packet of the
 //! first slot that may give one.
 
-ghost use Rattle.std.specs.Prelude.{◌≡◌, ◌&&◌, not, nat_lt, is_some, is_none, true, Some, ◌∷◌, []};
+ghost use Rattle.std.specs.Prelude.{◌≡◌, ◌≢◌, List, ◌&&◌, not, nat_lt, is_some, is_none, true, Some, ◌∷◌, []};
 ghost use Rattle.std.specs.Bool.{OnTrue, OnFalse};
 ghost use Rattle.std.specs.List.{list_any, position};
 ghost use Rattle.std.specs.Option.{option_map};
 ghost use Rattle.gatt_laws.specs.Controller as laws;
 ghost use Rattle.gatt_laws.specs.Controller.{controller_after};
-ghost use Rattle.gatt_laws.specs.State.{command_octets};
+ghost use Rattle.gatt_laws.specs.State.{State, command_octets};
 ghost use Rattle.gatt_slots.specs.Commands.{gives, without_command, without_packet};
 ghost use Rattle.gatt_host.specs.GoingOut.{command_in, command_next, controller_then, enabling_command, has_command, has_room, init_command, is_drained, next_out, packet_in, slots_commanded, slots_then, with_first};
+ghost use Rattle.gatt_host.specs.Owing.{IsDone, IsOwing, OwesTheRest, OwesWhatAnEventBrings};
+ghost use Rattle.octets.specs.Number.{Octets};
 ghost use Rattle.le_hci.specs.Command.{Commanded, LeSetAdvertiseEnable, command_of, opcode_of};
 
 use crate::controller::Controller;
@@ -127,6 +129,7 @@ fn packet_out(slots: &mut [Slot], out: &mut ArrayVec<u8, 260>) -> bool
     ensures goes { result ≡ is_some (packet_in slots.old) }
     ensures octets { OnTrue result (packet_in slots.old ≡ Some out.new.items) }
     ensures after { slots.new ≡ with_first gives (option_map without_packet) slots.old }
+    ensures unchanged { OnFalse result (slots.new ≡ slots.old) }
     ensures out_unchanged { OnFalse result (out.new.items ≡ out.old.items) }
 {
     let Some(place) = place_that_gives(slots) else {
@@ -159,6 +162,7 @@ fn command_out(controller: &mut Controller, slots: &mut [Slot], out: &mut ArrayV
     ensures goes { result ≡ is_some (command_next controller.old slots.old) }
     ensures octets { OnTrue result (option_map command_octets (command_next controller.old slots.old) ≡ Some out.new.items) }
     ensures controller { controller.new ≡ controller_then controller.old slots.old }
+    ensures controller_unchanged { OnFalse result (controller.new ≡ controller.old) }
     ensures slots { OnTrue result (slots.new ≡ slots_commanded controller.old slots.old) }
     ensures unchanged { OnFalse result (slots.new ≡ slots.old) }
     ensures out_unchanged { OnFalse result (out.new.items ≡ out.old.items) }
@@ -179,6 +183,7 @@ fn command_out(controller: &mut Controller, slots: &mut [Slot], out: &mut ArrayV
 /// Writes what goes out next in place of what `out` holds: a command that is due, while the controller
 /// takes any, and else a packet of the first slot that may give one. There is nothing, and nothing
 /// changes, once all is out.
+#[tactic(auto, using(crate::proofs::Entering::owes_what_an_event_brings))]
 pub fn next_out(
     controller: &mut Controller,
     slots: &mut [Slot],
@@ -188,6 +193,28 @@ pub fn next_out(
     ensures octets { OnTrue result (next_out controller.old slots.old ≡ Some out.new.items) }
     ensures controller { controller.new ≡ controller_then controller.old slots.old }
     ensures slots { slots.new ≡ slots_then controller.old slots.old }
+    // It is the first of what is owed; and where there is nothing, nothing is owed.
+    ensures first { (final : State) (owed : List Octets) → IsOwing final owed controller.old slots.old
+        → OnTrue result (OwesTheRest final owed out.new.items controller.new slots.new) }
+    ensures done { (final : State) (owed : List Octets) → IsOwing final owed controller.old slots.old
+        → OnFalse result (IsDone final owed controller.old slots.old) }
+    ensures controller_unchanged { OnFalse result (controller.new ≡ controller.old) }
+    ensures slots_unchanged { OnFalse result (slots.new ≡ slots.old) }
+    ensures out_unchanged { OnFalse result (out.new.items ≡ out.old.items) }
+    // What an event brings out is owed once all but its end is done.
+    ensures events { OwesWhatAnEventBrings }
+{
+    either_out(controller, slots, out)
+}
+
+/// Writes the next command, or else the next packet.
+fn either_out(controller: &mut Controller, slots: &mut [Slot], out: &mut ArrayVec<u8, 260>) -> bool
+    ensures goes { result ≡ is_some (next_out controller.old slots.old) }
+    ensures octets { OnTrue result (next_out controller.old slots.old ≡ Some out.new.items) }
+    ensures controller { controller.new ≡ controller_then controller.old slots.old }
+    ensures slots { slots.new ≡ slots_then controller.old slots.old }
+    ensures controller_unchanged { OnFalse result (controller.new ≡ controller.old) }
+    ensures slots_unchanged { OnFalse result (slots.new ≡ slots.old) }
     ensures out_unchanged { OnFalse result (out.new.items ≡ out.old.items) }
 {
     if command_out(controller, slots, out) {
@@ -214,6 +241,17 @@ fn has_command(controller: &Controller, slots: &[Slot]) -> bool
 
 /// Nothing is to go out.
 pub fn is_drained(controller: &Controller, slots: &[Slot]) -> bool
+    ensures drained { result ≡ is_drained controller.now slots.now }
+    // Then nothing is owed, and else something is.
+    ensures done { (final : State) (owed : List Octets) → IsOwing final owed controller.now slots.now
+        → OnTrue result (IsDone final owed controller.now slots.now) }
+    ensures owing { (final : State) (owed : List Octets) → IsOwing final owed controller.now slots.now → OnFalse result (owed ≢ []) }
+{
+    none_waits(controller, slots)
+}
+
+/// No command is due that the controller takes, and no slot may give a packet.
+fn none_waits(controller: &Controller, slots: &[Slot]) -> bool
     ensures { result ≡ is_drained controller.now slots.now }
 {
     if has_command(controller, slots) {

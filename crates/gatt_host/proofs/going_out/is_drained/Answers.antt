@@ -1,12 +1,12 @@
-use Rattle.std.proofs.Common.{ap, sym, ◌∙◌}
-use Rattle.std.specs.Prelude.{◌&&◌, not, is_none}
-use Rattle.std.specs.List.{list_any}
-use Rattle.gatt_host.proofs.Nexts.{no_command_next}
-use Rattle.gatt_slots.specs.Commands.{gives}
+use Rattle.std.proofs.Common.{sym, ◌∙◌}
+use Rattle.std.proofs.lemmas.Bool.{OnFalse_from, OnTrue_from}
+use Rattle.gatt_host.proofs.Owing.{drained_is_done, some_is_owed}
 use Rattle.gatt_host.proofs.going_out.is_drained.Goals as goal
 
-pub returns : goal.returns
-returns c =
-    ap not c.any_gives.ensures
-    ∙ sym (ap (λ due. is_none due && not (list_any gives c.args.slots.now))
-    (no_command_next c.args.controller.now c.args.slots.now c.has_command.result c.has_command.ensures c.if-has_command.false))
+pub returns-clause-done : goal.returns-clause-done
+returns-clause-done c = λ final owed owing. OnTrue_from _ _ (λ is.
+    drained_is_done final owed c.args.controller.now c.args.slots.now owing (sym c.none_waits.ensures ∙ is))
+
+pub returns-clause-owing : goal.returns-clause-owing
+returns-clause-owing c = λ final owed owing. OnFalse_from _ _ (λ is.
+    some_is_owed final owed c.args.controller.now c.args.slots.now owing (sym c.none_waits.ensures ∙ is))

@@ -1,15 +1,13 @@
-use Rattle.std.proofs.Common.{ap, sym, ◌∙◌}
-use Rattle.std.specs.Prelude.{is_some}
-use Rattle.std.proofs.lemmas.Bool.{OnFalse_at}
-use Rattle.gatt_host.proofs.Nexts.{no_command_next, packet_next}
-use Rattle.gatt_host.specs.GoingOut.{packet_in}
+use Rattle.std.proofs.Common.{sym, ◌∙◌}
+use Rattle.std.proofs.lemmas.Bool.{OnFalse_from, OnTrue_at, OnTrue_from}
+use Rattle.gatt_host.proofs.Owing.{none_is_owed, rest_is_owed}
 use Rattle.gatt_host.proofs.going_out.next_out.Goals as goal
 
-pub returns-clause-goes : goal.returns-clause-goes
-returns-clause-goes c =
-    let controller = c.args.controller.now in
-    let slots = c.args.slots.now in
-    let none = no_command_next controller slots c.command_out.result c.command_out.ensures.goes c.if-command_out.false in
-    c.packet_out.ensures.goes
-    ∙ ap (λ held. is_some (packet_in held)) (OnFalse_at c.if-command_out.false c.command_out.ensures.unchanged)
-    ∙ sym (ap is_some (packet_next controller slots none))
+pub returns-clause-first : goal.returns-clause-first
+returns-clause-first c = λ final owed owing. OnTrue_from _ _ (λ goes.
+    rest_is_owed final owed c.either_out.new.out.items c.args.controller.now c.either_out.new.controller c.args.slots.now c.either_out.new.slots owing
+    (OnTrue_at goes c.either_out.ensures.octets) c.either_out.ensures.controller c.either_out.ensures.slots)
+
+pub returns-clause-done : goal.returns-clause-done
+returns-clause-done c = λ final owed owing. OnFalse_from _ _ (λ stays.
+    none_is_owed final owed c.args.controller.now c.args.slots.now owing (sym c.either_out.ensures.goes ∙ stays))
