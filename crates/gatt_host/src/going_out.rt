@@ -1,15 +1,14 @@
 //! What goes out next: a command that is due, while the controller takes any, and else a packet of the
 //! first slot that may give one.
 
-ghost use Rattle.std.specs.Prelude.{◌≡◌, ◌≢◌, List, ◌&&◌, not, nat_lt, is_some, is_none, true, Some, ◌∷◌, []};
+ghost use Rattle.std.specs.Prelude.{◌≡◌, ◌≢◌, List, ◌&&◌, not, nat_lt, is_some, true, Some, ◌∷◌, []};
 ghost use Rattle.std.specs.Bool.{OnTrue, OnFalse};
 ghost use Rattle.std.specs.List.{list_any, position};
 ghost use Rattle.std.specs.Option.{option_map};
-ghost use Rattle.gatt_laws.specs.Controller as laws;
 ghost use Rattle.gatt_laws.specs.Controller.{controller_after};
 ghost use Rattle.gatt_laws.specs.State.{State, command_octets};
 ghost use Rattle.gatt_slots.specs.Commands.{gives, without_command, without_packet};
-ghost use Rattle.gatt_host.specs.GoingOut.{command_in, command_next, controller_then, enabling_command, has_command, has_room, init_command, is_drained, next_out, packet_in, slots_commanded, slots_then, with_first};
+ghost use Rattle.gatt_host.specs.GoingOut.{command_in, command_next, controller_then, has_command, has_room, init_command, is_drained, next_out, packet_in, slots_commanded, slots_then, with_first};
 ghost use Rattle.gatt_host.specs.Owing.{IsDone, IsOwing, OwesTheRest, OwesWhatAnEventBrings};
 ghost use Rattle.octets.specs.Number.{Octets};
 ghost use Rattle.le_hci.specs.Command.{Commanded, LeSetAdvertiseEnable, command_of, opcode_of};

@@ -1,5 +1,5 @@
 -- What each possible event keeps is so in every state.
-use Rattle.std.proofs.Common.{◌≡◌, ℕ, Bool, true, false, List, [], ◌∷◌, ◌++◌, length, Option, Some, None, refl, arith}
+use Rattle.std.proofs.Common.{◌≡◌, ℕ, Bool, true, false, List, [], ◌∷◌, ◌++◌, length, Option, Some, None, refl, subst, arith}
 use Rattle.std.specs.Prelude.{Result, Ok, Err, is_none, nat_lt, ◌==◌, ◌&&◌, ◌||◌, not, if◌then◌else◌}
 use Rattle.std.specs.Option.{option_map, option_map_or}
 use Rattle.std.proofs.lemmas.Bool.{ltb-false}
@@ -7,7 +7,7 @@ use Rattle.att_numbers.specs.Types.{Handle}
 use Rattle.att_table.specs.Changer.{changer_of}
 use Rattle.att_table.specs.declared.attr.Attr.{Attr}
 use Rattle.att_table.specs.Table.{Contents, attribute_at, is_value}
-use Rattle.gatt_laws.specs.Calls.{Call, UpdateCall, AuthorizeCall, TickCall, NotAValue, BadLength, TimeWentBack, NoServiceChanged, holding, serving, has_length, update_event, authorize_event, call_event, same_changer, replacement_event}
+use Rattle.gatt_laws.specs.Calls.{Call, Refused, UpdateCall, AuthorizeCall, TickCall, NotAValue, BadLength, TimeWentBack, NoServiceChanged, holding, serving, has_length, update_event, authorize_event, call_event, same_changer, replacement_event}
 use Rattle.gatt_laws.specs.Controller.{Controller, has_free, is_ready}
 use Rattle.gatt_laws.specs.Event.{Ordinal, Own, Event, Connected, Gone, KeyAsked, Encrypted, Refreshed, Asks, Signals, Of, Update, Tick, Replaced, Nothing}
 use Rattle.gatt_laws.specs.Input.{Item, AnOctet, APacket, ACall, ATable, TheEnd, Course, after_result, packet_taken, after_packet, with_unfinished, after_first, taken, unless_stopped, after_item, after_items, course}
@@ -171,6 +171,16 @@ module _ (Fine : Contents → Type 0) where
   pub replacement_possible : (state : State) (table : Contents) → Fine table → PossibleIfAny state (replacement_event state table)
   replacement_possible state table is =
       elim (same_changer state.room.changer (changer_of table)) as (λ same. PossibleIfAny state (if same then Ok (Replaced table) else Err NoServiceChanged)) [ true ↦ is | false ↦ tt ]
+
+  -- what a packet, a call or a table means may come
+  pub packet_possible : (state : State) (fragments : Fragments) (packet : Packet) (event : Event) → packet_event state fragments packet ≡ Ok event → Possible Fine state event
+  packet_possible state fragments packet event is = subst (λ (result : Result Event Fault). PossibleIfAny state result) is (packet-possible state fragments packet)
+
+  pub call_possible : (state : State) (call : Call) (event : Event) → call_event state call ≡ Ok event → Possible Fine state event
+  call_possible state call event is = subst (λ (result : Result Event Refused). PossibleIfAny state result) is (call-possible state call)
+
+  pub replacement_possible : (state : State) (table : Contents) (event : Event) → Fine table → replacement_event state table ≡ Ok event → Possible Fine state event
+  replacement_possible state table event fine is = subst (λ (result : Result Event Refused). PossibleIfAny state result) is (replacement-possible state table fine)
 
   -- what each of them keeps
   module _ (P : State → Type 0) (keeps : (state : State) (event : Event) → Possible Fine state event → P state → P (step state event)) where
