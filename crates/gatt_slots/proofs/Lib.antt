@@ -2,3 +2,4 @@ pub mod Bonds
 pub mod Served
 pub mod EachSlot
 pub mod parts
+pub mod Found

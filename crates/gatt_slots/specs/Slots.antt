@@ -1,5 +1,5 @@
 -- All slots of a host, in their order.
-use Rattle.std.specs.Prelude.{ℕ, ◌+◌, ◌==◌, ◌&&◌, Bool, false, is_none, if◌then◌else◌, List, [], ◌∷◌, map, set, slice_get, Option}
+use Rattle.std.specs.Prelude.{ℕ, ◌+◌, ◌==◌, ◌<◌, ◌&&◌, Bool, true, false, is_none, if◌then◌else◌, List, [], ◌∷◌, length, map, set, slice_get, Option, None, IsSome}
 use Rattle.std.specs.List.{position}
 use Rattle.std.specs.Option.{option_map, option_map_or}
 use Rattle.att_numbers.specs.Types.{Handle}
@@ -30,6 +30,14 @@ place_holding slots handle = position (is_holding handle) slots
 
 abbrev pub place_free : Held → Option ℕ
 place_free slots = position is_none slots
+
+-- what the slot at a place keeps; a slot that is found is there, and is not free
+abbrev pub kept_at : Held → ℕ → Option Kept
+kept_at slots place = option_map_or (λ (slot : Option Kept). slot) (slice_get slots place) None
+
+pub record IsThere (slots : Held) (place : ℕ) : Type 0 where
+  pub within : place < length slots
+  pub kept : IsSome (kept_at slots place)
 
 -- all hear at the end of an event: the one of the connection that it happened to of some values, and the others of others
 abbrev pub handles_for : Option ℕ → List Handle → List Handle → ℕ → List Handle

@@ -1,8 +1,8 @@
 //! All slots of a host: which has a connection, and what an event does to each.
 
-ghost use Rattle.std.specs.Prelude.{◌≡◌, is_none, map};
+ghost use Rattle.std.specs.Prelude.{◌≡◌, ◌<◌, is_none, length, map, IfSome};
 ghost use Rattle.le_hci.specs.Event.{completed_packets_of};
-ghost use Rattle.gatt_slots.specs.Slots.{after_entries, after_entry, all_after_table, all_after_time, all_heard, is_holding, is_serving, handles_for, place_free, place_holding, place_serving};
+ghost use Rattle.gatt_slots.specs.Slots.{after_entries, after_entry, all_after_table, all_after_time, all_heard, is_holding, is_serving, handles_for, place_free, place_holding, place_serving, IsThere};
 
 use crate::slot::{Slot, Use};
 use att_table::Table;
@@ -10,22 +10,28 @@ use gatt_subs::Rows;
 use le_hci::CompletedPackets;
 
 /// The slot whose connection has a handle and serves.
+#[tactic(auto, using(crate::proofs::Found::serving_there))]
 pub fn find_serving(slots: &[Slot], handle: u16) -> Option<usize>
-    ensures { result ≡ place_serving slots.now handle }
+    ensures place { result ≡ place_serving slots.now handle }
+    ensures there { IfSome result (IsThere slots.now) }
 {
     slots.iter().position(|slot| slot.is_serving(handle))
 }
 
 /// The slot whose connection has a handle, also one that is ending.
+#[tactic(auto, using(crate::proofs::Found::holding_there))]
 pub fn find_holding(slots: &[Slot], handle: u16) -> Option<usize>
-    ensures { result ≡ place_holding slots.now handle }
+    ensures place { result ≡ place_holding slots.now handle }
+    ensures there { IfSome result (IsThere slots.now) }
 {
     slots.iter().position(|slot| slot.is_holding(handle))
 }
 
 /// The first slot that is free.
+#[tactic(auto, using(crate::proofs::Found::free_within))]
 pub fn find_free(slots: &[Slot]) -> Option<usize>
-    ensures { result ≡ place_free slots.now }
+    ensures place { result ≡ place_free slots.now }
+    ensures within { IfSome result (λ place. place < length slots.now) }
 {
     slots.iter().position(|slot| slot.is_free())
 }
