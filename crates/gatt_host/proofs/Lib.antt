@@ -8,3 +8,4 @@ pub mod Places
 pub mod Owing
 pub mod Packets
 pub mod SlotCommands
+pub mod Readies

@@ -13,7 +13,7 @@ use Rattle.gatt_laws.specs.State.{announced, told_of}
 use Rattle.gatt_laws.specs.Turn.{gained_encryption}
 use Rattle.gatt_slots.specs.Kept.{Kept}
 use Rattle.gatt_slots.specs.Request.{table_after, bond_served, kept_served, handles_of}
-use Rattle.gatt_slots.specs.Slots.{all_heard, all_after_time, all_after_table, after_entries}
+use Rattle.gatt_slots.specs.Slots.{kept_at as kept_at_place, all_heard, all_after_time, all_after_table, after_entries}
 use Rattle.gatt_slots.specs.Turn as turn
 use Rattle.gatt_slots.specs.Turn.{after_authorizing, after_key_asked, after_link_step, after_signal}
 use Rattle.gatt_subs.specs.Changes.{with_changes_owed}
@@ -69,7 +69,7 @@ abbrev pub slots_at : ℕ → (Kept → Kept) → List (Option Kept) → List (O
 slots_at place change slots = at_place place (option_map change) slots
 
 abbrev pub kept_at : Held → ℕ → Option Kept
-kept_at held place = option_map_or (λ (slot : Option Kept). slot) (slice_get held.slots place) None
+kept_at held place = kept_at_place held.slots place
 
 abbrev pub after_own : ℕ → (Kept → Kept) → Held → Held
 after_own place change held = after_end None [] [] (record held { slots = slots_at place change held.slots })

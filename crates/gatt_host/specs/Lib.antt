@@ -3,3 +3,4 @@ pub mod GoingOut
 pub mod Owing
 pub mod Held
 pub mod Stands
+pub mod Meaning

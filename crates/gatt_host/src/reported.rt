@@ -1,0 +1,124 @@
+//! What the controller reports, as what happens to the connections of a host.
+
+ghost use Rattle.std.specs.Prelude.{◌≡◌, ◌==◌, ◌<◌, ◌^◌, true, if◌then◌else◌, Some, IsSome, IfSome};
+ghost use Rattle.gatt_laws.specs.Controller as laws;
+ghost use Rattle.gatt_laws.specs.Event.{Connected, Gone, KeyAsked, Encrypted, Refreshed, Asks, Signals};
+ghost use Rattle.gatt_host.specs.Meaning.{at_found, coming, connection_happening, reported_happening, IsAfter, Passes};
+ghost use Rattle.gatt_slots.specs.Slots.{place_holding, place_serving};
+ghost use Rattle.le_hci.specs.Event.{report_of};
+ghost use Rattle.le_hci.specs.InitTold.{told_in};
+
+use crate::host_state::HostState;
+use gatt_slots::{find_free, find_holding, find_serving};
+use le_hci::{Event, Peer};
+
+/// The role of this side: Core 5.0, Vol 2 Part E, 7.7.65.1.
+const PERIPHERAL: u8 = 0x01;
+/// The largest handle that a connection may have: 7.7.65.1.
+const LAST_CONNECTION_HANDLE: u16 = 0x0EFF;
+
+impl HostState {
+    /// Takes in what is reported of connections. Until the controller is initialised nothing of it
+    /// counts.
+    pub(crate) fn reported(&mut self, event: &Event<'_>)
+        ensures { IsAfter (reported_happening self.old (report_of event.now)) self.old self.new }
+    {
+        if self.controller.is_ready() {
+            self.connection_reported(event);
+        } else {
+            self.nothing();
+        }
+    }
+
+    /// The same of a controller that is initialised.
+    fn connection_reported(&mut self, event: &Event<'_>)
+        requires { laws.is_ready self.old.controller ≡ true }
+        ensures { IsAfter (connection_happening self.old (report_of event.now)) self.old self.new }
+    {
+        match *event {
+            Event::DisconnectionComplete { status, handle, .. } => self.gone(status, handle),
+            Event::EncryptionChange {
+                status,
+                handle,
+                enabled,
+            } => self.encryption_changed(status, handle, enabled),
+            Event::EncryptionKeyRefreshComplete { status, handle } => self.key_refreshed(status, handle),
+            Event::NumberOfCompletedPackets { entries } => self.complete(entries),
+            Event::ConnectionComplete {
+                status,
+                handle,
+                role,
+                peer,
+                ..
+            } => self.connected(status, handle, role, peer),
+            Event::LongTermKeyRequest {
+                handle,
+                random_number,
+                diversifier,
+            } => self.key_asked(handle, random_number, diversifier),
+            _ => self.nothing(),
+        }
+    }
+
+    /// A connection has ended.
+    fn gone(&mut self, status: u8, handle: u16)
+        ensures { IsAfter (if status == 0 then at_found (place_holding self.old.slots handle) Gone else Passes) self.old self.new }
+    {
+        if status != 0 {
+            return self.nothing();
+        }
+        match find_holding(self.slots.as_slice(), handle) {
+            Some(place) => self.go(place),
+            None => self.nothing(),
+        }
+    }
+
+    /// Encryption of a link was changed, or could not be.
+    fn encryption_changed(&mut self, status: u8, handle: u16, enabled: u8)
+        ensures { IsAfter (at_found (place_serving self.old.slots handle) (Encrypted status enabled)) self.old self.new }
+    {
+        match find_serving(self.slots.as_slice(), handle) {
+            Some(place) => self.encrypt(place, status, enabled),
+            None => self.nothing(),
+        }
+    }
+
+    /// The key of a link was refreshed, or could not be.
+    fn key_refreshed(&mut self, status: u8, handle: u16)
+        ensures { IsAfter (at_found (place_serving self.old.slots handle) (Refreshed status)) self.old self.new }
+    {
+        match find_serving(self.slots.as_slice(), handle) {
+            Some(place) => self.refresh(place, status),
+            None => self.nothing(),
+        }
+    }
+
+    /// The key of a link is asked for.
+    fn key_asked(&mut self, handle: u16, random_number: [u8; 8], diversifier: u16)
+        ensures { IsAfter (at_found (place_serving self.old.slots handle) (KeyAsked random_number diversifier)) self.old self.new }
+    {
+        match find_serving(self.slots.as_slice(), handle) {
+            Some(place) => self.ask_key(place, random_number, diversifier),
+            None => self.nothing(),
+        }
+    }
+
+    /// A connection was made. It is accepted where this side is the peripheral, its handle is one and
+    /// not in use, and a slot is free.
+    #[tactic(auto, using(crate::proofs::Readies::ready_told))]
+    fn connected(&mut self, status: u8, handle: u16, role: u8, peer: Peer)
+        requires { laws.is_ready self.old.controller ≡ true }
+        ensures { IsAfter (coming self.old status handle role peer) self.old self.new }
+    {
+        if status != 0 || role != PERIPHERAL || handle > LAST_CONNECTION_HANDLE {
+            return self.nothing();
+        }
+        if find_holding(self.slots.as_slice(), handle).is_some() {
+            return self.nothing();
+        }
+        match find_free(self.slots.as_slice()) {
+            Some(place) => self.come(place, handle, peer),
+            None => self.nothing(),
+        }
+    }
+}
