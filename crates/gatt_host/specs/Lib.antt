@@ -4,3 +4,4 @@ pub mod Owing
 pub mod Held
 pub mod Stands
 pub mod Meaning
+pub mod Packet

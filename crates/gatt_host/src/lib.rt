@@ -5,6 +5,7 @@ mod controller;
 mod going_out;
 mod host_fault;
 mod host_state;
+mod packet;
 mod reported;
 
 pub use controller::Controller;

@@ -1,0 +1,61 @@
+-- What a host makes of a packet, by what it holds: whom an ACL packet is from, and what an event means.
+use Rattle.std.specs.Prelude.{◌≡◌, ℕ, List, set, get_or, Option, Some, None, Result, Ok, Err}
+use Rattle.std.specs.Option.{option_and_then, option_map_or}
+use Rattle.gatt_host.specs.Answers.{stop_of}
+use Rattle.gatt_host.specs.declared.host_fault.HostFault.{HostFault}
+use Rattle.gatt_host.specs.declared.host_fault.HostFault.TheVariants as stop
+use Rattle.gatt_host.specs.Held.{Held, Credits}
+use Rattle.gatt_host.specs.Meaning.{Happening, Passes, IsAfter, assembly_happening, reported_happening, with_fragment}
+use Rattle.gatt_laws.specs.Packets.{completed_event, status_event, status_of}
+use Rattle.gatt_slots.specs.Slots.{place_serving}
+use Rattle.le_acl.specs.declared.reassembler.Piece.{Piece}
+use Rattle.le_acl.specs.declared.reassembler.Piece.TheVariants as piece
+use Rattle.le_acl.specs.Fragment.{Fragment, fragment_of}
+use Rattle.le_acl.specs.Reassembler.{Assembly, nothing}
+use Rattle.le_hci.specs.declared.event.BadEvent.{BadEvent}
+use Rattle.le_hci.specs.Event as event
+use Rattle.le_hci.specs.Event.{Reported}
+use Rattle.octets.specs.Number.{Octets}
+
+-- the frames that are put together, by slots
+abbrev pub Frames : Type 0
+Frames = List Assembly
+
+-- a fragment of a connection that serves joins its frame, which is heard where it is whole
+abbrev pub frames_with : Option ℕ → Option Fragment → Frames → Frames
+frames_with (Some place) (Some fragment) frames = set frames place (with_fragment (get_or frames place nothing) fragment)
+frames_with place fragment frames = frames
+
+abbrev pub fragment_happening : Option ℕ → Option Fragment → Frames → Happening
+fragment_happening (Some place) (Some fragment) frames = assembly_happening place (with_fragment (get_or frames place nothing) fragment)
+fragment_happening place fragment frames = Passes
+
+abbrev pub frames_after_acl : Held → ℕ → ℕ → ℕ → Octets → Frames → Frames
+frames_after_acl held handle boundary broadcast octets frames =
+    frames_with (place_serving held.slots handle) (fragment_of boundary broadcast octets) frames
+
+abbrev pub acl_happening : Held → ℕ → ℕ → ℕ → Octets → Frames → Happening
+acl_happening held handle boundary broadcast octets frames =
+    fragment_happening (place_serving held.slots handle) (fragment_of boundary broadcast octets) frames
+
+-- a frame, where the newest fragment made one whole
+abbrev pub frame_given : Piece → Assembly → Option Octets
+frame_given piece.Nothing assembly = None
+frame_given piece.Frame assembly = assembly.frame
+
+-- an event is taken in
+abbrev pub TakesEvent : Result Reported BadEvent → Held → Held → Type 0
+TakesEvent (Ok (event.CommandComplete allowed opcode returned)) old new =
+    Credits (completed_event old.controller allowed opcode returned) allowed opcode (status_of returned) old new
+TakesEvent (Ok (event.CommandStatus status allowed opcode)) old new =
+    Credits (status_event old.controller status allowed opcode) allowed opcode (Some status) old new
+TakesEvent (Ok reported) old new = IsAfter (reported_happening old reported) old new
+TakesEvent (Err bad) old new = new ≡ old
+
+-- or the host stops for good
+abbrev pub event_stop : Result Reported BadEvent → Held → Option HostFault
+event_stop (Ok (event.CommandComplete allowed opcode returned)) held = stop_of (completed_event held.controller allowed opcode returned)
+event_stop (Ok (event.CommandStatus status allowed opcode)) held = stop_of (status_event held.controller status allowed opcode)
+event_stop (Ok (event.HardwareError code)) held = Some (stop.Hardware code)
+event_stop (Ok reported) held = None
+event_stop (Err bad) held = Some (stop.BadEvent bad.0)

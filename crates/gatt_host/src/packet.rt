@@ -1,0 +1,115 @@
+//! Packets from the controller, as what happens to a host.
+
+ghost use Rattle.std.specs.Prelude.{◌≡◌, ◌<◌, length, get_or, IsSome, IsOk, IfSome, IfErr, OnErr};
+ghost use Rattle.std.specs.Option.{option_and_then, option_map_or};
+ghost use Rattle.gatt_laws.specs.Packets.{of_octets, of_frame};
+ghost use Rattle.gatt_host.specs.Held.{kept_at};
+ghost use Rattle.gatt_host.specs.Meaning.{frame_happening, with_fragment, HasRowsOfTheTable, IsAfter};
+ghost use Rattle.gatt_host.specs.Packet.{acl_happening, event_stop, frame_given, frames_after_acl, TakesEvent};
+ghost use Rattle.gatt_slots.specs.Slots.{IsThere};
+ghost use Rattle.le_acl.specs.Fragment.{fragment_of};
+ghost use Rattle.le_hci.specs.Event.{event_of};
+ghost use Rattle.le_l2cap.specs.Frame.{frame_of};
+
+use crate::host_fault::HostFault;
+use crate::host_state::HostState;
+use gatt_slots::find_serving;
+use le_acl::{Piece, Reassembler};
+use le_hci::{BadEvent, Event, read_event};
+use le_l2cap::channel::{ATT, LE_SIGNALLING, SECURITY_MANAGER};
+use le_l2cap::read_frame;
+
+/// The packet boundary flags of the fragments of a frame from the controller: Core 5.0, Vol 2 Part E,
+/// 5.4.2. That 00 begins a frame too is this profile's own.
+const FIRST_NOT_FLUSHED: u8 = 0b00;
+
+const CONTINUATION: u8 = 0b01;
+
+const FIRST: u8 = 0b10;
+
+impl HostState {
+    /// Takes in an event: its code and what follows.
+    pub(crate) fn event(&mut self, octets: &[u8]) -> Result<(), HostFault>
+        ensures taken { IsOk result → TakesEvent (event_of octets.now) self.old self.new }
+        ensures stops { IfErr result (λ fault. event_stop (event_of octets.now) self.old ≡ Some fault) }
+        ensures unchanged { OnErr result (self.new ≡ self.old) }
+    {
+        match read_event(octets) {
+            Ok(
+                Event::CommandComplete {
+                    allowed,
+                    opcode,
+                    parameters,
+                },
+            ) => self.completed(allowed, opcode, parameters),
+            Ok(
+                Event::CommandStatus {
+                    status,
+                    allowed,
+                    opcode,
+                },
+            ) => self.status(status, allowed, opcode),
+            Ok(Event::HardwareError { code }) => Err(HostFault::Hardware(code)),
+            Ok(event) => {
+                self.reported(&event);
+                Ok(())
+            }
+            Err(BadEvent(code)) => Err(HostFault::BadEvent(code)),
+        }
+    }
+
+    /// Hears a frame that is whole, of the connection of a slot.
+    fn frame(&mut self, place: usize, octets: &[u8])
+        requires there { IsThere self.old.slots place }
+        requires rows { HasRowsOfTheTable self.old }
+        ensures { IsAfter (frame_happening place (of_frame (frame_of octets.now))) self.old self.new }
+    {
+        match read_frame(octets) {
+            Ok(frame) => match frame.cid {
+                ATT => self.ask(place, frame.payload),
+                LE_SIGNALLING | SECURITY_MANAGER => self.signal(place, frame.cid, frame.payload),
+                _ => self.nothing(),
+            },
+            Err(_) => self.nothing(),
+        }
+    }
+}
+
+/// Takes in an ACL packet, whose fragment joins the frame of its connection. Packets of connections
+/// that do not serve are ignored.
+pub(crate) fn acl(
+    state: &mut HostState,
+    frames: &mut [Reassembler; 8],
+    handle: u16,
+    pb: u8,
+    bc: u8,
+    octets: &[u8],
+)
+    requires rows { HasRowsOfTheTable state.old }
+    ensures after { IsAfter (acl_happening state.old handle pb bc octets.now frames.old) state.old state.new }
+    ensures frames { frames.new ≡ frames_after_acl state.old handle pb bc octets.now frames.old }
+{
+    let Some(place) = find_serving(state.slots.as_slice(), handle) else {
+        return state.nothing();
+    };
+    match join(&mut frames[place], pb, bc, octets) {
+        Piece::Frame => state.frame(place, frames[place].frame()),
+        Piece::Nothing => state.nothing(),
+    }
+}
+
+/// Puts a fragment to those before it.
+fn join(frame: &mut Reassembler, pb: u8, bc: u8, octets: &[u8]) -> Piece
+    ensures after { frame.new ≡ option_map_or (with_fragment frame.old) (fragment_of pb bc octets.now) frame.old }
+    ensures given { frame_given result frame.new ≡ option_and_then (λ fragment. (with_fragment frame.old fragment).frame) (fragment_of pb bc octets.now) }
+    ensures whole { result ≡ Piece.Frame → IsSome frame.new.frame }
+{
+    if bc != 0 {
+        return Piece::Nothing;
+    }
+    match pb {
+        FIRST | FIRST_NOT_FLUSHED => frame.start(octets),
+        CONTINUATION => frame.more(octets),
+        _ => Piece::Nothing,
+    }
+}
