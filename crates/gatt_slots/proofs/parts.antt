@@ -1,5 +1,6 @@
 pub mod Events
 pub mod Heard
 pub mod Kept
+pub mod Places
 pub mod Requests
 pub mod Turns

@@ -1,0 +1,165 @@
+-- The slots of connections and what they keep: where each connection is found, and what becomes of all slots.
+use Rattle.std.proofs.Common.{◌≡◌, ℕ, zero, suc, ◌+◌, ◌<◌, Bool, true, false, List, [], ◌∷◌, length, map, set, Option, Some, None, refl, sym, ap, subst, ◌∙◌, arith, inl, inr}
+use Rattle.std.specs.Prelude.{is_none, is_some, not, if◌then◌else◌, nat_lt, ◌==◌, ◌||◌, slice_get}
+use Rattle.std.specs.List.{position, position_or_len}
+use Rattle.std.specs.Option.{option_map}
+use Rattle.std.proofs.lemmas.Bool.{cases_lt, lt-ltb, le-ltb, eq-eqb, eqb-true, ne_eqb}
+use Rattle.std.proofs.lemmas.Option.{slice_get-map}
+use Rattle.att_numbers.specs.Types.{Handle}
+use Rattle.att_table.specs.Table.{Contents}
+use Rattle.gatt_laws.specs.Calls.{ordinal_where}
+use Rattle.gatt_laws.specs.Controller.{Slots, has_free, with_taken, with_freed}
+use Rattle.gatt_laws.specs.Event.{Ordinal}
+use Rattle.gatt_laws.specs.Settled.{is_slot_of, has_slot, HaveOneSlotEach}
+use Rattle.gatt_laws.specs.State.{at_ordinal}
+use Rattle.gatt_slots.specs.Kept.{Kept}
+use Rattle.gatt_slots.specs.Slots.{Held, all_heard, handles_for, heard_by, heard_from, place_free}
+use Rattle.gatt_subs.specs.Rows.{Subscriptions}
+
+-- the first place at which a test passes
+next-place : (most place : ℕ) → (if nat_lt (1 + place) (suc most) then Some (1 + place) else None) ≡ option_map suc (if nat_lt place most then Some place else None)
+next-place most place = elim (cases_lt place most) [
+  | inl before ↦
+      rw (lt-ltb place most before) (rw (lt-ltb (1 + place) (suc most) (omega arith)) (let next : 1 + place ≡ suc place = omega arith in ap (λ (at : ℕ). Some at) next))
+  | inr past ↦ rw (le-ltb place most past) (rw (le-ltb (1 + place) (suc most) (omega arith)) refl)
+]
+
+pub position_step : {A : Type 0} (test : A → Bool) (x : A) (xs : List A)
+    → position test (x ∷ xs) ≡ (if test x then Some 0 else option_map suc (position test xs))
+position_step test x xs = elim (test x) as (λ (passes : Bool).
+    (if nat_lt (if not passes then 1 + position_or_len test xs else 0) (suc (length xs)) then Some (if not passes then 1 + position_or_len test xs else 0) else None)
+    ≡ (if passes then Some 0 else option_map suc (position test xs))) [
+      | true ↦ rw (lt-ltb 0 (suc (length xs)) (omega arith)) refl
+      | false ↦ next-place (length xs) (position_or_len test xs)
+    ]
+
+-- the place of a connection that a test finds, or that none is found
+pub record IsFoundAt (slots : Slots) (ordinal : Ordinal) (place : Option ℕ) : Type 0 where
+  pub at : ℕ
+  pub is : place ≡ Some at
+  pub has : slice_get slots at ≡ Some (Some ordinal)
+
+abbrev pub Finds : Slots → Option Ordinal → Option ℕ → Type 0
+Finds slots None place = place ≡ None
+Finds slots (Some ordinal) place = IsFoundAt slots ordinal place
+
+finds-later : (slot : Option Ordinal) (slots : Slots) (found : Option Ordinal) (place : Option ℕ) → Finds slots found place → Finds (slot ∷ slots) found (option_map suc place)
+finds-later slot slots None place none = ap (λ (at : Option ℕ). option_map suc at) none
+finds-later slot slots (Some ordinal) place found =
+    record { at = suc found.at; is = ap (λ (at : Option ℕ). option_map suc at) found.is; has = found.has }
+
+own-slot : (ordinal : Ordinal) (has : Bool) → ((ordinal == ordinal) || has) ≡ true
+own-slot ordinal has = ap (λ (same : Bool). same || has) (eq-eqb ordinal ordinal refl)
+
+or-true : (one other : Bool) → other ≡ true → (one || other) ≡ true
+or-true true other is = refl
+or-true false other is = is
+
+or-false-left : (one other : Bool) → (one || other) ≡ false → one ≡ false
+or-false-left true other is = cc is
+or-false-left false other is = refl
+
+or-false-right : (one other : Bool) → (one || other) ≡ false → other ≡ false
+or-false-right true other is = cc is
+or-false-right false other is = is
+
+-- who is at a place has a slot
+pub placed : (slots : Slots) (at : ℕ) (ordinal : Ordinal) → slice_get slots at ≡ Some (Some ordinal) → has_slot ordinal slots ≡ true
+placed [] at ordinal has = cc has
+placed (None ∷ slots) zero ordinal has = cc has
+placed (Some other ∷ slots) zero ordinal has =
+    let same : other ≡ ordinal = cc has in or-true-left (other == ordinal) (has_slot ordinal slots) (eq-eqb other ordinal same)
+  where
+    or-true-left : (one other : Bool) → one ≡ true → (one || other) ≡ true
+    or-true-left true other is = refl
+    or-true-left false other is = cc is
+placed (slot ∷ slots) (suc at) ordinal has = or-true (is_slot_of ordinal slot) (has_slot ordinal slots) (placed slots at ordinal has)
+
+-- two connections that have slots of their own differ
+apart : (other ordinal : Ordinal) (slots : Slots) → has_slot other slots ≡ false → has_slot ordinal slots ≡ true → (other == ordinal) ≡ false
+apart other ordinal slots lacks has =
+    ne_eqb other ordinal (λ same. cc (sym lacks ∙ ap (λ (one : Ordinal). has_slot one slots) same ∙ has))
+
+module _ (keep : Option Ordinal → Option Kept) where
+  -- a test of what is kept finds whom the same test of connections finds
+  module _ (test : Ordinal → Bool) (kept_test : Option Kept → Bool) (free : kept_test (keep None) ≡ false) where
+    finds-first : (slots : Slots) (slot : Option Ordinal) (passes : Bool) (ordinal : Ordinal) → slot ≡ Some ordinal
+        → Finds slots (ordinal_where test slots) (position kept_test (map keep slots))
+        → Finds (slot ∷ slots) (if passes then Some ordinal else ordinal_where test slots)
+        (if passes then Some 0 else option_map suc (position kept_test (map keep slots)))
+    finds-first slots slot true ordinal is found = record { at = 0; is = refl; has = ap (λ (one : Option Ordinal). Some one) is }
+    finds-first slots slot false ordinal is found = finds-later slot slots (ordinal_where test slots) (position kept_test (map keep slots)) found
+
+    pub finds_same : (slots : Slots) → ((ordinal : Ordinal) → has_slot ordinal slots ≡ true → kept_test (keep (Some ordinal)) ≡ test ordinal)
+        → Finds slots (ordinal_where test slots) (position kept_test (map keep slots))
+    finds_same [] same = refl
+    finds_same (None ∷ slots) same =
+        subst (λ (place : Option ℕ). Finds (None ∷ slots) (ordinal_where test slots) place)
+        (sym (position_step kept_test (keep None) (map keep slots)
+        ∙ ap (λ (passes : Bool). if passes then Some 0 else option_map suc (position kept_test (map keep slots))) free))
+        (finds-later None slots (ordinal_where test slots) (position kept_test (map keep slots))
+        (finds_same slots (λ ordinal has. same ordinal has)))
+    finds_same (Some ordinal ∷ slots) same =
+        subst (λ (place : Option ℕ). Finds (Some ordinal ∷ slots) (if test ordinal then Some ordinal else ordinal_where test slots) place)
+        (sym (position_step kept_test (keep (Some ordinal)) (map keep slots)
+        ∙ ap (λ (passes : Bool). if passes then Some 0 else option_map suc (position kept_test (map keep slots))) (same ordinal (own-slot ordinal (has_slot ordinal slots)))))
+        (finds-first slots (Some ordinal) (test ordinal) ordinal refl
+        (finds_same slots (λ other has. same other (or-true (ordinal == other) (has_slot other slots) has))))
+
+  -- what is kept at a place
+  pub kept_at_place : (slots : Slots) (at : ℕ) (ordinal : Ordinal) → slice_get slots at ≡ Some (Some ordinal)
+      → slice_get (map keep slots) at ≡ Some (keep (Some ordinal))
+  kept_at_place slots at ordinal has = slice_get-map keep slots at ∙ ap (λ (slot : Option (Option Ordinal)). option_map keep slot) has
+
+  module _ (after : Option Ordinal → Option Kept) (none : keep None ≡ after None) where
+    -- slots that keep the same
+    pub all_same : (slots : Slots) → ((ordinal : Ordinal) → has_slot ordinal slots ≡ true → keep (Some ordinal) ≡ after (Some ordinal))
+        → map keep slots ≡ map after slots
+    all_same [] same = refl
+    all_same (None ∷ slots) same = λ i. none i ∷ all_same slots (λ ordinal has. same ordinal has) i
+    all_same (Some ordinal ∷ slots) same =
+        λ i. same ordinal (own-slot ordinal (has_slot ordinal slots)) i
+        ∷ all_same slots (λ other has. same other (or-true (ordinal == other) (has_slot other slots) has)) i
+
+    -- the slot of one connection changes
+    pub one_changed : (next : Ordinal) (slots : Slots) (at : ℕ) (ordinal : Ordinal) → HaveOneSlotEach next slots → slice_get slots at ≡ Some (Some ordinal)
+        → ((other : Ordinal) → has_slot other slots ≡ true → (other == ordinal) ≡ false → keep (Some other) ≡ after (Some other))
+        → set (map keep slots) at (after (Some ordinal)) ≡ map after slots
+    one_changed next [] at ordinal each has same = refl
+    one_changed next (None ∷ slots) zero ordinal each has same = cc has
+    one_changed next (Some first ∷ slots) zero ordinal each has same =
+        let own : first ≡ ordinal = cc has in
+        λ i. after (Some (sym own i)) ∷ all_same slots (λ other has_other. same other (or-true (first == other) (has_slot other slots) has_other)
+        (ne_eqb other ordinal (λ is. cc (sym (ap (λ (one : Ordinal). has_slot one slots) (is ∙ sym own)) ∙ has_other, each.1)))) i
+    one_changed next (None ∷ slots) (suc at) ordinal each has same =
+        λ i. none i ∷ one_changed next slots at ordinal each has (λ other has_other. same other has_other) i
+    one_changed next (Some first ∷ slots) (suc at) ordinal each has same =
+        λ i. same first (own-slot first (has_slot first slots)) (apart first ordinal slots each.1 (placed slots at ordinal has)) i
+        ∷ one_changed next slots at ordinal each.2 has (λ other has_other. same other (or-true (first == other) (has_slot other slots) has_other)) i
+
+    -- it goes, and its slot is free
+    freed-same : (ordinal : Ordinal) (slots : Slots) → has_slot ordinal slots ≡ false → with_freed ordinal slots ≡ slots
+    freed-same ordinal [] lacks = refl
+    freed-same ordinal (None ∷ slots) lacks = ap (λ (others : Slots). None ∷ others) (freed-same ordinal slots lacks)
+    freed-same ordinal (Some other ∷ slots) lacks =
+        λ i. (if or-false-left (other == ordinal) (has_slot ordinal slots) lacks i then None else Some other)
+        ∷ freed-same ordinal slots (or-false-right (other == ordinal) (has_slot ordinal slots) lacks) i
+
+    pub one_freed : (next : Ordinal) (slots : Slots) (at : ℕ) (ordinal : Ordinal) → HaveOneSlotEach next slots → slice_get slots at ≡ Some (Some ordinal)
+        → ((other : Ordinal) → has_slot other slots ≡ true → (other == ordinal) ≡ false → keep (Some other) ≡ after (Some other))
+        → set (map keep slots) at (after None) ≡ map after (with_freed ordinal slots)
+    one_freed next [] at ordinal each has same = refl
+    one_freed next (None ∷ slots) zero ordinal each has same = cc has
+    one_freed next (Some first ∷ slots) zero ordinal each has same =
+        let own : first ≡ ordinal = cc has in
+        let lacks : has_slot ordinal slots ≡ false = ap (λ (one : Ordinal). has_slot one slots) (sym own) ∙ each.1 in
+        (λ i. after (if sym (eq-eqb first ordinal own) i then None else Some first) ∷ all_same slots (λ other has_other.
+        same other (or-true (first == other) (has_slot other slots) has_other) (ne_eqb other ordinal (λ is. cc (sym (ap (λ (one : Ordinal). has_slot one slots) is) ∙ has_other, lacks)))) i)
+        ∙ ap (λ (others : Slots). after (if first == ordinal then None else Some first) ∷ map after others) (sym (freed-same ordinal slots lacks))
+    one_freed next (None ∷ slots) (suc at) ordinal each has same =
+        λ i. none i ∷ one_freed next slots at ordinal each has (λ other has_other. same other has_other) i
+    one_freed next (Some first ∷ slots) (suc at) ordinal each has same =
+        let differs : (first == ordinal) ≡ false = apart first ordinal slots each.1 (placed slots at ordinal has) in
+        (λ i. same first (own-slot first (has_slot first slots)) differs i
+        ∷ one_freed next slots at ordinal each.2 has (λ other has_other. same other (or-true (first == other) (has_slot other slots) has_other)) i)
+        ∙ ap (λ (own : Bool). after (if own then None else Some first) ∷ map after (with_freed ordinal slots)) (sym differs)
