@@ -3,7 +3,7 @@ use Rattle.std.proofs.Common.{◌≡◌, ℕ, zero, suc, ◌+◌, ◌<◌, Bool,
 use Rattle.std.specs.Prelude.{is_none, is_some, not, if◌then◌else◌, nat_lt, ◌==◌, ◌||◌, slice_get}
 use Rattle.std.specs.List.{position, position_or_len}
 use Rattle.std.specs.Option.{option_map}
-use Rattle.std.proofs.lemmas.Bool.{cases_lt, lt-ltb, le-ltb, eq-eqb, eqb-true, ne_eqb}
+use Rattle.std.proofs.lemmas.Bool.{cases_eq, cases_lt, lt-ltb, le-ltb, eq-eqb, eqb-true, ne_eqb}
 use Rattle.std.proofs.lemmas.Option.{slice_get-map}
 use Rattle.att_numbers.specs.Types.{Handle}
 use Rattle.att_table.specs.Table.{Contents}
@@ -11,7 +11,7 @@ use Rattle.gatt_laws.specs.Calls.{ordinal_where}
 use Rattle.gatt_laws.specs.Controller.{Slots, has_free, with_taken, with_freed}
 use Rattle.gatt_laws.specs.Event.{Ordinal}
 use Rattle.gatt_laws.specs.Settled.{is_slot_of, has_slot, HaveOneSlotEach}
-use Rattle.gatt_laws.specs.State.{at_ordinal}
+use Rattle.gatt_laws.specs.State.{all_raised, at_ordinal}
 use Rattle.gatt_slots.specs.Kept.{Kept}
 use Rattle.gatt_slots.specs.Slots.{Held, all_heard, handles_for, heard_by, heard_from, place_free}
 use Rattle.gatt_subs.specs.Rows.{Subscriptions}
@@ -163,3 +163,128 @@ module _ (keep : Option Ordinal → Option Kept) where
         (λ i. same first (own-slot first (has_slot first slots)) differs i
         ∷ one_freed next slots at ordinal each.2 has (λ other has_other. same other (or-true (first == other) (has_slot other slots) has_other)) i)
         ∙ ap (λ (own : Bool). after (if own then None else Some first) ∷ map after (with_freed ordinal slots)) (sym differs)
+
+-- a connection has one place
+next-same : (at place : ℕ) → (suc at == suc place) ≡ (at == place)
+next-same at place = elim (cases_eq at place) [
+  | inl same ↦ eq-eqb (suc at) (suc place) (omega (arith, same)) ∙ sym (eq-eqb at place same)
+  | inr differs ↦ ne_eqb (suc at) (suc place) (λ same. differs (omega (arith, same))) ∙ sym (ne_eqb at place differs)
+]
+
+pub one_place : (next : Ordinal) (slots : Slots) (at place : ℕ) (ordinal other : Ordinal) → HaveOneSlotEach next slots → slice_get slots at ≡ Some (Some ordinal)
+    → slice_get slots place ≡ Some (Some other) → (at == place) ≡ (other == ordinal)
+one_place next [] at place ordinal other each own has = cc own
+one_place next (None ∷ slots) zero place ordinal other each own has = cc own
+one_place next (None ∷ slots) (suc at) zero ordinal other each own has = cc has
+one_place next (None ∷ slots) (suc at) (suc place) ordinal other each own has =
+    next-same at place ∙ one_place next slots at place ordinal other each own has
+one_place next (Some first ∷ slots) zero zero ordinal other each own has = let same : other ≡ ordinal = cc (own, has) in sym (eq-eqb other ordinal same)
+one_place next (Some first ∷ slots) zero (suc place) ordinal other each own has =
+    let is : first ≡ ordinal = cc own in
+    ne_eqb 0 (suc place) (λ none. absurd (omega (arith, none))) ∙ sym (ne_eqb other ordinal (λ same. cc (sym (placed slots place other has) ∙ ap (λ (one : Ordinal). has_slot one slots) (same ∙ sym is), each.1)))
+one_place next (Some first ∷ slots) (suc at) zero ordinal other each own has =
+    let is : first ≡ other = cc has in
+    ne_eqb (suc at) 0 (λ none. absurd (omega (arith, none))) ∙ sym (ne_eqb other ordinal (λ same. cc (sym (placed slots at ordinal own) ∙ ap (λ (one : Ordinal). has_slot one slots) (sym same ∙ sym is), each.1)))
+one_place next (Some first ∷ slots) (suc at) (suc place) ordinal other each own has =
+    next-same at place ∙ one_place next slots at place ordinal other each.2 own has
+
+module _ (keep after : Option Ordinal → Option Kept) where
+  -- all slots change
+  pub all_changed : (change : Option Kept → Option Kept) (slots : Slots) → change (keep None) ≡ after None
+      → ((ordinal : Ordinal) → has_slot ordinal slots ≡ true → change (keep (Some ordinal)) ≡ after (Some ordinal))
+      → map change (map keep slots) ≡ map after slots
+  all_changed change [] none same = refl
+  all_changed change (None ∷ slots) none same = λ i. none i ∷ all_changed change slots none (λ ordinal has. same ordinal has) i
+  all_changed change (Some ordinal ∷ slots) none same =
+      λ i. same ordinal (own-slot ordinal (has_slot ordinal slots)) i
+      ∷ all_changed change slots none (λ other has. same other (or-true (ordinal == other) (has_slot other slots) has)) i
+
+  -- each by its place
+  each-heard : (hear : ℕ → Option Kept → Option Kept) (start : ℕ) (slots : Slots) → ((place : ℕ) → hear place (keep None) ≡ after None)
+      → ((at : ℕ) (ordinal : Ordinal) → slice_get slots at ≡ Some (Some ordinal) → hear (start + at) (keep (Some ordinal)) ≡ after (Some ordinal))
+      → heard_from start hear (map keep slots) ≡ map after slots
+  each-heard hear start [] none same = refl
+  each-heard hear start (None ∷ slots) none same =
+      λ i. none start i ∷ each-heard hear (start + 1) slots none (λ at ordinal has.
+      let next : start + 1 + at ≡ start + suc at = omega arith in
+      ap (λ (place : ℕ). hear place (keep (Some ordinal))) next ∙ same (suc at) ordinal has) i
+  each-heard hear start (Some first ∷ slots) none same =
+      let here : start ≡ start + 0 = omega arith in
+      λ i. (ap (λ (place : ℕ). hear place (keep (Some first))) here ∙ same 0 first refl) i
+      ∷ each-heard hear (start + 1) slots none (λ at ordinal has.
+      let next : start + 1 + at ≡ start + suc at = omega arith in
+      ap (λ (place : ℕ). hear place (keep (Some ordinal))) next ∙ same (suc at) ordinal has) i
+
+  module _ (table : Contents) (now : ℕ) (rows : Subscriptions) (here handles : List Handle) (free : keep None ≡ None) (free_after : after None ≡ None) where
+    none-heard : (heard : List Handle) → heard_by table now rows heard (keep None) ≡ after None
+    none-heard heard = ap (λ (slot : Option Kept). heard_by table now rows heard slot) free ∙ sym free_after
+
+    -- at the end of an event all hear of the same values
+    pub all_hear : (slots : Slots)
+        → ((ordinal : Ordinal) → has_slot ordinal slots ≡ true → heard_by table now rows handles (keep (Some ordinal)) ≡ after (Some ordinal))
+        → all_heard table now rows None here handles (map keep slots) ≡ map after slots
+    all_hear slots same =
+        each-heard (λ place slot. heard_by table now rows (handles_for None here handles place) slot) 0 slots (λ place. none-heard handles)
+        (λ at ordinal has. same ordinal (placed slots at ordinal has))
+
+    -- or all but one, that hears of others
+    pub others_hear : (next : Ordinal) (slots : Slots) (at : ℕ) (ordinal : Ordinal) → HaveOneSlotEach next slots → slice_get slots at ≡ Some (Some ordinal)
+        → ((other : Ordinal) → has_slot other slots ≡ true
+          → heard_by table now rows (at_ordinal ordinal here (all_raised handles) other) (keep (Some other)) ≡ after (Some other))
+        → all_heard table now rows (Some at) here handles (map keep slots) ≡ map after slots
+    others_hear next slots at ordinal each own same =
+        each-heard (λ place slot. heard_by table now rows (handles_for (Some at) here handles place) slot) 0 slots
+        (λ place. none-heard (handles_for (Some at) here handles place))
+        (λ place other has.
+          let where_is : 0 + place ≡ place = omega arith in
+          ap (λ (p : ℕ). heard_by table now rows (if at == p then here else handles) (keep (Some other))) where_is
+          ∙ ap (λ (is : Bool). heard_by table now rows (if is then here else handles) (keep (Some other))) (one_place next slots at place ordinal other each own has)
+          ∙ same other (placed slots place other has))
+
+  -- a connection takes the first slot that is free
+  pub record TakesTheFirst (slots : Slots) (ordinal : Ordinal) : Type 0 where
+    pub at : ℕ
+    pub is : place_free (map keep slots) ≡ Some at
+    pub taken : set (map keep slots) at (after (Some ordinal)) ≡ map after (with_taken ordinal slots)
+
+  module _ (ordinal : Ordinal) (free : keep None ≡ None) (free_after : after None ≡ None) where
+    free-first : (slots : Slots) → place_free (map keep (None ∷ slots)) ≡ Some 0
+    free-first slots =
+        position_step is_none (keep None) (map keep slots)
+        ∙ ap (λ (slot : Option Kept). if is_none slot then Some 0 else option_map suc (place_free (map keep slots))) free
+
+    free-later : (first : Ordinal) (slots : Slots) → is_some (keep (Some first)) ≡ true
+        → place_free (map keep (Some first ∷ slots)) ≡ option_map suc (place_free (map keep slots))
+    free-later first slots there =
+        position_step is_none (keep (Some first)) (map keep slots) ∙ if-there (keep (Some first)) there
+      where
+        if-there : (slot : Option Kept) → is_some slot ≡ true
+            → (if is_none slot then Some 0 else option_map suc (place_free (map keep slots))) ≡ option_map suc (place_free (map keep slots))
+        if-there None there = cc there
+        if-there (Some kept) there = refl
+
+    pub takes_the_first : (slots : Slots) → has_free slots ≡ true → ((other : Ordinal) → has_slot other slots ≡ true → is_some (keep (Some other)) ≡ true)
+        → ((other : Ordinal) → has_slot other slots ≡ true → keep (Some other) ≡ after (Some other)) → TakesTheFirst slots ordinal
+    takes_the_first [] has there same = cc has
+    takes_the_first (None ∷ slots) has there same = record {
+      at = 0;
+      is = free-first slots;
+      taken = ap (λ (others : Held). after (Some ordinal) ∷ others) (all_same keep after (free ∙ sym free_after) slots (λ other other_has. same other other_has));
+    }
+    takes_the_first (Some first ∷ slots) has there same =
+        let later = takes_the_first slots has
+        (λ other other_has. there other (or-true (first == other) (has_slot other slots) other_has))
+        (λ other other_has. same other (or-true (first == other) (has_slot other slots) other_has)) in
+        record {
+          at = suc later.at;
+          is = free-later first slots (there first (own-slot first (has_slot first slots))) ∙ ap (λ (place : Option ℕ). option_map suc place) later.is;
+          taken = λ i. same first (own-slot first (has_slot first slots)) i ∷ later.taken i;
+        }
+
+    pub none_free : (slots : Slots) → has_free slots ≡ false → ((other : Ordinal) → has_slot other slots ≡ true → is_some (keep (Some other)) ≡ true)
+        → place_free (map keep slots) ≡ None
+    none_free [] has there = refl
+    none_free (None ∷ slots) has there = cc has
+    none_free (Some first ∷ slots) has there =
+        free-later first slots (there first (own-slot first (has_slot first slots)))
+        ∙ ap (λ (place : Option ℕ). option_map suc place) (none_free slots has (λ other other_has. there other (or-true (first == other) (has_slot other slots) other_has)))
