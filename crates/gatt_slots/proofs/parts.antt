@@ -1,4 +1,5 @@
 pub mod Events
+pub mod Found
 pub mod Heard
 pub mod Kept
 pub mod Places

@@ -2,7 +2,7 @@
 use Rattle.std.proofs.Common.{◌≡◌, ℕ, zero, suc, ◌+◌, ◌<◌, Bool, true, false, List, [], ◌∷◌, length, map, set, Option, Some, None, refl, sym, ap, subst, ◌∙◌, arith, inl, inr}
 use Rattle.std.specs.Prelude.{is_none, is_some, not, if◌then◌else◌, nat_lt, ◌==◌, ◌||◌, slice_get}
 use Rattle.std.specs.List.{position, position_or_len}
-use Rattle.std.specs.Option.{option_map}
+use Rattle.std.specs.Option.{option_map, option_map_or}
 use Rattle.std.proofs.lemmas.Bool.{cases_eq, cases_lt, lt-ltb, le-ltb, eq-eqb, eqb-true, ne_eqb}
 use Rattle.std.proofs.lemmas.Option.{slice_get-map}
 use Rattle.att_numbers.specs.Types.{Handle}
@@ -241,10 +241,22 @@ module _ (keep after : Option Ordinal → Option Kept) where
           ∙ ap (λ (is : Bool). heard_by table now rows (if is then here else handles) (keep (Some other))) (one_place next slots at place ordinal other each own has)
           ∙ same other (placed slots place other has))
 
+  -- what stands in a slot changes
+  pub changed_at : (change : Option Kept → Option Kept) (next : Ordinal) (slots : Slots) (at : ℕ) (ordinal : Ordinal) → keep None ≡ after None → HaveOneSlotEach next slots
+      → slice_get slots at ≡ Some (Some ordinal) → change (keep (Some ordinal)) ≡ after (Some ordinal)
+      → ((other : Ordinal) → has_slot other slots ≡ true → (other == ordinal) ≡ false → keep (Some other) ≡ after (Some other))
+      → option_map_or (λ slot. set (map keep slots) at (change slot)) (slice_get (map keep slots) at) (map keep slots) ≡ map after slots
+  changed_at change next slots at ordinal none each has own same =
+      let held : Held = map keep slots in
+      ap (λ (found : Option (Option Kept)). option_map_or (λ slot. set held at (change slot)) found held) (kept_at_place keep slots at ordinal has)
+      ∙ ap (λ (slot : Option Kept). set held at slot) own
+      ∙ one_changed keep after none next slots at ordinal each has same
+
   -- a connection takes the first slot that is free
   pub record TakesTheFirst (slots : Slots) (ordinal : Ordinal) : Type 0 where
     pub at : ℕ
     pub is : place_free (map keep slots) ≡ Some at
+    pub free : slice_get slots at ≡ Some None
     pub taken : set (map keep slots) at (after (Some ordinal)) ≡ map after (with_taken ordinal slots)
 
   module _ (ordinal : Ordinal) (free : keep None ≡ None) (free_after : after None ≡ None) where
@@ -269,6 +281,7 @@ module _ (keep after : Option Ordinal → Option Kept) where
     takes_the_first (None ∷ slots) has there same = record {
       at = 0;
       is = free-first slots;
+      free = refl;
       taken = ap (λ (others : Held). after (Some ordinal) ∷ others) (all_same keep after (free ∙ sym free_after) slots (λ other other_has. same other other_has));
     }
     takes_the_first (Some first ∷ slots) has there same =
@@ -278,6 +291,7 @@ module _ (keep after : Option Ordinal → Option Kept) where
         record {
           at = suc later.at;
           is = free-later first slots (there first (own-slot first (has_slot first slots))) ∙ ap (λ (place : Option ℕ). option_map suc place) later.is;
+          free = later.free;
           taken = λ i. same first (own-slot first (has_slot first slots)) i ∷ later.taken i;
         }
 
