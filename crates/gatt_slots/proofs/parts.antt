@@ -1,3 +1,4 @@
+pub mod Ends
 pub mod Events
 pub mod Found
 pub mod Heard
