@@ -9,3 +9,4 @@ pub mod Owing
 pub mod Packets
 pub mod SlotCommands
 pub mod Readies
+pub mod Lengths

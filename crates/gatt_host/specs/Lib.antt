@@ -5,3 +5,4 @@ pub mod Held
 pub mod Stands
 pub mod Meaning
 pub mod Packet
+pub mod Asked

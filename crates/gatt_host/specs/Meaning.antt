@@ -1,5 +1,5 @@
 -- What a packet and a call mean to a host, by what it holds.
-use Rattle.std.specs.Prelude.{◌≡◌, ℕ, ◌==◌, nat_le, ◌&&◌, is_none, if◌then◌else◌, List, Option, Some, None, IfSome, Result, Ok, Err}
+use Rattle.std.specs.Prelude.{◌≡◌, ℕ, ◌==◌, nat_le, ◌&&◌, is_none, if◌then◌else◌, List, Option, Some, None, IfSome}
 use Rattle.att_numbers.specs.Types.{Handle}
 use Rattle.att_table.specs.ConfigRow.{IsRowOf}
 use Rattle.att_table.specs.Table.{Contents}

@@ -1,6 +1,5 @@
 -- What a host makes of a packet, by what it holds: whom an ACL packet is from, and what an event means.
 use Rattle.std.specs.Prelude.{◌≡◌, ℕ, List, set, get_or, Option, Some, None, Result, Ok, Err}
-use Rattle.std.specs.Option.{option_and_then, option_map_or}
 use Rattle.gatt_host.specs.Answers.{stop_of}
 use Rattle.gatt_host.specs.declared.host_fault.HostFault.{HostFault}
 use Rattle.gatt_host.specs.declared.host_fault.HostFault.TheVariants as stop

@@ -42,7 +42,9 @@ impl HostState {
                 handle,
                 enabled,
             } => self.encryption_changed(status, handle, enabled),
-            Event::EncryptionKeyRefreshComplete { status, handle } => self.key_refreshed(status, handle),
+            Event::EncryptionKeyRefreshComplete { status, handle } => self.key_refreshed(
+                status, handle,
+            ),
             Event::NumberOfCompletedPackets { entries } => self.complete(entries),
             Event::ConnectionComplete {
                 status,

@@ -13,9 +13,9 @@ module _ (hear : ℕ → Option Kept → Option Kept) where
   from-more start (first ∷ old) now (suc place) slot within is read =
       ap (λ (slots : Held). set slots (suc place) (hear (start + suc place) slot)) is
       ∙ ap (λ (slots : Held). hear start first ∷ slots)
-        (ap (λ (k : ℕ). set (heard_from (start + 1) hear (take place old) ++ drop place old) place (hear k slot)) (omega arith)
-        ∙ from-more (start + 1) old (heard_from (start + 1) hear (take place old) ++ drop place old) place slot (omega arith) refl
-          (read ∙ ap (λ (slots : Held). get_or slots (suc place) slot) is))
+      (ap (λ (k : ℕ). set (heard_from (start + 1) hear (take place old) ++ drop place old) place (hear k slot)) (omega arith)
+      ∙ from-more (start + 1) old (heard_from (start + 1) hear (take place old) ++ drop place old) place slot (omega arith) refl
+      (read ∙ ap (λ (slots : Held). get_or slots (suc place) slot) is))
 
   pub heard_more : (old now : Held) (place : ℕ) (slot : Option Kept) → place < length old → now ≡ heard_from 0 hear (take place old) ++ drop place old
       → slot ≡ get_or now place slot → set now place (hear place slot) ≡ heard_from 0 hear (take (place + 1) old) ++ drop (place + 1) old

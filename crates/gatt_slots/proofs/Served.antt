@@ -50,7 +50,7 @@ module _ (table : Contents) (now : ℕ) (changer : Option Handle) (pdu : Octets)
         → ChangesBond (bond_after (is_some link.key) (stored_of table now (row_of old peer) pdu (kept_as true)).row) peer old mid
         → ChangesBond (with_owed_after (confirms_changes changer pdu (kept_as true))) peer mid new
         → IfSome (kept_where used handle peer key_known until row link conn pending sender reply reason)
-          (λ kept. ChangesBond (bond_served table now changer (row_of old kept.peer) pdu kept) kept.peer old new)
+        (λ kept. ChangesBond (bond_served table now changer (row_of old kept.peer) pdu kept) kept.peer old new)
     stands-so Free spare first second = tt
     stands-so Live spare first second = in-turn (kept_as true) spare first second
     stands-so Ending spare first second = in-turn (kept_as false) spare first second
@@ -62,7 +62,7 @@ module _ (table : Contents) (now : ℕ) (changer : Option Handle) (pdu : Octets)
         → ChangesBond (bond_after has_key (stored_by table (if has_key then unwrap_or (row_of old peer) row else row) stood (request_of pdu stood.mtu)).row) peer old mid
         → ChangesBond (with_owed_after (told && knows)) peer mid new
         → IfSome (kept_where used handle peer key_known until row link conn pending sender reply reason)
-          (λ kept. ChangesBond (bond_served table now changer (row_of old kept.peer) pdu kept) kept.peer old new)
+        (λ kept. ChangesBond (bond_served table now changer (row_of old kept.peer) pdu kept) kept.peer old new)
     bond_of_served used has_key knows stood told spare key stands tells knows-is first second =
         stands-so used spare
         (subst (λ (has : Bool). ChangesBond (bond_after has (stored_by table (if has then unwrap_or (row_of old peer) row else row)
@@ -76,7 +76,7 @@ module _ (table : Contents) (now : ℕ) (changer : Option Handle) (pdu : Octets)
     pub row_of_table : (used : Use) (has_key : Bool) → has_key ≡ is_some link.key
         → IsSome (kept_where used handle peer key_known until row link conn pending sender reply reason)
         → IfSome (kept_where used handle peer key_known until row link conn pending sender reply reason)
-          (λ kept. IsRowOf table.attributes (row_in_force (row_of old kept.peer) kept))
+        (λ kept. IsRowOf table.attributes (row_in_force (row_of old kept.peer) kept))
         → IsRowOf table.attributes (if has_key then unwrap_or (row_of old peer) row else row)
     row_of_table Free has_key key there of = cc there
     row_of_table Live has_key key there of =
@@ -91,9 +91,9 @@ module _ (table : Contents) (now : ℕ) (changer : Option Handle) (pdu : Octets)
         → conn-then ≡ conn_after table.attributes stood (request_of pdu stood.mtu)
         → pending-then ≡ (if told then after_confirmation pending else pending)
         → sender-then.outgoing ≡ with_pdus sender.outgoing
-          (map att_pdu (option_to_list (answer_to table (if has_key then unwrap_or (row_of old peer) row else row) stood (request_of pdu stood.mtu))))
+        (map att_pdu (option_to_list (answer_to table (if has_key then unwrap_or (row_of old peer) row else row) stood (request_of pdu stood.mtu))))
         → kept_where used handle peer key_known until row-then link conn-then pending-then sender-then reply reason
-          ≡ option_map (λ kept. kept_served table now (row_of old kept.peer) pdu kept) (kept_where used handle peer key_known until row link conn pending sender reply reason)
+        ≡ option_map (λ kept. kept_served table now (row_of old kept.peer) pdu kept) (kept_where used handle peer key_known until row link conn pending sender reply reason)
     kept_after_serving used has_key told stood row-then conn-then pending-then sender-then spare key stands tells row-is conn-is pending-is sender-is =
         elim used as (λ used. kept_where used handle peer key_known until row-then link conn-then pending-then sender-then reply reason
         ≡ option_map (λ kept. kept_served table now (row_of old kept.peer) pdu kept) (kept_where used handle peer key_known until row link conn pending sender reply reason)) [
@@ -104,33 +104,54 @@ module _ (table : Contents) (now : ℕ) (changer : Option Handle) (pdu : Octets)
       where
         force : Bool → Row
         force has = if has then unwrap_or (row_of old peer) row else row
+
         asks : Connection → Question
         asks by = request_of pdu by.mtu
+
         final : Bool → Row → Connection → Indications → Outgoing → Kept
         final live row' conn' pending' outgoing' = record {
-          live = live; handle = handle; peer = peer; key_known = key_known; until = until; row = row'; link = link;
-          mtu = conn'.mtu; rx_mtu = conn'.rx_mtu; exchanged = conn'.exchanged; queue = conn'.queue;
-          pending = pending'; outgoing = outgoing'; reply = reply; reason = reason;
+          live = live;
+          handle = handle;
+          peer = peer;
+          key_known = key_known;
+          until = until;
+          row = row';
+          link = link;
+          mtu = conn'.mtu;
+          rx_mtu = conn'.rx_mtu;
+          exchanged = conn'.exchanged;
+          queue = conn'.queue;
+          pending = pending';
+          outgoing = outgoing';
+          reply = reply;
+          reason = reason;
         }
+
         stood' : Connection
         stood' = connection_of now (kept_as true)
+
         row-path : row-then ≡ own_row_after (is_some link.key) (row_of old peer) row (stored_by table (force (is_some link.key)) stood' (asks stood')).row
         row-path =
             row-is ∙ (λ i. own_row_after (key i) (row_of old peer) row (stored_by table (force (key i)) (stands i) (asks (stands i))).row)
+
         conn-path : conn-then ≡ conn_after table.attributes stood' (asks stood')
         conn-path = conn-is ∙ (λ i. conn_after table.attributes (stands i) (asks (stands i)))
+
         pending-path : pending-then ≡ pending_after pdu pending
         pending-path = pending-is ∙ (λ i. if tells i then after_confirmation pending else pending)
+
         sender-path : sender-then.outgoing ≡ with_pdus sender.outgoing (map att_pdu (option_to_list (answer_to table (force (is_some link.key)) stood' (asks stood'))))
         sender-path = sender-is ∙ (λ i. with_pdus sender.outgoing (map att_pdu (option_to_list (answer_to table (force (key i)) (stands i) (asks (stands i))))))
+
         serves : (live : Bool) → kept_fields live handle peer key_known until row-then link conn-then pending-then sender-then reply reason
             ≡ final live (own_row_after (is_some link.key) (row_of old peer) row (stored_by table (force (is_some link.key)) stood' (asks stood')).row)
-              (conn_after table.attributes stood' (asks stood')) (pending_after pdu pending)
-              (with_pdus sender.outgoing (map att_pdu (option_to_list (answer_to table (force (is_some link.key)) stood' (asks stood')))))
+            (conn_after table.attributes stood' (asks stood')) (pending_after pdu pending)
+            (with_pdus sender.outgoing (map att_pdu (option_to_list (answer_to table (force (is_some link.key)) stood' (asks stood')))))
         serves live = λ i. final live (row-path i) (conn-path i) (pending-path i) (sender-path i)
+
         not-full : (live : Bool) → final live (own_row_after (is_some link.key) (row_of old peer) row (stored_by table (force (is_some link.key)) stood' (asks stood')).row)
-              (conn_after table.attributes stood' (asks stood')) (pending_after pdu pending)
-              (with_pdus sender.outgoing (map att_pdu (option_to_list (answer_to table (force (is_some link.key)) stood' (asks stood')))))
+            (conn_after table.attributes stood' (asks stood')) (pending_after pdu pending)
+            (with_pdus sender.outgoing (map att_pdu (option_to_list (answer_to table (force (is_some link.key)) stood' (asks stood')))))
             ≡ kept_served table now (row_of old peer) pdu (kept_as live)
         not-full live = sym (ap (λ (test : Bool). if test then after_ending remote_user_terminated (kept_as live) else
             final live (own_row_after (is_some link.key) (row_of old peer) row (stored_by table (force (is_some link.key)) stood' (asks stood')).row)

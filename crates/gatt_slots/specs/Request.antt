@@ -57,7 +57,7 @@ abbrev pub bond_served : Contents → ℕ → Option Handle → Option Row → O
 bond_served table now changer row pdu kept bond =
     if is_full pdu kept then bond
     else with_owed_after (confirms_changes changer pdu kept)
-        (bond_after (is_some kept.link.key) (stored_of table now row pdu kept).row bond)
+    (bond_after (is_some kept.link.key) (stored_of table now row pdu kept).row bond)
 
 -- and what the slot keeps
 abbrev pub with_conn : Connection → Kept → Kept

@@ -46,11 +46,7 @@ fn tell(
         ≡ told_in_turn table.now (record { row = row.now; standing = standing; mtu = mtu }) now handles.now
         (record { pending = pending.old; outgoing = sender.old.outgoing }) }
 {
-    let ear = Ear {
-        row,
-        standing,
-        mtu,
-    };
+    let ear = Ear { row, standing, mtu };
     tell_in_turn(table, &ear, now, handles, pending, sender);
 }
 
@@ -84,7 +80,13 @@ fn raise(table: &Table, ear: &Ear<'_>, handle: u16, pending: &mut Pending, sende
         (record { pending = pending.old; outgoing = sender.old.outgoing }) }
 {
     if pending.raise(table, handle, ear.row, &ear.standing, sender.backlog()) {
-        queue_value(HANDLE_VALUE_NOTIFICATION, handle, table.value(handle), ear.mtu, sender);
+        queue_value(
+            HANDLE_VALUE_NOTIFICATION,
+            handle,
+            table.value(handle),
+            ear.mtu,
+            sender,
+        );
     }
 }
 
@@ -97,7 +99,13 @@ fn release(table: &Table, ear: &Ear<'_>, now: u64, pending: &mut Pending, sender
         (record { pending = pending.old; outgoing = sender.old.outgoing }) }
 {
     if let Some(handle) = pending.release(table, ear.row, &ear.standing, sender.backlog(), now) {
-        queue_value(HANDLE_VALUE_INDICATION, handle, table.value(handle), ear.mtu, sender);
+        queue_value(
+            HANDLE_VALUE_INDICATION,
+            handle,
+            table.value(handle),
+            ear.mtu,
+            sender,
+        );
     }
 }
 
@@ -151,7 +159,16 @@ impl Slot {
         let standing = standing(&self.link, self.key_known, self.until, now);
         let mtu = self.conn.mtu();
         let row = row_in_force(&self.link, &self.peer, &self.row, rows);
-        tell(table, row, standing, mtu, now, handles, &mut self.pending, &mut self.sender);
+        tell(
+            table,
+            row,
+            standing,
+            mtu,
+            now,
+            handles,
+            &mut self.pending,
+            &mut self.sender,
+        );
     }
 
     /// Whether the peer of the connection is owed an indication of a changed table.

@@ -10,4 +10,6 @@ mod slots;
 mod turn;
 
 pub use slot::Slot;
-pub use slots::{complete_all, find_free, find_holding, find_serving, hear_all, replace_all, tick_all};
+pub use slots::{
+    complete_all, find_free, find_holding, find_serving, hear_all, replace_all, tick_all,
+};

@@ -123,8 +123,10 @@ fn answer_by_row(
         (map att_pdu (option_to_list (answer_to table.old (if has_key then unwrap_or (row_of rows.old peer.now) own.old else own.old) conn.old (request_of pdu.now conn.old.mtu)))) }
     ensures confirmed { result.confirmed ≡ is_confirmation pdu.now }
     ensures touched { result.touched.items ≡ handles_by table.old (if has_key then unwrap_or (row_of rows.old peer.now) own.old else own.old) conn.old (request_of pdu.now conn.old.mtu) }
-    ensures table { table.new ≡ record table.old { values =
-        (stored_by table.old (if has_key then unwrap_or (row_of rows.old peer.now) own.old else own.old) conn.old (request_of pdu.now conn.old.mtu)).values } }
+    ensures table { table.new ≡ record table.old {
+      values =
+          (stored_by table.old (if has_key then unwrap_or (row_of rows.old peer.now) own.old else own.old) conn.old (request_of pdu.now conn.old.mtu)).values;
+    } }
     ensures own { own.new ≡ own_row_after has_key (row_of rows.old peer.now) own.old
         (stored_by table.old (if has_key then unwrap_or (row_of rows.old peer.now) own.old else own.old) conn.old (request_of pdu.now conn.old.mtu)).row }
     ensures bond { ChangesBond (bond_after has_key

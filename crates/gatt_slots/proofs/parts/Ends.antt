@@ -44,8 +44,8 @@ module _ (room : Room) (bonds : Bonds) (rows : Subscriptions) where
   one-finished handles part handed given bounds row =
       by-peer handles part handed
       ∙ subst (λ (n : ℕ). option_map (after_hearing room.table room.time (row_of rows part.peer) handles) (kept_if_there room part n)
-        ≡ kept_if_there room (finished room bonds handles part) n) given
-        (sym (finished_kept room (row_of rows part.peer) bonds handles part bounds row))
+      ≡ kept_if_there room (finished room bonds handles part) n) given
+      (sym (finished_kept room (row_of rows part.peer) bonds handles part bounds row))
 
   among-values : (handles : List Handle) (slot : Option Kept) → heard_by room.table room.time rows handles slot
       ≡ heard_by room.table room.time rows (values_among room.table.attributes handles) slot
@@ -80,6 +80,6 @@ module _ (room : Room) (bonds : Bonds) (rows : Subscriptions) where
             ≡ heard_by room.table room.time rows (at_ordinal ordinal here (all_raised (values_among room.table.attributes handles)) other) (keep (Some other))
         only-values other = elim (other == ordinal) as (λ (is : Bool). heard_by room.table room.time rows (if is then here else handles) (keep (Some other))
             ≡ heard_by room.table room.time rows (if is then here else values_among room.table.attributes handles) (keep (Some other))) [
-          | true ↦ refl
-          | false ↦ among-values handles (keep (Some other))
-        ]
+              | true ↦ refl
+              | false ↦ among-values handles (keep (Some other))
+            ]

@@ -24,10 +24,10 @@ use Rattle.le_hci.specs.declared.event.CompletedPackets.{CompletedPackets}
 serving-kept : (room : Room) (part : Part) (handed handle : ℕ) → is_serving handle (kept_if_there room part handed) ≡ (is_live part.mark && (part.handle == handle))
 serving-kept room part handed handle = elim part.mark as (λ (mark : Mark).
     is_serving handle (if is_there mark then Some (record (kept_of room part handed) { live = is_live mark }) else None) ≡ (is_live mark && (part.handle == handle))) [
-  | Absent ↦ refl
-  | Live ↦ refl
-  | Ending ↦ refl
-]
+      | Absent ↦ refl
+      | Live ↦ refl
+      | Ending ↦ refl
+    ]
 
 holding-kept : (room : Room) (part : Part) (handed handle : ℕ) → is_there part.mark ≡ true → is_holding handle (kept_if_there room part handed) ≡ (part.handle == handle)
 holding-kept room part handed handle there = ap (λ (slot : Option Kept). is_holding handle slot) (kept_there room part handed there)
@@ -91,7 +91,7 @@ module _ (room : Room) (next : Ordinal) (slots : Slots) (each : HaveOneSlotEach 
   -- one entry
   entry-counted : (parts : Ordinal → Part) (count : ℕ) (own : Ordinal) (at : ℕ) → AreThere parts → slice_get slots at ≡ Some (Some own)
       → option_map_or (λ slot. set (map (keeps_of parts) slots) at (option_map (after_completed count) slot)) (slice_get (map (keeps_of parts) slots) at) (map (keeps_of parts) slots)
-        ≡ map (keeps_of (one-completed parts own count)) slots
+      ≡ map (keeps_of (one-completed parts own count)) slots
   unfolding keeps_of
   entry-counted parts count own at are has =
       changed_at (keeps_of parts) (keeps_of (one-completed parts own count)) (λ slot. option_map (after_completed count) slot) next slots at own refl each has
@@ -99,17 +99,17 @@ module _ (room : Room) (next : Ordinal) (slots : Slots) (each : HaveOneSlotEach 
       (sym (completed_kept room (parts own) count))
       ∙ ap (λ (is : Bool). kept_if_there room (if is then with_completed (parts own) count else parts own) (handed own)) (sym (eq-eqb own own refl)))
       (λ other has_other differs.
-        ap (λ (is : Bool). kept_if_there room (if is then with_completed (parts other) count else parts other) (handed other))
-        (sym (ne_eqb own other (λ same. eqb-false other own differs (sym same)))))
+      ap (λ (is : Bool). kept_if_there room (if is then with_completed (parts other) count else parts other) (handed other))
+      (sym (ne_eqb own other (λ same. eqb-false other own differs (sym same)))))
 
   -- and then the others
   module _ (entry : CompletedPackets) (entries : List CompletedPackets)
       (others : (parts : Ordinal → Part) → AreThere parts
-        → after_entries entries (map (keeps_of parts) slots) ≡ map (keeps_of (λ ordinal. part_after ordinal (entries-of entries) (parts ordinal))) slots) where
+      → after_entries entries (map (keeps_of parts) slots) ≡ map (keeps_of (λ ordinal. part_after ordinal (entries-of entries) (parts ordinal))) slots) where
     entry-then : (parts : Ordinal → Part) (found : Option Ordinal) (place : Option ℕ) → AreThere parts → Finds slots found place
         → after_entries entries (option_map_or (λ (at : ℕ). option_map_or (λ slot. set (map (keeps_of parts) slots) at (option_map (after_completed entry.packets) slot))
-          (slice_get (map (keeps_of parts) slots) at) (map (keeps_of parts) slots)) place (map (keeps_of parts) slots))
-          ≡ map (keeps_of (λ ordinal. part_after ordinal (option_to_list (option_map (λ own. (own, entry.packets)) found) ++ entries-of entries) (parts ordinal))) slots
+        (slice_get (map (keeps_of parts) slots) at) (map (keeps_of parts) slots)) place (map (keeps_of parts) slots))
+        ≡ map (keeps_of (λ ordinal. part_after ordinal (option_to_list (option_map (λ own. (own, entry.packets)) found) ++ entries-of entries) (parts ordinal))) slots
     entry-then parts None place are none =
         let held : Held = map (keeps_of parts) slots in
         ap (λ (place : Option ℕ). after_entries entries (option_map_or (λ (at : ℕ). option_map_or (λ slot. set held at (option_map (after_completed entry.packets) slot))
@@ -148,7 +148,7 @@ pub all_completed : (state : State) (entries : List CompletedPackets) (keep afte
     → ((ordinal : Ordinal) → has_slot ordinal state.slots ≡ true → is_there (state.parts ordinal).mark ≡ true)
     → keep None ≡ None → ((ordinal : Ordinal) → keep (Some ordinal) ≡ kept_if_there state.room (state.parts ordinal) (state.parts ordinal).given)
     → after None ≡ None → ((ordinal : Ordinal)
-      → after (Some ordinal) ≡ kept_if_there state.room (part_after ordinal (completed_entries state entries) (state.parts ordinal)) (state.parts ordinal).given)
+    → after (Some ordinal) ≡ kept_if_there state.room (part_after ordinal (completed_entries state entries) (state.parts ordinal)) (state.parts ordinal).given)
     → after_entries entries (map keep state.slots) ≡ map after state.slots
 all_completed state entries keep after each there free keeps free_after keeps_after =
     held-counted state.room state.next state.slots each (λ ordinal. (state.parts ordinal).handle) (λ ordinal. (state.parts ordinal).given) entries state.parts keep after

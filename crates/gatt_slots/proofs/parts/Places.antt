@@ -230,16 +230,16 @@ module _ (keep after : Option Ordinal → Option Kept) where
     -- or all but one, that hears of others
     pub others_hear : (next : Ordinal) (slots : Slots) (at : ℕ) (ordinal : Ordinal) → HaveOneSlotEach next slots → slice_get slots at ≡ Some (Some ordinal)
         → ((other : Ordinal) → has_slot other slots ≡ true
-          → heard_by table now rows (at_ordinal ordinal here (all_raised handles) other) (keep (Some other)) ≡ after (Some other))
+        → heard_by table now rows (at_ordinal ordinal here (all_raised handles) other) (keep (Some other)) ≡ after (Some other))
         → all_heard table now rows (Some at) here handles (map keep slots) ≡ map after slots
     others_hear next slots at ordinal each own same =
         each-heard (λ place slot. heard_by table now rows (handles_for (Some at) here handles place) slot) 0 slots
         (λ place. none-heard (handles_for (Some at) here handles place))
         (λ place other has.
-          let where_is : 0 + place ≡ place = omega arith in
-          ap (λ (p : ℕ). heard_by table now rows (if at == p then here else handles) (keep (Some other))) where_is
-          ∙ ap (λ (is : Bool). heard_by table now rows (if is then here else handles) (keep (Some other))) (one_place next slots at place ordinal other each own has)
-          ∙ same other (placed slots place other has))
+        let where_is : 0 + place ≡ place = omega arith in
+        ap (λ (p : ℕ). heard_by table now rows (if at == p then here else handles) (keep (Some other))) where_is
+        ∙ ap (λ (is : Bool). heard_by table now rows (if is then here else handles) (keep (Some other))) (one_place next slots at place ordinal other each own has)
+        ∙ same other (placed slots place other has))
 
   -- what stands in a slot changes
   pub changed_at : (change : Option Kept → Option Kept) (next : Ordinal) (slots : Slots) (at : ℕ) (ordinal : Ordinal) → keep None ≡ after None → HaveOneSlotEach next slots

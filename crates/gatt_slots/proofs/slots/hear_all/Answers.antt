@@ -11,7 +11,7 @@ loop-place-preserved c =
     let place = c.loop-place.place in
     let within : place < length a.slots.now = omega (arith, c.loop-place-test.true) in
     let hear : ℕ → Option Kept → Option Kept =
-        λ at slot. heard_by a.table.now a.now a.rows.now (handles_for a.own a.here.now a.handles.now at) slot in
+    λ at slot. heard_by a.table.now a.now a.rows.now (handles_for a.own a.here.now a.handles.now at) slot in
     ap (λ (slot : Option Kept). set c.loop-place.slots place slot)
     (c.hear.ensures ∙ ap (λ (slot : Option Kept). heard_by a.table.now a.now a.rows.now c.raised_for.result.now slot) (sym c.index-slots-place.is)
     ∙ ap (λ (handles : List Handle). heard_by a.table.now a.now a.rows.now handles c.index-slots-place.result) c.raised_for.ensures)

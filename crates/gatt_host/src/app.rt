@@ -1,0 +1,31 @@
+/// What an application asks of a host.
+#[derive(Clone, Copy, Debug, PartialEq, Eq)]
+pub enum App<'a> {
+    /// Write the characteristic value at a handle.
+    Update(u16, &'a [u8]),
+    /// Authorize the connection with a handle while the time is below a moment, in milliseconds: 0
+    /// withdraws it.
+    Authorize(u16, u64),
+    /// Take in the time, in milliseconds.
+    Tick(u64),
+}
+
+/// Why a host refuses what an application asks. `Stopped` comes first, and then the others in their
+/// order.
+#[derive(Clone, Copy, Debug, PartialEq, Eq)]
+pub enum AppFault {
+    /// There is no attribute with the handle.
+    NoSuchHandle,
+    /// It is no characteristic value.
+    NotAValue,
+    /// The value is longer than its largest length, or a fixed one has another length.
+    BadLength,
+    /// No connection with the handle serves.
+    NoSuchConnection,
+    /// The time is before the one that stands.
+    TimeWentBack,
+    /// The host has stopped, for a fault of its controller or of its stream.
+    Stopped,
+    /// One of the tables has no value that tells of changes, or they have it at different handles.
+    NoServiceChanged,
+}

@@ -1,0 +1,113 @@
+//! What an application asks, as what happens to a host.
+
+ghost use Rattle.std.specs.Prelude.{◌≡◌, ◌≤◌, true, length, Err, IsOk, IfOk, IfErr, OnErr};
+ghost use Rattle.att_table.specs.Changer.{changer_of};
+ghost use Rattle.att_table.specs.Table.{attribute_at, room_at};
+ghost use Rattle.gatt_laws.specs.Calls.{has_length, same_changer, TickCall};
+ghost use Rattle.gatt_host.specs.Asked.{authorize_happening, call_happening, call_of, refused_of, replacement_happening, update_happening};
+ghost use Rattle.gatt_host.specs.Held.{after_replacing};
+ghost use Rattle.gatt_host.specs.Meaning.{IsAfter};
+ghost use Rattle.gatt_slots.specs.Slots.{place_serving};
+
+use crate::app::{App, AppFault};
+use crate::host_state::HostState;
+use att_table::{Attr, Role, Table};
+use gatt_slots::find_serving;
+
+impl HostState {
+    /// Does what the application asks, or refuses it and changes nothing.
+    pub(crate) fn app(&mut self, call: App<'_>) -> Result<(), AppFault>
+        ensures after { IsOk result → IfOk (call_happening self.old (call_of call.entry)) (λ happening. IsAfter happening self.old self.new) }
+        ensures refused { IfErr result (λ fault. call_happening self.old (call_of call.entry) ≡ Err (refused_of fault)) }
+        ensures unchanged { OnErr result (self.new ≡ self.old) }
+    {
+        match call {
+            App::Update(handle, value) => self.update_value(handle, value),
+            App::Authorize(handle, until) => self.authorize_connection(handle, until),
+            App::Tick(time) => self.tick_on(time),
+        }
+    }
+
+    #[tactic(auto, using(crate::proofs::Lengths::fits_there, crate::proofs::Lengths::exact_there, crate::proofs::Lengths::none_past))]
+    fn update_value(&mut self, handle: u16, value: &[u8]) -> Result<(), AppFault>
+        ensures after { IsOk result → IfOk (update_happening handle value.now (attribute_at self.old.table.attributes handle)) (λ happening. IsAfter happening self.old self.new) }
+        ensures refused { IfErr result (λ fault. update_happening handle value.now (attribute_at self.old.table.attributes handle) ≡ Err (refused_of fault)) }
+        ensures unchanged { OnErr result (self.new ≡ self.old) }
+    {
+        if usize::from(handle) > self.table.len() {
+            return Err(AppFault::NoSuchHandle);
+        }
+        let Some(attr) = self.table.get(handle) else {
+            return Err(AppFault::NoSuchHandle);
+        };
+        if attr.role != Role::Value {
+            return Err(AppFault::NotAValue);
+        }
+        if !has_length(attr, value.len()) {
+            return Err(AppFault::BadLength);
+        }
+        self.update(handle, value);
+        Ok(())
+    }
+
+    fn authorize_connection(&mut self, handle: u16, until: u64) -> Result<(), AppFault>
+        ensures after { IsOk result → IfOk (authorize_happening until (place_serving self.old.slots handle)) (λ happening. IsAfter happening self.old self.new) }
+        ensures refused { IfErr result (λ fault. authorize_happening until (place_serving self.old.slots handle) ≡ Err (refused_of fault)) }
+        ensures unchanged { OnErr result (self.new ≡ self.old) }
+    {
+        let Some(place) = find_serving(self.slots.as_slice(), handle) else {
+            return Err(AppFault::NoSuchConnection);
+        };
+        self.authorize(place, until);
+        Ok(())
+    }
+
+    fn tick_on(&mut self, time: u64) -> Result<(), AppFault>
+        ensures after { IsOk result → IfOk (call_happening self.old (TickCall time)) (λ happening. IsAfter happening self.old self.new) }
+        ensures refused { IfErr result (λ fault. call_happening self.old (TickCall time) ≡ Err (refused_of fault)) }
+        ensures unchanged { OnErr result (self.new ≡ self.old) }
+    {
+        if time < self.time {
+            return Err(AppFault::TimeWentBack);
+        }
+        self.tick(time);
+        Ok(())
+    }
+
+    /// Replaces the table by another, and gives the old one back; or refuses the new one, gives that
+    /// back, and changes nothing.
+    pub(crate) fn replace_table(&mut self, table: Table) -> Result<Table, (AppFault, Table)>
+        ensures after { IfOk result (λ old. (old ≡ self.old.table) × (self.new ≡ after_replacing table self.old)) }
+        ensures accepted { IsOk result → same_changer self.old.changer (changer_of table) ≡ true }
+        ensures refused { IfErr result (λ fault. replacement_happening self.old table ≡ Err (refused_of fault.0)) }
+        ensures given_back { IfErr result (λ fault. fault.1 ≡ table) }
+        ensures unchanged { OnErr result (self.new ≡ self.old) }
+    {
+        if !same_changer(self.changer, table.changer()) {
+            return Err((AppFault::NoServiceChanged, table));
+        }
+        Ok(self.replace(table))
+    }
+}
+
+/// Whether a value of an attribute may have this length.
+fn has_length(attr: &Attr, count: usize) -> bool
+    ensures { result ≡ has_length attr.now count }
+{
+    let largest = usize::from(attr.largest);
+    if attr.fixed {
+        count == largest
+    } else {
+        count <= largest
+    }
+}
+
+/// Whether there are two changers, at the same handle.
+fn same_changer(old: Option<u16>, new: Option<u16>) -> bool
+    ensures { result ≡ same_changer old new }
+{
+    match (old, new) {
+        (Some(old), Some(new)) => old == new,
+        _ => false,
+    }
+}
