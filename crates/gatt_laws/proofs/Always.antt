@@ -173,14 +173,14 @@ module _ (Fine : Contents → Type 0) where
       elim (same_changer state.room.changer (changer_of table)) as (λ same. PossibleIfAny state (if same then Ok (Replaced table) else Err NoServiceChanged)) [ true ↦ is | false ↦ tt ]
 
   -- what a packet, a call or a table means may come
-  pub packet_possible : (state : State) (fragments : Fragments) (packet : Packet) (event : Event) → packet_event state fragments packet ≡ Ok event → Possible Fine state event
-  packet_possible state fragments packet event is = subst (λ (result : Result Event Fault). PossibleIfAny state result) is (packet-possible state fragments packet)
+  pub packet_may_come : (state : State) (fragments : Fragments) (packet : Packet) (event : Event) → packet_event state fragments packet ≡ Ok event → Possible Fine state event
+  packet_may_come state fragments packet event is = subst (λ (result : Result Event Fault). PossibleIfAny state result) is (packet_possible state fragments packet)
 
-  pub call_possible : (state : State) (call : Call) (event : Event) → call_event state call ≡ Ok event → Possible Fine state event
-  call_possible state call event is = subst (λ (result : Result Event Refused). PossibleIfAny state result) is (call-possible state call)
+  pub call_may_come : (state : State) (call : Call) (event : Event) → call_event state call ≡ Ok event → Possible Fine state event
+  call_may_come state call event is = subst (λ (result : Result Event Refused). PossibleIfAny state result) is (call_possible state call)
 
-  pub replacement_possible : (state : State) (table : Contents) (event : Event) → Fine table → replacement_event state table ≡ Ok event → Possible Fine state event
-  replacement_possible state table event fine is = subst (λ (result : Result Event Refused). PossibleIfAny state result) is (replacement-possible state table fine)
+  pub replacement_may_come : (state : State) (table : Contents) (event : Event) → Fine table → replacement_event state table ≡ Ok event → Possible Fine state event
+  replacement_may_come state table event fine is = subst (λ (result : Result Event Refused). PossibleIfAny state result) is (replacement_possible state table fine)
 
   -- what each of them keeps
   module _ (P : State → Type 0) (keeps : (state : State) (event : Event) → Possible Fine state event → P state → P (step state event)) where
