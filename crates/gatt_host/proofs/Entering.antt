@@ -94,7 +94,7 @@ replaced-same old new part =
       | false ↦ refl
     ]
 
-change-same : (state : State) (event : Event) → Possible (λ table. Unit) state event → IsSettled state → (ordinal : Ordinal)
+pub change-same : (state : State) (event : Event) → Possible (λ table. Unit) state event → IsSettled state → (ordinal : Ordinal)
     → has_slot ordinal (change_of state event).state.slots ≡ true → Same (state.parts ordinal) ((change_of state event).state.parts ordinal)
 unfolding change_of
 change-same state (Of at own) possible settled ordinal has =

@@ -10,3 +10,4 @@ pub mod Packets
 pub mod SlotCommands
 pub mod Readies
 pub mod Lengths
+pub mod standing

@@ -1,13 +1,18 @@
 -- Where a host stands: what it holds is what a state of the whole machine says, but for what is still to go out.
-use Rattle.std.specs.Prelude.{◌≡◌, ℕ, true, false, is_some, if◌then◌else◌, List, [], length, slice_get, Option, Some, None}
-use Rattle.gatt_host.specs.Held.{Held, open_slots}
+use Rattle.std.specs.Prelude.{◌≡◌, ℕ, ◌≤◌, true, false, is_some, if◌then◌else◌, List, [], length, replicate, Option, Some, None}
+use Rattle.att_numbers.specs.Types.{Handle}
+use Rattle.gatt_host.specs.Held.{Held, open_slots, after_nothing, after_tick, after_update}
 use Rattle.gatt_host.specs.Owing.{IsOwing}
 use Rattle.gatt_laws.specs.Controller.{is_ready}
-use Rattle.gatt_laws.specs.Event.{Ordinal}
+use Rattle.gatt_laws.specs.Event.{Ordinal, Event, Nothing, Tick, Update}
 use Rattle.gatt_laws.specs.Part.{Part, key_of}
 use Rattle.gatt_laws.specs.Room.{Bonds, Owed}
-use Rattle.gatt_laws.specs.State.{State}
-use Rattle.gatt_slots.specs.Kept.{Kept}
+use Rattle.gatt_laws.specs.Placed.{IsPlaced}
+use Rattle.gatt_laws.specs.Possible.{MayBeUpdated}
+use Rattle.gatt_laws.specs.Queued.{HasBoundedQueues}
+use Rattle.gatt_laws.specs.Settled.{IsSettled}
+use Rattle.gatt_laws.specs.Silence.{IsAllGiven}
+use Rattle.gatt_laws.specs.State.{State, step, out}
 use Rattle.gatt_subs.specs.declared.bond.Bond.{Bond}
 use Rattle.gatt_subs.specs.Rows.{Subscriptions, bond_of}
 use Rattle.le_acl.specs.Shares.{usable}
@@ -33,15 +38,12 @@ pub record HasKeysOfItsPeer (keys : List Entry) (part : Part) : Type 0 where
   pub asked : is_some (last_asked part.steps) ≡ true → is_known keys part.peer ≡ true
   pub key : is_some (key_of part) ≡ true → is_known keys part.peer ≡ true
 
--- no slot has a connection
-abbrev pub AreFree : List (Option Kept) → Type 0
-AreFree slots = (place : ℕ) (slot : Option Kept) → slice_get slots place ≡ Some slot → slot ≡ None
-
 -- how many slots connections may have, once the buffers are told
 abbrev pub slots_for : ℕ → Option Buffers → ℕ
 slots_for slots None = slots
 slots_for slots (Some buffers) = usable slots buffers.packets
 
+-- before the controller is initialised no slot has a connection
 pub record Stands (state : State) (owed : List Octets) (held : Held) : Type 0 where
   pub table : held.table ≡ state.room.table
   pub changer : held.changer ≡ state.room.changer
@@ -51,7 +53,29 @@ pub record Stands (state : State) (owed : List Octets) (held : Held) : Type 0 wh
   pub told : state.room.told ≡ told_in state.controller.init
   pub rows : HoldsBonds state.room.keys held.rows state.bonds state.owed
   pub keyed : (ordinal : Ordinal) → HasKeysOfItsPeer state.room.keys (state.parts ordinal)
-  pub early : is_ready state.controller ≡ false → length held.slots ≡ state.room.slots
-  pub free : is_ready state.controller ≡ false → AreFree held.slots
+  pub free : is_ready state.controller ≡ false → held.slots ≡ replicate state.room.slots None
   pub ready : is_ready state.controller ≡ true → length held.slots ≡ slots_for state.room.slots state.room.told
   pub owing : IsOwing state owed held.controller (open_slots held)
+
+-- what is so of every state, whatever led to it
+pub record IsSound (state : State) : Type 0 where
+  pub settled : IsSettled state
+  pub queued : HasBoundedQueues state
+  pub placed : IsPlaced state
+  pub given : (ordinal : Ordinal) → IsAllGiven state.room (state.parts ordinal)
+
+-- Each event leads a host from where it stands to where it stands next, once what was owed is out.
+
+abbrev pub LeadsTo : State → Event → Held → Type 0
+LeadsTo state event new = Stands (step state event) (out state event) new
+
+abbrev pub NothingLeadsOn : Type 0
+NothingLeadsOn = (state : State) (held : Held) → IsSound state → Stands state [] held → LeadsTo state Nothing (after_nothing held)
+
+abbrev pub TimeLeadsOn : Type 0
+TimeLeadsOn = (state : State) (held : Held) (now : ℕ) → IsSound state → Stands state [] held → state.room.time ≤ now →
+    LeadsTo state (Tick now) (after_tick now held)
+
+abbrev pub UpdateLeadsOn : Type 0
+UpdateLeadsOn = (state : State) (held : Held) (handle : Handle) (value : Octets) → IsSound state → Stands state [] held →
+    MayBeUpdated state handle value → LeadsTo state (Update handle value) (after_update handle value held)
