@@ -1,2 +1,5 @@
-pub mod Holding
 pub mod ForAll
+pub mod Holding
+pub mod OneSlot
+pub mod Turned
+pub mod OwnEvents

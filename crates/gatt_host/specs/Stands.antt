@@ -1,11 +1,11 @@
 -- Where a host stands: what it holds is what a state of the whole machine says, but for what is still to go out.
-use Rattle.std.specs.Prelude.{◌≡◌, ℕ, ◌≤◌, true, false, is_some, if◌then◌else◌, List, [], length, replicate, Option, Some, None}
+use Rattle.std.specs.Prelude.{◌≡◌, ℕ, ◌≤◌, true, false, is_some, if◌then◌else◌, List, [], length, replicate, slice_get, Option, Some, None}
 use Rattle.att_numbers.specs.Types.{Handle}
-use Rattle.gatt_host.specs.Held.{Held, open_slots, after_nothing, after_tick, after_update}
+use Rattle.gatt_host.specs.Held.{Held, open_slots, after_authorize, after_ask_key, after_nothing, after_signals, after_tick, after_update}
 use Rattle.gatt_host.specs.Owing.{IsOwing}
 use Rattle.gatt_laws.specs.Controller.{is_ready}
-use Rattle.gatt_laws.specs.Event.{Ordinal, Event, Nothing, Tick, Update}
-use Rattle.gatt_laws.specs.Part.{Part, key_of}
+use Rattle.gatt_laws.specs.Event.{Ordinal, Event, Nothing, Tick, Update, Of, Authorized, KeyAsked, Signals}
+use Rattle.gatt_laws.specs.Part.{Part, is_live, key_of}
 use Rattle.gatt_laws.specs.Room.{Bonds, Owed}
 use Rattle.gatt_laws.specs.Placed.{IsPlaced}
 use Rattle.gatt_laws.specs.Possible.{MayBeUpdated}
@@ -79,3 +79,22 @@ TimeLeadsOn = (state : State) (held : Held) (now : ℕ) → IsSound state → St
 abbrev pub UpdateLeadsOn : Type 0
 UpdateLeadsOn = (state : State) (held : Held) (handle : Handle) (value : Octets) → IsSound state → Stands state [] held →
     MayBeUpdated state handle value → LeadsTo state (Update handle value) (after_update handle value held)
+
+-- the connection of a slot, which serves
+pub record IsServing (state : State) (place : ℕ) (ordinal : Ordinal) : Type 0 where
+  pub there : slice_get state.slots place ≡ Some (Some ordinal)
+  pub live : is_live (state.parts ordinal).mark ≡ true
+
+abbrev pub AuthorizingLeadsOn : Type 0
+AuthorizingLeadsOn = (state : State) (held : Held) (place : ℕ) (ordinal : Ordinal) (until : ℕ) → IsSound state → Stands state [] held →
+    IsServing state place ordinal → LeadsTo state (Of ordinal (Authorized until)) (after_authorize place until held)
+
+abbrev pub AskingAKeyLeadsOn : Type 0
+AskingAKeyLeadsOn = (state : State) (held : Held) (place : ℕ) (ordinal : Ordinal) (random_number : Octets) (diversifier : ℕ) → IsSound state →
+    Stands state [] held → IsServing state place ordinal →
+    LeadsTo state (Of ordinal (KeyAsked random_number diversifier)) (after_ask_key place random_number diversifier held)
+
+abbrev pub SignalsLeadOn : Type 0
+SignalsLeadOn = (state : State) (held : Held) (place : ℕ) (ordinal : Ordinal) (channel : ℕ) (payload : Octets) → IsSound state →
+    Stands state [] held → IsServing state place ordinal →
+    LeadsTo state (Of ordinal (Signals channel payload)) (after_signals place channel payload held)

@@ -108,7 +108,7 @@ has_slot_there ordinal (slot ∷ slots) zero there =
 has_slot_there ordinal (slot ∷ slots) (suc place) there = or-right (is_slot_of ordinal slot) (has_slot ordinal slots) (has_slot_there ordinal slots place there)
 
 -- the link of a connection and its peer stay as they are at the end of an event
-abbrev SameLink : Part → Part → Type 0
+abbrev pub SameLink : Part → Part → Type 0
 SameLink old new = (new.steps ≡ old.steps) × (new.peer ≡ old.peer)
 
 heard-link : (room : Room) (bond : Row) (handles : List Handle) (part : Part) → SameLink part (part_heard room bond handles part)
