@@ -1,10 +1,10 @@
 -- Where a host stands: what it holds is what a state of the whole machine says, but for what is still to go out.
 use Rattle.std.specs.Prelude.{◌≡◌, ℕ, ◌≤◌, true, false, is_some, if◌then◌else◌, List, [], length, replicate, slice_get, Option, Some, None}
 use Rattle.att_numbers.specs.Types.{Handle}
-use Rattle.gatt_host.specs.Held.{Held, open_slots, after_authorize, after_ask_key, after_nothing, after_signals, after_tick, after_update}
+use Rattle.gatt_host.specs.Held.{Held, open_slots, kept_at, after_authorize, after_ask_key, after_link, after_nothing, after_signals, after_tick, after_update, Serves}
 use Rattle.gatt_host.specs.Owing.{IsOwing}
 use Rattle.gatt_laws.specs.Controller.{is_ready}
-use Rattle.gatt_laws.specs.Event.{Ordinal, Event, Nothing, Tick, Update, Of, Authorized, KeyAsked, Signals}
+use Rattle.gatt_laws.specs.Event.{Ordinal, Event, Nothing, Tick, Update, Of, Authorized, KeyAsked, Encrypted, Refreshed, Signals, Asks}
 use Rattle.gatt_laws.specs.Part.{Part, is_live, key_of}
 use Rattle.gatt_laws.specs.Room.{Bonds, Owed}
 use Rattle.gatt_laws.specs.Placed.{IsPlaced}
@@ -13,6 +13,7 @@ use Rattle.gatt_laws.specs.Queued.{HasBoundedQueues}
 use Rattle.gatt_laws.specs.Settled.{IsSettled}
 use Rattle.gatt_laws.specs.Silence.{IsAllGiven}
 use Rattle.gatt_laws.specs.State.{State, step, out}
+use Rattle.gatt_slots.specs.Kept.{Kept}
 use Rattle.gatt_subs.specs.declared.bond.Bond.{Bond}
 use Rattle.gatt_subs.specs.Rows.{Subscriptions, bond_of}
 use Rattle.le_acl.specs.Shares.{usable}
@@ -21,7 +22,7 @@ use Rattle.le_hci.specs.declared.peer.Peer.{Peer}
 use Rattle.le_hci.specs.InitTold.{told_in}
 use Rattle.le_security.specs.declared.entry.Entry.{Entry}
 use Rattle.le_security.specs.Keys.{is_known}
-use Rattle.le_security.specs.Link.{last_asked}
+use Rattle.le_security.specs.Link.{Encryption, Refresh, last_asked}
 use Rattle.octets.specs.Number.{Octets}
 
 -- the rows have a bond of each peer that has a key, and no other is owed or has configured anything that lasts
@@ -98,3 +99,15 @@ abbrev pub SignalsLeadOn : Type 0
 SignalsLeadOn = (state : State) (held : Held) (place : ℕ) (ordinal : Ordinal) (channel : ℕ) (payload : Octets) → IsSound state →
     Stands state [] held → IsServing state place ordinal →
     LeadsTo state (Of ordinal (Signals channel payload)) (after_signals place channel payload held)
+
+abbrev pub EncryptionLeadsOn : Type 0
+EncryptionLeadsOn = (state : State) (held : Held) (place : ℕ) (ordinal : Ordinal) (status enabled : ℕ) → IsSound state → Stands state [] held →
+    IsServing state place ordinal → LeadsTo state (Of ordinal (Encrypted status enabled)) (after_link place (Encryption status enabled) held)
+
+abbrev pub RefreshLeadsOn : Type 0
+RefreshLeadsOn = (state : State) (held : Held) (place : ℕ) (ordinal : Ordinal) (status : ℕ) → IsSound state → Stands state [] held →
+    IsServing state place ordinal → LeadsTo state (Of ordinal (Refreshed status)) (after_link place (Refresh status) held)
+
+abbrev pub RequestLeadsOn : Type 0
+RequestLeadsOn = (state : State) (held new : Held) (place : ℕ) (ordinal : Ordinal) (pdu : Octets) (kept : Kept) → IsSound state → Stands state [] held →
+    IsServing state place ordinal → kept_at held place ≡ Some kept → Serves place pdu kept held new → LeadsTo state (Of ordinal (Asks pdu)) new

@@ -3,21 +3,23 @@ use Rattle.std.proofs.Common.{◌≡◌, ℕ, zero, suc, Bool, true, false, List
 use Rattle.std.specs.Prelude.{if◌then◌else◌, ◌==◌}
 use Rattle.std.specs.Option.{option_map, option_map_or}
 use Rattle.std.proofs.lemmas.Bool.{eq-eqb}
+use Rattle.std.proofs.lemmas.Option.{slice_get-map}
 use Rattle.att_table.specs.Table.{Contents}
 use Rattle.gatt_host.proofs.Nexts.{clash}
 use Rattle.gatt_host.proofs.standing.Holding.{Holds}
 use Rattle.gatt_host.proofs.standing.OneSlot.{ready_where, changed_one}
-use Rattle.gatt_host.specs.Held.{Held, slots_at}
+use Rattle.gatt_host.specs.Held.{Held, kept_at, slots_at}
 use Rattle.gatt_host.specs.Owing.{all_given, slot_held, slots_held}
 use Rattle.gatt_host.specs.Stands.{HoldsBonds, HasKeysOfItsPeer}
 use Rattle.gatt_laws.specs.Controller.{is_ready}
 use Rattle.gatt_laws.specs.Event.{Ordinal}
-use Rattle.gatt_laws.specs.Part.{Part}
+use Rattle.gatt_laws.specs.Part.{Part, is_live}
 use Rattle.gatt_laws.specs.Room.{Bonds, Owed}
 use Rattle.gatt_laws.specs.Settled.{IsSettled}
 use Rattle.gatt_laws.specs.State.{State, at_ordinal, at_peer, with_values}
 use Rattle.gatt_laws.specs.Turn.{Turn}
-use Rattle.gatt_slots.specs.Kept.{Kept, kept_if_there}
+use Rattle.gatt_slots.proofs.parts.Kept.{kept_there, live_there}
+use Rattle.gatt_slots.specs.Kept.{Kept, kept_of, kept_if_there}
 use Rattle.gatt_subs.specs.Rows.{Subscriptions}
 use Rattle.le_hci.specs.declared.peer.Peer.{Peer}
 use Rattle.le_security.proofs.Peers.{equal_peers}
@@ -126,3 +128,12 @@ module _ (state : State) (held : Held) (is : Holds state (all_given state) held)
       (bonds_alike state.room.keys held.rows state.bonds new.bonds state.owed new.owed
       (λ peer. at_own_peer part.peer peer turn.bond state.bonds bond) (λ peer. at_own_peer part.peer peer turn.owed state.owed owed) is.rows)
       keyed same
+
+  -- what is kept at its place
+  pub kept_here : is_live part.mark ≡ true → kept_at held place ≡ Some (kept_of state.room part part.given)
+  kept_here live =
+      let read : slice_get (slots_held state (all_given state)) place ≡ Some (kept_if_there state.room part part.given) =
+      slice_get-map (slot_held state (all_given state)) state.slots place ∙ ap (λ found. option_map (slot_held state (all_given state)) found) there in
+      ap (λ (slots : List (Option Kept)). option_map_or (λ (slot : Option Kept). slot) (slice_get slots place) None) were-open
+      ∙ ap (λ found. option_map_or (λ (slot : Option Kept). slot) found None) read
+      ∙ kept_there state.room part part.given (live_there part.mark live)

@@ -1,0 +1,245 @@
+-- A request of the Attribute Protocol leads a host on.
+use Rattle.std.proofs.Common.{◌≡◌, ℕ, Bool, true, false, List, [], Option, Some, None, refl, sym, ap, subst, ◌∙◌}
+use Rattle.std.specs.Prelude.{is_some, if◌then◌else◌, not, ◌&&◌}
+use Rattle.std.specs.Option.{option_map}
+use Rattle.att_numbers.specs.Types.{Handle, Row}
+use Rattle.att_pdu.specs.Grammar.{request_of, is_due}
+use Rattle.att_policy.specs.declared.standing.KeyFacts.{KeyFacts}
+use Rattle.att_table.specs.Table.{Contents}
+use Rattle.gatt_host.proofs.Nexts.{clash}
+use Rattle.gatt_host.proofs.standing.Holding.{Holds, ends, holds, has_row, keyed_alike, some-is, HearsRaised, SameLink}
+use Rattle.gatt_host.proofs.standing.OneSlot.{raised_at}
+use Rattle.gatt_host.proofs.standing.Turned.{holds_turned, kept_here}
+use Rattle.gatt_host.specs.Held.{Held, kept_at, slots_at, after_serving, Serves}
+use Rattle.gatt_host.specs.Owing.{all_given}
+use Rattle.gatt_host.specs.Stands.{bond_in, RequestLeadsOn, HoldsBonds, HasKeysOfItsPeer, IsServing, Stands, IsSound}
+use Rattle.gatt_laws.specs.Event.{Ordinal, Of, Asks}
+use Rattle.gatt_laws.specs.Part.{Part, is_live, key_of, mtu_of, after_ending}
+use Rattle.gatt_laws.specs.Room.{Bonds, Owed}
+use Rattle.gatt_laws.specs.State.{State, all_raised, at_ordinal, at_peer, change_of, step, out}
+use Rattle.gatt_laws.specs.Turn.{Turn, live_turn, turn_of, turn_to, served, is_full as part_full, remote_user_terminated}
+use Rattle.gatt_slots.proofs.parts.Heard.{hears_of_values}
+use Rattle.gatt_slots.proofs.parts.Kept.{link_key}
+use Rattle.gatt_slots.proofs.parts.Requests.{served_bond, served_kept, served_owed, served_raised, served_raised_here, served_values}
+use Rattle.gatt_slots.proofs.parts.Turns.{live_turned}
+use Rattle.gatt_slots.specs.Hearing.{after_hearing}
+use Rattle.gatt_slots.specs.Kept.{Kept, kept_of, kept_if_there}
+use Rattle.gatt_slots.specs.Request.{is_full, bond_after, bond_served, confirms_changes, handles_of, kept_served, stored_of, table_after, with_owed_after}
+use Rattle.gatt_slots.specs.Slots.{handles_for}
+use Rattle.gatt_subs.specs.declared.bond.Bond.{Bond}
+use Rattle.gatt_subs.specs.Rows.{Subscriptions, bond_of, row_of, ChangesBond}
+use Rattle.le_hci.specs.declared.peer.Peer.{Peer}
+use Rattle.le_security.proofs.Peers.{equal_peers, same_as_itself}
+use Rattle.le_security.specs.Entry.{same_peer}
+use Rattle.le_security.specs.Keys.{is_known}
+use Rattle.le_security.specs.declared.entry.Entry.{Entry}
+use Rattle.octets.specs.Number.{Octets}
+
+-- the bond of a peer is changed, and no other
+differs-too : (one other : Peer) → same_peer one other ≡ false → same_peer other one ≡ false
+differs-too one other differs =
+    elim (same_peer other one) as (λ (is : Bool). same_peer other one ≡ is → is ≡ false) [
+      | true ↦ λ same.
+          absurd (clash (sym differs ∙ ap (λ (peer : Peer). same_peer one peer) (equal_peers other one same) ∙ same_as_itself one))
+      | false ↦ λ is. refl
+    ] refl
+
+mapped-known : (known : Bool) (change : Bond → Bond) (bond : Bond) → option_map change (if known then Some bond else None) ≡ (if known then Some (change bond) else None)
+mapped-known true change bond = refl
+mapped-known false change bond = refl
+
+pub bonds_changed : (keys : List Entry) (change : Bond → Bond) (peer : Peer) (old new : Subscriptions) (bonds : Bonds) (owed : Owed) (row : Row) (owes : Bool)
+    → HoldsBonds keys old bonds owed → ChangesBond change peer old new
+    → change (bond_in bonds owed peer) ≡ record { row = row; owed = owes }
+    → (is_known keys peer ≡ false → row ≡ bonds peer) → (is_known keys peer ≡ false → owes ≡ owed peer)
+    → HoldsBonds keys new (at_peer peer row bonds) (at_peer peer owes owed)
+bonds_changed keys change peer old new bonds owed row owes holds changes is row-stays owed-stays = record {
+  known = λ other.
+      elim (same_peer other peer) as (λ (same : Bool). same_peer other peer ≡ same
+      → bond_of new other ≡ (if is_known keys other then Some (record { row = if same then row else bonds other; owed = if same then owes else owed other }) else None)) [
+        | true ↦ λ same.
+            subst (λ (one : Peer). bond_of new one ≡ (if is_known keys one then Some (record { row = row; owed = owes }) else None)) (sym (equal_peers other peer same))
+            (changes.bond ∙ ap (λ found. option_map change found) (holds.known peer) ∙ mapped-known (is_known keys peer) change (bond_in bonds owed peer)
+            ∙ ap (λ (bond : Bond). if is_known keys peer then Some bond else None) is)
+        | false ↦ λ differs. changes.others other (differs-too other peer differs) ∙ holds.known other
+      ] refl;
+  row = λ other unknown.
+      elim (same_peer other peer) as (λ (same : Bool). same_peer other peer ≡ same → (if same then row else bonds other) ≡ []) [
+        | true ↦ λ same.
+            let not-known : is_known keys peer ≡ false = ap (is_known keys) (sym (equal_peers other peer same)) ∙ unknown in
+            row-stays not-known ∙ holds.row peer not-known
+        | false ↦ λ differs. holds.row other unknown
+      ] refl;
+  owing = λ other unknown.
+      elim (same_peer other peer) as (λ (same : Bool). same_peer other peer ≡ same → (if same then owes else owed other) ≡ false) [
+        | true ↦ λ same.
+            let not-known : is_known keys peer ≡ false = ap (is_known keys) (sym (equal_peers other peer same)) ∙ unknown in
+            owed-stays not-known ∙ holds.owing peer not-known
+        | false ↦ λ differs. holds.owing other unknown
+      ] refl;
+}
+
+-- what a request leaves of the bond of a peer that has no key
+row-without-key : (full confirmed : Bool) (new : Row) (bond : Bond) → (if full then bond else with_owed_after confirmed (bond_after false new bond)).row ≡ bond.row
+row-without-key true confirmed new bond = refl
+row-without-key false confirmed new bond = refl
+
+owed-without-key : (full confirmed : Bool) (new : Row) (bond : Bond) → bond.owed ≡ false → (if full then bond else with_owed_after confirmed (bond_after false new bond)).owed ≡ bond.owed
+owed-without-key true confirmed new bond none = refl
+owed-without-key false confirmed new bond none = ap (λ (owed : Bool). owed && not confirmed) none ∙ sym none
+
+module _ (state : State) (held new : Held) (place : ℕ) (ordinal : Ordinal) (pdu : Octets) (sound : IsSound state) (stands : Stands state [] held) (serving : IsServing state place ordinal) where
+  abbrev part : Part
+  part = state.parts ordinal
+
+  abbrev kept : Kept
+  kept = kept_of state.room part part.given
+
+  abbrev peer : Peer
+  peer = part.peer
+
+  abbrev found : Option Row
+  found = row_of held.rows peer
+
+  abbrev turn : Turn
+  turn = turn_of state.room (state.bonds peer) (state.owed peer) part (Asks pdu)
+
+  abbrev live : Turn
+  live = live_turn state.room (state.bonds peer) (state.owed peer) part (Asks pdu)
+
+  is : Holds state (all_given state) held
+  is = holds state held stands
+
+  turn-is : (if is_live part.mark then live else turn_to state.room (state.bonds peer) (state.owed peer) part) ≡ live
+  turn-is = live_turned state.room (state.bonds peer) (state.owed peer) part serving.live (Asks pdu)
+
+  has : is_some (key_of part) ≡ true → found ≡ Some (state.bonds peer)
+  has = has_row state.room.keys held.rows state.bonds state.owed part is.rows (is.keyed ordinal)
+
+  -- its link and its peer stay
+  request-link : SameLink part live.part
+  unfolding live_turn
+  request-link =
+      elim (is_due (request_of pdu (mtu_of state.room part)) && part_full state.room part) as (λ (full : Bool). SameLink part
+      (if full then turn_to state.room (state.bonds peer) (state.owed peer) (after_ending part remote_user_terminated)
+      else served state.room (state.bonds peer) (state.owed peer) part pdu (request_of pdu (mtu_of state.room part))).part) [
+        | true ↦ (refl, refl)
+        | false ↦ (refl, refl)
+      ]
+
+  request-keyed : HasKeysOfItsPeer state.room.keys (if is_live part.mark then live else turn_to state.room (state.bonds peer) (state.owed peer) part).part
+  request-keyed =
+      subst (λ (turn : Turn). HasKeysOfItsPeer state.room.keys turn.part) (sym turn-is)
+      (keyed_alike state.room.keys part live.part request-link (is.keyed ordinal))
+
+  -- the table
+  abbrev table : Contents
+  table = table_after held.table held.time found pdu kept
+
+  with-values : (one : Contents) (now : ℕ) → table_after one now found pdu kept ≡ record one { values = (table_after one now found pdu kept).values }
+  with-values one now =
+      elim (is_full pdu kept) as (λ (full : Bool). (if full then one else record one { values = (stored_of one now found pdu kept).values })
+      ≡ record one { values = (if full then one else record one { values = (stored_of one now found pdu kept).values }).values }) [
+        | true ↦ refl
+        | false ↦ refl
+      ]
+
+  table-is : table ≡ record state.room.table { values = turn.values }
+  table-is =
+      (λ i. table_after (is.table i) (is.time i) found pdu kept) ∙ with-values state.room.table state.room.time
+      ∙ ap (λ values. record state.room.table { values = values })
+      (sym (served_values state.room found (state.bonds peer) (state.owed peer) part pdu serving.live (sound.queued ordinal) has))
+
+  -- the bond
+  abbrev bonded : Bond
+  bonded = bond_in state.bonds state.owed peer
+
+  abbrev change : Bond → Bond
+  change bond = bond_served held.table held.time held.changer found pdu kept bond
+
+  change-is : change bonded ≡ record { row = turn.bond; owed = turn.owed }
+  change-is =
+      (λ i. bond_served (is.table i) (is.time i) (is.changer i) found pdu kept bonded)
+      ∙ λ i. record {
+        row = sym (served_bond state.room found (state.bonds peer) (state.owed peer) part pdu serving.live (sound.queued ordinal) has) i;
+        owed = sym (served_owed state.room found (state.bonds peer) (state.owed peer) part pdu serving.live (sound.queued ordinal) has) i;
+      }
+
+  no-key : is_known state.room.keys peer ≡ false → is_some kept.link.key ≡ false
+  no-key unknown =
+      ap (λ (key : Option KeyFacts). is_some key) (link_key state.room part part.given)
+      ∙ elim (is_some (key_of part)) as (λ (has : Bool). is_some (key_of part) ≡ has → has ≡ false) [
+        | true ↦ λ has. absurd (clash (sym unknown ∙ (is.keyed ordinal).key has))
+        | false ↦ λ lacks. refl
+      ] refl
+
+  abbrev changed_by : Bool → Bond
+  changed_by has_key =
+      if is_full pdu kept then bonded
+      else with_owed_after (confirms_changes held.changer pdu kept) (bond_after has_key (stored_of held.table held.time found pdu kept).row bonded)
+
+  row-stays : is_known state.room.keys peer ≡ false → turn.bond ≡ state.bonds peer
+  row-stays unknown =
+      sym (ap (λ (bond : Bond). bond.row) change-is) ∙ ap (λ (has_key : Bool). (changed_by has_key).row) (no-key unknown)
+      ∙ row-without-key (is_full pdu kept) (confirms_changes held.changer pdu kept) (stored_of held.table held.time found pdu kept).row bonded
+
+  owed-stays : is_known state.room.keys peer ≡ false → turn.owed ≡ state.owed peer
+  owed-stays unknown =
+      sym (ap (λ (bond : Bond). bond.owed) change-is) ∙ ap (λ (has_key : Bool). (changed_by has_key).owed) (no-key unknown)
+      ∙ owed-without-key (is_full pdu kept) (confirms_changes held.changer pdu kept) (stored_of held.table held.time found pdu kept).row bonded (is.rows.owing peer unknown)
+
+  -- what its slot keeps
+  kept-is : kept_if_there state.room turn.part part.given ≡ option_map (kept_served held.table held.time found pdu) (kept_if_there state.room part part.given)
+  kept-is =
+      served_kept state.room found (state.bonds peer) (state.owed peer) part pdu serving.live (sound.queued ordinal) has
+      ∙ λ i. option_map (kept_served (sym is.table i) (sym is.time i) found pdu) (kept_if_there state.room part part.given)
+
+  abbrev serving_it : Subscriptions → Held
+  serving_it rows = record held { table = table; rows = rows; slots = slots_at place (kept_served held.table held.time found pdu) held.slots }
+
+  request-holds : (rows : Subscriptions) → ChangesBond change peer held.rows rows → Holds (change_of state (Of ordinal (Asks pdu))).state (all_given state) (serving_it rows)
+  unfolding change_of
+  request-holds rows changes =
+      holds_turned state held is sound.settled place ordinal serving.there turn (kept_served held.table held.time found pdu) table rows table-is
+      (bonds_changed state.room.keys change peer held.rows rows state.bonds state.owed turn.bond turn.owed is.rows changes change-is row-stays owed-stays)
+      request-keyed kept-is
+
+  -- what the others hear
+  abbrev handles : List Handle
+  handles = handles_of held.table held.time found pdu kept
+
+  raised-alike : (now : ℕ) (row : Option Row) (hearer : Kept)
+      → after_hearing (record state.room.table { values = turn.values }) now row handles hearer ≡ after_hearing (record state.room.table { values = turn.values }) now row turn.raised hearer
+  raised-alike now row hearer =
+      let after : Contents = record state.room.table { values = turn.values } in
+      (λ i. after_hearing after now row (handles_of (is.table i) (is.time i) found pdu kept) hearer)
+      ∙ sym (hears_of_values after now row (handles_of state.room.table state.room.time found pdu kept) hearer)
+      ∙ ap (λ (those : List Handle). after_hearing after now row those hearer)
+      (sym (served_raised state.room found (state.bonds peer) (state.owed peer) part pdu serving.live (sound.queued ordinal) has))
+
+  request-raised : HearsRaised (record state.room.table { values = turn.values }) state.room.time state.slots (handles_for (Some place) [] handles)
+      (at_ordinal ordinal turn.raised_here (all_raised turn.raised))
+  request-raised =
+      raised_at (record state.room.table { values = turn.values }) state.room.time state.next state.slots place ordinal [] handles turn.raised_here turn.raised
+      sound.settled.slots serving.there
+      (sym (served_raised_here state.room found (state.bonds peer) (state.owed peer) part pdu serving.live (sound.queued ordinal) has))
+      (raised-alike state.room.time)
+
+  request-leads : (rows : Subscriptions) → ChangesBond change peer held.rows rows
+      → Stands (step state (Of ordinal (Asks pdu))) (out state (Of ordinal (Asks pdu))) (after_serving place pdu held rows kept)
+  unfolding change_of
+  request-leads rows changes =
+      ends state (Of ordinal (Asks pdu)) sound tt (serving_it rows) (request-holds rows changes) (Some place) [] handles request-raised
+
+  served-leads : Serves place pdu kept held new → Stands (step state (Of ordinal (Asks pdu))) (out state (Of ordinal (Asks pdu))) new
+  served-leads serves =
+      subst (λ (after : Held). Stands (step state (Of ordinal (Asks pdu))) (out state (Of ordinal (Asks pdu))) after) (sym serves.held)
+      (request-leads new.rows serves.bond)
+
+  kept-found : (kept' : Kept) → kept_at held place ≡ Some kept' → kept' ≡ kept
+  kept-found kept' at = sym (some-is (sym (kept_here state held is sound.settled place ordinal serving.there turn (λ kept. kept) serving.live) ∙ at))
+
+pub request_leads_on : RequestLeadsOn
+request_leads_on state held new place ordinal pdu kept sound stands serving at serves =
+    served-leads state held new place ordinal pdu sound stands serving
+    (subst (λ (kept : Kept). Serves place pdu kept held new) (kept-found state held new place ordinal pdu sound stands serving kept at) serves)
