@@ -1,7 +1,9 @@
+pub mod Comings
+pub mod Completions
 pub mod ForAll
 pub mod Holding
 pub mod Links
 pub mod OneSlot
+pub mod OwnEvents
 pub mod Requests
 pub mod Turned
-pub mod OwnEvents

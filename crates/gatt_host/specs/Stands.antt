@@ -1,10 +1,11 @@
 -- Where a host stands: what it holds is what a state of the whole machine says, but for what is still to go out.
 use Rattle.std.specs.Prelude.{◌≡◌, ℕ, ◌≤◌, true, false, is_some, if◌then◌else◌, List, [], length, replicate, slice_get, Option, Some, None}
 use Rattle.att_numbers.specs.Types.{Handle}
-use Rattle.gatt_host.specs.Held.{Held, open_slots, kept_at, after_authorize, after_ask_key, after_link, after_nothing, after_signals, after_tick, after_update, Serves}
+use Rattle.gatt_host.specs.Held.{Held, open_slots, kept_at, after_authorize, after_ask_key, after_coming, after_completing, after_going, after_link, after_nothing, after_signals, after_tick, after_update, Serves}
 use Rattle.gatt_host.specs.Owing.{IsOwing}
-use Rattle.gatt_laws.specs.Controller.{is_ready}
-use Rattle.gatt_laws.specs.Event.{Ordinal, Event, Nothing, Tick, Update, Of, Authorized, KeyAsked, Encrypted, Refreshed, Signals, Asks}
+use Rattle.gatt_laws.specs.Controller.{has_free, is_ready}
+use Rattle.gatt_laws.specs.Event.{Ordinal, Event, Nothing, Tick, Update, Of, Connected, Gone, Authorized, KeyAsked, Encrypted, Refreshed, Signals, Asks, Completed}
+use Rattle.gatt_laws.specs.Packets.{completed_entries}
 use Rattle.gatt_laws.specs.Part.{Part, is_live, key_of}
 use Rattle.gatt_laws.specs.Room.{Bonds, Owed}
 use Rattle.gatt_laws.specs.Placed.{IsPlaced}
@@ -14,10 +15,12 @@ use Rattle.gatt_laws.specs.Settled.{IsSettled}
 use Rattle.gatt_laws.specs.Silence.{IsAllGiven}
 use Rattle.gatt_laws.specs.State.{State, step, out}
 use Rattle.gatt_slots.specs.Kept.{Kept}
+use Rattle.gatt_slots.specs.Slots.{place_free}
 use Rattle.gatt_subs.specs.declared.bond.Bond.{Bond}
 use Rattle.gatt_subs.specs.Rows.{Subscriptions, bond_of}
 use Rattle.le_acl.specs.Shares.{usable}
 use Rattle.le_hci.specs.declared.buffers.Buffers.{Buffers}
+use Rattle.le_hci.specs.declared.event.CompletedPackets.{CompletedPackets}
 use Rattle.le_hci.specs.declared.peer.Peer.{Peer}
 use Rattle.le_hci.specs.InitTold.{told_in}
 use Rattle.le_security.specs.declared.entry.Entry.{Entry}
@@ -111,3 +114,18 @@ RefreshLeadsOn = (state : State) (held : Held) (place : ℕ) (ordinal : Ordinal)
 abbrev pub RequestLeadsOn : Type 0
 RequestLeadsOn = (state : State) (held new : Held) (place : ℕ) (ordinal : Ordinal) (pdu : Octets) (kept : Kept) → IsSound state → Stands state [] held →
     IsServing state place ordinal → kept_at held place ≡ Some kept → Serves place pdu kept held new → LeadsTo state (Of ordinal (Asks pdu)) new
+
+-- a connection goes, and one comes to the first slot that is free
+abbrev pub GoingLeadsOn : Type 0
+GoingLeadsOn = (state : State) (held : Held) (place : ℕ) (ordinal : Ordinal) → IsSound state → Stands state [] held →
+    slice_get state.slots place ≡ Some (Some ordinal) → LeadsTo state (Of ordinal Gone) (after_going place held)
+
+abbrev pub ComingLeadsOn : Type 0
+ComingLeadsOn = (state : State) (held : Held) (place handle : ℕ) (peer : Peer) → IsSound state → Stands state [] held →
+    has_free state.slots ≡ true → place_free held.slots ≡ Some place →
+    LeadsTo state (Of state.next (Connected handle peer)) (after_coming place handle peer held)
+
+-- packets of connections are completed
+abbrev pub CompletionLeadsOn : Type 0
+CompletionLeadsOn = (state : State) (held : Held) (entries : List CompletedPackets) → IsSound state → Stands state [] held →
+    is_ready state.controller ≡ true → LeadsTo state (Completed (completed_entries state entries)) (after_completing entries held)

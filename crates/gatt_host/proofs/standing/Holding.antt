@@ -81,6 +81,11 @@ holds state held stands = record {
   slots = (all_done state held.controller (open_slots held) stands.owing).slots_are;
 }
 
+-- once the controller is initialised, the slots are those of the state
+pub were_open : (state : State) (handed : Handed) (held : Held) → Holds state handed held → is_ready state.controller ≡ true → held.slots ≡ slots_held state handed
+were_open state handed held is ready =
+    sym (ap (λ (open_now : Bool). if open_now then held.slots else []) (ap is_ready is.controller ∙ ready)) ∙ is.slots
+
 -- slots that all hear
 pub heard_free : (hear : ℕ → Option Kept → Option Kept) → ((place : ℕ) → hear place None ≡ None) → (start count : ℕ)
     → heard_from start hear (replicate count None) ≡ replicate count None
