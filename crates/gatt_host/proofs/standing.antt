@@ -1,3 +1,5 @@
+pub mod Answered
+pub mod AtTheStart
 pub mod Comings
 pub mod Completions
 pub mod ForAll
@@ -5,5 +7,6 @@ pub mod Holding
 pub mod Links
 pub mod OneSlot
 pub mod OwnEvents
+pub mod Replacements
 pub mod Requests
 pub mod Turned

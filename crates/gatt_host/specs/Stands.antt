@@ -1,26 +1,31 @@
 -- Where a host stands: what it holds is what a state of the whole machine says, but for what is still to go out.
-use Rattle.std.specs.Prelude.{◌≡◌, ℕ, ◌≤◌, true, false, is_some, if◌then◌else◌, List, [], length, replicate, slice_get, Option, Some, None}
+use Rattle.std.specs.Prelude.{◌≡◌, ℕ, ◌≤◌, true, false, is_some, if◌then◌else◌, unwrap_or, List, [], length, replicate, slice_get, Option, Some, None}
+use Rattle.std.specs.Option.{option_map_or}
 use Rattle.att_numbers.specs.Types.{Handle}
-use Rattle.gatt_host.specs.Held.{Held, open_slots, kept_at, after_authorize, after_ask_key, after_coming, after_completing, after_going, after_link, after_nothing, after_signals, after_tick, after_update, Serves}
+use Rattle.att_table.specs.Changer.{changer_of}
+use Rattle.att_table.specs.Table.{Contents}
+use Rattle.gatt_host.specs.Held.{Held, open_slots, kept_at, after_authorize, after_ask_key, after_coming, after_completing, after_credit, after_going, after_link, after_nothing, after_replacing, after_signals, after_tick, after_update, Serves}
 use Rattle.gatt_host.specs.Owing.{IsOwing}
 use Rattle.gatt_laws.specs.Controller.{has_free, is_ready}
-use Rattle.gatt_laws.specs.Event.{Ordinal, Event, Nothing, Tick, Update, Of, Connected, Gone, Authorized, KeyAsked, Encrypted, Refreshed, Signals, Asks, Completed}
+use Rattle.gatt_laws.specs.Event.{Ordinal, Event, Nothing, Tick, Update, Of, Connected, Gone, Authorized, KeyAsked, Encrypted, Refreshed, Signals, Asks, Completed, Credit, Replaced}
+use Rattle.gatt_laws.specs.Input.{Item, course}
 use Rattle.gatt_laws.specs.Packets.{completed_entries}
 use Rattle.gatt_laws.specs.Part.{Part, is_live, key_of}
 use Rattle.gatt_laws.specs.Room.{Bonds, Owed}
 use Rattle.gatt_laws.specs.Placed.{IsPlaced}
-use Rattle.gatt_laws.specs.Possible.{MayBeUpdated}
+use Rattle.gatt_laws.specs.Possible.{Possible, MayBeUpdated}
 use Rattle.gatt_laws.specs.Queued.{HasBoundedQueues}
 use Rattle.gatt_laws.specs.Settled.{IsSettled}
-use Rattle.gatt_laws.specs.Silence.{IsAllGiven}
+use Rattle.gatt_laws.specs.Start.{Start, new_controller, state_at, first_out}
 use Rattle.gatt_laws.specs.State.{State, step, out}
 use Rattle.gatt_slots.specs.Kept.{Kept}
 use Rattle.gatt_slots.specs.Slots.{place_free}
 use Rattle.gatt_subs.specs.declared.bond.Bond.{Bond}
-use Rattle.gatt_subs.specs.Rows.{Subscriptions, bond_of}
+use Rattle.gatt_subs.specs.Rows.{Subscriptions, bond_of, row_of}
 use Rattle.le_acl.specs.Shares.{usable}
 use Rattle.le_hci.specs.declared.buffers.Buffers.{Buffers}
 use Rattle.le_hci.specs.declared.event.CompletedPackets.{CompletedPackets}
+use Rattle.le_hci.specs.declared.init.Init.{Init}
 use Rattle.le_hci.specs.declared.peer.Peer.{Peer}
 use Rattle.le_hci.specs.InitTold.{told_in}
 use Rattle.le_security.specs.declared.entry.Entry.{Entry}
@@ -66,7 +71,6 @@ pub record IsSound (state : State) : Type 0 where
   pub settled : IsSettled state
   pub queued : HasBoundedQueues state
   pub placed : IsPlaced state
-  pub given : (ordinal : Ordinal) → IsAllGiven state.room (state.parts ordinal)
 
 -- Each event leads a host from where it stands to where it stands next, once what was owed is out.
 
@@ -129,3 +133,41 @@ ComingLeadsOn = (state : State) (held : Held) (place handle : ℕ) (peer : Peer)
 abbrev pub CompletionLeadsOn : Type 0
 CompletionLeadsOn = (state : State) (held : Held) (entries : List CompletedPackets) → IsSound state → Stands state [] held →
     is_ready state.controller ≡ true → LeadsTo state (Completed (completed_entries state entries)) (after_completing entries held)
+
+-- a table replaces another
+abbrev pub ReplacementLeadsOn : Type 0
+ReplacementLeadsOn = (state : State) (held : Held) (table : Contents) → IsSound state → Stands state [] held →
+    LeadsTo state (Replaced table) (after_replacing table held)
+
+-- a command is answered: a state of initialisation follows only before the controller is initialised
+abbrev pub AnswerLeadsOn : Type 0
+AnswerLeadsOn = (state : State) (held : Held) (allowed opcode : ℕ) (status : Option ℕ) (following : Option Init) → IsSound state → Stands state [] held →
+    Possible (λ table. Unit) state (Credit allowed opcode status following) →
+    LeadsTo state (Credit allowed opcode status following) (after_credit allowed opcode status following held)
+
+-- what each peer has configured, and whether it is owed, by the bonds of the rows
+abbrev pub bonds_of : Subscriptions → Bonds
+bonds_of rows peer = unwrap_or (row_of rows peer) []
+
+abbrev pub owed_of : Subscriptions → Owed
+owed_of rows peer = option_map_or (λ (bond : Bond). bond.owed) (bond_of rows peer) false
+
+-- a host that has just been opened, with rows that are fitted to its keys and its table
+pub record IsOpenedAs (start : Start) (held : Held) : Type 0 where
+  pub table : held.table ≡ start.table
+  pub changer : held.changer ≡ changer_of start.table
+  pub keys : held.keys ≡ start.keys
+  pub rx_mtu : held.rx_mtu ≡ start.rx_mtu
+  pub time : held.time ≡ 0
+  pub controller : held.controller ≡ new_controller start
+  pub slots : held.slots ≡ replicate start.slots None
+  pub rows : (peer : Peer) → is_some (bond_of held.rows peer) ≡ is_known start.keys peer
+  pub bonds : start.bonds ≡ bonds_of held.rows
+  pub owed : start.owed ≡ owed_of held.rows
+
+abbrev pub StandsAtTheStart : Type 0
+StandsAtTheStart = (start : Start) (held : Held) → IsOpenedAs start held → Stands (state_at start) (first_out start) held
+
+-- every state that a course leads to is sound
+abbrev pub IsAlwaysSound : Type 0
+IsAlwaysSound = (start : Start) (input : List Item) → IsSound (course start input).intake.state
