@@ -6,3 +6,4 @@ pub mod Stands
 pub mod Meaning
 pub mod Packet
 pub mod Asked
+pub mod Standing

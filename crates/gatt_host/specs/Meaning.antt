@@ -1,5 +1,5 @@
 -- What a packet and a call mean to a host, by what it holds.
-use Rattle.std.specs.Prelude.{◌≡◌, ℕ, ◌==◌, nat_le, ◌&&◌, is_none, if◌then◌else◌, List, Option, Some, None, IfSome}
+use Rattle.std.specs.Prelude.{◌≡◌, ℕ, ◌==◌, nat_le, ◌&&◌, is_none, if◌then◌else◌, List, set, Option, Some, None, IfSome}
 use Rattle.att_numbers.specs.Types.{Handle}
 use Rattle.att_table.specs.ConfigRow.{IsRowOf}
 use Rattle.att_table.specs.Table.{Contents}
@@ -11,7 +11,7 @@ use Rattle.gatt_slots.specs.Hearing.{row_in_force}
 use Rattle.gatt_slots.specs.Kept.{Kept}
 use Rattle.gatt_slots.specs.Slots.{place_free, place_holding, place_serving}
 use Rattle.le_acl.specs.Fragment.{Fragment, Beginning, Continuation}
-use Rattle.le_acl.specs.Reassembler.{Assembly, assembled_of, with_continuation}
+use Rattle.le_acl.specs.Reassembler.{Assembly, nothing, assembled_of, with_continuation}
 use Rattle.le_hci.specs.declared.event.CompletedPackets.{CompletedPackets}
 use Rattle.le_hci.specs.declared.init.Init.{Init}
 use Rattle.le_hci.specs.declared.peer.Peer.{Peer}
@@ -77,6 +77,14 @@ connection_happening held reported = Passes
 -- until the controller is initialised nothing that is reported of connections counts
 abbrev pub reported_happening : Held → Reported → Happening
 reported_happening held reported = if is_ready held.controller then connection_happening held reported else Passes
+
+-- the frames that are put together, by slots: a connection that comes begins with none
+abbrev pub Frames : Type 0
+Frames = List Assembly
+
+abbrev pub frames_after : Happening → Frames → Frames
+frames_after (At place (Connected handle peer)) frames = set frames place nothing
+frames_after happening frames = frames
 
 -- a fragment is put to those before it, and a frame that it makes whole is heard
 abbrev pub with_fragment : Assembly → Fragment → Assembly

@@ -4,7 +4,7 @@ use Rattle.gatt_host.specs.Answers.{stop_of}
 use Rattle.gatt_host.specs.declared.host_fault.HostFault.{HostFault}
 use Rattle.gatt_host.specs.declared.host_fault.HostFault.TheVariants as stop
 use Rattle.gatt_host.specs.Held.{Held, Credits}
-use Rattle.gatt_host.specs.Meaning.{Happening, Passes, IsAfter, assembly_happening, reported_happening, with_fragment}
+use Rattle.gatt_host.specs.Meaning.{Frames, Happening, frames_after, Passes, IsAfter, assembly_happening, reported_happening, with_fragment}
 use Rattle.gatt_laws.specs.Packets.{completed_event, status_event, status_of}
 use Rattle.gatt_slots.specs.Slots.{place_serving}
 use Rattle.le_acl.specs.declared.reassembler.Piece.{Piece}
@@ -15,10 +15,6 @@ use Rattle.le_hci.specs.declared.event.BadEvent.{BadEvent}
 use Rattle.le_hci.specs.Event as event
 use Rattle.le_hci.specs.Event.{Reported}
 use Rattle.octets.specs.Number.{Octets}
-
--- the frames that are put together, by slots
-abbrev pub Frames : Type 0
-Frames = List Assembly
 
 -- a fragment of a connection that serves joins its frame, which is heard where it is whole
 abbrev pub frames_with : Option ℕ → Option Fragment → Frames → Frames
@@ -48,8 +44,9 @@ TakesEvent (Ok (event.CommandComplete allowed opcode returned)) old new =
     Credits (completed_event old.controller allowed opcode returned) allowed opcode (status_of returned) old new
 TakesEvent (Ok (event.CommandStatus status allowed opcode)) old new =
     Credits (status_event old.controller status allowed opcode) allowed opcode (Some status) old new
+TakesEvent (Ok (event.HardwareError code)) old new = ⊥
 TakesEvent (Ok reported) old new = IsAfter (reported_happening old reported) old new
-TakesEvent (Err bad) old new = new ≡ old
+TakesEvent (Err bad) old new = ⊥
 
 -- or the host stops for good
 abbrev pub event_stop : Result Reported BadEvent → Held → Option HostFault
@@ -58,3 +55,8 @@ event_stop (Ok (event.CommandStatus status allowed opcode)) held = stop_of (stat
 event_stop (Ok (event.HardwareError code)) held = Some (stop.Hardware code)
 event_stop (Ok reported) held = None
 event_stop (Err bad) held = Some (stop.BadEvent bad.0)
+
+-- only a connection that comes changes what is put together
+abbrev pub frames_after_event : Held → Result Reported BadEvent → Frames → Frames
+frames_after_event held (Ok reported) frames = frames_after (reported_happening held reported) frames
+frames_after_event held (Err bad) frames = frames

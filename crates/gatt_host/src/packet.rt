@@ -5,7 +5,7 @@ ghost use Rattle.std.specs.Option.{option_and_then, option_map_or};
 ghost use Rattle.gatt_laws.specs.Packets.{of_octets, of_frame};
 ghost use Rattle.gatt_host.specs.Held.{kept_at};
 ghost use Rattle.gatt_host.specs.Meaning.{frame_happening, with_fragment, HasRowsOfTheTable, IsAfter};
-ghost use Rattle.gatt_host.specs.Packet.{acl_happening, event_stop, frame_given, frames_after_acl, TakesEvent};
+ghost use Rattle.gatt_host.specs.Packet.{acl_happening, event_stop, frame_given, frames_after_acl, frames_after_event, TakesEvent};
 ghost use Rattle.gatt_slots.specs.Slots.{IsThere};
 ghost use Rattle.le_acl.specs.Fragment.{fragment_of};
 ghost use Rattle.le_hci.specs.Event.{event_of};
@@ -29,8 +29,9 @@ const FIRST: u8 = 0b10;
 
 impl HostState {
     /// Takes in an event: its code and what follows.
-    pub(crate) fn event(&mut self, octets: &[u8]) -> Result<(), HostFault>
+    pub(crate) fn event(&mut self, frames: &mut [Reassembler; 8], octets: &[u8]) -> Result<(), HostFault>
         ensures taken { IsOk result → TakesEvent (event_of octets.now) self.old self.new }
+        ensures frames { frames.new ≡ frames_after_event self.old (event_of octets.now) frames.old }
         ensures stops { IfErr result (λ fault. event_stop (event_of octets.now) self.old ≡ Some fault) }
         ensures unchanged { OnErr result (self.new ≡ self.old) }
     {
@@ -51,7 +52,7 @@ impl HostState {
             ) => self.status(status, allowed, opcode),
             Ok(Event::HardwareError { code }) => Err(HostFault::Hardware(code)),
             Ok(event) => {
-                self.reported(&event);
+                self.reported(frames, &event);
                 Ok(())
             }
             Err(BadEvent(code)) => Err(HostFault::BadEvent(code)),

@@ -3,13 +3,14 @@
 ghost use Rattle.std.specs.Prelude.{◌≡◌, ◌==◌, ◌<◌, ◌^◌, true, if◌then◌else◌, Some, IsSome, IfSome};
 ghost use Rattle.gatt_laws.specs.Controller as laws;
 ghost use Rattle.gatt_laws.specs.Event.{Connected, Gone, KeyAsked, Encrypted, Refreshed, Asks, Signals};
-ghost use Rattle.gatt_host.specs.Meaning.{at_found, coming, connection_happening, reported_happening, IsAfter, Passes};
+ghost use Rattle.gatt_host.specs.Meaning.{at_found, coming, connection_happening, frames_after, reported_happening, IsAfter, Passes};
 ghost use Rattle.gatt_slots.specs.Slots.{place_holding, place_serving};
 ghost use Rattle.le_hci.specs.Event.{report_of};
 ghost use Rattle.le_hci.specs.InitTold.{told_in};
 
 use crate::host_state::HostState;
 use gatt_slots::{find_free, find_holding, find_serving};
+use le_acl::Reassembler;
 use le_hci::{Event, Peer};
 
 /// The role of this side: Core 5.0, Vol 2 Part E, 7.7.65.1.
@@ -20,20 +21,22 @@ const LAST_CONNECTION_HANDLE: u16 = 0x0EFF;
 impl HostState {
     /// Takes in what is reported of connections. Until the controller is initialised nothing of it
     /// counts.
-    pub(crate) fn reported(&mut self, event: &Event<'_>)
-        ensures { IsAfter (reported_happening self.old (report_of event.now)) self.old self.new }
+    pub(crate) fn reported(&mut self, frames: &mut [Reassembler; 8], event: &Event<'_>)
+        ensures after { IsAfter (reported_happening self.old (report_of event.now)) self.old self.new }
+        ensures frames { frames.new ≡ frames_after (reported_happening self.old (report_of event.now)) frames.old }
     {
         if self.controller.is_ready() {
-            self.connection_reported(event);
+            self.connection_reported(frames, event);
         } else {
             self.nothing();
         }
     }
 
     /// The same of a controller that is initialised.
-    fn connection_reported(&mut self, event: &Event<'_>)
+    fn connection_reported(&mut self, frames: &mut [Reassembler; 8], event: &Event<'_>)
         requires { laws.is_ready self.old.controller ≡ true }
-        ensures { IsAfter (connection_happening self.old (report_of event.now)) self.old self.new }
+        ensures after { IsAfter (connection_happening self.old (report_of event.now)) self.old self.new }
+        ensures frames { frames.new ≡ frames_after (connection_happening self.old (report_of event.now)) frames.old }
     {
         match *event {
             Event::DisconnectionComplete { status, handle, .. } => self.gone(status, handle),
@@ -52,7 +55,7 @@ impl HostState {
                 role,
                 peer,
                 ..
-            } => self.connected(status, handle, role, peer),
+            } => self.connected(frames, status, handle, role, peer),
             Event::LongTermKeyRequest {
                 handle,
                 random_number,
@@ -108,9 +111,17 @@ impl HostState {
     /// A connection was made. It is accepted where this side is the peripheral, its handle is one and
     /// not in use, and a slot is free.
     #[tactic(auto, using(crate::proofs::Readies::ready_told))]
-    fn connected(&mut self, status: u8, handle: u16, role: u8, peer: Peer)
+    fn connected(
+        &mut self,
+        frames: &mut [Reassembler; 8],
+        status: u8,
+        handle: u16,
+        role: u8,
+        peer: Peer,
+    )
         requires { laws.is_ready self.old.controller ≡ true }
-        ensures { IsAfter (coming self.old status handle role peer) self.old self.new }
+        ensures after { IsAfter (coming self.old status handle role peer) self.old self.new }
+        ensures frames { frames.new ≡ frames_after (coming self.old status handle role peer) frames.old }
     {
         if status != 0 || role != PERIPHERAL || handle > LAST_CONNECTION_HANDLE {
             return self.nothing();
@@ -119,7 +130,10 @@ impl HostState {
             return self.nothing();
         }
         match find_free(self.slots.as_slice()) {
-            Some(place) => self.come(place, handle, peer),
+            Some(place) => {
+                frames[place] = Reassembler::new();
+                self.come(place, handle, peer);
+            }
             None => self.nothing(),
         }
     }
