@@ -1,0 +1,4 @@
+pub mod Numerals
+pub mod Parts
+pub mod Payloads
+pub mod Words

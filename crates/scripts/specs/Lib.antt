@@ -1,0 +1,5 @@
+pub mod Name
+pub mod Numeral
+pub mod Payload
+pub mod Line
+pub mod Script

@@ -1,0 +1,130 @@
+-- What one line of a script says: this profile's own.
+use Rattle.std.specs.Prelude.{ℕ, ◌-◌, ◌==◌, ◌^◌, Bool, if◌then◌else◌, List, [], ◌∷◌, codes, Option, Some, None}
+use Rattle.std.specs.List.{slice_split}
+use Rattle.std.specs.Option.{option_map}
+use Rattle.std.specs.Result.{result_ok}
+use Rattle.std.specs.Str.{bytes_eq}
+use Rattle.hex.specs.Hex.{decode_sized}
+use Rattle.octets.specs.Number.{Octets}
+use Rattle.le_hci.specs.declared.peer.Peer.{Peer}
+use Rattle.le_hci.specs.declared.peer.TheConstants.{PUBLIC_ADDRESS, RANDOM_ADDRESS}
+use Rattle.le_l2cap.specs.declared.channel.TheConstants.{ATT, LE_SIGNALLING, SECURITY_MANAGER}
+use Rattle.le_security.specs.Address.{address_of}
+use Rattle.scripts.specs.declared.act.PhoneAct.{PhoneAct}
+use Rattle.scripts.specs.declared.act.PhoneAct.TheVariants.{Connect, Drop, Encrypt, Clear, Send, Hold, Done}
+use Rattle.scripts.specs.declared.line.Line.{Line}
+use Rattle.scripts.specs.declared.line.Line.TheVariants.{Phone, Authorize, Update, Tick, Replace}
+use Rattle.scripts.specs.Name.{name_of}
+use Rattle.scripts.specs.Numeral.{number_of}
+use Rattle.scripts.specs.Payload.{payload_of}
+
+-- a part of what may be missing, and then what follows from it
+infixl 10 ◌>>=◌
+abbrev pub ◌>>=◌ : {A B : Type 0} → Option A → (A → Option B) → Option B
+None >>= next = None
+Some x >>= next = next x
+
+-- the words of a line, with a single space between each two
+abbrev pub words_of : Octets → List Octets
+words_of line = slice_split (λ octet. octet == 32) line
+
+-- a type of address is a digit, and an address is written as in a key file
+unfoldable pub peer_of : Octets → Octets → Option Peer
+peer_of kind address = do
+  type ← (if bytes_eq kind (codes "0") then Some PUBLIC_ADDRESS else if bytes_eq kind (codes "1") then Some RANDOM_ADDRESS else None)
+  octets ← address_of address
+  Some (record { kind = type; address = octets })
+
+-- a random number is 16 digits, two an octet
+unfoldable pub random_number_of : Octets → Option Octets
+random_number_of word = result_ok (decode_sized word 8)
+
+-- the channel of a PDU: the Attribute Protocol's, unless the sign names another one
+unfoldable pub channel_of : Octets → Option ℕ
+channel_of sign =
+    if bytes_eq sign (codes "<") then Some ATT
+    else if bytes_eq sign (codes "<5") then Some LE_SIGNALLING
+    else if bytes_eq sign (codes "<6") then Some SECURITY_MANAGER
+    else None
+
+-- what a phone does, by its name
+abbrev pub of_phone : Octets → PhoneAct → Option Line
+of_phone word act = option_map (λ name. Phone name act) (name_of word)
+
+-- the moment until which a phone is authorized, by its name
+abbrev pub authorized_until : Octets → ℕ → Option Line
+authorized_until word moment = option_map (λ name. Authorize name moment) (name_of word)
+
+-- no time comes after this one
+abbrev pub last_moment : ℕ
+last_moment = 2 ^ 64 - 1
+
+unfoldable pub line_of_one : Octets → Option Line
+line_of_one first = if bytes_eq first (codes "replace") then Some Replace else None
+
+unfoldable pub line_of_two : Octets → Octets → Option Line
+line_of_two first second =
+    if bytes_eq first (codes "drop") then of_phone second Drop
+    else if bytes_eq first (codes "clear") then of_phone second Clear
+    else if bytes_eq first (codes "hold") then of_phone second Hold
+    else if bytes_eq first (codes "allow") then authorized_until second last_moment
+    else if bytes_eq first (codes "deny") then authorized_until second 0
+    else if bytes_eq first (codes "tick") then option_map Tick (number_of (2 ^ 64) second)
+    else None
+
+-- `done NAME N`
+abbrev pub done_line : Octets → Octets → Option Line
+done_line name packets = number_of (2 ^ 16) packets >>= (λ count. of_phone name (Done count))
+
+-- `allow NAME MS`
+abbrev pub allow_line : Octets → Octets → Option Line
+allow_line name moment = number_of (2 ^ 64) moment >>= (λ until. authorized_until name until)
+
+-- `update HANDLE HEX`
+abbrev pub update_line : Octets → Octets → Option Line
+update_line handle value = do
+  place ← number_of (2 ^ 16) handle
+  octets ← payload_of value
+  Some (Update place octets)
+
+-- `NAME < HEX`
+abbrev pub send_line : Octets → Octets → Octets → Option Line
+send_line name sign payload = do
+  channel ← channel_of sign
+  octets ← payload_of payload
+  of_phone name (Send channel octets)
+
+unfoldable pub line_of_three : Octets → Octets → Octets → Option Line
+line_of_three first second third =
+    if bytes_eq first (codes "done") then done_line second third
+    else if bytes_eq first (codes "allow") then allow_line second third
+    else if bytes_eq first (codes "update") then update_line second third
+    else send_line first second third
+
+-- `connect NAME KIND ADDRESS`
+abbrev pub connect_line : Octets → Octets → Octets → Option Line
+connect_line name kind address = peer_of kind address >>= (λ peer. of_phone name (Connect peer))
+
+-- `encrypt NAME RAND EDIV`
+abbrev pub encrypt_line : Octets → Octets → Octets → Option Line
+encrypt_line name random diversifier = do
+  number ← random_number_of random
+  chosen ← number_of (2 ^ 16) diversifier
+  of_phone name (Encrypt number chosen)
+
+unfoldable pub line_of_four : Octets → Octets → Octets → Octets → Option Line
+line_of_four first second third fourth =
+    if bytes_eq first (codes "connect") then connect_line second third fourth
+    else if bytes_eq first (codes "encrypt") then encrypt_line second third fourth
+    else None
+
+-- what words say, if they say something
+abbrev pub said_by : List Octets → Option Line
+said_by (first ∷ []) = line_of_one first
+said_by (first ∷ second ∷ []) = line_of_two first second
+said_by (first ∷ second ∷ third ∷ []) = line_of_three first second third
+said_by (first ∷ second ∷ third ∷ fourth ∷ []) = line_of_four first second third fourth
+said_by _ = None
+
+unfoldable pub line_of : Octets → Option Line
+line_of line = said_by (words_of line)

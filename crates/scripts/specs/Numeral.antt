@@ -1,0 +1,11 @@
+-- Numbers in decimal: this profile's own.
+use Rattle.std.specs.Prelude.{ℕ, ◌&&◌, nat_lt, if◌then◌else◌, length, Option, Some, None}
+use Rattle.std.specs.Str.{all_ascii_digits}
+use Rattle.std.specs.Str.Parse.{digits_value}
+use Rattle.octets.specs.Number.{Octets}
+
+-- the number below a limit that digits write, of which there is at least one
+unfoldable pub number_of : ℕ → Octets → Option ℕ
+number_of limit word =
+    if nat_lt 0 (length word) && (all_ascii_digits word && nat_lt (digits_value 10 word) limit)
+    then Some (digits_value 10 word) else None

@@ -1,0 +1,25 @@
+-- Octets that a line writes: this profile's own.
+use Rattle.std.specs.Prelude.{◌≡◌, ◌*◌, nat_lt, nat_le, if◌then◌else◌, [], length, codes, Option, Some, None, unwrap_or}
+use Rattle.std.specs.Result.{result_ok}
+use Rattle.std.specs.Str.{bytes_eq}
+use Rattle.hex.specs.Hex.{decode_of}
+use Rattle.octets.specs.Number.{Octets}
+use Rattle.scripts.specs.declared.payload.TheConstants.{MAX_OCTETS}
+
+-- at most 517 octets, two digits each
+unfoldable pub decoded : Octets → Option Octets
+decoded digits = if nat_le (length digits) (2 * MAX_OCTETS) then result_ok (decode_of digits) else None
+
+-- a dash writes no octets, and an empty word is nothing
+unfoldable pub payload_of : Octets → Option Octets
+payload_of word =
+    if bytes_eq word (codes "-") then Some []
+    else if nat_lt 0 (length word) then decoded word
+    else None
+
+-- the octets that digits write, where they do
+unfoldable pub octets_in : Octets → Octets
+octets_in digits = unwrap_or (decoded digits) []
+
+abbrev pub IsWritten : Octets → Type 0
+IsWritten digits = decoded digits ≡ Some (octets_in digits)

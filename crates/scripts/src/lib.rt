@@ -1,0 +1,17 @@
+//! Scripts: what phones and the application do, line by line, each line read before any of it is
+//! done.
+#![tactic(auto)]
+
+mod act;
+mod line;
+mod name;
+mod numeral;
+mod payload;
+mod script;
+mod script_fault;
+
+pub use act::{Act, PhoneAct};
+pub use name::Name;
+pub use payload::Payload;
+pub use script::{MAX_PHONES, Script};
+pub use script_fault::ScriptFault;

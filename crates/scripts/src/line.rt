@@ -1,0 +1,195 @@
+//! The lines of a script.
+
+ghost use Rattle.std.specs.Prelude.{◌≡◌, [], ◌∷◌, IfSome, IfNone};
+ghost use Rattle.scripts.specs.Line.{words_of, peer_of, random_number_of, channel_of, line_of_one, line_of_two, line_of_three, line_of_four, of_phone, authorized_until, line_of};
+
+use crate::act::PhoneAct;
+use crate::name::Name;
+use crate::numeral::{read_u16, read_u64};
+use crate::payload::Payload;
+use le_hci::{PUBLIC_ADDRESS, Peer, RANDOM_ADDRESS};
+use le_l2cap::channel;
+use le_security::read_address;
+
+/// What a line says.
+#[derive(Drop)]
+pub enum Line<'a> {
+    /// What the phone of a name does.
+    Phone { name: Name<'a>, act: PhoneAct<'a> },
+    /// The moment until which the phone of a name is authorized, in milliseconds.
+    Authorize { name: Name<'a>, until: u64 },
+    /// The value at a handle is updated.
+    Update { handle: u16, value: Payload<'a> },
+    /// The time, in milliseconds.
+    Tick { time: u64 },
+    /// The table is replaced.
+    Replace,
+}
+
+/// What a line says, which is neither blank nor a comment, if it says something.
+#[tactic(auto, unfolding(crate::specs::Line::line_of))]
+pub fn read_line(line: &str) -> Option<Line<'_>>
+    ensures { result ≡ line_of line.now }
+{
+    let Some((first, rest)) = first_word(line) else {
+        return read_one(line);
+    };
+    let Some((second, rest)) = first_word(rest) else {
+        return read_two(first, rest);
+    };
+    let Some((third, rest)) = first_word(rest) else {
+        return read_three(first, second, rest);
+    };
+    match first_word(rest) {
+        None => read_four(first, second, third, rest),
+        Some(_) => None,
+    }
+}
+
+/// The first word of a text that has another one, and what stands behind its space.
+fn first_word(text: &str) -> Option<(&str, &str)>
+    ensures first { IfSome result (λ parts. words_of text.now ≡ parts.0.now ∷ words_of parts.1.now) }
+    ensures only { IfNone result (words_of text.now ≡ text.now ∷ []) }
+{
+    text.split_once(' ')
+}
+
+/// What a word says alone.
+#[tactic(auto, unfolding(crate::specs::Line::line_of_one))]
+fn read_one(first: &str) -> Option<Line<'_>>
+    ensures { result ≡ line_of_one first.now }
+{
+    match first {
+        "replace" => Some(Line::Replace),
+        _ => None,
+    }
+}
+
+/// What two words say.
+#[tactic(auto, unfolding(crate::specs::Line::line_of_two))]
+fn read_two<'a>(first: &str, second: &'a str) -> Option<Line<'a>>
+    ensures { result ≡ line_of_two first.now second.now }
+{
+    match first {
+        "drop" => of_phone(second, PhoneAct::Drop),
+        "clear" => of_phone(second, PhoneAct::Clear),
+        "hold" => of_phone(second, PhoneAct::Hold),
+        "allow" => authorized_until(second, u64::MAX),
+        "deny" => authorized_until(second, 0),
+        "tick" => Some(Line::Tick {
+            time: read_u64(second)?,
+        }),
+        _ => None,
+    }
+}
+
+/// What three words say.
+#[tactic(auto, unfolding(crate::specs::Line::line_of_three))]
+fn read_three<'a>(first: &'a str, second: &'a str, third: &'a str) -> Option<Line<'a>>
+    ensures { result ≡ line_of_three first.now second.now third.now }
+{
+    match first {
+        "done" => of_phone(
+            second,
+            PhoneAct::Done {
+                packets: read_u16(third)?,
+            },
+        ),
+        "allow" => authorized_until(second, read_u64(third)?),
+        "update" => Some(Line::Update {
+            handle: read_u16(second)?,
+            value: Payload::read(third)?,
+        }),
+        _ => of_phone(
+            first,
+            PhoneAct::Send {
+                channel: read_channel(second)?,
+                payload: Payload::read(third)?,
+            },
+        ),
+    }
+}
+
+/// What four words say.
+#[tactic(auto, unfolding(crate::specs::Line::line_of_four))]
+fn read_four<'a>(first: &str, second: &'a str, third: &str, fourth: &str) -> Option<Line<'a>>
+    ensures { result ≡ line_of_four first.now second.now third.now fourth.now }
+{
+    match first {
+        "connect" => of_phone(
+            second,
+            PhoneAct::Connect {
+                peer: read_peer(third, fourth)?,
+            },
+        ),
+        "encrypt" => of_phone(
+            second,
+            PhoneAct::Encrypt {
+                random_number: read_random_number(third)?,
+                diversifier: read_u16(fourth)?,
+            },
+        ),
+        _ => None,
+    }
+}
+
+/// What the phone of a name does.
+fn of_phone<'a>(name: &'a str, act: PhoneAct<'a>) -> Option<Line<'a>>
+    ensures { result ≡ of_phone name.now act.entry }
+{
+    Some(Line::Phone {
+        name: Name::read(name)?,
+        act,
+    })
+}
+
+/// The moment until which the phone of a name is authorized.
+fn authorized_until(name: &str, until: u64) -> Option<Line<'_>>
+    ensures { result ≡ authorized_until name.now until }
+{
+    Some(Line::Authorize {
+        name: Name::read(name)?,
+        until,
+    })
+}
+
+/// The channel that a sign names.
+#[tactic(auto, unfolding(crate::specs::Line::channel_of))]
+fn read_channel(sign: &str) -> Option<u16>
+    ensures { result ≡ channel_of sign.now }
+{
+    match sign {
+        "<" => Some(channel::ATT),
+        "<5" => Some(channel::LE_SIGNALLING),
+        "<6" => Some(channel::SECURITY_MANAGER),
+        _ => None,
+    }
+}
+
+/// The peer of a type of address and an address.
+#[tactic(auto, unfolding(crate::specs::Line::peer_of))]
+fn read_peer(kind: &str, address: &str) -> Option<Peer>
+    ensures { result ≡ peer_of kind.now address.now }
+{
+    let kind = match kind {
+        "0" => PUBLIC_ADDRESS,
+        "1" => RANDOM_ADDRESS,
+        _ => return None,
+    };
+    Some(Peer {
+        kind,
+        address: read_address(address.as_bytes())?,
+    })
+}
+
+/// The octets of a random number.
+#[tactic(auto, unfolding(crate::specs::Line::random_number_of))]
+fn read_random_number(word: &str) -> Option<[u8; 8]>
+    ensures { result ≡ random_number_of word.now }
+{
+    let mut octets = [0; 8];
+    if hex::decode_to_slice(word, &mut octets).is_err() {
+        return None;
+    }
+    Some(octets)
+}
