@@ -3,3 +3,4 @@ pub mod Numeral
 pub mod Payload
 pub mod Line
 pub mod Script
+pub mod Phones

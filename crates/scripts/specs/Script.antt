@@ -23,7 +23,7 @@ no_acts = record { acts = []; names = [] }
 
 -- the number of a name: names are numbered from 0, in the order of their first lines, and a new one comes next
 abbrev pub number_in : List Octets → Octets → ℕ
-number_in names name = unwrap_or (position (λ other. bytes_eq other name) names) (length names)
+number_in names name = unwrap_or (position (bytes_eq name) names) (length names)
 
 -- the names with this one: a new one stands behind the others
 abbrev pub with_name : List Octets → Octets → List Octets

@@ -5,6 +5,7 @@ ghost use Rattle.std.specs.List.{position};
 ghost use Rattle.std.specs.Str.{bytes_eq};
 ghost use Rattle.octets.specs.Memory.{Gives, Leaves};
 ghost use Rattle.scripts.specs.declared.script_fault.ScriptFault.TheVariants.{OutOfMemory};
+ghost use Rattle.scripts.specs.Phones.{HasNamedPhones};
 ghost use Rattle.scripts.specs.Script.{no_acts, number_in, with_name, with_said, with_line, lines_of, script_of};
 
 use crate::act::Act;
@@ -26,6 +27,7 @@ pub struct Script<'a> {
 }
 
 impl<'a> Model for Script<'a> {
+    ghost use Rattle.scripts.specs.Phones.{HasNamedPhones};
     ghost use Rattle.scripts.specs.Script.{Acts};
 
     ghost Value = { Acts };
@@ -47,8 +49,15 @@ impl<'a> Script<'a> {
     /// Reads a script, and gives what it says or its first line with a fault. Without a table to
     /// replace by, as `has_next` says, a replacement is a fault of its line. Memory may be refused
     /// at any point.
-    #[tactic(auto, unfolding(crate::specs::Script::script_of))]
     pub fn read(alloc: Global, text: &'a str, has_next: bool) -> Result<Script<'a>, ScriptFault>
+        ensures script { Gives OutOfMemory (script_of has_next text.now) result }
+        ensures phones { IfOk result HasNamedPhones }
+    {
+        Script::read_lines(alloc, text, has_next)
+    }
+
+    #[tactic(auto, unfolding(crate::specs::Script::script_of))]
+    fn read_lines(alloc: Global, text: &'a str, has_next: bool) -> Result<Script<'a>, ScriptFault>
         ensures { Gives OutOfMemory (script_of has_next text.now) result }
     {
         let mut script = Script::new(alloc);
@@ -157,11 +166,11 @@ fn number_in(names: &[Name<'_>], name: &Name<'_>) -> usize
 
 /// Where a name stands among these.
 fn place_of(names: &[Name<'_>], name: &Name<'_>) -> Option<usize>
-    ensures { result ≡ position (λ other. bytes_eq other name.now) names.now }
+    ensures { result ≡ position (bytes_eq name.now) names.now }
 {
     names
         .iter()
-        .position(|other| other.as_str() == name.as_str())
+        .position(|other| name.as_str() == other.as_str())
 }
 
 /// The first line of a text that has another one, and what stands behind its line feed.

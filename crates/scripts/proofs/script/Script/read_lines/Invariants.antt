@@ -2,7 +2,7 @@ use Rattle.std.proofs.Common.{◌≡◌, ◌+◌, ◌≤◌, length}
 use denote.Text.{Utf8}
 use denote.Shadow.{shadow}
 use Rattle.scripts.specs.Script.{with_lines, lines_of, script_of}
-use Rattle.scripts.proofs.script.Script.read.Given as goal
+use Rattle.scripts.proofs.script.Script.read_lines.Given as goal
 
 -- says that each `&str` the loop changes is text
 abbrev pub invariant-loop-line : goal.invariant-loop-line
