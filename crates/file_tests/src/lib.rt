@@ -14,6 +14,8 @@ mod look_ups;
 #[cfg(test)]
 mod rows;
 #[cfg(test)]
+mod scripts;
+#[cfg(test)]
 mod stores;
 #[cfg(test)]
 mod table_faults;

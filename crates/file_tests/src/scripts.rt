@@ -1,0 +1,359 @@
+//! Scripts: each line, each fault, and who is named.
+
+use arrayvec::ArrayVec;
+use le_hci::{PUBLIC_ADDRESS, Peer, RANDOM_ADDRESS};
+use le_l2cap::channel;
+use scripts::{Act, Name, Payload, PhoneAct, Script, ScriptFault};
+use std::alloc::{AllocError, Global};
+use std::process::Abort;
+
+/// What an act is to be, its phone first.
+enum Wanted<'a> {
+    Connect(u8, Peer),
+    Drop(u8),
+    Encrypt(u8, [u8; 8], u16),
+    Clear(u8),
+    Send(u8, u16, &'a [u8]),
+    Hold(u8),
+    Done(u8, u16),
+    Authorize(u8, u64),
+    Update(u16, &'a [u8]),
+    Tick(u64),
+    Replace,
+}
+
+const STRANGER: Peer = Peer {
+    kind: RANDOM_ADDRESS,
+    address: [0x0a, 0x00, 0x00, 0x00, 0x00, 0xc0],
+};
+
+const TABLET: Peer = Peer {
+    kind: PUBLIC_ADDRESS,
+    address: [0x55, 0x44, 0x33, 0x22, 0x11, 0x00],
+};
+
+/// Texts, and what is done by them.
+const TEXTS: [(&str, &[Wanted<'static>]); 34] = [
+    ("", &[]),
+    ("\n\n", &[]),
+    ("#", &[]),
+    ("# U < 0\n#\tdrop\n#\r\n", &[]),
+    (
+        "connect U 1 c0:00:00:00:00:0a\nU < 0a0300\nU < 0a0a00\nU <6 01030001100000\n",
+        &[
+            Wanted::Connect(0, STRANGER),
+            Wanted::Send(0, channel::ATT, b"\x0a\x03\x00"),
+            Wanted::Send(0, channel::ATT, b"\x0a\x0a\x00"),
+            Wanted::Send(
+                0,
+                channel::SECURITY_MANAGER,
+                b"\x01\x03\x00\x01\x10\x00\x00",
+            ),
+        ],
+    ),
+    (
+        "connect Q 0 00:11:22:33:44:55",
+        &[Wanted::Connect(0, TABLET)],
+    ),
+    (
+        "connect Q 1 C0:00:00:00:00:0A",
+        &[Wanted::Connect(0, STRANGER)],
+    ),
+    ("drop U", &[Wanted::Drop(0)]),
+    (
+        "encrypt P 0101010101010101 257",
+        &[Wanted::Encrypt(0, [0x01; 8], 257)],
+    ),
+    (
+        "encrypt P 00112233445566Ef 065535",
+        &[Wanted::Encrypt(0, [0x00, 0x11, 0x22, 0x33, 0x44, 0x55, 0x66, 0xef], 65535)],
+    ),
+    ("clear U", &[Wanted::Clear(0)]),
+    ("U < -", &[Wanted::Send(0, channel::ATT, b"")]),
+    ("U < aF", &[Wanted::Send(0, channel::ATT, b"\xaf")]),
+    (
+        "U <5 12090800",
+        &[Wanted::Send(0, channel::LE_SIGNALLING, b"\x12\x09\x08\x00")],
+    ),
+    ("U <6 -", &[Wanted::Send(0, channel::SECURITY_MANAGER, b"")]),
+    ("hold U", &[Wanted::Hold(0)]),
+    ("done U 0", &[Wanted::Done(0, 0)]),
+    ("done U 65535", &[Wanted::Done(0, 65535)]),
+    (
+        "done U 00000000000000000000000000012",
+        &[Wanted::Done(0, 12)],
+    ),
+    ("update 0 -", &[Wanted::Update(0, b"")]),
+    ("update 65535 0001", &[Wanted::Update(65535, b"\x00\x01")]),
+    ("allow U", &[Wanted::Authorize(0, u64::MAX)]),
+    ("allow U 1000", &[Wanted::Authorize(0, 1000)]),
+    (
+        "allow U 18446744073709551615",
+        &[Wanted::Authorize(0, u64::MAX)],
+    ),
+    ("allow U 0", &[Wanted::Authorize(0, 0)]),
+    ("deny U", &[Wanted::Authorize(0, 0)]),
+    ("tick 0", &[Wanted::Tick(0)]),
+    ("tick 18446744073709551615", &[Wanted::Tick(u64::MAX)]),
+    ("replace", &[Wanted::Replace]),
+    (
+        "\n# two phones\n\ndrop B\nhold A\nreplace\nA < 02\nB < 1e",
+        &[
+            Wanted::Drop(0),
+            Wanted::Hold(1),
+            Wanted::Replace,
+            Wanted::Send(1, channel::ATT, b"\x02"),
+            Wanted::Send(0, channel::ATT, b"\x1e"),
+        ],
+    ),
+    (
+        "drop a\ndrop A\ndrop 0\ndrop phone8ab\ndrop A",
+        &[
+            Wanted::Drop(0),
+            Wanted::Drop(1),
+            Wanted::Drop(2),
+            Wanted::Drop(3),
+            Wanted::Drop(1),
+        ],
+    ),
+    ("Tick < 1e", &[Wanted::Send(0, channel::ATT, b"\x1e")]),
+    ("connects < 1e", &[Wanted::Send(0, channel::ATT, b"\x1e")]),
+    ("drop 12345678", &[Wanted::Drop(0)]),
+];
+
+/// Texts, and the numbers of their first lines with faults.
+const FAULTS: [(&str, u64); 88] = [
+    ("bad", 1),
+    ("\n# here\nU < 0a0300\nbad\nbad", 4),
+    (" ", 1),
+    (" # no comment", 1),
+    ("\r", 1),
+    ("\r\n", 1),
+    ("drop U\r\n", 1),
+    ("drop U\r", 1),
+    ("replace\r\n", 1),
+    ("drop U\n\r\n", 2),
+    ("connect", 1),
+    ("connect U", 1),
+    ("connect U 1", 1),
+    ("connect U 1 c0:00:00:00:00:0a ", 1),
+    ("connect U 1 c0:00:00:00:00:0a x", 1),
+    ("connect  U 1 c0:00:00:00:00:0a", 1),
+    (" connect U 1 c0:00:00:00:00:0a", 1),
+    ("connect U 2 c0:00:00:00:00:0a", 1),
+    ("connect U 01 c0:00:00:00:00:0a", 1),
+    ("connect U random c0:00:00:00:00:0a", 1),
+    ("connect U 1 c0:00:00:00:00:0", 1),
+    ("connect U 1 c000000000000a", 1),
+    ("connect drop 1 c0:00:00:00:00:0a", 1),
+    ("connect U\t1 c0:00:00:00:00:0a", 1),
+    ("Connect U 1 c0:00:00:00:00:0a", 1),
+    ("drop", 1),
+    ("drop ", 1),
+    ("drop U ", 1),
+    ("drop U V", 1),
+    ("drop connect", 1),
+    ("drop drop", 1),
+    ("drop encrypt", 1),
+    ("drop clear", 1),
+    ("drop hold", 1),
+    ("drop done", 1),
+    ("drop update", 1),
+    ("drop allow", 1),
+    ("drop deny", 1),
+    ("drop tick", 1),
+    ("drop replace", 1),
+    ("drop U_1", 1),
+    ("drop \u{e9}", 1),
+    ("drop 123456789", 1),
+    ("encrypt P 0101010101010101", 1),
+    ("encrypt P 010101010101010 257", 1),
+    ("encrypt P 01010101010101010 257", 1),
+    ("encrypt P 010101010101010g 257", 1),
+    ("encrypt P - 257", 1),
+    ("encrypt P 0101010101010101 65536", 1),
+    ("encrypt P 0101010101010101 0x1", 1),
+    ("encrypt P 0101010101010101 -", 1),
+    ("clear", 1),
+    ("U", 1),
+    ("U <", 1),
+    ("U < ", 1),
+    ("U < 0", 1),
+    ("U < 0g", 1),
+    ("U < 0a 03", 1),
+    ("U < --", 1),
+    ("U <4 0a0300", 1),
+    ("U <7 0a0300", 1),
+    ("U > 0a0300", 1),
+    ("U <50a0300", 1),
+    ("U  < 0a0300", 1),
+    ("drop < 0a0300", 1),
+    ("replace < 0a0300", 1),
+    ("123456789 < 0a0300", 1),
+    ("hold", 1),
+    ("done U", 1),
+    ("done U 65536", 1),
+    ("done U +1", 1),
+    ("done U -1", 1),
+    ("done U 1.0", 1),
+    ("done U 1 1", 1),
+    ("update 10", 1),
+    ("update x 00", 1),
+    ("update 65536 00", 1),
+    ("update 10 0", 1),
+    ("update U 00", 1),
+    ("allow", 1),
+    ("allow U -1", 1),
+    ("allow U 18446744073709551616", 1),
+    ("deny U 0", 1),
+    ("tick", 1),
+    ("tick -1", 1),
+    ("tick 18446744073709551616", 1),
+    ("replace U", 1),
+    ("Replace", 1),
+];
+
+/// Texts with nine names, and with eight.
+const NINE: &str =
+    "drop A\nhold B\nC < 1e\nclear D\nallow E\ndeny F\ndone G 0\nconnect H 0 00:11:22:33:44:55\n# I\ndrop A\nhold I\n";
+
+const EIGHT: &str =
+    "drop A\nhold B\nC < 1e\nclear D\nallow E\ndeny F\ndone G 0\nconnect H 0 00:11:22:33:44:55\n# I\ndrop A\n";
+
+#[test]
+fn texts(rt: HostRuntime) {
+    check_texts(&rt, rt.alloc(), &TEXTS);
+}
+
+fn check_texts(rt: &impl Abort, alloc: Global, cases: &[(&str, &[Wanted<'_>])]) {
+    for &(text, wanted) in cases {
+        assert!(rt; reads_as(alloc, text, wanted), "{text}");
+    }
+}
+
+fn reads_as(alloc: Global, text: &str, wanted: &[Wanted<'_>]) -> bool {
+    match Script::read(alloc, text, true) {
+        Ok(script) => are_acts(script.acts(), wanted),
+        Err(_) => false,
+    }
+}
+
+fn are_acts(acts: &[Act<'_>], wanted: &[Wanted<'_>]) -> bool {
+    acts.len() == wanted.len()
+        && acts
+            .iter()
+            .zip(wanted)
+            .all(|(act, wanted)| is_act(act, wanted))
+}
+
+fn is_act(act: &Act<'_>, wanted: &Wanted<'_>) -> bool {
+    match act {
+        Act::Phone { phone, act } => is_phone_act(*phone, act, wanted),
+        Act::Authorize { phone, until } => {
+            matches!(wanted, Wanted::Authorize(of, moment) if of == phone && moment == until)
+        }
+        Act::Update { handle, value } => {
+            matches!(wanted, Wanted::Update(place, octets) if place == handle && writes(value, octets))
+        }
+        Act::Tick { time } => matches!(wanted, Wanted::Tick(moment) if moment == time),
+        Act::Replace => matches!(wanted, Wanted::Replace),
+    }
+}
+
+fn is_phone_act(phone: u8, act: &PhoneAct<'_>, wanted: &Wanted<'_>) -> bool {
+    match act {
+        PhoneAct::Connect { peer } => {
+            matches!(wanted, Wanted::Connect(of, other) if *of == phone && other == peer)
+        }
+        PhoneAct::Drop => matches!(wanted, Wanted::Drop(of) if *of == phone),
+        PhoneAct::Encrypt {
+            random_number,
+            diversifier,
+        } => {
+            matches!(wanted, Wanted::Encrypt(of, number, chosen) if *of == phone && number == random_number && chosen == diversifier)
+        }
+        PhoneAct::Clear => matches!(wanted, Wanted::Clear(of) if *of == phone),
+        PhoneAct::Send { channel, payload } => {
+            matches!(wanted, Wanted::Send(of, on, octets) if *of == phone && on == channel && writes(payload, octets))
+        }
+        PhoneAct::Hold => matches!(wanted, Wanted::Hold(of) if *of == phone),
+        PhoneAct::Done { packets } => {
+            matches!(wanted, Wanted::Done(of, count) if *of == phone && count == packets)
+        }
+    }
+}
+
+fn writes(payload: &Payload<'_>, wanted: &[u8]) -> bool {
+    let mut octets = ArrayVec::from([0xff; 517]);
+    payload.decode(&mut octets);
+    octets.as_slice() == wanted
+}
+
+#[test]
+fn faults(rt: HostRuntime) {
+    check_faults(&rt, rt.alloc(), &FAULTS);
+}
+
+fn check_faults(rt: &impl Abort, alloc: Global, cases: &[(&str, u64)]) {
+    for &(text, line) in cases {
+        assert!(rt;
+            Script::read(alloc, text, true).err() == Some(ScriptFault::BadLine(line)),
+            "{text}"
+        );
+    }
+}
+
+/// Without a table to replace by, the first line with a fault is that of the replacement.
+#[test]
+fn no_next(rt: HostRuntime) {
+    check_no_next(&rt, rt.alloc(), "tick 1\nreplace\nbad");
+}
+
+fn check_no_next(rt: &impl Abort, alloc: Global, text: &str) {
+    assert!(rt; Script::read(alloc, text, false).err() == Some(ScriptFault::BadLine(2)));
+    assert!(rt; Script::read(alloc, text, true).err() == Some(ScriptFault::BadLine(3)));
+}
+
+/// A ninth name is a fault of its line.
+#[test]
+fn names(rt: HostRuntime) {
+    check_names(&rt, rt.alloc());
+}
+
+fn check_names(rt: &impl Abort, alloc: Global) {
+    assert!(rt; Script::read(alloc, NINE, true).err() == Some(ScriptFault::BadLine(11)));
+    match Script::read(alloc, EIGHT, true) {
+        Ok(script) => assert!(rt; are_names(script.names(), "ABCDEFGH")),
+        Err(_) => assert!(rt; false),
+    }
+}
+
+fn are_names(names: &[Name<'_>], wanted: &str) -> bool {
+    names.len() == wanted.len()
+        && names.iter().zip(wanted.as_bytes()).all(|(name, letter)| name.as_str().as_bytes()
+            == [*letter].as_slice())
+}
+
+/// A line writes at most 517 octets.
+#[test]
+fn long_payloads(rt: HostRuntime) {
+    assert!(&rt; is_read(rt.alloc(), "U < ", 517) == Some(true));
+    assert!(&rt; is_read(rt.alloc(), "U < ", 518) == Some(false));
+    assert!(&rt; is_read(rt.alloc(), "update 1 ", 517) == Some(true));
+    assert!(&rt; is_read(rt.alloc(), "update 1 ", 518) == Some(false));
+}
+
+/// Whether a line with so many octets is read, where there is memory for it.
+fn is_read(alloc: Global, front: &str, octets: usize) -> Option<bool> {
+    let text = long_line(alloc, front, octets).ok()?;
+    Some(Script::read(alloc, &text, false).is_ok())
+}
+
+fn long_line(alloc: Global, front: &str, octets: usize) -> Result<String, AllocError> {
+    let mut text = String::new(alloc);
+    text.push_str(front)?;
+    for _ in 0..octets {
+        text.push_str("a5")?;
+    }
+    Ok(text)
+}
