@@ -1,3 +1,4 @@
+pub mod Examples
 pub mod Named
 pub mod Numerals
 pub mod Parts
