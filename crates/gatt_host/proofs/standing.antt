@@ -3,6 +3,7 @@ pub mod AtTheStart
 pub mod Comings
 pub mod Completions
 pub mod ForAll
+pub mod Happenings
 pub mod Holding
 pub mod Links
 pub mod OneSlot

@@ -7,3 +7,4 @@ pub mod Meaning
 pub mod Packet
 pub mod Asked
 pub mod Standing
+pub mod Leading
