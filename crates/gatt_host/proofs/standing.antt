@@ -1,4 +1,5 @@
 pub mod Answered
+pub mod Arrivals
 pub mod AtTheStart
 pub mod Comings
 pub mod Completions

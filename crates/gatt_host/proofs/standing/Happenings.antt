@@ -18,10 +18,11 @@ use Rattle.gatt_host.proofs.standing.OwnEvents.{asking_a_key_leads_on, authorizi
 use Rattle.gatt_host.proofs.standing.Replacements.{replacement_leads_on}
 use Rattle.gatt_host.proofs.standing.Requests.{request_leads_on}
 use Rattle.gatt_host.proofs.standing.Turned.{kept_here}
+use Rattle.gatt_host.specs.Answers.{stop_of}
 use Rattle.gatt_host.specs.Asked.{update_happening, authorize_happening, call_happening, replacement_happening}
 use Rattle.gatt_host.specs.Held as host
 use Rattle.gatt_host.specs.Held.{Held, Serves, after_nothing, kept_at}
-use Rattle.gatt_host.specs.Leading.{LeadsWith, ReportsLeadOn, SameOutcome, CallsLeadOn, ReplacementsLeadOn}
+use Rattle.gatt_host.specs.Leading.{LeadsWith, ReportsLeadOn, SameOutcome, CallsLeadOn, ReplacementsLeadOn, StopsForTheSame}
 use Rattle.gatt_host.specs.Meaning.{Happening, At, Updates, Ticks, Replaces, Passes, IsAfter, at_found, coming, connection_happening, reported_happening}
 use Rattle.gatt_host.specs.Owing.{all_given, slot_held, slots_held}
 use Rattle.gatt_host.specs.Packet.{TakesEvent}
@@ -84,7 +85,7 @@ module _ (state : State) (held : Held) (sound : IsSound state) (stands : Stands 
   abbrev keep : Option Ordinal → Option Kept
   keep slot = slot_held state (all_given state) slot
 
-  passes-lead : Leads Nothing Passes
+  pub passes-lead : Leads Nothing Passes
   passes-lead new after = subst (λ (held : Held). LeadsTo state Nothing held) (sym after) (nothing_leads_on state held sound stands)
 
   -- the connection of a slot
@@ -129,7 +130,7 @@ module _ (state : State) (held : Held) (sound : IsSound state) (stands : Stands 
         (ap (λ slots. place_serving slots handle) (is.free early) ∙ none-serves handle state.room.slots)
   ] refl
 
-  serves-at : (handle : ℕ) (place : ℕ) (ordinal : Ordinal) → serving state handle ≡ Some ordinal → slice_get state.slots place ≡ Some (Some ordinal) → IsServing state place ordinal
+  pub serves-at : (handle : ℕ) (place : ℕ) (ordinal : Ordinal) → serving state handle ≡ Some ordinal → slice_get state.slots place ≡ Some (Some ordinal) → IsServing state place ordinal
   serves-at handle place ordinal found there = record {
     there = there;
     live = first-true (is_live (state.parts ordinal).mark) ((state.parts ordinal).handle == handle)
@@ -325,3 +326,19 @@ calls_lead_on state held call sound stands = call-leads state held sound stands 
 
 pub replacements_lead_on : ReplacementsLeadOn
 replacements_lead_on state held table sound stands = replacing-leads state held sound stands table
+
+-- or the host stops
+pub stops_for_the_same : StopsForTheSame
+stops_for_the_same state held (Err bad) stands = refl
+stops_for_the_same state held (Ok (event.CommandComplete allowed opcode returned)) stands =
+    ap (λ (controller : Controller). stop_of (completed_event controller allowed opcode returned)) (holds state held stands).controller
+stops_for_the_same state held (Ok (event.CommandStatus status allowed opcode)) stands =
+    ap (λ (controller : Controller). stop_of (status_event controller status allowed opcode)) (holds state held stands).controller
+stops_for_the_same state held (Ok (event.HardwareError code)) stands = refl
+stops_for_the_same state held (Ok (event.DisconnectionComplete status handle reason)) stands = refl
+stops_for_the_same state held (Ok (event.EncryptionChange status handle enabled)) stands = refl
+stops_for_the_same state held (Ok (event.NumberOfCompletedPackets entries)) stands = refl
+stops_for_the_same state held (Ok (event.EncryptionKeyRefreshComplete status handle)) stands = refl
+stops_for_the_same state held (Ok (event.ConnectionComplete status handle role peer interval latency timeout clock_accuracy)) stands = refl
+stops_for_the_same state held (Ok (event.LongTermKeyRequest handle random_number diversifier)) stands = refl
+stops_for_the_same state held (Ok event.Other) stands = refl
