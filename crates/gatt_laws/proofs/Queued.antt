@@ -338,7 +338,7 @@ change-queued state (Tick time) possible kept = λ ordinal.
 change-queued state (Replaced table) possible kept = λ ordinal. replaced-within _ _ state.room.table table (state.parts ordinal) (kept.queued ordinal)
 change-queued state Nothing possible kept = kept.queued
 
-stays-kept : (state : State) (event : Event) → Possible (λ table. Unit) state event → IsKept state → IsKept (step state event)
+pub stays-kept : (state : State) (event : Event) → Possible (λ table. Unit) state event → IsKept state → IsKept (step state event)
 unfolding step
 stays-kept state event possible kept =
     let change : Change = change_of state event in
