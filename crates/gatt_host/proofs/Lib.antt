@@ -11,3 +11,4 @@ pub mod SlotCommands
 pub mod Readies
 pub mod Lengths
 pub mod standing
+pub mod asking
