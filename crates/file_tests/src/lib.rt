@@ -14,7 +14,7 @@ mod look_ups;
 #[cfg(test)]
 mod rows;
 #[cfg(test)]
-mod scripts;
+mod script_acts;
 #[cfg(test)]
 mod stores;
 #[cfg(test)]

@@ -29,7 +29,11 @@ const FIRST: u8 = 0b10;
 
 impl HostState {
     /// Takes in an event: its code and what follows.
-    pub(crate) fn event(&mut self, frames: &mut [Reassembler; 8], octets: &[u8]) -> Result<(), HostFault>
+    pub(crate) fn event(
+        &mut self,
+        frames: &mut [Reassembler; 8],
+        octets: &[u8],
+    ) -> Result<(), HostFault>
         ensures taken { IsOk result → TakesEvent (event_of octets.now) self.old self.new }
         ensures frames { frames.new ≡ frames_after_event self.old (event_of octets.now) frames.old }
         ensures stops { IfErr result (λ fault. event_stop (event_of octets.now) self.old ≡ Some fault) }
