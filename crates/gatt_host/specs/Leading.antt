@@ -4,8 +4,8 @@ use Rattle.att_table.specs.Table.{Contents}
 use Rattle.gatt_host.specs.Answers.{stop_of}
 use Rattle.gatt_host.specs.Asked.{call_happening, replacement_happening}
 use Rattle.gatt_host.specs.Held.{Held}
-use Rattle.gatt_host.specs.Meaning.{Happening, IsAfter}
-use Rattle.gatt_host.specs.Packet.{Frames, TakesEvent, acl_happening, event_stop, frames_after_acl}
+use Rattle.gatt_host.specs.Meaning.{Frames, Happening, IsAfter}
+use Rattle.gatt_host.specs.Packet.{TakesEvent, acl_happening, event_stop, frames_after_acl}
 use Rattle.gatt_host.specs.Stands.{IsSound, LeadsTo, Stands}
 use Rattle.gatt_laws.specs.Calls.{Call, Refused, call_event, replacement_event}
 use Rattle.gatt_laws.specs.Event.{Ordinal, Event}

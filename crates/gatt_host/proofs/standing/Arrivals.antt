@@ -10,8 +10,8 @@ use Rattle.gatt_host.proofs.standing.Holding.{some-is}
 use Rattle.gatt_host.proofs.standing.OneSlot.{same_place}
 use Rattle.gatt_host.specs.Held.{Held}
 use Rattle.gatt_host.specs.Leading.{LeadsWith, HoldsFrames, FragmentsLeadOn, FramesFollow}
-use Rattle.gatt_host.specs.Meaning.{Happening, frame_happening, with_fragment}
-use Rattle.gatt_host.specs.Packet.{Frames, frames_with, fragment_happening}
+use Rattle.gatt_host.specs.Meaning.{Frames, Happening, frame_happening, with_fragment}
+use Rattle.gatt_host.specs.Packet.{frames_with, fragment_happening}
 use Rattle.gatt_host.specs.Stands.{IsServing, IsSound, Stands}
 use Rattle.gatt_laws.specs.Calls.{serving}
 use Rattle.gatt_laws.specs.Event.{Ordinal, Own, Event, Asks, Signals}
