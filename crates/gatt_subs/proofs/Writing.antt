@@ -1,102 +1,20 @@
 -- What a sink takes in turn.
-use Rattle.std.proofs.Common.{◌≡◌, ℕ, ◌+◌, ◌≤◌, true, false, if◌then◌else◌, List, [], ◌∷◌, ◌++◌, ◌<◌, length, get_or, take, drop, Option, Some, None, refl, sym, ap, subst, ◌∙◌, arith, append_assoc}
+use Rattle.std.proofs.Common.{◌≡◌, ℕ, ◌+◌, ◌≤◌, true, false, if◌then◌else◌, List, [], ◌∷◌, ◌++◌, ◌<◌, length, get_or, drop, Option, refl, sym, ap, subst, ◌∙◌, arith, append_assoc}
 use Rattle.std.proofs.Math.ListN.{drop_of_length-le}
 use Rattle.std.specs.Prelude.{Result, Ok, Err, IsOk, OnOk, OnErr}
 use Rattle.std.specs.List.{flat_map}
-use Rattle.std.specs.Io.KnownBytes.{Appends, Keeps}
-use Rattle.std.proofs.lemmas.Grind.{common_steps}
-use Rattle.std.proofs.lemmas.List.{append-nil, at_drop_more, take-append-drop}
+use Rattle.std.specs.Io.KnownBytes.{Appends}
+use Rattle.std.proofs.lemmas.List.{append-nil, at_drop_more}
 use Rattle.octets.specs.Number.{Octets}
-use Rattle.octets.specs.Stream.{CountsNone, CountsOne}
+use Rattle.octets.proofs.Writing.{HasWritten, breaks_off, written_more, written_none}
+use Rattle.octets.specs.Stream.{WritesFront}
 use Rattle.std.proofs.lemmas.List.Concat.{flat_map-append}
 use Rattle.le_hci.specs.declared.peer.Peer.{Peer}
 use Rattle.gatt_subs.specs.declared.bond.Bond.{Bond}
 use Rattle.gatt_subs.specs.declared.row_entry.RowEntry.{RowEntry}
-use Rattle.gatt_subs.specs.RowsText.{bond_entries, entries_of, entry_line, owed_line, owed_peers, text_in_parts, text_of, WritesFront}
+use Rattle.gatt_subs.specs.RowsText.{bond_entries, entries_of, entry_line, owed_line, owed_peers, text_in_parts, text_of}
 use Rattle.gatt_subs.specs.Rows.{Subscriptions}
 use Rattle.gatt_subs.specs.Unfitted.{Written}
-
-appends-append : (held mid holds : Option Octets) (xs ys : Octets) → Appends held mid xs → Appends mid holds ys → Appends held holds (xs ++ ys)
-appends-append None mid holds xs ys a b = tt
-appends-append (Some h) None holds xs ys a b = absurd a
-appends-append (Some h) (Some m) None xs ys a b = absurd b
-appends-append (Some h) (Some m) (Some n) xs ys a b = grind (arith, common_steps)
-
-appends-nothing : (held : Option Octets) → Appends held held []
-appends-nothing None = tt
-appends-nothing (Some h) = grind (arith, common_steps)
-
-kept-appends : (mid holds : Option Octets) → Keeps mid holds → Appends mid holds []
-kept-appends None holds kept = tt
-kept-appends (Some m) None kept = absurd kept
-kept-appends (Some m) (Some n) kept = kept ∙ sym (append-nil m)
-
--- of a text all but the rest is written
-pub record HasWritten (text rest : Octets) (held holds : Option Octets) : Type 0 where
-  pub written : Octets
-  pub appended : Appends held holds written
-  pub parts : text ≡ written ++ rest
-
-pub written_none : (text : Octets) (held : Option Octets) → HasWritten text text held held
-written_none text held = record { written = []; appended = appends-nothing held; parts = refl }
-
--- more of it is written
-pub written_more : (text piece rest : Octets) (held mid holds : Option Octets)
-    → HasWritten text (piece ++ rest) held mid → Appends mid holds piece → HasWritten text rest held holds
-written_more text piece rest held mid holds so_far appended = record {
-  written = so_far.written ++ piece;
-  appended = appends-append held mid holds so_far.written piece so_far.appended appended;
-  parts = so_far.parts ∙ sym (append_assoc so_far.written piece rest);
-}
-
-pub written_count : (text rest : Octets) (count : ℕ) (held mid holds : Option Octets)
-    → HasWritten text rest held mid → Appends mid holds (take count rest) → HasWritten text (drop count rest) held holds
-written_count text rest count held mid holds so_far appended =
-    written_more text (take count rest) (drop count rest) held mid holds
-    (subst (λ (rest : Octets). HasWritten text rest held mid) (sym (take-append-drop count rest)) so_far) appended
-
-pub written_all : (text rest : Octets) (held holds : Option Octets) → HasWritten text rest held holds → rest ≡ [] → Appends held holds text
-written_all text rest held holds so_far none =
-    subst (Appends held holds) (sym (so_far.parts ∙ ap (λ octets. so_far.written ++ octets) none ∙ append-nil so_far.written)) so_far.appended
-
--- a piece breaks off
-pub breaks_off : (text piece rest : Octets) (held mid holds : Option Octets)
-    → HasWritten text (piece ++ rest) held mid → WritesFront piece mid holds → WritesFront text held holds
-breaks_off text piece rest held mid holds so_far front = record {
-  written = so_far.written ++ front.written;
-  appended = appends-append held mid holds so_far.written front.written so_far.appended front.appended;
-  left = front.left ++ rest;
-  parts =
-      so_far.parts
-      ∙ ap (λ (octets : Octets). so_far.written ++ (octets ++ rest)) front.parts
-      ∙ ap (λ (octets : Octets). so_far.written ++ octets) (append_assoc front.written front.left rest)
-      ∙ sym (append_assoc so_far.written front.written (front.left ++ rest));
-}
-
-pub breaks_kept : (text rest : Octets) (held mid holds : Option Octets) → HasWritten text rest held mid → Keeps mid holds → WritesFront text held holds
-breaks_kept text rest held mid holds so_far kept =
-    breaks_off text [] rest held mid holds so_far (record { written = []; appended = kept-appends mid holds kept; left = []; parts = refl })
-
--- failures that are counted one after the other
-pub counts_none : (before mid now : Option ℕ) → CountsNone before mid → CountsNone mid now → CountsNone before now
-counts_none (Some b) (Some m) (Some n) first second = second ∙ first
-counts_none None None None first second = tt
-counts_none None None (Some n) first second = absurd second
-counts_none None (Some m) now first second = absurd first
-counts_none (Some b) None now first second = absurd first
-counts_none (Some b) (Some m) None first second = absurd second
-
-pub counts_one : (before mid now : Option ℕ) → CountsNone before mid → CountsOne mid now → CountsOne before now
-counts_one (Some b) (Some m) (Some n) first second = second ∙ ap (λ count. count + 1) first
-counts_one (Some b) (Some m) None first second = sym first ∙ second
-counts_one None None None first second = tt
-counts_one None None (Some n) first second = absurd second
-counts_one None (Some m) now first second = absurd first
-counts_one (Some b) None now first second = absurd first
-
-pub counts_same : (before : Option ℕ) → CountsNone before before
-counts_same (Some b) = refl
-counts_same None = tt
 
 -- lines that are written one after the other
 pub lines_more : {X : Type 0} (line : X → Octets) (xs : List X) (i : ℕ) (d : X) (octets : Octets) (held mid holds : Option Octets) → i < length xs

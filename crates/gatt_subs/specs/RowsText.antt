@@ -1,7 +1,6 @@
 -- The text of a rows file: this profile's own.
-use Rattle.std.specs.Prelude.{◌≡◌, ◌==◌, if◌then◌else◌, List, [], ◌∷◌, ◌++◌, map, slice_index, Option}
+use Rattle.std.specs.Prelude.{◌==◌, if◌then◌else◌, List, [], ◌∷◌, ◌++◌, map, slice_index}
 use Rattle.std.specs.Fmt.{decimal}
-use Rattle.std.specs.Io.KnownBytes.{Appends}
 use Rattle.std.specs.List.{flat_map}
 use Rattle.hex.specs.Hex.{encode_lower}
 use Rattle.octets.specs.Number.{Octets}
@@ -70,10 +69,3 @@ text_of rows = flat_map entry_line (configured rows) ++ flat_map owed_line (owed
 abbrev pub text_in_parts : List Peer → List Bond → Written → Octets
 text_in_parts peers bonds unfitted =
     flat_map entry_line (bond_entries peers bonds) ++ (flat_map entry_line unfitted.entries ++ (flat_map owed_line (owed_peers peers bonds) ++ flat_map owed_line unfitted.owed))
-
--- the front of these octets was written
-pub record WritesFront (octets : Octets) (held holds : Option Octets) : Type 0 where
-  pub written : Octets
-  pub appended : Appends held holds written
-  pub left : Octets
-  pub parts : octets ≡ written ++ left

@@ -7,7 +7,7 @@ ghost use Rattle.std.specs.List.{find};
 ghost use Rattle.std.specs.Option.{option_copied, option_map};
 ghost use Rattle.le_hci.specs.declared.peer.Peer.{Peer};
 ghost use Rattle.octets.specs.Memory.{Gives};
-ghost use Rattle.octets.specs.Stream.{CountsFailure};
+ghost use Rattle.octets.specs.Stream.{CountsFailure, WritesFront};
 ghost use Rattle.att_numbers.specs.Types.{Row};
 ghost use Rattle.att_table.specs.Changer.{changer_of};
 ghost use Rattle.att_table.specs.ConfigRow.{bits_at, has_room, HasOneEntryEach};
@@ -17,7 +17,7 @@ ghost use Rattle.gatt_subs.specs.InOrder.{Ascends};
 ghost use Rattle.gatt_subs.specs.RowEntry.{is_at, rank_of};
 ghost use Rattle.gatt_subs.specs.Rows.{place_of, bond_of, row_of, row_in, row_read, owes, bonds_with, with_bond, with_row, with_set, with_owed, kept_bond, subscriptions_read, ChangesBond};
 ghost use Rattle.gatt_subs.specs.Changes.{with_changes_owed};
-ghost use Rattle.gatt_subs.specs.RowsText.{text_of, WritesFront};
+ghost use Rattle.gatt_subs.specs.RowsText.{text_of};
 
 use crate::bond::Bond;
 use crate::row_entry::RowEntry;

@@ -5,10 +5,10 @@ ghost use Rattle.std.specs.Fmt.{decimal};
 ghost use Rattle.std.specs.Io.KnownBytes.{Appends};
 ghost use Rattle.std.specs.List.{flat_map};
 ghost use Rattle.arrayvec.specs.ArrayVec.{array_vec_len};
-ghost use Rattle.octets.specs.Stream.{CountsFailure};
+ghost use Rattle.octets.specs.Stream.{CountsFailure, WritesFront};
 ghost use Rattle.gatt_subs.specs.InOrder.{in_order};
 ghost use Rattle.gatt_subs.specs.RowEntry.{order_of};
-ghost use Rattle.gatt_subs.specs.RowsText.{address_text, peer_text, entry_line, owed_line, owed_peers, bond_entries, entries_of, text_in_parts, WritesFront};
+ghost use Rattle.gatt_subs.specs.RowsText.{address_text, peer_text, entry_line, owed_line, owed_peers, bond_entries, entries_of, text_in_parts};
 
 use crate::bond::Bond;
 use crate::row_entry::RowEntry;
@@ -17,7 +17,7 @@ use arrayvec::ArrayVec;
 use att_table::ConfigRow;
 use itoa::Buffer;
 use le_hci::Peer;
-use octets::{Failed, Sink};
+use octets::{Failed, Sink, write_all};
 
 /// Room for a line.
 const LINE: usize = 96;
@@ -78,20 +78,6 @@ fn write_if<W: Sink>(owed: bool, peer: &Peer, sink: &mut W) -> Result<(), Failed
     } else {
         Ok(())
     }
-}
-
-/// Writes octets out, or the front of them where the sink fails.
-fn write_all<W: Sink>(octets: &[u8], sink: &mut W) -> Result<(), Failed>
-    ensures ok { OnOk result (Appends (W.contents sink.old) (W.contents sink.new) octets.now) }
-    ensures front { OnErr result (WritesFront octets.now (W.contents sink.old) (W.contents sink.new)) }
-    ensures failures { CountsFailure (W.failures sink.old) (W.failures sink.new) result }
-{
-    let mut rest = octets;
-    while !rest.is_empty() {
-        let count = sink.write(rest)?;
-        rest = rest.split_at(count).1;
-    }
-    Ok(())
 }
 
 /// Writes the lines of entries.

@@ -4,4 +4,4 @@
 
 mod stream;
 
-pub use stream::{ArraySink, Failed, Reader, Sink, SliceSource, Source, Writer};
+pub use stream::{ArraySink, Failed, Reader, Sink, SliceSource, Source, Writer, write_all};

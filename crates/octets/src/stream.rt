@@ -1,7 +1,7 @@
-ghost use Rattle.std.specs.Prelude.{◌≡◌, ℕ, ◌<◌, ◌≤◌, Option, Some, None, IfOk, IfErr, [], length};
-ghost use Rattle.std.specs.Io.KnownBytes.{ReadConsumes, WriteAppends};
+ghost use Rattle.std.specs.Prelude.{◌≡◌, ℕ, ◌<◌, ◌≤◌, Option, Some, None, IfOk, IfErr, OnOk, OnErr, [], length};
+ghost use Rattle.std.specs.Io.KnownBytes.{Appends, ReadConsumes, WriteAppends};
 ghost use Rattle.octets.specs.Number.{Octets};
-ghost use Rattle.octets.specs.Stream.{CountsFailure, CountsOne};
+ghost use Rattle.octets.specs.Stream.{CountsFailure, CountsOne, WritesFront};
 
 use arrayvec::ArrayVec;
 use std::io::{ErrorKind, Read, Write};
@@ -51,6 +51,20 @@ fn one_more(failures: Option<u64>) -> Option<u64>
         Some(count) if count < u64::MAX => Some(count + 1),
         _ => None,
     }
+}
+
+/// Writes octets out, or the front of them where the sink fails.
+pub fn write_all<W: Sink>(octets: &[u8], sink: &mut W) -> Result<(), Failed>
+    ensures ok { OnOk result (Appends (W.contents sink.old) (W.contents sink.new) octets.now) }
+    ensures front { OnErr result (WritesFront octets.now (W.contents sink.old) (W.contents sink.new)) }
+    ensures failures { CountsFailure (W.failures sink.old) (W.failures sink.new) result }
+{
+    let mut rest = octets;
+    while !rest.is_empty() {
+        let count = sink.write(rest)?;
+        rest = rest.split_at(count).1;
+    }
+    Ok(())
 }
 
 /// A reader of std as a source: a read that is interrupted is made again.

@@ -1,5 +1,6 @@
 use Rattle.std.proofs.Common.{◌<◌, length, ◌∙◌, arith}
-use Rattle.gatt_subs.proofs.Writing.{bonds_break_off, bonds_more, counts_none, on_err}
+use Rattle.octets.proofs.Writing.{counts_none}
+use Rattle.gatt_subs.proofs.Writing.{bonds_break_off, bonds_more, on_err}
 use Rattle.gatt_subs.proofs.rows_text.write_bonds.Goals as goal
 
 pub returns-in_err-write_entries-clause-front : goal.returns-in_err-write_entries-clause-front

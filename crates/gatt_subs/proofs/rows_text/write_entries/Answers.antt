@@ -1,6 +1,7 @@
 use Rattle.std.proofs.Common.{◌∙◌}
 use Rattle.gatt_subs.specs.RowsText.{entry_line}
-use Rattle.gatt_subs.proofs.Writing.{counts_none, line_breaks_off, lines_more, on_err}
+use Rattle.octets.proofs.Writing.{counts_none}
+use Rattle.gatt_subs.proofs.Writing.{line_breaks_off, lines_more, on_err}
 use Rattle.gatt_subs.proofs.rows_text.write_entries.Goals as goal
 
 pub returns-in_err-write_all-clause-front : goal.returns-in_err-write_all-clause-front

@@ -2,7 +2,7 @@ use Rattle.std.proofs.Common.{drop}
 use Rattle.std.specs.List.{flat_map}
 use Rattle.octets.specs.Stream.{CountsNone}
 use Rattle.gatt_subs.specs.RowsText.{entry_line}
-use Rattle.gatt_subs.proofs.Writing.{HasWritten}
+use Rattle.octets.proofs.Writing.{HasWritten}
 use Rattle.gatt_subs.proofs.rows_text.write_entries.Given as goal
 
 abbrev pub invariant-loop-entry : goal.invariant-loop-entry

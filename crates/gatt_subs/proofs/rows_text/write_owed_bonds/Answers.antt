@@ -1,5 +1,6 @@
 use Rattle.std.proofs.Common.{◌<◌, length, arith}
-use Rattle.gatt_subs.proofs.Writing.{owed_break_off, owed_more, counts_none, on_err}
+use Rattle.octets.proofs.Writing.{counts_none}
+use Rattle.gatt_subs.proofs.Writing.{owed_break_off, owed_more, on_err}
 use Rattle.gatt_subs.proofs.rows_text.write_owed_bonds.Goals as goal
 
 pub returns-in_err-write_if-clause-front : goal.returns-in_err-write_if-clause-front

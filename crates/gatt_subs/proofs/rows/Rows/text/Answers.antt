@@ -2,7 +2,8 @@ use Rattle.std.proofs.Common.{ap, subst, ◌∙◌}
 use Rattle.std.specs.Prelude.{OnOk, OnErr}
 use Rattle.std.specs.Io.KnownBytes.{Appends}
 use Rattle.octets.specs.Number.{Octets}
-use Rattle.gatt_subs.specs.RowsText.{text_in_parts, text_of, WritesFront}
+use Rattle.gatt_subs.specs.RowsText.{text_in_parts, text_of}
+use Rattle.octets.specs.Stream.{WritesFront}
 use Rattle.gatt_subs.proofs.Writing.{text_of_parts}
 use Rattle.gatt_subs.proofs.rows.Rows.text.Goals as goal
 

@@ -1,7 +1,7 @@
 use Rattle.std.proofs.Common.{sym, subst}
 use Rattle.octets.specs.Number.{Octets}
-use Rattle.gatt_subs.proofs.Writing.{HasWritten, written_count, counts_none}
-use Rattle.gatt_subs.proofs.rows_text.write_all.Goals as goal
+use Rattle.octets.proofs.Writing.{HasWritten, written_count, counts_none}
+use Rattle.octets.proofs.stream.write_all.Goals as goal
 
 pub loop-rest-preserved : goal.loop-rest-preserved
 loop-rest-preserved g c = record {

@@ -1,7 +1,7 @@
 use Rattle.std.proofs.Common.{length}
 use Rattle.octets.specs.Stream.{CountsNone}
-use Rattle.gatt_subs.proofs.Writing.{HasWritten}
-use Rattle.gatt_subs.proofs.rows_text.write_all.Given as goal
+use Rattle.octets.proofs.Writing.{HasWritten}
+use Rattle.octets.proofs.stream.write_all.Given as goal
 
 abbrev pub invariant-loop-rest : goal.invariant-loop-rest
 invariant-loop-rest g l = record {
