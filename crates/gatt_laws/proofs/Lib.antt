@@ -26,5 +26,6 @@ pub mod Stores
 pub mod Streams
 pub mod TurnsAlike
 pub mod TwoWorlds
+pub mod Unfinished
 pub mod ValuesOfTheTable
 pub mod examples

@@ -14,7 +14,7 @@ use Rattle.le_h4.specs.Packet.{Packet, ScoPacket, EventPacket, First, FirstPacke
 use Rattle.octets.specs.Number.{Octets, from_two}
 
 -- where one octet more makes a packet whole, nothing follows it
-abbrev EndsWithIt : First → First → Type 0
+abbrev pub EndsWithIt : First → First → Type 0
 EndsWithIt NoneYet (FirstPacket packet rest) = rest ≡ []
 EndsWithIt NoneYet NoneYet = Unit
 EndsWithIt NoneYet (NoPacket indicator) = Unit
@@ -71,7 +71,7 @@ ends-alone octet false true event = tt
 ends-alone octet false false true = tt
 ends-alone octet false false false = tt
 
-ends_first : (octet : ℕ) (octets : Octets) → EndsWithIt (first_of octets) (first_of (octets ++ octet ∷ []))
+pub ends_first : (octet : ℕ) (octets : Octets) → EndsWithIt (first_of octets) (first_of (octets ++ octet ∷ []))
 ends_first octet [] = ends-alone octet (octet == 0x02) (octet == 0x03) (octet == 0x04)
 ends_first octet (indicator ∷ octets) =
     ends-either (indicator == 0x02) _ _ _ _ (ends-acl octet octets)
@@ -79,11 +79,11 @@ ends_first octet (indicator ∷ octets) =
     (ends-either (indicator == 0x04) _ _ _ _ (ends-event octet octets) tt))
 
 -- a course that has stopped
-stays-stopped : (old : Course) (fault : Fault) (items : List Item) → old.intake.fault ≡ Some fault → after_items old items ≡ old
+pub stays_stopped : (old : Course) (fault : Fault) (items : List Item) → old.intake.fault ≡ Some fault → after_items old items ≡ old
 unfolding after_item
-stays-stopped old fault [] is = refl
-stays-stopped old fault (item ∷ items) is =
-    ap (λ (stands : Option Fault). after_items (unless_stopped stands old (taken old item)) items) is ∙ stays-stopped old fault items is
+stays_stopped old fault [] is = refl
+stays_stopped old fault (item ∷ items) is =
+    ap (λ (stands : Option Fault). after_items (unless_stopped stands old (taken old item)) items) is ∙ stays_stopped old fault items is
 
 -- what is unfinished does not matter to a packet
 packet-apart : (old : Course) (octets : Octets) (packet : Packet) (result : Result Event Fault)
@@ -115,13 +115,13 @@ Follows octets = (old : Course) → old.intake.fault ≡ None → first_of old.i
 -- a packet that is taken, and then they
 after-packet : (new : Course) (octets : Octets) (fault : Option Fault) → new.intake.fault ≡ fault → new.intake.unfinished ≡ [] → Follows octets
     → whole (after_items new (map AnOctet octets)) ≡ whole (unless_stopped fault new (after_division new (division octets)))
-after-packet new octets (Some fault) is empty follows = ap whole (stays-stopped new fault (map AnOctet octets) is)
+after-packet new octets (Some fault) is empty follows = ap whole (stays_stopped new fault (map AnOctet octets) is)
 after-packet new octets None is empty follows =
     follows new is (ap first_of empty) ∙ ap (λ (unfinished : Octets). whole (after_division new (division (unfinished ++ octets)))) empty
 
-packet-kept : (old : Course) (packet : Packet) (result : Result Event Fault) → (packet_taken old packet result).intake.unfinished ≡ old.intake.unfinished
-packet-kept old packet (Ok event) = refl
-packet-kept old packet (Err fault) = refl
+pub packet_kept : (old : Course) (packet : Packet) (result : Result Event Fault) → (packet_taken old packet result).intake.unfinished ≡ old.intake.unfinished
+packet_kept old packet (Ok event) = refl
+packet_kept old packet (Err fault) = refl
 
 after-whole : (old : Course) (packet : Packet) (octets : Octets) (long : Bool) → old.intake.fault ≡ None → Follows octets
     → whole (after_items (cond long (with_unfinished old []) (after_packet (with_unfinished old []) packet)) (map AnOctet octets))
@@ -131,7 +131,7 @@ after-whole old packet octets false none follows =
     let start : Course = with_unfinished old [] in
     let new : Course = after_packet start packet in
     after-packet new octets new.intake.fault refl
-    (packet-kept start packet (packet_event start.intake.state start.intake.fragments packet)) follows
+    (packet_kept start packet (packet_event start.intake.state start.intake.fragments packet)) follows
 
 after-octet : (old : Course) (octets : Octets) (octet : ℕ) (first : First) → old.intake.fault ≡ None
     → first_of (old.intake.unfinished ++ octet ∷ []) ≡ first → EndsWithIt NoneYet first → Follows octets
@@ -143,7 +143,7 @@ after-octet old octets octet NoneYet none is ends follows =
     ∙ packets-apart (division (unfinished ++ octets)).packets (division (unfinished ++ octets)).end old unfinished
 after-octet old octets octet (NoPacket indicator) none is ends follows =
     let unfinished : Octets = old.intake.unfinished ++ octet ∷ [] in
-    ap whole (stays-stopped (stopped old (Desync indicator)) (Desync indicator) (map AnOctet octets) refl)
+    ap whole (stays_stopped (stopped old (Desync indicator)) (Desync indicator) (map AnOctet octets) refl)
     ∙ ap (λ (d : Division). whole (after_division old d)) (sym (division-lost unfinished octets indicator is))
 after-octet old octets octet (FirstPacket packet rest) none is ends follows =
     let unfinished : Octets = old.intake.unfinished ++ octet ∷ [] in

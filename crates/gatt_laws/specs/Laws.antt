@@ -3,7 +3,7 @@ use Rattle.std.specs.Prelude.{◌≡◌, List, [], ◌∷◌, ◌++◌, map, Non
 use Rattle.gatt_laws.specs.Input.{Item, AnOctet, Course, after_item, after_items, after_packet, course, stopped, unless_stopped, with_unfinished}
 use Rattle.gatt_laws.specs.Packets.{Desync}
 use Rattle.gatt_laws.specs.Start.{Start}
-use Rattle.le_h4.specs.Division.{Division, End, Unfinished, Lost, division}
+use Rattle.le_h4.specs.Division.{Division, End, Unfinished, Lost, before, division}
 use Rattle.le_h4.specs.Packet.{Packet, NoneYet, first_of}
 use Rattle.octets.specs.Number.{Octets}
 
@@ -38,3 +38,15 @@ whole course = with_unfinished course []
 abbrev pub TakesTheDivision : Type 0
 TakesTheDivision = (old : Course) (octets : Octets) → old.intake.fault ≡ None → first_of old.intake.unfinished ≡ NoneYet →
     whole (after_items old (map AnOctet octets)) ≡ whole (after_division old (division (old.intake.unfinished ++ octets)))
+
+-- less than a packet is unfinished
+abbrev pub LeavesLessThanAPacket : Type 0
+LeavesLessThanAPacket = (start : Start) (input : List Item) → first_of (course start input).intake.unfinished ≡ NoneYet
+
+-- octets that follow divide with those that are unfinished then, behind the packets that came before
+abbrev pub DividesOn : Octets → Type 0
+DividesOn octets = (old : Course) → old.intake.fault ≡ None → first_of old.intake.unfinished ≡ NoneYet →
+    let new = after_items old (map AnOctet octets) in
+    new.intake.fault ≡ None → (rest : Octets) →
+    division (old.intake.unfinished ++ (octets ++ rest))
+    ≡ before (division (old.intake.unfinished ++ octets)).packets (division (new.intake.unfinished ++ rest))
