@@ -12,3 +12,5 @@ pub mod Readies
 pub mod Lengths
 pub mod standing
 pub mod asking
+pub mod meaning
+pub mod whole

@@ -7,6 +7,8 @@ use Rattle.gatt_laws.specs.Controller.{Controller, is_ready}
 use Rattle.gatt_laws.specs.Event.{Event}
 use Rattle.gatt_laws.specs.Packets.{Fault, Desync, BadEventCode, InitFailed, Hardware}
 use Rattle.gatt_laws.specs.State.{is_refusal}
+use Rattle.le_h4.specs.declared.deframer.H4Fault.{H4Fault}
+use Rattle.le_h4.specs.declared.deframer.H4Fault.TheVariants as lost
 use Rattle.le_hci.specs.declared.init.Init.{Init}
 
 -- a fault, as the host says it
@@ -35,3 +37,7 @@ answered_by controller allowed opcode status (Some init) = record controller { c
 answered_by controller allowed opcode status None =
     if is_ready controller && is_refusal opcode status then record controller { credit = allowed; advertising = false; refused = true }
     else record controller { credit = allowed }
+
+-- and where its stream cannot be divided any further
+abbrev pub lost_fault : H4Fault → HostFault
+lost_fault (lost.Desync indicator) = stop.Desync indicator

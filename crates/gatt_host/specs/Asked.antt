@@ -50,3 +50,12 @@ call_happening held (TickCall time) = if nat_lt time held.time then Err TimeWent
 -- a table may replace another where both have a changer at the same handle
 abbrev pub replacement_happening : Held → Contents → Result Happening Refused
 replacement_happening held table = if same_changer held.changer (changer_of table) then Ok (Replaces table) else Err NoServiceChanged
+
+-- why a call was refused, or a table, if it was
+abbrev pub refusal_of : Result Unit AppFault → Option Refused
+refusal_of (Ok done) = None
+refusal_of (Err refused) = Some (refused_of refused)
+
+abbrev pub replacing_refusal_of : {A B : Type 0} → Result A (AppFault × B) → Option Refused
+replacing_refusal_of (Ok old) = None
+replacing_refusal_of (Err refused) = Some (refused_of refused.0)

@@ -5,6 +5,7 @@ use Rattle.att_numbers.specs.Types.{Handle, Mtu, Row}
 use Rattle.att_table.specs.Changer.{changer_of}
 use Rattle.att_table.specs.Table.{Contents, with_value}
 use Rattle.gatt_host.specs.Answers.{answered_by}
+use Rattle.gatt_host.specs.GoingOut.{controller_then, next_out, slots_then}
 use Rattle.gatt_laws.specs.Controller.{Controller, is_ready}
 use Rattle.gatt_laws.specs.Event.{Event, Connected, Gone, Credit}
 use Rattle.gatt_laws.specs.Packets.{Fault}
@@ -164,3 +165,13 @@ pub record Credits (event : Result Event Fault) (allowed opcode : ℕ) (status :
   pub following : Option Init
   pub means : event ≡ Ok (Credit allowed opcode status following)
   pub held : new ≡ after_credit allowed opcode status following old
+
+-- what goes out next is out
+abbrev pub next_of : Held → Option Octets
+next_of held = next_out held.controller (open_slots held)
+
+abbrev pub after_out : Held → Held
+after_out held = record held {
+  controller = controller_then held.controller (open_slots held);
+  slots = if is_ready held.controller then slots_then held.controller held.slots else held.slots;
+}

@@ -8,3 +8,8 @@ pub mod Packet
 pub mod Asked
 pub mod Standing
 pub mod Leading
+pub mod Whole
+pub mod Opening
+pub mod Feeding
+pub mod Credits
+pub mod Numbers

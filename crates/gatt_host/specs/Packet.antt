@@ -1,5 +1,5 @@
 -- What a host makes of a packet, by what it holds: whom an ACL packet is from, and what an event means.
-use Rattle.std.specs.Prelude.{◌≡◌, ℕ, List, set, get_or, Option, Some, None, Result, Ok, Err}
+use Rattle.std.specs.Prelude.{◌≡◌, ℕ, set, get_or, Option, Some, None, Result, Ok, Err}
 use Rattle.gatt_host.specs.Answers.{stop_of}
 use Rattle.gatt_host.specs.declared.host_fault.HostFault.{HostFault}
 use Rattle.gatt_host.specs.declared.host_fault.HostFault.TheVariants as stop
@@ -13,7 +13,8 @@ use Rattle.le_acl.specs.Fragment.{Fragment, fragment_of}
 use Rattle.le_acl.specs.Reassembler.{Assembly, nothing}
 use Rattle.le_hci.specs.declared.event.BadEvent.{BadEvent}
 use Rattle.le_hci.specs.Event as event
-use Rattle.le_hci.specs.Event.{Reported}
+use Rattle.le_h4.specs.Packet.{Packet, AclPacket, EventPacket, ScoPacket}
+use Rattle.le_hci.specs.Event.{Reported, event_of}
 use Rattle.octets.specs.Number.{Octets}
 
 -- a fragment of a connection that serves joins its frame, which is heard where it is whole
@@ -60,3 +61,25 @@ event_stop (Err bad) held = Some (stop.BadEvent bad.0)
 abbrev pub frames_after_event : Held → Result Reported BadEvent → Frames → Frames
 frames_after_event held (Ok reported) frames = frames_after (reported_happening held reported) frames
 frames_after_event held (Err bad) frames = frames
+
+-- a packet is taken in, and what is held and put together then; or the host stops for good
+pub record TakesAcl (handle boundary broadcast : ℕ) (octets : Octets) (old : Held) (frames : Frames) (new : Held) (after : Frames) : Type 0 where
+  pub held : IsAfter (acl_happening old handle boundary broadcast octets frames) old new
+  pub frames_then : after ≡ frames_after_acl old handle boundary broadcast octets frames
+
+pub record TakesAnEvent (octets : Octets) (old : Held) (frames : Frames) (new : Held) (after : Frames) : Type 0 where
+  pub held : TakesEvent (event_of octets) old new
+  pub frames_then : after ≡ frames_after_event old (event_of octets) frames
+
+pub record TakesNothing (old : Held) (frames : Frames) (new : Held) (after : Frames) : Type 0 where
+  pub held : IsAfter Passes old new
+  pub frames_then : after ≡ frames
+
+abbrev pub TakesPacket : Packet → Held → Frames → Held → Frames → Type 0
+TakesPacket (AclPacket handle boundary broadcast octets) old frames new after = TakesAcl handle boundary broadcast octets old frames new after
+TakesPacket (EventPacket octets) old frames new after = TakesAnEvent octets old frames new after
+TakesPacket ScoPacket old frames new after = TakesNothing old frames new after
+
+abbrev pub packet_stop : Packet → Held → Option HostFault
+packet_stop (EventPacket octets) held = event_stop (event_of octets) held
+packet_stop packet held = None

@@ -1,5 +1,5 @@
 -- Where a host stands in a course: at its state, with what has gone out by now.
-use Rattle.std.specs.Prelude.{◌≡◌, ℕ, ◌≤◌, List, [], ◌++◌, length, get_or, slice_get, Option, Some, None, Result, Ok, Err}
+use Rattle.std.specs.Prelude.{◌≡◌, ℕ, ◌≤◌, List, [], ◌++◌, length, get_or, slice_get, Some, Ok, Err}
 use Rattle.att_table.specs.Table.{Contents}
 use Rattle.gatt_host.specs.Asked.{call_happening, replacement_happening}
 use Rattle.gatt_host.specs.Answers.{told_fault}
@@ -19,12 +19,13 @@ use Rattle.le_h4.specs.Packet.{AclPacket, EventPacket, ScoPacket}
 use Rattle.le_hci.specs.Event.{event_of}
 use Rattle.octets.specs.Number.{Octets}
 
--- the frame of each slot is put together from the fragments of its connection; one that has not come has none
+-- the frame of each slot is put together from the fragments of its connection; one that has not come has none; and there is
+-- a frame for each slot that may be opened
 pub record IsPutTogether (state : State) (fragments : Fragments) (frames : Frames) : Type 0 where
   pub there : (place : ℕ) (ordinal : Ordinal) → slice_get state.slots place ≡ Some (Some ordinal)
       → get_or frames place nothing ≡ assembly_after (fragments ordinal)
   pub fresh : (ordinal : Ordinal) → state.next ≤ ordinal → fragments ordinal ≡ []
-  pub room : length state.slots ≤ length frames
+  pub room : state.room.slots ≤ length frames
 
 -- these packets have gone out, and what the course has beyond them is owed
 pub record StandsIn (course : Course) (gone : List Octets) (held : Held) (frames : Frames) : Type 0 where

@@ -1,3 +1,6 @@
+ghost use Rattle.std.specs.Prelude.{◌≡◌};
+ghost use Rattle.gatt_host.specs.Numbers.{number_of_refusal};
+
 /// What an application asks of a host.
 #[derive(Clone, Copy, Debug, PartialEq, Eq)]
 pub enum App<'a> {
@@ -28,4 +31,21 @@ pub enum AppFault {
     Stopped,
     /// One of the tables has no value that tells of changes, or they have it at different handles.
     NoServiceChanged,
+}
+
+impl AppFault {
+    /// The number of the fault, 1 to 7, in the order of the variants.
+    pub fn number(self) -> u8
+        ensures { result ≡ number_of_refusal self }
+    {
+        match self {
+            AppFault::NoSuchHandle => 1,
+            AppFault::NotAValue => 2,
+            AppFault::BadLength => 3,
+            AppFault::NoSuchConnection => 4,
+            AppFault::TimeWentBack => 5,
+            AppFault::Stopped => 6,
+            AppFault::NoServiceChanged => 7,
+        }
+    }
 }

@@ -1,6 +1,6 @@
 //! What an application asks, as what happens to a host.
 
-ghost use Rattle.std.specs.Prelude.{◌≡◌, ◌≤◌, true, length, Err, IsOk, IfOk, IfErr, OnErr};
+ghost use Rattle.std.specs.Prelude.{◌≡◌, ◌≤◌, true, length, Err, IsOk, IsOkAnd, IfOk, IfErr, OnErr};
 ghost use Rattle.att_table.specs.Changer.{changer_of};
 ghost use Rattle.att_table.specs.Table.{attribute_at, room_at};
 ghost use Rattle.gatt_laws.specs.Calls.{has_length, same_changer, TickCall};
@@ -17,7 +17,7 @@ use gatt_slots::find_serving;
 impl HostState {
     /// Does what the application asks, or refuses it and changes nothing.
     pub(crate) fn app(&mut self, call: App<'_>) -> Result<(), AppFault>
-        ensures after { IsOk result → IfOk (call_happening self.old (call_of call.entry)) (λ happening. IsAfter happening self.old self.new) }
+        ensures after { IsOk result → IsOkAnd (call_happening self.old (call_of call.entry)) (λ happening. IsAfter happening self.old self.new) }
         ensures refused { IfErr result (λ fault. call_happening self.old (call_of call.entry) ≡ Err (refused_of fault)) }
         ensures unchanged { OnErr result (self.new ≡ self.old) }
     {
@@ -30,7 +30,7 @@ impl HostState {
 
     #[tactic(auto, using(crate::proofs::Lengths::fits_there, crate::proofs::Lengths::exact_there, crate::proofs::Lengths::none_past))]
     fn update_value(&mut self, handle: u16, value: &[u8]) -> Result<(), AppFault>
-        ensures after { IsOk result → IfOk (update_happening handle value.now (attribute_at self.old.table.attributes handle)) (λ happening. IsAfter happening self.old self.new) }
+        ensures after { IsOk result → IsOkAnd (update_happening handle value.now (attribute_at self.old.table.attributes handle)) (λ happening. IsAfter happening self.old self.new) }
         ensures refused { IfErr result (λ fault. update_happening handle value.now (attribute_at self.old.table.attributes handle) ≡ Err (refused_of fault)) }
         ensures unchanged { OnErr result (self.new ≡ self.old) }
     {
@@ -51,7 +51,7 @@ impl HostState {
     }
 
     fn authorize_connection(&mut self, handle: u16, until: u64) -> Result<(), AppFault>
-        ensures after { IsOk result → IfOk (authorize_happening until (place_serving self.old.slots handle)) (λ happening. IsAfter happening self.old self.new) }
+        ensures after { IsOk result → IsOkAnd (authorize_happening until (place_serving self.old.slots handle)) (λ happening. IsAfter happening self.old self.new) }
         ensures refused { IfErr result (λ fault. authorize_happening until (place_serving self.old.slots handle) ≡ Err (refused_of fault)) }
         ensures unchanged { OnErr result (self.new ≡ self.old) }
     {
@@ -63,7 +63,7 @@ impl HostState {
     }
 
     fn tick_on(&mut self, time: u64) -> Result<(), AppFault>
-        ensures after { IsOk result → IfOk (call_happening self.old (TickCall time)) (λ happening. IsAfter happening self.old self.new) }
+        ensures after { IsOk result → IsOkAnd (call_happening self.old (TickCall time)) (λ happening. IsAfter happening self.old self.new) }
         ensures refused { IfErr result (λ fault. call_happening self.old (TickCall time) ≡ Err (refused_of fault)) }
         ensures unchanged { OnErr result (self.new ≡ self.old) }
     {

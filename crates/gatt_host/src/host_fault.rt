@@ -1,3 +1,6 @@
+ghost use Rattle.std.specs.Prelude.{◌≡◌};
+ghost use Rattle.gatt_host.specs.Numbers.{number_of_fault};
+
 use le_hci::InitFault;
 
 /// Why a host stops for good, or why it could not go on serving.
@@ -17,4 +20,21 @@ pub enum HostFault {
     Write,
     /// As many turns are over as there may be.
     Turns,
+}
+
+impl HostFault {
+    /// The number of the fault, 1 to 7, in the order of the variants.
+    pub fn number(self) -> u8
+        ensures { result ≡ number_of_fault self }
+    {
+        match self {
+            HostFault::Desync(_) => 1,
+            HostFault::BadEvent(_) => 2,
+            HostFault::Init(_) => 3,
+            HostFault::Hardware(_) => 4,
+            HostFault::Read => 5,
+            HostFault::Write => 6,
+            HostFault::Turns => 7,
+        }
+    }
 }

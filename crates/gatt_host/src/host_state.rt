@@ -1,4 +1,5 @@
-ghost use Rattle.std.specs.Prelude.{◌≡◌, ◌<◌, ◌≤◌, ◌^◌, [], if◌then◌else◌, length, map, true, Some, IfSome, IsSome, IsOk, IfErr, OnErr};
+ghost use Rattle.std.specs.Prelude.{◌≡◌, ◌<◌, ◌≤◌, ◌^◌, [], if◌then◌else◌, is_some, length, map, true, Some, IfSome, IsSome, IsOk, IfErr, OnErr};
+ghost use Rattle.std.specs.Bool.{OnFalse, OnTrue};
 ghost use Rattle.std.specs.Option.{option_to_list};
 ghost use Rattle.att_table.specs.ConfigRow.{IsRowOf};
 ghost use Rattle.att_table.specs.Table.{attribute_at, is_fixed_at, room_at};
@@ -6,14 +7,17 @@ ghost use Rattle.gatt_host.specs.Answers.{following_if, stop_of};
 ghost use Rattle.gatt_laws.specs.Packets.{completed_event, status_event, status_of};
 ghost use Rattle.le_acl.specs.Shares.{acl_len, share};
 ghost use Rattle.le_hci.specs.InitTold.{told_in};
-ghost use Rattle.gatt_host.specs.Held.{after_end, opened, Credits, after_ask_key, after_authorize, after_coming, after_completing, after_going, after_link, after_nothing, after_replacing, after_signals, after_tick, after_update, kept_at, row_at, Serves};
+ghost use Rattle.gatt_host.specs.GoingOut.{is_drained};
+ghost use Rattle.gatt_host.specs.Held.{open_slots, next_of, after_out, after_end, opened, Credits, after_ask_key, after_authorize, after_coming, after_completing, after_going, after_link, after_nothing, after_replacing, after_signals, after_tick, after_update, kept_at, row_at, Serves};
 ghost use Rattle.gatt_slots.specs.Slots.{all_heard};
 ghost use Rattle.gatt_slots.specs.Hearing.{row_in_force};
 ghost use Rattle.le_hci.specs.Event.{completed_packets_of};
 ghost use Rattle.le_security.specs.Link.{Encryption, Refresh};
 
 use crate::controller::Controller;
+use crate::going_out::{is_drained, next_out};
 use crate::host_fault::HostFault;
+use arrayvec::ArrayVec;
 use att_table::Table;
 use gatt_slots::{Slot, complete_all, hear_all, replace_all, tick_all};
 use gatt_subs::Rows;
@@ -379,6 +383,33 @@ impl HostState {
             ),
         }
         old
+    }
+}
+
+impl HostState {
+    /// Puts the next packet that is to go out in place of what `out` holds, and takes in that it is out.
+    pub(crate) fn next_out(&mut self, out: &mut ArrayVec<u8, 260>) -> bool
+        ensures goes { result ≡ is_some (next_of self.old) }
+        ensures octets { OnTrue result (next_of self.old ≡ Some out.new.items) }
+        ensures after { self.new ≡ after_out self.old }
+        ensures unchanged { OnFalse result (self.new ≡ self.old) }
+        ensures out_unchanged { OnFalse result (out.new.items ≡ out.old.items) }
+    {
+        if self.controller.is_ready() {
+            return next_out(&mut self.controller, self.slots.as_mut_slice(), out);
+        }
+        next_out(&mut self.controller, &mut [], out)
+    }
+
+    /// Whether nothing is to go out.
+    pub(crate) fn is_drained(&self) -> bool
+        ensures { result ≡ is_drained self.now.controller (open_slots self.now) }
+    {
+        if self.controller.is_ready() {
+            is_drained(&self.controller, self.slots.as_slice())
+        } else {
+            is_drained(&self.controller, &[])
+        }
     }
 }
 

@@ -1,11 +1,15 @@
 //! Packets from the controller, as what happens to a host.
 
-ghost use Rattle.std.specs.Prelude.{◌≡◌, ◌<◌, length, get_or, IsSome, IsOk, IfSome, IfErr, OnErr};
+ghost use Rattle.std.specs.Prelude.{◌≡◌, ◌<◌, false, true, length, get_or, IsSome, IsOk, IfSome, IfErr, Some, OnErr};
+ghost use Rattle.std.specs.Result.{result_err};
 ghost use Rattle.std.specs.Option.{option_and_then, option_map_or};
 ghost use Rattle.gatt_laws.specs.Packets.{of_octets, of_frame};
-ghost use Rattle.gatt_host.specs.Held.{kept_at};
+ghost use Rattle.gatt_host.specs.GoingOut.{is_drained};
+ghost use Rattle.gatt_host.specs.Held.{kept_at, open_slots};
+ghost use Rattle.gatt_host.specs.Whole.{is_own, LeadsBy};
 ghost use Rattle.gatt_host.specs.Meaning.{frame_happening, with_fragment, HasRowsOfTheTable, IsAfter};
-ghost use Rattle.gatt_host.specs.Packet.{acl_happening, event_stop, frame_given, frames_after_acl, frames_after_event, TakesEvent};
+ghost use Rattle.le_h4.specs.Packet.{seen};
+ghost use Rattle.gatt_host.specs.Packet.{acl_happening, packet_stop, TakesPacket, event_stop, frame_given, frames_after_acl, frames_after_event, TakesEvent};
 ghost use Rattle.gatt_slots.specs.Slots.{IsThere};
 ghost use Rattle.le_acl.specs.Fragment.{fragment_of};
 ghost use Rattle.le_hci.specs.Event.{event_of};
@@ -15,6 +19,7 @@ use crate::host_fault::HostFault;
 use crate::host_state::HostState;
 use gatt_slots::find_serving;
 use le_acl::{Piece, Reassembler};
+use le_h4::PacketRef;
 use le_hci::{BadEvent, Event, read_event};
 use le_l2cap::channel::{ATT, LE_SIGNALLING, SECURITY_MANAGER};
 use le_l2cap::read_frame;
@@ -38,6 +43,7 @@ impl HostState {
         ensures frames { frames.new ≡ frames_after_event self.old (event_of octets.now) frames.old }
         ensures stops { IfErr result (λ fault. event_stop (event_of octets.now) self.old ≡ Some fault) }
         ensures unchanged { OnErr result (self.new ≡ self.old) }
+        ensures frames_unchanged { OnErr result (frames.new ≡ frames.old) }
     {
         match read_event(octets) {
             Ok(
@@ -116,5 +122,49 @@ fn join(frame: &mut Reassembler, pb: u8, bc: u8, octets: &[u8]) -> Piece
         FIRST | FIRST_NOT_FLUSHED => frame.start(octets),
         CONTINUATION => frame.more(octets),
         _ => Piece::Nothing,
+    }
+}
+
+/// Takes in a packet, or says why the host stops for good, and leads on in the course.
+pub(crate) fn packet(
+    state: &mut HostState,
+    frames: &mut [Reassembler; 8],
+    packet: PacketRef<'_>,
+) -> Result<(), HostFault>
+    requires rows { HasRowsOfTheTable state.old }
+    requires drained { is_drained state.old.controller (open_slots state.old) ≡ true }
+    ensures leads { LeadsBy (seen packet.entry) state.old frames.old state.new frames.new (result_err result) }
+    ensures not_own { IfErr result (λ fault. is_own fault ≡ false) }
+{
+    take_packet(state, frames, packet)
+}
+
+/// Takes in a packet, or says why the host stops for good.
+fn take_packet(
+    state: &mut HostState,
+    frames: &mut [Reassembler; 8],
+    packet: PacketRef<'_>,
+) -> Result<(), HostFault>
+    requires rows { HasRowsOfTheTable state.old }
+    ensures taken { IsOk result → TakesPacket (seen packet.entry) state.old frames.old state.new frames.new }
+    ensures stops { IfErr result (λ fault. packet_stop (seen packet.entry) state.old ≡ Some fault) }
+    ensures unchanged { OnErr result (state.new ≡ state.old) }
+    ensures frames_unchanged { OnErr result (frames.new ≡ frames.old) }
+{
+    match packet {
+        PacketRef::Acl {
+            handle,
+            pb,
+            bc,
+            octets,
+        } => {
+            acl(state, frames, handle, pb, bc, octets);
+            Ok(())
+        }
+        PacketRef::Event(octets) => state.event(frames, octets),
+        PacketRef::Sco => {
+            state.nothing();
+            Ok(())
+        }
     }
 }

@@ -1,0 +1,14 @@
+use Rattle.std.proofs.Common.{◌≡◌, ◌≤◌, true, None, drop}
+use Rattle.gatt_host.proofs.driving.drive.Given as goal
+use Rattle.gatt_host.proofs.whole.Driving.{HasDriven}
+use Rattle.gatt_host.specs.Whole.{all_out}
+use Rattle.octets.specs.Stream.{CountsNone}
+
+abbrev pub invariant-loop-input : goal.invariant-loop-input
+invariant-loop-input g l = record {
+  driven : HasDriven l.refused l.inputs (drop l.input-index l.inputs) l.fn.host l.host (g.W.Sink.contents l.fn.out) (g.W.Sink.contents l.out);
+  few : l.refused ≤ l.input-index;
+  none : l.host.fault ≡ None;
+  drained : all_out l.host ≡ true;
+  failures : CountsNone (g.W.Sink.failures l.fn.out) (g.W.Sink.failures l.out);
+}

@@ -1,0 +1,56 @@
+use Rattle.std.proofs.Common.{◌≡◌, [], Option, Some, None, refl, sym, subst, ap, drop, ◌∙◌}
+use Rattle.gatt_host.proofs.whole.Feeds.{broken_before, counts_where_going, fault_answered, going_takes, none_answered, taken_breaks, taken_silently, taken_stops, taken_then, HasTaken}
+use Rattle.gatt_host.specs.declared.host_fault.HostFault.{HostFault}
+use Rattle.gatt_host.specs.Feeding.{octet_items}
+use Rattle.gatt_host.specs.Whole.{Whole}
+use Rattle.octets.proofs.Writing.{counts_none}
+use Rattle.octets.specs.Number.{Octets}
+use Rattle.gatt_host.proofs.feeding.feed.Goals as goal
+
+pub returns-in_err-write_out-clause-feeds : goal.returns-in_err-write_out-clause-feeds
+returns-in_err-write_out-clause-feeds g c = λ none.
+    broken_before [] (octet_items c.args.octets.now) c.args.host.now c.write_out.new.host (g.W.Sink.contents c.args.out.now) (g.W.Sink.contents c.write_out.new.out)
+    c.write_out.new.host.fault (fault_answered c.write_out.new.host.fault c.in_err-write_out.field-0.0 c.in_err-write_out.ensures.fault ∙ ap (λ (why : HostFault). Some why) c.in_err-write_out.ensures.write)
+    c.write_out.ensures.feeds
+
+pub returns-in_err-used-clause-feeds : goal.returns-in_err-used-clause-feeds
+returns-in_err-used-clause-feeds g c = λ none.
+    taken_stops c.args.octets.now c.loop-rest.rest.now c.args.host.now c.loop-rest.host c.take.new.host (g.W.Sink.contents c.args.out.now) (g.W.Sink.contents c.loop-rest.out)
+    c.take.new.host.fault c.in_err-used.field-0.0 c.loop-rest.invariant.takes c.in_err-used.ensures.leads c.in_err-used.ensures.fault c.in_err-used.ensures.not_own
+
+pub loop-rest-preserved : goal.loop-rest-preserved
+loop-rest-preserved g c =
+    let old : Whole = c.args.host.now in
+    let at : Whole = c.loop-rest.host in
+    let mid : Whole = c.take.new.host in
+    let new : Whole = c.write_out-in-loop-rest.new.host in
+    let used = c.in_ok-used.used in
+    let rest : Octets = c.loop-rest.rest.now in
+    let before : Option Octets = g.W.Sink.contents c.args.out.now in
+    let between : Option Octets = g.W.Sink.contents c.loop-rest.out in
+    let after : Option Octets = g.W.Sink.contents c.write_out-in-loop-rest.new.out in
+    let none : new.fault ≡ None = none_answered new.fault c.in_ok-write_out-2.ensures.fault in
+    record {
+      takes = subst (λ (left : Octets). HasTaken c.args.octets.now left old new before after) (sym c.split_at.ensures.back)
+          (taken_then c.args.octets.now (drop used rest) old mid new before between after
+          (taken_silently c.args.octets.now rest used old at mid before between c.loop-rest.invariant.takes c.in_ok-used.ensures.leads)
+          (going_takes [] mid new between after new.fault none c.write_out-in-loop-rest.ensures.feeds));
+      none = none;
+      drained = c.in_ok-write_out-2.ensures.out refl;
+      failures = counts_none _ _ _ c.loop-rest.invariant.failures (counts_where_going new.fault _ _ none c.write_out-in-loop-rest.ensures.failures);
+    }
+
+pub returns-in_err-write_out-2-clause-feeds : goal.returns-in_err-write_out-2-clause-feeds
+returns-in_err-write_out-2-clause-feeds g c = λ none.
+    let old : Whole = c.args.host.now in
+    let mid : Whole = c.take.new.host in
+    let new : Whole = c.write_out-in-loop-rest.new.host in
+    let used = c.in_ok-used.used in
+    let rest : Octets = c.loop-rest.rest.now in
+    let before : Option Octets = g.W.Sink.contents c.args.out.now in
+    let between : Option Octets = g.W.Sink.contents c.loop-rest.out in
+    let after : Option Octets = g.W.Sink.contents c.write_out-in-loop-rest.new.out in
+    taken_breaks c.args.octets.now (drop used rest) old mid new before between after new.fault
+    (taken_silently c.args.octets.now rest used old c.loop-rest.host mid before between c.loop-rest.invariant.takes c.in_ok-used.ensures.leads)
+    (fault_answered new.fault c.in_err-write_out-2.field-0.0 c.in_err-write_out-2.ensures.fault ∙ ap (λ (why : HostFault). Some why) c.in_err-write_out-2.ensures.write)
+    c.write_out-in-loop-rest.ensures.feeds

@@ -1,0 +1,16 @@
+use Rattle.std.proofs.Common.{◌≡◌, true, None, length}
+use Rattle.gatt_host.proofs.feeding.feed.Given as goal
+use Rattle.gatt_host.proofs.whole.Feeds.{HasTaken}
+use Rattle.gatt_host.specs.Whole.{all_out}
+use Rattle.octets.specs.Stream.{CountsNone}
+
+abbrev pub invariant-loop-rest : goal.invariant-loop-rest
+invariant-loop-rest g l = record {
+  takes : HasTaken l.fn.octets l.rest l.fn.host l.host (g.W.Sink.contents l.fn.out) (g.W.Sink.contents l.out);
+  none : l.host.fault ≡ None;
+  drained : all_out l.host ≡ true;
+  failures : CountsNone (g.W.Sink.failures l.fn.out) (g.W.Sink.failures l.out);
+}
+
+abbrev pub decreases-loop-rest : goal.decreases-loop-rest
+decreases-loop-rest g l = length l.rest

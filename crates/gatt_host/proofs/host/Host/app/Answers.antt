@@ -1,0 +1,36 @@
+use Rattle.std.proofs.Common.{◌≡◌, true, ◌∷◌, [], None, refl, sym, subst, ◌∙◌}
+use Rattle.gatt_host.proofs.Nexts.{is_none_where}
+use Rattle.gatt_host.proofs.whole.Calls.{call_refused, takes_call}
+use Rattle.gatt_host.proofs.whole.Items.{reached_by}
+use Rattle.gatt_host.specs.Asked.{call_of}
+use Rattle.gatt_host.specs.contracts.host.Host.{the_view}
+use Rattle.gatt_host.specs.Meaning.{IsAfter}
+use Rattle.gatt_host.specs.Whole.{StandsAt, Takes, Whole, all_out}
+use Rattle.gatt_laws.specs.Input.{ACall, course}
+use Rattle.gatt_host.proofs.host.Host.app.Goals as goal
+
+pub invariant_of-self : goal.invariant_of-self
+invariant_of-self c =
+    let old : Whole = the_view c.self.inside in
+    let new : Whole = record old { held = c.app.new.self } in
+    let out : all_out old ≡ true = subst (λ (whole : Whole). all_out whole ≡ true) (sym c.self.view_is) c.requires.drained in
+    reached_by (ACall (call_of c.args.call) ∷ []) [] old new c.self.invariant
+    (takes_call (call_of c.args.call) old new (is_none_where old.fault (sym c.is_some.ensures ∙ c.if-is_some.false)) out c.app.result c.app.ensures.after c.app.ensures.refused
+    c.app.ensures.unchanged (record { frames = refl; stream = refl; fault = refl }))
+
+pub returns-clause-takes : goal.returns-clause-takes
+returns-clause-takes c =
+    let old : Whole = the_view c.self.inside in
+    let new : Whole = record old { held = c.app.new.self } in
+    let out : all_out old ≡ true = subst (λ (whole : Whole). all_out whole ≡ true) (sym c.self.view_is) c.requires.drained in
+    subst (λ (whole : Whole). whole.fault ≡ None → Takes (ACall (call_of c.args.call)) whole new) c.self.view_is (λ none.
+    takes_call (call_of c.args.call) old new none out c.app.result c.app.ensures.after c.app.ensures.refused c.app.ensures.unchanged
+    (record { frames = refl; stream = refl; fault = refl }))
+
+pub returns-clause-refused : goal.returns-clause-refused
+returns-clause-refused c = λ start input gone is none.
+    let old : Whole = the_view c.self.inside in
+    let out : all_out old ≡ true = subst (λ (whole : Whole). all_out whole ≡ true) (sym c.self.view_is) c.requires.drained in
+    call_refused (call_of c.args.call) old (λ happening. IsAfter happening old.held c.app.new.self) c.app.result
+    (subst (λ (whole : Whole). whole.fault ≡ None) (sym c.self.view_is) none) out c.app.ensures.after c.app.ensures.refused
+    (course start input) gone (subst (λ (whole : Whole). StandsAt (course start input) gone whole) (sym c.self.view_is) is)

@@ -1,0 +1,37 @@
+use Rattle.std.proofs.Common.{◌≡◌, ◌<◌, ◌∷◌, [], refl, sym, subst, ◌∙◌}
+use Rattle.std.specs.Prelude.{not}
+use Rattle.std.proofs.lemmas.Bool.{OnTrue_at, OnTrue_from}
+use Rattle.gatt_host.proofs.Nexts.{is_none_where}
+use Rattle.gatt_host.proofs.whole.Fewer.{fewer_out}
+use Rattle.gatt_host.proofs.whole.Out.{goes_out, goes_where_not_out, reached_out}
+use Rattle.gatt_host.specs.contracts.host.Host.{the_view}
+use Rattle.gatt_host.specs.Credits.{most_out}
+use Rattle.gatt_host.specs.Held.{Held}
+use Rattle.gatt_host.specs.Whole.{Leads, Whole, all_out}
+use Rattle.gatt_host.proofs.host.Host.next_out.Goals as goal
+
+pub invariant_of-self : goal.invariant_of-self
+invariant_of-self c =
+    let old : Whole = the_view c.self.inside in
+    reached_out old (record old { held = c.next_out.new.self }) c.next_out.result c.next_out.new.out.items c.self.invariant c.next_out.ensures.octets c.next_out.ensures.after
+    c.next_out.ensures.unchanged refl refl refl
+
+pub returns-clause-goes : goal.returns-clause-goes
+returns-clause-goes c =
+    let old : Whole = the_view c.self.inside in
+    subst (λ (whole : Whole). c.next_out.result ≡ not (all_out whole)) c.self.view_is
+    (c.next_out.ensures.goes ∙ goes_where_not_out old c.self.invariant (is_none_where old.fault (sym c.is_some.ensures ∙ c.if-is_some.false)))
+
+pub returns-clause-leads : goal.returns-clause-leads
+returns-clause-leads c = OnTrue_from _ _ (λ goes.
+    let old : Whole = the_view c.self.inside in
+    let new : Whole = record old { held = c.next_out.new.self } in
+    subst (λ (whole : Whole). Leads [] (c.next_out.new.out.items ∷ []) whole new) c.self.view_is
+    (goes_out old new c.next_out.new.out.items (OnTrue_at goes c.next_out.ensures.octets) c.next_out.ensures.after refl refl refl))
+
+pub returns-clause-fewer : goal.returns-clause-fewer
+returns-clause-fewer c = OnTrue_from _ _ (λ goes.
+    let old : Whole = the_view c.self.inside in
+    subst (λ (whole : Whole). most_out c.next_out.new.self < most_out whole.held) c.self.view_is
+    (subst (λ (held : Held). most_out held < most_out old.held) (sym c.next_out.ensures.after)
+    (fewer_out old.held c.next_out.new.out.items (OnTrue_at goes c.next_out.ensures.octets))))

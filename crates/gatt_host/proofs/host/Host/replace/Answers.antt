@@ -1,0 +1,28 @@
+use Rattle.std.proofs.Common.{◌≡◌, true, ◌∷◌, [], None, refl, sym, subst, ◌∙◌}
+use Rattle.gatt_host.proofs.Nexts.{is_none_where}
+use Rattle.gatt_host.proofs.whole.Calls.{replaced_after, takes_table}
+use Rattle.gatt_host.proofs.whole.Items.{reached_by}
+use Rattle.gatt_host.specs.contracts.host.Host.{the_view}
+use Rattle.gatt_host.specs.Whole.{Takes, Whole, all_out}
+use Rattle.gatt_laws.specs.Input.{ATable}
+use Rattle.gatt_host.proofs.host.Host.replace.Goals as goal
+
+pub invariant_of-self : goal.invariant_of-self
+invariant_of-self c =
+    let old : Whole = the_view c.self.inside in
+    let new : Whole = record old { held = c.replace_table.new.self } in
+    let out : all_out old ≡ true = subst (λ (whole : Whole). all_out whole ≡ true) (sym c.self.view_is) c.requires.drained in
+    reached_by (ATable c.args.table ∷ []) [] old new c.self.invariant
+    (takes_table c.args.table old new (is_none_where old.fault (sym c.is_some.ensures ∙ c.if-is_some.false)) out c.replace_table.result
+    (replaced_after c.args.table old.held new.held c.replace_table.result c.replace_table.ensures.after) c.replace_table.ensures.accepted c.replace_table.ensures.refused
+    c.replace_table.ensures.unchanged (record { frames = refl; stream = refl; fault = refl }))
+
+pub returns-clause-takes : goal.returns-clause-takes
+returns-clause-takes c =
+    let old : Whole = the_view c.self.inside in
+    let new : Whole = record old { held = c.replace_table.new.self } in
+    let out : all_out old ≡ true = subst (λ (whole : Whole). all_out whole ≡ true) (sym c.self.view_is) c.requires.drained in
+    subst (λ (whole : Whole). whole.fault ≡ None → Takes (ATable c.args.table) whole new) c.self.view_is (λ none.
+    takes_table c.args.table old new none out c.replace_table.result
+    (replaced_after c.args.table old.held new.held c.replace_table.result c.replace_table.ensures.after) c.replace_table.ensures.accepted c.replace_table.ensures.refused
+    c.replace_table.ensures.unchanged (record { frames = refl; stream = refl; fault = refl }))

@@ -1,0 +1,5 @@
+pub mod Together
+pub mod Reported
+pub mod Arriving
+pub mod Beginning
+pub mod Drained

@@ -1,0 +1,203 @@
+-- What is put together at the slots stays so at each event: a connection that comes begins with nothing, and no other slot gets another.
+use Rattle.std.proofs.Common.{◌≡◌, ◌≢◌, ◌⊎◌, inl, inr, ℕ, zero, suc, ◌≤◌, ◌<◌, Bool, true, false, List, [], ◌∷◌, length, map, set, get_or, slice_get, Option, Some, None, refl, sym, ap, subst, ◌∙◌, arith}
+use Rattle.std.specs.Prelude.{is_some, is_none, replicate, ◌==◌, ◌||◌, if◌then◌else◌}
+use Rattle.std.specs.Option.{option_map}
+use Rattle.std.proofs.lemmas.Bool.{eq-eqb}
+use Rattle.std.proofs.lemmas.List.{get_or-set_same, get_or-set_other, length-set}
+use Rattle.gatt_host.proofs.asking.Led.{rooms_stay}
+use Rattle.gatt_host.proofs.Nexts.{clash}
+use Rattle.gatt_host.proofs.standing.ForAll.{each_length}
+use Rattle.gatt_host.proofs.standing.Holding.{Holds, holds, some-is, were_open}
+use Rattle.gatt_host.specs.Held.{Held}
+use Rattle.gatt_host.specs.Meaning.{Frames}
+use Rattle.gatt_host.specs.Owing.{all_given, slot_held}
+use Rattle.gatt_host.specs.Standing.{IsPutTogether}
+use Rattle.gatt_host.specs.Stands.{IsSound, Stands, slots_for as slots_opened}
+use Rattle.gatt_laws.specs.Controller.{Slots, has_free, is_ready, with_freed, with_taken}
+use Rattle.gatt_laws.specs.Event.{Ordinal, Own, Event, Connected, Gone, KeyAsked, Encrypted, Refreshed, Asks, Signals, Authorized, Of, Completed, Credit, Update, Tick, Replaced, Nothing}
+use Rattle.gatt_laws.specs.Packets.{Fragments}
+use Rattle.gatt_laws.specs.Settled.{has_slot}
+use Rattle.gatt_laws.specs.State.{State, change_of, slots_for, step}
+use Rattle.gatt_slots.proofs.parts.Places.{position_step}
+use Rattle.gatt_slots.specs.Kept.{Kept}
+use Rattle.gatt_slots.specs.Slots.{place_free}
+use Rattle.le_acl.specs.Fragment.{Fragment}
+use Rattle.le_acl.specs.Reassembler.{nothing, assembly_after}
+use Rattle.le_hci.specs.declared.buffers.Buffers.{Buffers}
+use Rattle.le_hci.specs.declared.init.Init.{Init}
+use Rattle.le_hci.specs.declared.init.Init.TheVariants.{Resetting, Masking, LeMasking, Sizing, SharedSizing, Addressing, Describing, Filling, Enabling, Ready}
+use Rattle.le_hci.specs.declared.peer.Peer.{Peer}
+
+-- no more slots are opened than a host was opened with
+within : (slots : ℕ) (told : Option Buffers) → slots_opened slots told ≤ slots
+within slots None = omega arith
+within slots (Some buffers) = omega arith
+
+pub few_slots : (state : State) (held : Held) → IsSound state → Stands state [] held → length state.slots ≤ state.room.slots
+few_slots state held sound stands = by (is_ready state.controller) refl
+  where
+    is : Holds state (all_given state) held
+    is = holds state held stands
+
+    by : (ready : Bool) → is_ready state.controller ≡ ready → length state.slots ≤ state.room.slots
+    by true ready =
+        let count : length state.slots ≡ slots_opened state.room.slots state.room.told =
+        sym (each_length (slot_held state (all_given state)) state.slots)
+        ∙ sym (ap (λ (slots : List (Option Kept)). length slots) (were_open state (all_given state) held is ready)) ∙ is.ready ready in
+        omega (arith, count, within state.room.slots state.room.told)
+    by false early =
+        let none : length state.slots ≡ 0 = ap (λ (slots : Slots). length slots) (sound.settled.early early) in
+        omega (arith, none)
+
+-- an event with which a connection comes
+abbrev pub is_coming_own : Own → Bool
+is_coming_own (Connected handle peer) = true
+is_coming_own own = false
+
+abbrev pub is_coming : Event → Bool
+is_coming (Of ordinal own) = is_coming_own own
+is_coming event = false
+
+-- at any other event each slot keeps its connection, or none
+freed-before : (ordinal : Ordinal) (slots : Slots) (place : ℕ) (other : Ordinal)
+    → slice_get (with_freed ordinal slots) place ≡ Some (Some other) → slice_get slots place ≡ Some (Some other)
+freed-before ordinal [] place other there = there
+freed-before ordinal (None ∷ slots) zero other there = there
+freed-before ordinal (Some first ∷ slots) zero other there = by (first == ordinal) there
+  where
+    by : (own : Bool) → Some (if own then None else Some first) ≡ Some (Some other) → Some (Some first) ≡ Some (Some other)
+    by true is = absurd (clash (ap (λ (slot : Option Ordinal). is_some slot) (some-is is)))
+    by false is = is
+freed-before ordinal (None ∷ slots) (suc place) other there = freed-before ordinal slots place other there
+freed-before ordinal (Some first ∷ slots) (suc place) other there = freed-before ordinal slots place other there
+
+abbrev all_free : ℕ → Slots
+all_free count = replicate count None
+
+none-there : (count place : ℕ) (other : Ordinal) → slice_get (all_free count) place ≡ Some (Some other) → ⊥
+none-there zero place other there = cc there
+none-there (suc count) zero other there = clash (ap (λ (slot : Option Ordinal). is_some slot) (some-is there))
+none-there (suc count) (suc place) other there = none-there count place other there
+
+opened-before : (count : ℕ) (init : Init) (slots : Slots) (place : ℕ) (other : Ordinal)
+    → slice_get (slots_for count init slots) place ≡ Some (Some other) → slice_get slots place ≡ Some (Some other)
+opened-before count (Resetting settings) slots place other there = there
+opened-before count (Masking settings) slots place other there = there
+opened-before count (LeMasking settings) slots place other there = there
+opened-before count (Sizing settings) slots place other there = there
+opened-before count (SharedSizing settings) slots place other there = there
+opened-before count (Addressing address advertising buffers) slots place other there = there
+opened-before count (Describing own_address_type advertising buffers) slots place other there = there
+opened-before count (Filling advertising buffers) slots place other there = there
+opened-before count (Enabling buffers) slots place other there = there
+opened-before count (Ready told packets) slots place other there = absurd (none-there _ place other there)
+
+pub record KeepsOrFrees (old new : State) : Type 0 where
+  pub there : (place : ℕ) (ordinal : Ordinal)
+      → slice_get new.slots place ≡ Some (Some ordinal) → slice_get old.slots place ≡ Some (Some ordinal)
+  pub next : new.next ≡ old.next
+
+pub keeps_or_frees : (state : State) (event : Event) → is_coming event ≡ false → KeepsOrFrees state (step state event)
+unfolding step change_of
+keeps_or_frees state (Of own (Connected handle peer)) other = absurd (clash (sym other))
+keeps_or_frees state (Of own Gone) other = record { there = λ place ordinal is. freed-before own state.slots place ordinal is; next = refl }
+keeps_or_frees state (Of own (KeyAsked random_number diversifier)) other = record { there = λ place ordinal is. is; next = refl }
+keeps_or_frees state (Of own (Encrypted status enabled)) other = record { there = λ place ordinal is. is; next = refl }
+keeps_or_frees state (Of own (Refreshed status)) other = record { there = λ place ordinal is. is; next = refl }
+keeps_or_frees state (Of own (Asks pdu)) other = record { there = λ place ordinal is. is; next = refl }
+keeps_or_frees state (Of own (Signals channel payload)) other = record { there = λ place ordinal is. is; next = refl }
+keeps_or_frees state (Of own (Authorized until)) other = record { there = λ place ordinal is. is; next = refl }
+keeps_or_frees state (Completed entries) other = record { there = λ place ordinal is. is; next = refl }
+keeps_or_frees state (Credit allowed opcode status (Some init)) other =
+    record { there = λ place ordinal is. opened-before state.room.slots init state.slots place ordinal is; next = refl }
+keeps_or_frees state (Credit allowed opcode status None) other = record { there = λ place ordinal is. is; next = refl }
+keeps_or_frees state (Update handle value) other = record { there = λ place ordinal is. is; next = refl }
+keeps_or_frees state (Tick time) other = record { there = λ place ordinal is. is; next = refl }
+keeps_or_frees state (Replaced table) other = record { there = λ place ordinal is. is; next = refl }
+keeps_or_frees state Nothing other = record { there = λ place ordinal is. is; next = refl }
+
+pub together_then : (state : State) (event : Event) (fragments : Fragments) (frames : Frames) → is_coming event ≡ false
+    → IsPutTogether state fragments frames → IsPutTogether (step state event) fragments frames
+together_then state event fragments frames other is =
+    let keeps : KeepsOrFrees state (step state event) = keeps_or_frees state event other in
+    record {
+      there = λ place ordinal at. is.there place ordinal (keeps.there place ordinal at);
+      fresh = λ ordinal later. is.fresh ordinal (subst (λ (next : Ordinal). next ≤ ordinal) keeps.next later);
+      room = subst (λ (count : ℕ). count ≤ length frames) (sym (rooms_stay state event)) is.room;
+    }
+
+-- the first slot that is free
+pub first_free : Slots → ℕ
+first_free [] = 0
+first_free (None ∷ slots) = 0
+first_free (Some ordinal ∷ slots) = suc (first_free slots)
+
+free-within : (slots : Slots) → has_free slots ≡ true → first_free slots < length slots
+unfolding first_free
+free-within [] has = absurd (clash has)
+free-within (None ∷ slots) has = omega arith
+free-within (Some ordinal ∷ slots) has = let later = free-within slots has in omega (arith, later)
+
+or-true : (one other : Bool) → other ≡ true → (one || other) ≡ true
+or-true true other is = refl
+or-true false other is = is
+
+module _ (keep : Option Ordinal → Option Kept) (free : keep None ≡ None) where
+  if-there : (slot : Option Kept) (place : Option ℕ) → is_some slot ≡ true → (if is_none slot then Some 0 else place) ≡ place
+  if-there None place there = absurd (clash there)
+  if-there (Some kept) place there = refl
+
+  pub finds_free : (slots : Slots) → has_free slots ≡ true
+      → ((other : Ordinal) → has_slot other slots ≡ true → is_some (keep (Some other)) ≡ true)
+      → place_free (map keep slots) ≡ Some (first_free slots)
+  unfolding first_free
+  finds_free [] has there = absurd (clash has)
+  finds_free (None ∷ slots) has there =
+      position_step is_none (keep None) (map keep slots)
+      ∙ ap (λ (slot : Option Kept). if is_none slot then Some 0 else option_map suc (place_free (map keep slots))) free
+  finds_free (Some first ∷ slots) has there =
+      position_step is_none (keep (Some first)) (map keep slots)
+      ∙ if-there (keep (Some first)) (option_map suc (place_free (map keep slots)))
+      (there first (ap (λ (own : Bool). own || has_slot first slots) (eq-eqb first first refl)))
+      ∙ ap (λ (place : Option ℕ). option_map suc place)
+      (finds_free slots has (λ other other_has. there other (or-true (first == other) (has_slot other slots) other_has)))
+
+-- who has a slot once one is taken had it before, or has come to it
+abbrev CameOrWas : Ordinal → Slots → ℕ → Ordinal → Type 0
+CameOrWas next slots place other =
+    ((place ≡ first_free slots) × (other ≡ next)) ⊎ ((place ≢ first_free slots) × (slice_get slots place ≡ Some (Some other)))
+
+came-or-was : (next : Ordinal) (slots : Slots) (place : ℕ) (other : Ordinal)
+    → slice_get (with_taken next slots) place ≡ Some (Some other) → CameOrWas next slots place other
+unfolding first_free
+came-or-was next [] place other there = absurd (none-there 0 place other there)
+came-or-was next (None ∷ slots) zero other there = inl (refl, sym (some-is (some-is there)))
+came-or-was next (None ∷ slots) (suc place) other there = inr ((λ same. omega (arith, same)), there)
+came-or-was next (Some first ∷ slots) zero other there = inr ((λ same. omega (arith, same)), there)
+came-or-was next (Some first ∷ slots) (suc place) other there = elim (came-or-was next slots place other there) [
+  | inl came ↦ inl (ap (λ (at : ℕ). suc at) came.0, came.1)
+  | inr was ↦ inr ((λ same. was.0 (omega (arith, same))), was.1)
+]
+
+-- a connection comes, and begins with nothing
+pub together_coming : (state : State) (held : Held) (fragments : Fragments) (frames : Frames) (handle : ℕ) (peer : Peer)
+    → IsSound state → Stands state [] held → has_free state.slots ≡ true → IsPutTogether state fragments frames
+    → IsPutTogether (step state (Of state.next (Connected handle peer))) fragments (set frames (first_free state.slots) nothing)
+unfolding step change_of
+together_coming state held fragments frames handle peer sound stands free is = record {
+  there = λ place ordinal there. read place ordinal (came-or-was state.next state.slots place ordinal there);
+  fresh = λ ordinal later. is.fresh ordinal (omega (arith, later));
+  room = omega (arith, is.room, length-set frames (first_free state.slots) nothing);
+}
+  where
+    inside : first_free state.slots < length frames
+    inside = omega (arith, free-within state.slots free, few_slots state held sound stands, is.room)
+
+    read : (place : ℕ) (ordinal : Ordinal) → CameOrWas state.next state.slots place ordinal
+        → get_or (set frames (first_free state.slots) nothing) place nothing ≡ assembly_after (fragments ordinal)
+    read place ordinal (inl came) =
+        ap (λ (at : ℕ). get_or (set frames (first_free state.slots) nothing) at nothing) came.0
+        ∙ get_or-set_same frames (first_free state.slots) nothing nothing inside
+        ∙ sym (ap (λ (own : Ordinal). assembly_after (fragments own)) came.1
+        ∙ ap (λ (none : List Fragment). assembly_after none) (is.fresh state.next (omega arith)))
+    read place ordinal (inr was) = get_or-set_other frames (first_free state.slots) place nothing nothing was.0 ∙ is.there place ordinal was.1

@@ -1,0 +1,66 @@
+use Rattle.std.proofs.Common.{◌≡◌, [], None, Err, refl, sym, subst, ap, arith, ◌∙◌}
+use Rattle.std.proofs.KnownBytes.{Keeps-refl}
+use Rattle.std.proofs.lemmas.Result.{err_from_is_err_and}
+use Rattle.std.specs.Io.KnownBytes.{Consumes}
+use Rattle.gatt_host.proofs.whole.Feeds.{counts_where_going, going_takes, none_answered}
+use Rattle.gatt_host.proofs.whole.Serving.{empty_where, some_where, kept_where_failed, serves_broken, serves_ended, serves_stopped, served_more}
+use Rattle.gatt_host.specs.declared.host_fault.HostFault.{HostFault}
+use Rattle.gatt_host.specs.declared.host_fault.HostFault.TheVariants as stop
+use Rattle.gatt_host.specs.Feeding.{octet_items}
+use Rattle.gatt_host.specs.Whole.{Whole}
+use Rattle.octets.proofs.Writing.{counts_none}
+use Rattle.gatt_host.proofs.serving.serve.Goals as goal
+
+pub returns-in_default-clause-serves : goal.returns-in_default-clause-serves
+returns-in_default-clause-serves g c = λ none.
+    serves_stopped c.stop.result stop.Read c.args.turns c.loop-turn.turn c.args.host.now c.loop-turn.host c.stop.new.host
+    (g.R.Source.remaining c.args.reader.now) (g.R.Source.remaining c.loop-turn.reader) (g.R.Source.remaining c.read_turn.new.reader)
+    (g.W.Sink.contents c.args.writer.now) (g.W.Sink.contents c.loop-turn.writer)
+    c.stop.ensures.fault c.loop-turn.invariant.none c.stop.ensures.stopped refl refl
+    (kept_where_failed c.read_turn.result c.in_default.not-Ok c.read_turn.ensures.kept) c.loop-turn.invariant.served (λ is. cc is)
+
+pub returns-then-is_empty-clause-serves : goal.returns-then-is_empty-clause-serves
+returns-then-is_empty-clause-serves g c = λ none.
+    let nothing : c.in-Ok.read.now ≡ [] = empty_where c.in-Ok.read.now (sym c.is_empty.ensures ∙ c.if-is_empty.true) in
+    serves_ended c.args.turns c.loop-turn.turn c.args.host.now c.loop-turn.host c.end_stream.new.host
+    (g.R.Source.remaining c.args.reader.now) (g.R.Source.remaining c.loop-turn.reader) (g.R.Source.remaining c.read_turn.new.reader)
+    (g.W.Sink.contents c.args.writer.now) (g.W.Sink.contents c.loop-turn.writer)
+    c.end_stream.ensures.fault
+    (subst (Consumes (g.R.Source.remaining c.loop-turn.reader) (g.R.Source.remaining c.read_turn.new.reader)) nothing c.in-Ok.ensures.consumed)
+    (c.in-Ok.ensures.at_end nothing) c.end_stream.ensures.takes c.loop-turn.invariant.served
+
+pub returns-in_err-feed-2-clause-serves : goal.returns-in_err-feed-2-clause-serves
+returns-in_err-feed-2-clause-serves g c = λ none.
+    let stopped = err_from_is_err_and c.from_residual-in_err-feed-2.result c.from_residual-in_err-feed-2.ensures.1 in
+    serves_broken c.from_residual-in_err-feed-2.result c.in_err-feed-2.field-0.0 c.args.turns c.loop-turn.turn c.in-Ok.read.now c.args.host.now c.loop-turn.host c.feed-in-loop-turn.new.host
+    (g.R.Source.remaining c.args.reader.now) (g.R.Source.remaining c.loop-turn.reader) (g.R.Source.remaining c.read_turn.new.reader)
+    (g.W.Sink.contents c.args.writer.now) (g.W.Sink.contents c.loop-turn.writer) (g.W.Sink.contents c.feed-in-loop-turn.new.out)
+    (stopped.1 ∙ ap (λ (why : HostFault). Err why) stopped.2) (c.in_err-feed-2.ensures.feeding c.loop-turn.invariant.none)
+    c.in-Ok.ensures.consumed c.loop-turn.invariant.served (c.feed-in-loop-turn.ensures.feeds c.loop-turn.invariant.none)
+
+pub loop-turn-preserved : goal.loop-turn-preserved
+loop-turn-preserved g c =
+    let mid : Whole = c.loop-turn.host in
+    let new : Whole = c.feed-in-loop-turn.new.host in
+    let none : new.fault ≡ None = none_answered new.fault c.in_ok-feed-2.ensures.outcome in
+    record {
+      served = served_more c.loop-turn.turn c.in-Ok.read.now c.args.host.now mid new
+          (g.R.Source.remaining c.args.reader.now) (g.R.Source.remaining c.loop-turn.reader) (g.R.Source.remaining c.read_turn.new.reader)
+          (g.W.Sink.contents c.args.writer.now) (g.W.Sink.contents c.loop-turn.writer) (g.W.Sink.contents c.feed-in-loop-turn.new.out)
+          c.loop-turn.invariant.served c.in-Ok.ensures.consumed (some_where c.in-Ok.read.now (sym c.is_empty.ensures ∙ c.if-is_empty.false)) c.in-Ok.ensures.within
+          (going_takes (octet_items c.in-Ok.read.now) mid new (g.W.Sink.contents c.loop-turn.writer) (g.W.Sink.contents c.feed-in-loop-turn.new.out) new.fault none
+          (c.feed-in-loop-turn.ensures.feeds c.loop-turn.invariant.none));
+      few = omega (arith, c.loop-turn-test.true);
+      none = none;
+      drained = c.in_ok-feed-2.ensures.out refl;
+      reads = counts_none _ _ _ c.loop-turn.invariant.reads c.in-Ok.ensures.failures;
+      writes = counts_none _ _ _ c.loop-turn.invariant.writes (counts_where_going new.fault _ _ none (c.feed-in-loop-turn.ensures.failures c.loop-turn.invariant.none));
+    }
+
+pub returns-clause-serves : goal.returns-clause-serves
+returns-clause-serves g c = λ none.
+    serves_stopped c.stop-2.result stop.Turns c.args.turns c.loop-turn.turn c.args.host.now c.loop-turn.host c.stop-2.new.host
+    (g.R.Source.remaining c.args.reader.now) (g.R.Source.remaining c.loop-turn.reader) (g.R.Source.remaining c.loop-turn.reader)
+    (g.W.Sink.contents c.args.writer.now) (g.W.Sink.contents c.loop-turn.writer)
+    c.stop-2.ensures.fault c.loop-turn.invariant.none c.stop-2.ensures.stopped refl refl (Keeps-refl (g.R.Source.remaining c.loop-turn.reader)) c.loop-turn.invariant.served
+    (λ is. omega (arith, c.loop-turn.invariant.few, c.loop-turn-test.false))

@@ -1,0 +1,15 @@
+use Rattle.std.proofs.Common.{◌≡◌, ◌≤◌, true, None}
+use Rattle.gatt_host.proofs.serving.serve.Given as goal
+use Rattle.gatt_host.proofs.whole.Serving.{HasServed}
+use Rattle.gatt_host.specs.Whole.{all_out}
+use Rattle.octets.specs.Stream.{CountsNone}
+
+abbrev pub invariant-loop-turn : goal.invariant-loop-turn
+invariant-loop-turn g l = record {
+  served : HasServed l.turn l.fn.host l.host (g.R.Source.remaining l.fn.reader) (g.R.Source.remaining l.reader) (g.W.Sink.contents l.fn.writer) (g.W.Sink.contents l.writer);
+  few : l.turn ≤ l.turns;
+  none : l.host.fault ≡ None;
+  drained : all_out l.host ≡ true;
+  reads : CountsNone (g.R.Source.failures l.fn.reader) (g.R.Source.failures l.reader);
+  writes : CountsNone (g.W.Sink.failures l.fn.writer) (g.W.Sink.failures l.writer);
+}

@@ -1,0 +1,12 @@
+pub mod Items
+pub mod Packets
+pub mod Calls
+pub mod Ready
+pub mod Out
+pub mod Fewer
+pub mod Octets
+pub mod Taking
+pub mod Feeds
+pub mod Opened
+pub mod Driving
+pub mod Serving

@@ -1,0 +1,107 @@
+-- What one call takes in from a stream, and what it writes.
+use Rattle.std.specs.Prelude.{◌≡◌, ℕ, ◌+◌, ◌-◌, ◌*◌, ◌<◌, ◌≤◌, length, IsOk, IfOk, Bool, true, false, is_some, List, [], ◌∷◌, ◌++◌, map, take, if◌then◌else◌, Option, Some, Result, Ok, Err}
+use Rattle.std.specs.Io.KnownBytes.{Appends, Consumes, IsAtEnd}
+use Rattle.std.specs.List.{flat_map}
+use Rattle.gatt_host.specs.Asked.{call_of}
+use Rattle.gatt_host.specs.declared.driving.Input.{Input}
+use Rattle.gatt_host.specs.declared.driving.Input.TheVariants as input
+use Rattle.gatt_host.specs.declared.host_fault.HostFault.{HostFault}
+use Rattle.gatt_host.specs.declared.host_fault.HostFault.TheVariants as stop
+use Rattle.gatt_host.specs.declared.serving.End.{End}
+use Rattle.gatt_host.specs.Whole.{Leads, StandsAt, Whole}
+use Rattle.gatt_laws.specs.Input.{Course, Item, AnOctet, ACall, TheEnd, after_item, call_refusal, course}
+use Rattle.gatt_laws.specs.Start.{Start}
+use Rattle.octets.specs.Number.{Octets}
+use Rattle.octets.specs.Stream.{CountsNone, CountsOne, WritesFront}
+
+-- the octets of packets, one packet after another
+abbrev pub joined : List Octets → Octets
+joined packets = flat_map (λ packet. packet) packets
+
+-- all the items are taken in, and all the packets are written
+pub record TakesAll (items : List Item) (old new : Whole) (before after : Option Octets) : Type 0 where
+  pub packets : List Octets
+  pub leads : Leads items packets old new
+  pub written : Appends before after (joined packets)
+
+-- the writer fails: items up to some one are taken in, and of the packets the front is written
+pub record BreaksOff (items : List Item) (old new : Whole) (before after : Option Octets) : Type 0 where
+  pub taken : List Item
+  pub left : List Item
+  pub parts : items ≡ taken ++ left
+  pub packets : List Octets
+  pub leads : Leads taken packets old new
+  pub written : WritesFront (joined packets) before after
+
+-- by the fault that stands then, if one does
+abbrev pub Feeds : List Item → Whole → Whole → Option Octets → Option Octets → Option HostFault → Type 0
+Feeds items old new before after (Some stop.Write) = BreaksOff items old new before after
+Feeds items old new before after fault = TakesAll items old new before after
+
+-- octets alone stop a host for no fault of a reader and of turns
+abbrev pub comes_of_feeding : HostFault → Bool
+comes_of_feeding stop.Read = false
+comes_of_feeding stop.Turns = false
+comes_of_feeding fault = true
+
+-- the reader or the writer has failed once, where the fault is that
+abbrev pub FailsIf : Bool → Option ℕ → Option ℕ → Type 0
+FailsIf true before after = CountsOne before after
+FailsIf false before after = CountsNone before after
+
+abbrev pub is_write : Option HostFault → Bool
+is_write (Some stop.Write) = true
+is_write fault = false
+
+abbrev pub is_read : Option HostFault → Bool
+is_read (Some stop.Read) = true
+is_read fault = false
+
+-- the items of octets, and of what `drive` is handed
+abbrev pub octet_items : Octets → List Item
+octet_items octets = map AnOctet octets
+
+abbrev pub input_items : Input → List Item
+input_items (input.Bytes octets) = octet_items octets.now
+input_items (input.Call call) = ACall (call_of call) ∷ []
+
+abbrev pub items_of : List Input → List Item
+items_of inputs = flat_map input_items inputs
+
+-- the items of which a call has taken so many octets, or all of them where it stopped
+abbrev pub items_taken : Octets → Result ℕ HostFault → List Item
+items_taken octets (Ok used) = octet_items (take used octets)
+items_taken octets (Err fault) = octet_items octets
+
+-- how many calls are refused on the way
+abbrev pub refused_at : Course → Item → ℕ
+refused_at course (ACall call) = if is_some (call_refusal course.intake call) then 1 else 0
+refused_at course item = 0
+
+abbrev pub refused_in : Course → List Item → ℕ
+refused_in course [] = 0
+refused_in course (item ∷ items) = refused_at course item + refused_in (after_item course item) items
+
+-- so many of the calls are refused, wherever the host stood
+abbrev pub CountsRefused : ℕ → List Item → Whole → Type 0
+CountsRefused count items whole = (start : Start) (input : List Item) (gone : List Octets) → StandsAt (course start input) gone whole
+    → count ≡ refused_in (course start input) items
+
+-- what is read, whether the input has ended or the host has stopped before
+abbrev pub items_read : {A : Type 0} → Result A HostFault → Octets → List Item
+items_read (Ok ended) read = octet_items read ++ TheEnd ∷ []
+items_read (Err fault) read = octet_items read
+
+-- so many reads each gave some octets, and no more than one turn may
+pub record IsReadIn (turns : ℕ) (read : Octets) : Type 0 where
+  pub some : turns ≤ length read
+  pub most : length read ≤ 512 * turns
+
+-- of what the reader had these octets are read and taken in, and what they bring is written
+pub record Serves (result : Result End HostFault) (turns : ℕ) (old new : Whole) (remaining left before after : Option Octets) : Type 0 where
+  pub read : Octets
+  pub consumed : Consumes remaining left read
+  pub feeds : Feeds (items_read result read) old new before after new.fault
+  pub at_end : IsOk result → IsAtEnd left
+  pub ended : IfOk result (λ (end : End). (0 < end.turns) × IsReadIn (end.turns - 1) read)
+  pub over : result ≡ Err stop.Turns → IsReadIn turns read

@@ -1,0 +1,34 @@
+-- How a host is opened: this profile's own.
+use Rattle.std.specs.Prelude.{Bool, ◌&&◌, if◌then◌else◌, List, []}
+use Rattle.att_table.specs.Table.{Contents}
+use Rattle.gatt_host.specs.declared.config.Config.{Config}
+use Rattle.gatt_laws.specs.Room.{Bonds, Owed}
+use Rattle.gatt_laws.specs.Start.{Start, may_be_opened}
+use Rattle.gatt_subs.specs.Fit.{fitted_bond}
+use Rattle.gatt_subs.specs.Rows.{Subscriptions}
+use Rattle.le_security.specs.declared.entry.Entry.{Entry}
+use Rattle.le_security.specs.Keys.{is_known}
+
+-- a configuration is judged
+abbrev pub is_configured : Config → Bool
+is_configured config = may_be_opened config.slots config.rx_mtu config.address
+
+-- of the rows stays what fits the keys and the table
+abbrev pub bonds_fitted : Contents → List Entry → Subscriptions → Bonds
+bonds_fitted table keys rows peer = if is_known keys peer then (fitted_bond table rows peer).row else []
+
+abbrev pub owed_fitted : Contents → List Entry → Subscriptions → Owed
+owed_fitted table keys rows peer = is_known keys peer && (fitted_bond table rows peer).owed
+
+-- what a host is opened with
+abbrev pub start_of : Contents → List Entry → Subscriptions → Config → Start
+start_of table keys rows config = record {
+  table = table;
+  keys = keys;
+  bonds = bonds_fitted table keys rows;
+  owed = owed_fitted table keys rows;
+  slots = config.slots;
+  rx_mtu = config.rx_mtu;
+  address = config.address;
+  advertising = config.advertising;
+}

@@ -1,0 +1,88 @@
+//! A list of octets and calls goes in, and what goes back to the controller comes out.
+
+ghost use Rattle.std.specs.Prelude.{◌≡◌, ◌∷◌, [], None, IsSome, IsOk, IfErr, IfOk, Some, true, if◌then◌else◌};
+ghost use Rattle.std.specs.Result.{result_err};
+ghost use Rattle.gatt_host.specs.Asked.{call_of};
+ghost use Rattle.gatt_host.specs.Feeding.{comes_of_feeding, input_items, is_write, items_of, CountsRefused, FailsIf, Feeds};
+ghost use Rattle.gatt_host.specs.Whole.{all_out};
+ghost use Rattle.gatt_laws.specs.Input.{ACall};
+
+use crate::app::App;
+use crate::feeding::{feed, write_out};
+use crate::host::Host;
+use crate::host_fault::HostFault;
+use octets::Sink;
+
+/// What a host is handed: octets of the stream from its controller, or a call of the application.
+#[derive(Clone, Copy, Debug, PartialEq, Eq)]
+pub enum Input<'a> {
+    /// Octets, which may begin and end anywhere in the packets of the stream.
+    Bytes(&'a [u8]),
+    /// A call.
+    Call(App<'a>),
+}
+
+/// Takes in octets and calls in their order, and writes what goes back: first what was owed, and then
+/// what each packet and each call brings, before the next. Says how many of the calls were refused.
+/// After a fault it answers that, and changes nothing.
+pub fn drive<W: Sink>(
+    host: &mut Host,
+    inputs: &[Input<'_>],
+    out: &mut W,
+) -> Result<usize, HostFault>
+    ensures feeds { host.old.fault ≡ None
+        → Feeds (items_of inputs.now) host.old host.new (W.contents out.old) (W.contents out.new) host.new.fault }
+    ensures outcome { IfErr result (λ fault. host.new.fault ≡ Some fault) }
+    ensures feeding { host.old.fault ≡ None → IfErr result (λ fault. comes_of_feeding fault ≡ true) }
+    ensures going_on { IsOk result → host.new.fault ≡ None }
+    ensures refused { IfOk result (λ count. CountsRefused count (items_of inputs.now) host.old) }
+    ensures out { IsOk result → all_out host.new ≡ true }
+    ensures failures { host.old.fault ≡ None → FailsIf (is_write host.new.fault) (W.failures out.old) (W.failures out.new) }
+    ensures stopped { IsSome host.old.fault → host.new ≡ host.old }
+    ensures sink_stopped { IsSome host.old.fault → out.new ≡ out.old }
+{
+    feed(host, &[], out)?;
+    let mut refused = 0;
+    for input in inputs {
+        if take_input(host, input, out)? {
+            refused += 1;
+        }
+    }
+    Ok(refused)
+}
+
+/// Takes in one of them, and writes what goes back. Says whether it is a call that is refused.
+fn take_input<W: Sink>(host: &mut Host, input: &Input<'_>, out: &mut W) -> Result<bool, HostFault>
+    requires none { host.old.fault ≡ None }
+    requires drained { all_out host.old ≡ true }
+    ensures feeds { Feeds (input_items input.now) host.old host.new (W.contents out.old) (W.contents out.new) host.new.fault }
+    ensures fault { host.new.fault ≡ result_err result }
+    ensures feeding { IfErr result (λ fault. comes_of_feeding fault ≡ true) }
+    ensures out { IsOk result → all_out host.new ≡ true }
+    ensures failures { FailsIf (is_write host.new.fault) (W.failures out.old) (W.failures out.new) }
+    ensures refused { IfOk result (λ refused. CountsRefused (if refused then 1 else 0) (input_items input.now) host.old) }
+{
+    match input {
+        Input::Bytes(octets) => {
+            feed(host, octets, out)?;
+            Ok(false)
+        }
+        Input::Call(call) => take_call(host, *call, out),
+    }
+}
+
+/// The same of a call.
+fn take_call<W: Sink>(host: &mut Host, call: App<'_>, out: &mut W) -> Result<bool, HostFault>
+    requires none { host.old.fault ≡ None }
+    requires drained { all_out host.old ≡ true }
+    ensures feeds { Feeds (ACall (call_of call.entry) ∷ []) host.old host.new (W.contents out.old) (W.contents out.new) host.new.fault }
+    ensures fault { host.new.fault ≡ result_err result }
+    ensures write { IfErr result (λ fault. fault ≡ HostFault.Write) }
+    ensures out { IsOk result → all_out host.new ≡ true }
+    ensures failures { FailsIf (is_write host.new.fault) (W.failures out.old) (W.failures out.new) }
+    ensures refused { IfOk result (λ refused. CountsRefused (if refused then 1 else 0) (ACall (call_of call.entry) ∷ []) host.old) }
+{
+    let refused = host.app(call).is_err();
+    write_out(host, out)?;
+    Ok(refused)
+}

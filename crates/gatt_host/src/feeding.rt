@@ -1,0 +1,131 @@
+//! Octets of the stream from a controller go in, and those of what goes back to it come out.
+
+ghost use Rattle.std.specs.Prelude.{◌≡◌, ◌≤◌, ◌<◌, ◌∷◌, [], take, false, true, length, None, Some, IsSome, IsOk, IfOk, IfErr, Err};
+ghost use Rattle.std.specs.Result.{result_err};
+ghost use Rattle.gatt_host.specs.Feeding.{comes_of_feeding, items_taken, octet_items, is_write, FailsIf, Feeds};
+ghost use Rattle.gatt_host.specs.Answers.{lost_fault};
+ghost use Rattle.gatt_host.specs.GoingOut.{is_drained};
+ghost use Rattle.gatt_host.specs.Held.{open_slots};
+ghost use Rattle.gatt_host.specs.Meaning.{HasRowsOfTheTable};
+ghost use Rattle.gatt_host.specs.Whole.{all_out, is_own, outcome_of, Leads};
+
+use crate::host::Host;
+use crate::host_fault::HostFault;
+use crate::host_state::HostState;
+use crate::packet::packet;
+use arrayvec::ArrayVec;
+use le_acl::Reassembler;
+use le_h4::{Deframer, H4Fault};
+use octets::{Sink, write_all};
+
+/// Takes in octets of the stream from the controller, which may begin and end anywhere in its packets,
+/// and writes what goes back: first what was owed, and then what each packet brings, before the next is
+/// taken in. After a fault it answers that, and changes nothing.
+pub fn feed<W: Sink>(host: &mut Host, octets: &[u8], out: &mut W) -> Result<(), HostFault>
+    ensures feeds { host.old.fault ≡ None
+        → Feeds (octet_items octets.now) host.old host.new (W.contents out.old) (W.contents out.new) host.new.fault }
+    ensures outcome { result ≡ outcome_of host.new.fault }
+    ensures out { IsOk result → all_out host.new ≡ true }
+    ensures feeding { host.old.fault ≡ None → IfErr result (λ fault. comes_of_feeding fault ≡ true) }
+    ensures failures { host.old.fault ≡ None → FailsIf (is_write host.new.fault) (W.failures out.old) (W.failures out.new) }
+    ensures stopped { IsSome host.old.fault → host.new ≡ host.old }
+    ensures sink_stopped { IsSome host.old.fault → out.new ≡ out.old }
+{
+    if let Some(fault) = host.fault {
+        return Err(fault);
+    }
+    write_out(host, out)?;
+    let mut rest = octets;
+    while !rest.is_empty() {
+        let used = take(host, rest)?;
+        rest = rest.split_at(used).1;
+        write_out(host, out)?;
+    }
+    Ok(())
+}
+
+/// Writes all that is to go to the controller.
+pub(crate) fn write_out<W: Sink>(host: &mut Host, out: &mut W) -> Result<(), HostFault>
+    requires { host.old.fault ≡ None }
+    ensures feeds { Feeds [] host.old host.new (W.contents out.old) (W.contents out.new) host.new.fault }
+    ensures fault { result ≡ outcome_of host.new.fault }
+    ensures write { IfErr result (λ fault. fault ≡ HostFault.Write) }
+    ensures out { IsOk result → all_out host.new ≡ true }
+    ensures failures { FailsIf (is_write host.new.fault) (W.failures out.old) (W.failures out.new) }
+{
+    let mut packet = ArrayVec::new();
+    while host.next_out(&mut packet) {
+        if write_all(packet.as_slice(), out).is_err() {
+            return stop(host, HostFault::Write);
+        }
+    }
+    Ok(())
+}
+
+/// Takes in octets up to the end of the next packet, which is one, and that packet; or all of them,
+/// where none ends in them. Says how many.
+fn take(host: &mut Host, octets: &[u8]) -> Result<usize, HostFault>
+    requires no_fault { host.old.fault ≡ None }
+    requires drained { all_out host.old ≡ true }
+    ensures leads { Leads (items_taken octets.now result) [] host.old host.new }
+    ensures fault { host.new.fault ≡ result_err result }
+    ensures not_own { IfErr result (λ fault. is_own fault ≡ false) }
+    ensures within { IfOk result (λ used. used ≤ length octets.now) }
+    ensures some { IfOk result (λ used. 0 < length octets.now → 0 < used) }
+{
+    let taken = take_in(
+        &mut host.state,
+        &mut host.frames,
+        &mut host.deframer,
+        octets,
+    );
+    host.fault = taken.err();
+    taken
+}
+
+/// The same by the parts of a host.
+fn take_in(
+    state: &mut HostState,
+    frames: &mut [Reassembler; 8],
+    deframer: &mut Deframer,
+    octets: &[u8],
+) -> Result<usize, HostFault>
+    requires rows { HasRowsOfTheTable state.old }
+    requires drained { is_drained state.old.controller (open_slots state.old) ≡ true }
+    ensures leads { Leads (items_taken octets.now result) []
+        (record { held = state.old; frames = frames.old; stream = deframer.old; fault = None })
+        (record { held = state.new; frames = frames.new; stream = deframer.new; fault = result_err result }) }
+    ensures not_own { IfErr result (λ fault. is_own fault ≡ false) }
+    ensures within { IfOk result (λ used. used ≤ length octets.now) }
+    ensures some { IfOk result (λ used. 0 < length octets.now → 0 < used) }
+{
+    let fed = match deframer.feed(octets) {
+        Ok(fed) => fed,
+        Err(fault) => return Err(lost_fault(fault)),
+    };
+    if !fed.packet {
+        return Ok(fed.used);
+    }
+    packet(state, frames, deframer.packet())?;
+    Ok(fed.used)
+}
+
+/// Why a host stops whose stream cannot be divided any further.
+fn lost_fault(fault: H4Fault) -> HostFault
+    ensures { result ≡ lost_fault fault }
+{
+    match fault {
+        H4Fault::Desync(indicator) => HostFault::Desync(indicator),
+    }
+}
+
+/// Stops for good: its reader or its writer fails, or its turns are over.
+pub(crate) fn stop<T>(host: &mut Host, fault: HostFault) -> Result<T, HostFault>
+    requires none { host.old.fault ≡ None }
+    requires own { is_own fault ≡ true }
+    ensures stopped { host.new ≡ record host.old { fault = Some fault } }
+    ensures fault { result ≡ Err fault }
+{
+    host.fault = Some(fault);
+    Err(fault)
+}

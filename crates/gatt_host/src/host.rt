@@ -1,0 +1,150 @@
+//! The host as its caller has it: what it holds, the stream from the controller, and the fault that
+//! stands, if one does.
+
+ghost use Rattle.std.specs.Prelude.{◌≡◌, ◌<◌, ◌∷◌, [], not, false, true, is_some, ◌||◌, List, Some, None, Ok, Err, IsSome, IfOk, IfErr, OnErr};
+ghost use Rattle.std.specs.Bool.{OnTrue, OnFalse};
+ghost use Rattle.gatt_laws.specs.Input.{course, call_refusal, replacement_refusal, Item, APacket, ACall, ATable};
+ghost use Rattle.gatt_laws.specs.Start.{Start};
+ghost use Rattle.gatt_host.specs.Asked.{call_of, refusal_of, replacing_refusal_of};
+ghost use Rattle.gatt_host.specs.Credits.{most_out};
+ghost use Rattle.gatt_host.specs.GoingOut.{is_drained};
+ghost use Rattle.gatt_host.specs.Held.{open_slots};
+ghost use Rattle.gatt_host.specs.Whole.{all_out, is_own, outcome_of, Leads, StandsAt, Takes};
+ghost use Rattle.le_h4.specs.Packet.{seen};
+ghost use Rattle.octets.specs.Number.{Octets};
+
+use crate::app::{App, AppFault};
+use crate::host_fault::HostFault;
+use crate::host_state::HostState;
+use crate::packet;
+use arrayvec::ArrayVec;
+use att_table::Table;
+use gatt_subs::Rows;
+use le_acl::Reassembler;
+use le_h4::{Deframer, PacketRef};
+use std::marker::Model;
+
+/// The host half of a Bluetooth Low Energy peripheral: an ATT and GATT server over the octets of a
+/// controller. After it is opened it takes no memory.
+#[derive(Drop)]
+pub struct Host {
+    pub(crate) state: HostState,
+    /// The frame that is put together for each slot.
+    pub(crate) frames: [Reassembler; 8],
+    pub(crate) deframer: Deframer,
+    pub(crate) fault: Option<HostFault>,
+}
+
+impl Model for Host {
+    ghost use Rattle.gatt_host.specs.Whole.{Whole, IsReached};
+
+    ghost Value = { Whole };
+
+    ghost view = { λ h. record { held = h.state; frames = h.frames; stream = h.deframer; fault = h.fault } };
+
+    // It stands where some start and some input lead.
+    ghost invariant = { λ h. IsReached (record { held = h.state; frames = h.frames; stream = h.deframer; fault = h.fault }) };
+}
+
+impl Host {
+    /// Whether all is out: nothing is to go to the controller now, or a fault stands.
+    pub fn drained(&self) -> bool
+        ensures out { result ≡ all_out self.now }
+        // Then all that its input brings has gone out.
+        ensures all { (start : Start) (input : List Item) (gone : List Octets) → StandsAt (course start input) gone self.now → self.now.fault ≡ None
+            → OnTrue result ((course start input).gone ≡ gone) }
+    {
+        is_out(&self.state, self.fault)
+    }
+
+    /// Puts the next packet that is to go to the controller in place of what `out` holds, and takes in
+    /// that it is out; or answers false where all is out. It is no longer than 256 octets.
+    pub fn next_out(&mut self, out: &mut ArrayVec<u8, 260>) -> bool
+        ensures goes { result ≡ not (all_out self.old) }
+        ensures leads { OnTrue result (Leads [] (out.new.items ∷ []) self.old self.new) }
+        // Calls without anything else between them come to an end.
+        ensures fewer { OnTrue result (most_out self.new.held < most_out self.old.held) }
+        ensures no_fault { OnTrue result (self.new.fault ≡ None) }
+        ensures unchanged { OnFalse result (self.new ≡ self.old) }
+        ensures out_unchanged { OnFalse result (out.new.items ≡ out.old.items) }
+    {
+        if self.fault.is_some() {
+            return false;
+        }
+        self.state.next_out(out)
+    }
+
+    /// Takes in one whole packet from the controller, once all is out. After a fault it answers that,
+    /// and changes nothing.
+    pub fn packet(&mut self, packet: PacketRef<'_>) -> Result<(), HostFault>
+        requires drained { all_out self.old ≡ true }
+        ensures takes { self.old.fault ≡ None → Takes (APacket (seen packet.entry)) self.old self.new }
+        ensures outcome { result ≡ outcome_of self.new.fault }
+        // No reader and no writer has a part in it.
+        ensures not_own { self.old.fault ≡ None → IfErr result (λ fault. is_own fault ≡ false) }
+        ensures stopped { IsSome self.old.fault → self.new ≡ self.old }
+    {
+        if let Some(fault) = self.fault {
+            return Err(fault);
+        }
+        let taken = packet::packet(&mut self.state, &mut self.frames, packet);
+        self.fault = taken.err();
+        taken
+    }
+
+    /// Does what the application asks, once all is out; or refuses it, and changes nothing.
+    pub fn app(&mut self, call: App<'_>) -> Result<(), AppFault>
+        requires drained { all_out self.old ≡ true }
+        ensures takes { self.old.fault ≡ None → Takes (ACall (call_of call.entry)) self.old self.new }
+        ensures refused { (start : Start) (input : List Item) (gone : List Octets) → StandsAt (course start input) gone self.old → self.old.fault ≡ None
+            → refusal_of result ≡ call_refusal (course start input).intake (call_of call.entry) }
+        ensures stopped { IsSome self.old.fault → result ≡ Err AppFault.Stopped }
+        ensures fault { self.new.fault ≡ self.old.fault }
+        ensures unchanged { OnErr result (self.new ≡ self.old) }
+    {
+        if self.fault.is_some() {
+            return Err(AppFault::Stopped);
+        }
+        self.state.app(call)
+    }
+
+    /// Replaces the table, once all is out, and gives the old one back with its values as they are; or
+    /// gives the new one back with the fault, and changes nothing.
+    pub fn replace(&mut self, table: Table) -> Result<Table, (AppFault, Table)>
+        requires drained { all_out self.old ≡ true }
+        ensures takes { self.old.fault ≡ None → Takes (ATable table) self.old self.new }
+        ensures refused { (start : Start) (input : List Item) (gone : List Octets) → StandsAt (course start input) gone self.old → self.old.fault ≡ None
+            → replacing_refusal_of result ≡ replacement_refusal (course start input).intake table }
+        ensures given { IfOk result (λ old. old ≡ self.old.held.table) }
+        ensures given_back { IfErr result (λ refused. refused.1 ≡ table) }
+        ensures stopped { IsSome self.old.fault → IfErr result (λ refused. refused.0 ≡ AppFault.Stopped) }
+        ensures fault { self.new.fault ≡ self.old.fault }
+        ensures unchanged { OnErr result (self.new ≡ self.old) }
+    {
+        if self.fault.is_some() {
+            return Err((AppFault::Stopped, table));
+        }
+        self.state.replace_table(table)
+    }
+
+    /// What each peer has configured, and who is owed that the table has changed.
+    pub fn rows(&self) -> &Rows
+        ensures { result.now ≡ self.now.held.rows }
+    {
+        &self.state.rows
+    }
+
+    /// The table that stands, with its values.
+    pub fn table(&self) -> &Table
+        ensures { result.now ≡ self.now.held.table }
+    {
+        &self.state.table
+    }
+}
+
+/// Nothing is to go to the controller, or a fault stands.
+fn is_out(state: &HostState, fault: Option<HostFault>) -> bool
+    ensures { result ≡ (is_some fault || is_drained state.now.controller (open_slots state.now)) }
+{
+    fault.is_some() || state.is_drained()
+}

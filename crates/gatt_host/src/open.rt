@@ -1,0 +1,97 @@
+//! A host is opened, and all its room is made.
+
+ghost use Rattle.std.specs.Prelude.{◌≡◌, ◌↔◌, [], false, true, replicate, None, Err, IfOk};
+ghost use Rattle.std.specs.Option.{option_map_or};
+ghost use Rattle.gatt_laws.specs.Input.{course};
+ghost use Rattle.gatt_laws.specs.Start.{is_static};
+ghost use Rattle.gatt_host.specs.Opening.{is_configured, start_of};
+ghost use Rattle.gatt_host.specs.Whole.{StandsAt};
+
+use crate::config::{Config, OpenFault};
+use crate::controller::Controller;
+use crate::host::Host;
+use crate::host_state::HostState;
+use att_table::Table;
+use gatt_slots::Slot;
+use gatt_subs::Rows;
+use le_acl::Reassembler;
+use le_h4::Deframer;
+use le_security::Keys;
+use std::alloc::{AllocError, Global};
+use std::array;
+
+/// The two most significant bits of a static random address, in its last octet: Core 5.0, Vol 6 Part
+/// B, 1.3.2.1.
+const STATIC: u8 = 0xC0;
+
+impl Host {
+    /// A host that serves a table to peers with these keys. Of what the rows have, it keeps what fits
+    /// the keys and the table. It owes the controller the first command.
+    pub fn open(
+        alloc: Global,
+        table: Table,
+        keys: Keys,
+        rows: Rows,
+        config: Config,
+    ) -> Result<Host, OpenFault>
+        ensures config { (result ≡ Err OpenFault.BadConfig) ↔ (is_configured config ≡ false) }
+        ensures opened { IfOk result (λ host. StandsAt (course (start_of table keys rows config) []) [] host) }
+        ensures no_fault { IfOk result (λ host. host.fault ≡ None) }
+    {
+        let mut rows = rows;
+        if !is_configured(&config) {
+            return Err(OpenFault::BadConfig);
+        }
+        if rows.fit(alloc, &keys, &table).is_err() {
+            return Err(OpenFault::OutOfMemory);
+        }
+        let Ok(slots) = free_slots(alloc, config.slots) else {
+            return Err(OpenFault::OutOfMemory);
+        };
+        Ok(Host {
+            state: HostState {
+                changer: table.changer(),
+                table,
+                keys,
+                rows,
+                rx_mtu: config.rx_mtu,
+                time: 0,
+                controller: Controller::new(config.address, config.advertising),
+                slots,
+            },
+            frames: array::from_fn(|_| Reassembler::new()),
+            deframer: Deframer::new(),
+            fault: None,
+        })
+    }
+}
+
+/// Whether a host may be opened so.
+fn is_configured(config: &Config) -> bool
+    ensures { result ≡ is_configured config.now }
+{
+    (1..=8).contains(&config.slots)
+        && (23..=517).contains(&config.rx_mtu)
+        && may_be_used(config.address)
+}
+
+/// Whether a random address is static, if there is one.
+fn may_be_used(address: Option<[u8; 6]>) -> bool
+    ensures { result ≡ option_map_or is_static address true }
+{
+    match address {
+        Some(address) => address[5] >= STATIC,
+        None => true,
+    }
+}
+
+/// Slots that are free, each with room for all that it may come to keep.
+fn free_slots(alloc: Global, count: usize) -> Result<Vec<Slot>, AllocError>
+    ensures { IfOk result (λ slots. slots.items ≡ replicate count None) }
+{
+    let mut slots = Vec::with_capacity(alloc, count)?;
+    for _ in 0..count {
+        slots.push(Slot::new(alloc)?)?;
+    }
+    Ok(slots)
+}

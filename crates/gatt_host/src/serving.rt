@@ -1,0 +1,82 @@
+//! A reader and a writer stand for the controller.
+
+ghost use Rattle.std.specs.Prelude.{◌≡◌, ◌≤◌, [], length, None, Some, IsSome, IsOk, IfErr, IfOk, OnErr, true};
+ghost use Rattle.std.specs.Io.KnownBytes.{Consumes, IsAtEnd, Keeps};
+ghost use Rattle.gatt_host.specs.Feeding.{is_read, is_write, FailsIf, Serves};
+ghost use Rattle.gatt_host.specs.Whole.{all_out, Takes};
+ghost use Rattle.gatt_laws.specs.Input.{TheEnd};
+ghost use Rattle.octets.specs.Stream.{CountsFailure};
+
+use crate::feeding::{feed, stop};
+use crate::host::Host;
+use crate::host_fault::HostFault;
+use le_h4::Deframer;
+use octets::{Failed, Sink, Source};
+
+/// As many octets as one turn reads at most.
+const TURN: usize = 512;
+
+/// The input has come to its end.
+#[derive(Clone, Copy, Debug, PartialEq, Eq)]
+pub struct End {
+    /// How many reads were made, that of the end among them.
+    pub turns: u64,
+}
+
+/// Serves a controller: writes what is owed, and then reads at most 512 octets a turn and writes what
+/// goes back, until the reader is at its end or as many turns are over as there may be. The octets of a
+/// packet that is unfinished at the end are dropped. After a fault it answers that, and changes
+/// nothing.
+pub fn serve<R: Source, W: Sink>(
+    host: &mut Host,
+    reader: &mut R,
+    writer: &mut W,
+    turns: u64,
+) -> Result<End, HostFault>
+    ensures serves { host.old.fault ≡ None
+        → Serves result turns host.old host.new (R.remaining reader.old) (R.remaining reader.new) (W.contents writer.old) (W.contents writer.new) }
+    ensures going_on { IsOk result → host.new.fault ≡ None }
+    ensures out { IsOk result → all_out host.new ≡ true }
+    ensures fault { IfErr result (λ fault. host.new.fault ≡ Some fault) }
+    ensures reads { host.old.fault ≡ None → FailsIf (is_read host.new.fault) (R.failures reader.old) (R.failures reader.new) }
+    ensures writes { host.old.fault ≡ None → FailsIf (is_write host.new.fault) (W.failures writer.old) (W.failures writer.new) }
+    ensures stopped { IsSome host.old.fault → host.new ≡ host.old }
+    ensures reader_stopped { IsSome host.old.fault → reader.new ≡ reader.old }
+    ensures writer_stopped { IsSome host.old.fault → writer.new ≡ writer.old }
+{
+    feed(host, &[], writer)?;
+    let mut octets = [0; TURN];
+    for turn in 0..turns {
+        let Ok(read) = read_turn(reader, &mut octets) else {
+            return stop(host, HostFault::Read);
+        };
+        if read.is_empty() {
+            end_stream(host);
+            return Ok(End { turns: turn + 1 });
+        }
+        feed(host, read, writer)?;
+    }
+    stop(host, HostFault::Turns)
+}
+
+/// Reads into `octets`, and gives what was read: nothing at the end of the input.
+fn read_turn<'a, R: Source>(reader: &mut R, octets: &'a mut [u8; TURN]) -> Result<&'a [u8], Failed>
+    ensures within { IfOk result (λ read. length read.now ≤ 512) }
+    ensures consumed { IfOk result (λ read. Consumes (R.remaining reader.old) (R.remaining reader.new) read.now) }
+    ensures at_end { IfOk result (λ read. read.now ≡ [] → IsAtEnd (R.remaining reader.new)) }
+    ensures kept { OnErr result (Keeps (R.remaining reader.old) (R.remaining reader.new)) }
+    ensures failures { CountsFailure (R.failures reader.old) (R.failures reader.new) result }
+{
+    let count = reader.read(octets)?;
+    Ok(octets.split_at(count).0)
+}
+
+/// The stream ends: the octets of a packet that is unfinished are dropped.
+fn end_stream(host: &mut Host)
+    requires none { host.old.fault ≡ None }
+    ensures takes { Takes TheEnd host.old host.new }
+    ensures held { host.new.held ≡ host.old.held }
+    ensures fault { host.new.fault ≡ None }
+{
+    host.deframer = Deframer::new();
+}
