@@ -1,0 +1,72 @@
+//! A table that is replaced while peers are connected.
+
+use crate::peers::{PHONE, STRANGER};
+use crate::player::{Case, Setting, Step, play_all};
+use att_table::examples::{DOOR, PORCH, PORCH_NEXT};
+use gatt_host::{App, AppFault};
+use std::test::Fail;
+
+const AT_THE_PORCH: Setting<'static> = Setting {
+    table: PORCH,
+    slots: 2,
+    rx_mtu: 247,
+    packets: 4,
+};
+
+const AT_THE_DOOR: Setting<'static> = Setting {
+    table: DOOR,
+    ..AT_THE_PORCH
+};
+
+/// What is prepared, and what is configured for a value of another type, goes with the old table.
+const CONNECTED: &[Step] = &[
+    Step::Connects(0x40, STRANGER, "010a200101"),
+    Step::Asks(0x40, "1204000200", "13"),
+    Step::Asks(0x40, "1208000100", "13"),
+    Step::Calls(App::Update(7, &[0x01]), &[(0x40, "1b070001")]),
+    Step::Asks(0x40, "160a00000061", "170a00000061"),
+    Step::Replaces(PORCH_NEXT, &[(0x40, "1d03000100ffff")]),
+    Step::Tells(0x40, "1e", &[]),
+    Step::Asks(0x40, "1801", "19"),
+    Step::Asks(0x40, "0a0a00", "0b"),
+    Step::Calls(App::Update(7, &[0x02]), &[]),
+    Step::Asks(0x40, "0a0800", "0b0000"),
+    Step::Asks(0x40, "0a0400", "0b0200"),
+];
+
+/// A peer that is away is owed the indication until it has confirmed it.
+const AWAY: &[Step] = &[
+    Step::Connects(0x40, PHONE, "010a200101"),
+    Step::Encrypts(0x40, PHONE, &[]),
+    Step::Asks(0x40, "1204000200", "13"),
+    Step::Leaves(0x40, ""),
+    Step::Replaces(PORCH_NEXT, &[]),
+    Step::Rows("1 c0:00:00:00:00:01 4 2\n! 1 c0:00:00:00:00:01\n"),
+    Step::Connects(0x40, PHONE, "010a200101"),
+    Step::Encrypts(0x40, PHONE, &[(0x40, "1d03000100ffff")]),
+    Step::Leaves(0x40, ""),
+    Step::Connects(0x40, PHONE, "010a200101"),
+    Step::Encrypts(0x40, PHONE, &[(0x40, "1d03000100ffff")]),
+    Step::Tells(0x40, "1e", &[]),
+    Step::Leaves(0x40, ""),
+    Step::Connects(0x40, PHONE, "010a200101"),
+    Step::Encrypts(0x40, PHONE, &[]),
+    Step::Rows("1 c0:00:00:00:00:01 4 2\n"),
+];
+
+/// A table that tells of no changes neither replaces another nor is replaced.
+const WITHOUT_A_CHANGER: &[Step] = &[
+    Step::Keeps(PORCH, AppFault::NoServiceChanged),
+    Step::Value(3, "4c6f636b"),
+];
+
+const CASES: &[Case<'static>] = &[
+    (AT_THE_PORCH, CONNECTED),
+    (AT_THE_PORCH, AWAY),
+    (AT_THE_DOOR, WITHOUT_A_CHANGER),
+];
+
+#[test]
+fn tables_replaced(rt: HostRuntime) -> Result<(), Fail> {
+    play_all(&rt, rt.alloc(), CASES)
+}

@@ -1,0 +1,63 @@
+//! A controller that answers its host at once.
+
+use crate::wire::{Octets, Written, put, spell};
+use gatt_host::{Host, feed};
+use std::process::Abort;
+
+/// How a controller answers.
+#[derive(Clone, Copy)]
+pub struct Controller {
+    /// It tells that it takes so many ACL packets, of 27 octets each.
+    pub packets: u8,
+    /// It completes each ACL packet.
+    pub completes: bool,
+}
+
+/// Answers a packet that the host has written, and says how long that is.
+fn answer(rt: &impl Abort, controller: Controller, written: &[u8], answer: &mut Octets) -> usize {
+    match written {
+        [0x01, low, high, length, ..] => {
+            answer_command(rt, controller, *low, *high, answer);
+            4 + usize::from(*length)
+        }
+        [0x02, handle, flags, low, high, ..] => {
+            if controller.completes {
+                spell(rt, answer, "04130501");
+                put(rt, answer, &[*handle, *flags & 0x0F, 0x01, 0x00]);
+            }
+            5 + usize::from(u16::from_le_bytes([*low, *high]))
+        }
+        _ => panic!(rt; "no packet: {written:?}"),
+    }
+}
+
+/// A Disconnect is answered by its Command Status, and each other command by its Command Complete.
+fn answer_command(rt: &impl Abort, controller: Controller, low: u8, high: u8, answer: &mut Octets) {
+    match [high, low] {
+        [0x04, 0x06] => spell(rt, answer, "040f0400010604"),
+        [0x20, 0x02] => {
+            spell(rt, answer, "040e07010220001b00");
+            put(rt, answer, &[controller.packets]);
+        }
+        _ => {
+            spell(rt, answer, "040e0401");
+            put(rt, answer, &[low, high, 0x00]);
+        }
+    }
+}
+
+/// Answers all that the host has written, and what it then writes.
+pub fn answer_all(rt: &impl Abort, controller: Controller, host: &mut Host, written: &mut Written) {
+    let mut answered = 0;
+    for _ in 0..256 {
+        let mut octets = Octets::new();
+        let rest = written.octets().get(answered..).expect(rt, "whole packets");
+        if rest.is_empty() {
+            return;
+        }
+        let length = answer(rt, controller, rest, &mut octets);
+        answered = answered.checked_add(length).expect(rt, "a length");
+        assert!(rt; feed(host, octets.as_slice(), written).is_ok());
+    }
+    panic!(rt; "the host does not come to rest");
+}

@@ -1,0 +1,68 @@
+//! The faults of calls, and those at which a host stops.
+
+use crate::peers::STRANGER;
+use crate::player::{Case, Setting, Step, play_all};
+use att_table::examples::DOOR;
+use gatt_host::{App, AppFault, HostFault};
+use std::test::Fail;
+
+const SETTING: Setting<'static> = Setting {
+    table: DOOR,
+    slots: 2,
+    rx_mtu: 247,
+    packets: 4,
+};
+
+const REFUSED: &[Step] = &[
+    Step::Refuses(App::Update(99, &[0x01]), AppFault::NoSuchHandle),
+    Step::Refuses(App::Update(0, &[0x01]), AppFault::NoSuchHandle),
+    Step::Refuses(App::Update(7, &[0x01, 0x00]), AppFault::NotAValue),
+    Step::Refuses(App::Update(9, &[0x00]), AppFault::NotAValue),
+    Step::Refuses(App::Update(10, &[0x01, 0x02]), AppFault::BadLength),
+    Step::Value(10, "00"),
+    Step::Refuses(App::Authorize(0x41, u64::MAX), AppFault::NoSuchConnection),
+    Step::Calls(App::Tick(5), &[]),
+    Step::Refuses(App::Tick(4), AppFault::TimeWentBack),
+    Step::Calls(App::Tick(5), &[]),
+];
+
+/// After a fault nothing is taken any more.
+const LOST: &[Step] = &[
+    Step::Connects(0x40, STRANGER, "010a200101"),
+    Step::Stops("07", HostFault::Desync(0x07)),
+    Step::Stops("0240200700030004000a0300", HostFault::Desync(0x07)),
+    Step::Stops("", HostFault::Desync(0x07)),
+    Step::Refuses(App::Tick(5), AppFault::Stopped),
+    Step::Refuses(App::Update(99, &[0x01]), AppFault::Stopped),
+    Step::Keeps(DOOR, AppFault::Stopped),
+];
+
+const SHORT: &[Step] = &[Step::Stops("040503004000", HostFault::BadEvent(0x05))];
+
+const WITHOUT_SUBEVENT: &[Step] = &[Step::Stops("043e00", HostFault::BadEvent(0x3E))];
+
+const ERROR: &[Step] = &[
+    Step::Stops("04100142", HostFault::Hardware(0x42)),
+    Step::Stops("07", HostFault::Hardware(0x42)),
+];
+
+const CASES: &[Case<'static>] = &[
+    (SETTING, REFUSED),
+    (SETTING, LOST),
+    (SETTING, SHORT),
+    (SETTING, WITHOUT_SUBEVENT),
+    (SETTING, ERROR),
+];
+
+#[test]
+fn faults(rt: HostRuntime) -> Result<(), Fail> {
+    play_all(&rt, rt.alloc(), CASES)
+}
+
+#[test]
+fn numbers_of_faults(rt: HostRuntime) {
+    assert!(&rt; HostFault::Desync(0x07).number() == 1);
+    assert!(&rt; HostFault::Hardware(0x42).number() == 4);
+    assert!(&rt; AppFault::NoSuchHandle.number() == 1);
+    assert!(&rt; AppFault::NoServiceChanged.number() == 7);
+}

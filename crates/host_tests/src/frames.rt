@@ -1,0 +1,64 @@
+//! Frames of peers, in fragments and on other channels.
+
+use crate::peers::STRANGER;
+use crate::player::{Case, Setting, Step, play_all};
+use att_table::examples::DOOR;
+use std::test::Fail;
+
+const SETTING: Setting<'static> = Setting {
+    table: DOOR,
+    slots: 2,
+    rx_mtu: 247,
+    packets: 4,
+};
+
+/// A read of the name of the lock, in three fragments, and its answer.
+const FIRST: &str = "024020010003";
+
+const SECOND: &str = "0240100300000400";
+
+const THIRD: &str = "02401003000a0300";
+
+const ANSWER: &str = "0240000900050004000b4c6f636b";
+
+const IN_FRAGMENTS: &[Step] = &[
+    Step::Connects(0x40, STRANGER, "010a200101"),
+    Step::Octets(FIRST, ""),
+    Step::Octets(SECOND, ""),
+    Step::Octets(THIRD, ANSWER),
+    Step::Octets(FIRST, ""),
+    Step::Octets(SECOND, ""),
+    Step::Octets(FIRST, ""),
+    Step::Octets(SECOND, ""),
+    Step::Octets(THIRD, ANSWER),
+];
+
+/// A continuation without a beginning, a packet that is too long, and one of another connection are
+/// passed over.
+const PASSED_OVER: &[Step] = &[
+    Step::Connects(0x40, STRANGER, "010a200101"),
+    Step::Octets("0240100700030004000a0300", ""),
+    Step::Octets("0241200700030004000a0300", ""),
+    Step::Long("0240200104", 1025, ""),
+    Step::Octets(FIRST, ""),
+    Step::Octets(SECOND, ""),
+    Step::Octets(THIRD, ANSWER),
+];
+
+/// Pairing is refused, and a signalling command is not understood.
+const OTHER_CHANNELS: &[Step] = &[
+    Step::Connects(0x40, STRANGER, "010a200101"),
+    Step::AsksOn(0x40, 6, "01030001100000", "0505"),
+    Step::AsksOn(0x40, 5, "120908000000000000000000", "010902000000"),
+];
+
+const CASES: &[Case<'static>] = &[
+    (SETTING, IN_FRAGMENTS),
+    (SETTING, PASSED_OVER),
+    (SETTING, OTHER_CHANNELS),
+];
+
+#[test]
+fn frames(rt: HostRuntime) -> Result<(), Fail> {
+    play_all(&rt, rt.alloc(), CASES)
+}

@@ -1,0 +1,154 @@
+//! A controller is initialised, octet by octet.
+
+ghost use Rattle.std.specs.Prelude.{◌<◌};
+
+use crate::player::{Setting, opened};
+use crate::wire::{Written, spelled};
+use att_table::examples::DOOR;
+use gatt_host::{Host, HostFault, feed};
+use le_hci::InitFault;
+use std::alloc::Global;
+use std::process::Abort;
+use std::test::Fail;
+
+const SETTING: Setting<'static> = Setting {
+    table: DOOR,
+    slots: 2,
+    rx_mtu: 247,
+    packets: 4,
+};
+
+/// What the controller sends, and what the host then writes, at first unasked. The controller tells 4
+/// packets of 27 octets. The last packet is a connection, beside which the host advertises for another.
+const EXCHANGES: [(&str, &str); 9] = [
+    ("", "01030c00"),
+    ("040e0401030c00", "01010c08ffffffffff9f0020"),
+    ("040e0401010c00", "010120081f00000000000000"),
+    ("040e0401012000", "01022000"),
+    (
+        "040e07010220001b0004",
+        "0106200fa000a0000000000000000000000700",
+    ),
+    (
+        "040e0401062000",
+        "010820200302010600000000000000000000000000000000000000000000000000000000",
+    ),
+    ("040e0401082000", "010a200101"),
+    ("040e04010a2000", ""),
+    ("043e130100400001010a00000000c018000000480000", "010a200101"),
+];
+
+/// Takes in what the controller sends, in pieces of at most `size` octets.
+fn exchange(rt: &impl Abort, host: &mut Host, size: usize, octets: &str, wanted: &str)
+    requires { 0 < size }
+{
+    let mut written = Written::new();
+    assert!(rt; feed(host, &[], &mut written).is_ok());
+    for piece in spelled(rt, octets, 0).as_slice().chunks(size) {
+        assert!(rt; feed(host, piece, &mut written).is_ok());
+    }
+    assert!(rt;
+        written.octets() == spelled(rt, wanted, 0).as_slice(),
+        "{octets}"
+    );
+}
+
+/// The whole initialisation, where packets come in pieces of at most `size` octets.
+fn initialise(rt: &impl Abort, alloc: Global, size: usize) -> Result<(), Fail>
+    requires { 0 < size }
+{
+    let mut host = opened(rt, alloc, SETTING)?;
+    for (octets, wanted) in EXCHANGES {
+        exchange(rt, &mut host, size, octets, wanted);
+    }
+    Ok(())
+}
+
+#[test]
+fn initialisation_and_a_connection(rt: HostRuntime) -> Result<(), Fail> {
+    initialise(&rt, rt.alloc(), 64)?;
+    initialise(&rt, rt.alloc(), 1)
+}
+
+/// What the controller sends instead, after so many of those exchanges, and the fault of that.
+const FAULTS: &[(usize, &str, HostFault)] = &[
+    (
+        1,
+        "040e0401030c01",
+        HostFault::Init(InitFault::Refused(0x0C03, 0x01)),
+    ),
+    (
+        1,
+        "040f040c01030c",
+        HostFault::Init(InitFault::Refused(0x0C03, 0x0C)),
+    ),
+    (1, "040e0301030c", HostFault::BadEvent(0x0E)),
+    (4, "040e0601022000001b", HostFault::BadEvent(0x0E)),
+    (
+        4,
+        "040e07010220001a0004",
+        HostFault::Init(InitFault::BadBuffers),
+    ),
+    (
+        4,
+        "040e07010220001b0000",
+        HostFault::Init(InitFault::BadBuffers),
+    ),
+];
+
+/// The same of what has no fault, and the octets that go out.
+const WITHOUT_A_FAULT: &[(usize, &str, &str)] = &[
+    (1, "040f040001030c", ""),
+    (4, "040e0701022000000000", "01051000"),
+    (4, "040e0700022000000000", ""),
+    (4, "040e0700022000000000040e0401000000", "01051000"),
+    (1, "043e130100400001010a00000000c018000000480000", ""),
+    (1, "0240200700030004000a0300", ""),
+];
+
+/// A host after so many exchanges.
+fn after(rt: &impl Abort, alloc: Global, count: usize) -> Result<Host, Fail> {
+    let mut host = opened(rt, alloc, SETTING)?;
+    for (octets, wanted) in EXCHANGES.iter().take(count) {
+        exchange(rt, &mut host, 64, octets, wanted);
+    }
+    Ok(host)
+}
+
+/// Takes in octets that have a fault, before anything goes out.
+fn stop(rt: &impl Abort, host: &mut Host, octets: &str, fault: HostFault) {
+    let mut written = Written::new();
+    let fed = feed(host, spelled(rt, octets, 0).as_slice(), &mut written);
+    assert!(rt; fed == Err(fault), "{octets}");
+    assert!(rt; written.octets().is_empty());
+}
+
+fn check_faults(
+    rt: &impl Abort,
+    alloc: Global,
+    cases: &[(usize, &str, HostFault)],
+) -> Result<(), Fail> {
+    for (count, octets, fault) in cases {
+        let mut host = after(rt, alloc, *count)?;
+        stop(rt, &mut host, octets, *fault);
+    }
+    Ok(())
+}
+
+fn check_others(rt: &impl Abort, alloc: Global, cases: &[(usize, &str, &str)]) -> Result<(), Fail> {
+    for (count, octets, wanted) in cases {
+        let mut host = after(rt, alloc, *count)?;
+        exchange(rt, &mut host, 64, octets, wanted);
+    }
+    Ok(())
+}
+
+#[test]
+fn faults_of_a_controller(rt: HostRuntime) -> Result<(), Fail> {
+    check_faults(&rt, rt.alloc(), FAULTS)
+}
+
+#[test]
+fn other_answers_of_a_controller(rt: HostRuntime) -> Result<(), Fail> {
+    check_others(&rt, rt.alloc(), WITHOUT_A_FAULT)
+}

@@ -1,0 +1,34 @@
+//! The host between a controller and an application, tested: what goes out for what comes in. These
+//! tests use what the layers make public, so they stand in a crate of their own.
+#![tactic(auto)]
+
+#[cfg(test)]
+mod changed_tables;
+#[cfg(test)]
+mod controller;
+#[cfg(test)]
+mod faults;
+#[cfg(test)]
+mod frames;
+#[cfg(test)]
+mod initialisation;
+#[cfg(test)]
+mod links;
+#[cfg(test)]
+mod opening;
+#[cfg(test)]
+mod peers;
+#[cfg(test)]
+mod player;
+#[cfg(test)]
+mod requests;
+#[cfg(test)]
+mod serving;
+#[cfg(test)]
+mod shares;
+#[cfg(test)]
+mod steps;
+#[cfg(test)]
+mod subscriptions;
+#[cfg(test)]
+mod wire;

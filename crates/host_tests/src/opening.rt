@@ -1,0 +1,91 @@
+//! A host is opened.
+
+use crate::player::{Setting, opened};
+use crate::wire::Written;
+use arrayvec::ArrayVec;
+use att_table::Table;
+use att_table::examples::DOOR;
+use gatt_host::{Config, Host, OpenFault, feed};
+use gatt_subs::Rows;
+use le_security::Keys;
+use std::alloc::Global;
+use std::process::Abort;
+use std::test::Fail;
+
+/// Slots, the largest PDU that is received, and a random address, with the fault of that.
+type Case = (usize, u16, Option<[u8; 6]>, Option<OpenFault>);
+
+const CASES: [Case; 10] = [
+    (2, 247, None, None),
+    (1, 23, None, None),
+    (8, 517, Some([0x00, 0x00, 0x00, 0x00, 0x00, 0xC0]), None),
+    (2, 247, Some([0x00, 0x00, 0x00, 0x00, 0x00, 0xFF]), None),
+    (0, 247, None, Some(OpenFault::BadConfig)),
+    (9, 247, None, Some(OpenFault::BadConfig)),
+    (2, 22, None, Some(OpenFault::BadConfig)),
+    (2, 518, None, Some(OpenFault::BadConfig)),
+    (
+        2,
+        247,
+        Some([0xC0, 0xC0, 0xC0, 0xC0, 0xC0, 0xBF]),
+        Some(OpenFault::BadConfig),
+    ),
+    (
+        2,
+        247,
+        Some([0x00, 0x00, 0x00, 0x00, 0x00, 0x40]),
+        Some(OpenFault::BadConfig),
+    ),
+];
+
+/// The fault of a host that is opened so.
+fn fault_of(rt: &impl Abort, alloc: Global, config: Config) -> Option<OpenFault> {
+    let table = Table::read(alloc, DOOR).expect(rt, "the table");
+    let keys = Keys::read(alloc, "").expect(rt, "the keys");
+    let rows = Rows::read(alloc, "").expect(rt, "the rows");
+    Host::open(alloc, table, keys, rows, config).err()
+}
+
+fn check(rt: &impl Abort, alloc: Global, cases: &[Case]) {
+    for &(slots, rx_mtu, address, fault) in cases {
+        let config = Config {
+            slots,
+            rx_mtu,
+            address,
+            advertising: ArrayVec::new(),
+        };
+        assert!(rt;
+            fault_of(rt, alloc, config) == fault,
+            "{slots} {rx_mtu} {address:?}"
+        );
+    }
+}
+
+#[test]
+fn configurations(rt: HostRuntime) {
+    check(&rt, rt.alloc(), &CASES);
+}
+
+/// Reset goes out at once, and nothing more before the controller answers.
+fn first_out(rt: &impl Abort, host: &mut Host) {
+    let mut written = Written::new();
+    assert!(rt; !host.drained());
+    assert!(rt; feed(host, &[], &mut written).is_ok());
+    assert!(rt; written.octets() == [0x01, 0x03, 0x0C, 0x00].as_slice());
+    assert!(rt; host.drained());
+    assert!(rt; feed(host, &[], &mut written).is_ok());
+    assert!(rt; written.octets().len() == 4);
+}
+
+#[test]
+fn first_command(rt: HostRuntime) -> Result<(), Fail> {
+    let setting = Setting {
+        table: DOOR,
+        slots: 2,
+        rx_mtu: 247,
+        packets: 4,
+    };
+    let mut host = opened(&rt, rt.alloc(), setting)?;
+    first_out(&rt, &mut host);
+    Ok(())
+}

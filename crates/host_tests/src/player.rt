@@ -1,0 +1,153 @@
+//! What happens to a host, step by step, and what it writes then.
+
+use crate::controller::{Controller, answer_all};
+use crate::peers::Who;
+use crate::steps::act;
+use crate::wire::{Octets, Written};
+use arrayvec::ArrayVec;
+use att_table::Table;
+use gatt_host::{App, AppFault, Config, Host, HostFault, feed};
+use gatt_subs::Rows;
+use le_security::Keys;
+use le_security::examples::{KEYS, SECURE_KEY};
+use std::alloc::Global;
+use std::process::Abort;
+use std::test::Fail;
+
+/// PDUs of the Attribute Protocol in hexadecimal digits, each with the handle of its connection.
+pub type Pdus = &'static [(u16, &'static str)];
+
+/// One step. Octets and PDUs are hexadecimal, and empty where none are.
+#[derive(Clone, Copy)]
+pub enum Step {
+    /// Octets from the controller, and those that the host then writes.
+    Octets(&'static str, &'static str),
+    /// The same of octets from the controller that end with so many octets `61`.
+    Long(&'static str, usize, &'static str),
+    /// From here on the controller completes no ACL packet.
+    Hold,
+    /// A peer connects under a handle, and the host writes these octets.
+    Connects(u16, Who, &'static str),
+    /// A peer ends its connection, and the host writes these octets.
+    Leaves(u16, &'static str),
+    /// The key of a link is asked for and given, and then the link is encrypted by it: what goes out
+    /// then.
+    Encrypts(u16, Who, Pdus),
+    /// The same where the host has no such key.
+    HasNoKey(u16, Who),
+    /// A PDU of a connection, and its answer.
+    Asks(u16, &'static str, &'static str),
+    /// The same of an answer that ends with so many octets `61`.
+    AsksForLong(u16, &'static str, &'static str, usize),
+    /// A PDU of a connection several times, each time with this answer.
+    Times(usize, u16, &'static str, &'static str),
+    /// A PDU of a connection, and all that goes out then.
+    Tells(u16, &'static str, Pdus),
+    /// A frame of a connection on a channel, and the one that answers it.
+    AsksOn(u16, u8, &'static str, &'static str),
+    /// A call of the application, and what goes out then.
+    Calls(App<'static>, Pdus),
+    /// The same, refused.
+    Refuses(App<'static>, AppFault),
+    /// Another table, and what goes out then.
+    Replaces(&'static str, Pdus),
+    /// The same, refused; the table is handed back.
+    Keeps(&'static str, AppFault),
+    /// The rows, as text.
+    Rows(&'static str),
+    /// The value at a handle.
+    Value(u16, &'static str),
+    /// Octets from the controller at which the host stops.
+    Stops(&'static str, HostFault),
+}
+
+/// What a host is opened with, and how many ACL packets its controller takes.
+#[derive(Clone, Copy)]
+pub struct Setting<'a> {
+    pub table: &'a str,
+    pub slots: usize,
+    pub rx_mtu: u16,
+    pub packets: u8,
+}
+
+/// What a host is opened with, and the steps that are then made.
+pub type Case<'a> = (Setting<'a>, &'a [Step]);
+
+/// Makes the steps of a new host for each case.
+pub fn play_all(rt: &impl Abort, alloc: Global, cases: &[Case<'_>]) -> Result<(), Fail> {
+    for (setting, steps) in cases {
+        play(rt, alloc, *setting, steps)?;
+    }
+    Ok(())
+}
+
+/// Makes the steps of a new host, once its controller is initialised.
+pub fn play(
+    rt: &impl Abort,
+    alloc: Global,
+    setting: Setting<'_>,
+    steps: &[Step],
+) -> Result<(), Fail> {
+    let mut host = opened(rt, alloc, setting)?;
+    let mut controller = Controller {
+        packets: setting.packets,
+        completes: true,
+    };
+    initialise(rt, controller, &mut host);
+    for (place, &step) in steps.iter().enumerate() {
+        if let Step::Hold = step {
+            controller.completes = false;
+        } else {
+            make(rt, alloc, controller, &mut host, place, step);
+        }
+    }
+    Ok(())
+}
+
+/// A host with the example keys, and no rows.
+pub fn opened(rt: &impl Abort, alloc: Global, setting: Setting<'_>) -> Result<Host, Fail> {
+    let text = format!(in alloc; "{KEYS}{SECURE_KEY}")?;
+    let table = Table::read(alloc, setting.table).expect(rt, "the table");
+    let keys = Keys::read(alloc, &text).expect(rt, "the keys");
+    let rows = Rows::read(alloc, "").expect(rt, "the rows");
+    let mut advertising = ArrayVec::new();
+    advertising.push(0x02);
+    advertising.push(0x01);
+    advertising.push(0x06);
+    let config = Config {
+        slots: setting.slots,
+        rx_mtu: setting.rx_mtu,
+        address: None,
+        advertising,
+    };
+    Ok(Host::open(alloc, table, keys, rows, config).expect(rt, "the host"))
+}
+
+/// Lets the host initialise its controller, which it ends by advertising.
+fn initialise(rt: &impl Abort, controller: Controller, host: &mut Host) {
+    let mut written = Written::new();
+    assert!(rt; feed(host, &[], &mut written).is_ok());
+    answer_all(rt, controller, host, &mut written);
+    let ready = written.octets().ends_with(&[0x01, 0x0A, 0x20, 0x01, 0x01]);
+    assert!(rt; ready);
+}
+
+/// Makes one step, and compares all that goes out with what was to.
+fn make(
+    rt: &impl Abort,
+    alloc: Global,
+    controller: Controller,
+    host: &mut Host,
+    place: usize,
+    step: Step,
+) {
+    let mut written = Written::new();
+    let mut wanted = Octets::new();
+    act(rt, alloc, controller, host, step, &mut written, &mut wanted);
+    answer_all(rt, controller, host, &mut written);
+    compare(rt, place, written.octets(), wanted.as_slice());
+}
+
+fn compare(rt: &impl Abort, place: usize, written: &[u8], wanted: &[u8]) {
+    assert!(rt; written == wanted, "step {place}: {written:?}");
+}

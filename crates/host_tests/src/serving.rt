@@ -1,0 +1,53 @@
+//! A host between a reader and a writer.
+
+use crate::player::{Setting, opened};
+use crate::wire::Written;
+use att_table::examples::DOOR;
+use gatt_host::{End, Host, HostFault, serve};
+use octets::SliceSource;
+use std::alloc::Global;
+use std::process::Abort;
+use std::test::Fail;
+
+const SETTING: Setting<'static> = Setting {
+    table: DOOR,
+    slots: 2,
+    rx_mtu: 247,
+    packets: 4,
+};
+
+/// Serves the beginning of an event, and then the end of the input, in so many turns.
+fn serve_a_beginning(
+    rt: &impl Abort,
+    host: &mut Host,
+    turns: u64,
+    outcome: Result<End, HostFault>,
+) {
+    let mut written = Written::new();
+    let mut source = SliceSource::new(&[0x04, 0x0E]);
+    assert!(rt; serve(host, &mut source, &mut written, turns) == outcome);
+    assert!(rt; written.octets() == [0x01, 0x03, 0x0C, 0x00].as_slice());
+}
+
+/// How many turns there are, and what comes of them.
+const CASES: &[(u64, Result<End, HostFault>)] = &[
+    (1_000, Ok(End { turns: 2 })),
+    (1, Err(HostFault::Turns)),
+];
+
+fn serve_each(
+    rt: &impl Abort,
+    alloc: Global,
+    cases: &[(u64, Result<End, HostFault>)],
+) -> Result<(), Fail> {
+    for (turns, outcome) in cases {
+        let mut host = opened(rt, alloc, SETTING)?;
+        serve_a_beginning(rt, &mut host, *turns, *outcome);
+    }
+    Ok(())
+}
+
+#[test]
+fn end_of_input_and_of_turns(rt: HostRuntime) -> Result<(), Fail> {
+    serve_each(&rt, rt.alloc(), CASES)
+}

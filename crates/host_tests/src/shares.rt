@@ -1,0 +1,110 @@
+//! What goes out while the controller does not complete packets.
+
+use crate::peers::{PHONE, STRANGER};
+use crate::player::{Case, Setting, Step, play_all};
+use att_table::examples::DOOR;
+use gatt_host::App;
+use std::test::Fail;
+
+/// Each connection has a share of two packets.
+const TWO_EACH: Setting<'static> = Setting {
+    table: DOOR,
+    slots: 2,
+    rx_mtu: 247,
+    packets: 4,
+};
+
+/// Each connection has a share of one packet.
+const ONE_EACH: Setting<'static> = Setting {
+    packets: 2,
+    ..TWO_EACH
+};
+
+const ONE_ALONE: Setting<'static> = Setting {
+    slots: 1,
+    packets: 1,
+    ..TWO_EACH
+};
+
+/// What is completed can be no more than what is outstanding.
+const COMPLETED: &[Step] = &[
+    Step::Connects(0x40, STRANGER, "010a200101"),
+    Step::Asks(0x40, "1207000100", "13"),
+    Step::Hold,
+    Step::Calls(App::Update(6, &[0x01]), &[(0x40, "1b060001")]),
+    Step::Calls(App::Update(6, &[0x02]), &[(0x40, "1b060002")]),
+    Step::Calls(App::Update(6, &[0x03]), &[]),
+    Step::Octets("0413050140000100", "0240000800040004001b060003"),
+    Step::Octets("0413050140000900", ""),
+    Step::Calls(App::Update(6, &[0x04]), &[(0x40, "1b060004")]),
+    Step::Calls(App::Update(6, &[0x05]), &[(0x40, "1b060005")]),
+    Step::Calls(App::Update(6, &[0x06]), &[]),
+];
+
+/// Of eleven notifications two go out, eight wait, and the last one is lost.
+const NEVER_COMPLETED: &[Step] = &[
+    Step::Connects(0x40, STRANGER, "010a200101"),
+    Step::Asks(0x40, "1207000100", "13"),
+    Step::Hold,
+    Step::Calls(App::Update(6, &[0x01]), &[(0x40, "1b060001")]),
+    Step::Calls(App::Update(6, &[0x02]), &[(0x40, "1b060002")]),
+    Step::Calls(App::Update(6, &[0x03]), &[]),
+    Step::Calls(App::Update(6, &[0x04]), &[]),
+    Step::Calls(App::Update(6, &[0x05]), &[]),
+    Step::Calls(App::Update(6, &[0x06]), &[]),
+    Step::Calls(App::Update(6, &[0x07]), &[]),
+    Step::Calls(App::Update(6, &[0x08]), &[]),
+    Step::Calls(App::Update(6, &[0x09]), &[]),
+    Step::Calls(App::Update(6, &[0x0A]), &[]),
+    Step::Calls(App::Update(6, &[0x0B]), &[]),
+    Step::Octets(
+        "0413050140000200",
+        "0240000800040004001b0600030240000800040004001b060004",
+    ),
+    Step::Octets(
+        "0413050140000200",
+        "0240000800040004001b0600050240000800040004001b060006",
+    ),
+    Step::Octets(
+        "0413050140000200",
+        "0240000800040004001b0600070240000800040004001b060008",
+    ),
+    Step::Octets(
+        "0413050140000200",
+        "0240000800040004001b0600090240000800040004001b06000a",
+    ),
+    Step::Octets("0413050140000200", ""),
+];
+
+/// A connection whose answers are not fetched is ended where one more has no room.
+const TOO_MANY_READS: &[Step] = &[
+    Step::Connects(0x40, STRANGER, ""),
+    Step::Hold,
+    Step::Asks(0x40, "0a0300", "0b4c6f636b"),
+    Step::Times(16, 0x40, "0a0300", ""),
+    Step::Octets("0240200700030004000a0300", "01060403400013"),
+    Step::Octets("0413050140000100", ""),
+];
+
+/// A link that loses its encryption sends nothing more.
+const ENCRYPTION_LOST: &[Step] = &[
+    Step::Connects(0x40, PHONE, "010a200101"),
+    Step::Encrypts(0x40, PHONE, &[]),
+    Step::Hold,
+    Step::Asks(0x40, "0a0300", "0b4c6f636b"),
+    Step::Asks(0x40, "0a0300", ""),
+    Step::Octets("04080400400000", "01060403400005"),
+    Step::Octets("0413050140000100", ""),
+];
+
+const CASES: &[Case<'static>] = &[
+    (TWO_EACH, COMPLETED),
+    (TWO_EACH, NEVER_COMPLETED),
+    (ONE_ALONE, TOO_MANY_READS),
+    (ONE_EACH, ENCRYPTION_LOST),
+];
+
+#[test]
+fn shares(rt: HostRuntime) -> Result<(), Fail> {
+    play_all(&rt, rt.alloc(), CASES)
+}
