@@ -7,11 +7,15 @@ mod changed_tables;
 #[cfg(test)]
 mod controller;
 #[cfg(test)]
+mod cut_streams;
+#[cfg(test)]
 mod faults;
 #[cfg(test)]
 mod frames;
 #[cfg(test)]
 mod initialisation;
+#[cfg(test)]
+mod isolation;
 #[cfg(test)]
 mod links;
 #[cfg(test)]
