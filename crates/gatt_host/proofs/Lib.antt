@@ -14,3 +14,4 @@ pub mod standing
 pub mod asking
 pub mod meaning
 pub mod whole
+pub mod Promises

@@ -13,3 +13,4 @@ pub mod Opening
 pub mod Feeding
 pub mod Credits
 pub mod Numbers
+pub mod Promises

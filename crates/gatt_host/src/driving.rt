@@ -4,6 +4,7 @@ ghost use Rattle.std.specs.Prelude.{◌≡◌, ◌∷◌, [], None, IsSome, IsOk
 ghost use Rattle.std.specs.Result.{result_err};
 ghost use Rattle.gatt_host.specs.Asked.{call_of};
 ghost use Rattle.gatt_host.specs.Feeding.{comes_of_feeding, input_items, is_write, items_of, CountsRefused, FailsIf, Feeds};
+ghost use Rattle.gatt_host.specs.Promises.{KeepsConnectionsApart, KeepsThePolicy};
 ghost use Rattle.gatt_host.specs.Whole.{all_out};
 ghost use Rattle.gatt_laws.specs.Input.{ACall};
 
@@ -25,6 +26,7 @@ pub enum Input<'a> {
 /// Takes in octets and calls in their order, and writes what goes back: first what was owed, and then
 /// what each packet and each call brings, before the next. Says how many of the calls were refused.
 /// After a fault it answers that, and changes nothing.
+#[tactic(auto, using(crate::proofs::Promises::keeps_the_policy, crate::proofs::Promises::keeps_connections_apart))]
 pub fn drive<W: Sink>(
     host: &mut Host,
     inputs: &[Input<'_>],
@@ -40,6 +42,9 @@ pub fn drive<W: Sink>(
     ensures failures { host.old.fault ≡ None → FailsIf (is_write host.new.fault) (W.failures out.old) (W.failures out.new) }
     ensures stopped { IsSome host.old.fault → host.new ≡ host.old }
     ensures sink_stopped { IsSome host.old.fault → out.new ≡ out.old }
+    // And of all that is taken in, for every start and input:
+    ensures policy { KeepsThePolicy }
+    ensures apart { KeepsConnectionsApart }
 {
     feed(host, &[], out)?;
     let mut refused = 0;

@@ -7,6 +7,7 @@ ghost use Rattle.gatt_host.specs.Answers.{lost_fault};
 ghost use Rattle.gatt_host.specs.GoingOut.{is_drained};
 ghost use Rattle.gatt_host.specs.Held.{open_slots};
 ghost use Rattle.gatt_host.specs.Meaning.{HasRowsOfTheTable};
+ghost use Rattle.gatt_host.specs.Promises.{KeepsConnectionsApart, KeepsThePolicy};
 ghost use Rattle.gatt_host.specs.Whole.{all_out, is_own, outcome_of, Leads};
 
 use crate::host::Host;
@@ -21,6 +22,7 @@ use octets::{Sink, write_all};
 /// Takes in octets of the stream from the controller, which may begin and end anywhere in its packets,
 /// and writes what goes back: first what was owed, and then what each packet brings, before the next is
 /// taken in. After a fault it answers that, and changes nothing.
+#[tactic(auto, using(crate::proofs::Promises::keeps_the_policy, crate::proofs::Promises::keeps_connections_apart))]
 pub fn feed<W: Sink>(host: &mut Host, octets: &[u8], out: &mut W) -> Result<(), HostFault>
     ensures feeds { host.old.fault ≡ None
         → Feeds (octet_items octets.now) host.old host.new (W.contents out.old) (W.contents out.new) host.new.fault }
@@ -30,6 +32,9 @@ pub fn feed<W: Sink>(host: &mut Host, octets: &[u8], out: &mut W) -> Result<(), 
     ensures failures { host.old.fault ≡ None → FailsIf (is_write host.new.fault) (W.failures out.old) (W.failures out.new) }
     ensures stopped { IsSome host.old.fault → host.new ≡ host.old }
     ensures sink_stopped { IsSome host.old.fault → out.new ≡ out.old }
+    // And of all that is taken in, for every start and input:
+    ensures policy { KeepsThePolicy }
+    ensures apart { KeepsConnectionsApart }
 {
     if let Some(fault) = host.fault {
         return Err(fault);

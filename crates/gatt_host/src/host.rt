@@ -9,6 +9,7 @@ ghost use Rattle.gatt_host.specs.Asked.{call_of, refusal_of, replacing_refusal_o
 ghost use Rattle.gatt_host.specs.Credits.{most_out};
 ghost use Rattle.gatt_host.specs.GoingOut.{is_drained};
 ghost use Rattle.gatt_host.specs.Held.{open_slots};
+ghost use Rattle.gatt_host.specs.Promises.{KeepsConnectionsApart, KeepsThePolicy};
 ghost use Rattle.gatt_host.specs.Whole.{all_out, is_own, outcome_of, Leads, StandsAt, Takes};
 ghost use Rattle.le_h4.specs.Packet.{seen};
 ghost use Rattle.octets.specs.Number.{Octets};
@@ -58,7 +59,7 @@ impl Host {
     }
 
     /// Puts the next packet that is to go to the controller in place of what `out` holds, and takes in
-    /// that it is out; or answers false where all is out. It is no longer than 256 octets.
+    /// that it is out; or answers false where all is out.
     pub fn next_out(&mut self, out: &mut ArrayVec<u8, 260>) -> bool
         ensures goes { result ≡ not (all_out self.old) }
         ensures leads { OnTrue result (Leads [] (out.new.items ∷ []) self.old self.new) }
@@ -76,6 +77,7 @@ impl Host {
 
     /// Takes in one whole packet from the controller, once all is out. After a fault it answers that,
     /// and changes nothing.
+    #[tactic(auto, using(crate::proofs::Promises::keeps_the_policy, crate::proofs::Promises::keeps_connections_apart))]
     pub fn packet(&mut self, packet: PacketRef<'_>) -> Result<(), HostFault>
         requires drained { all_out self.old ≡ true }
         ensures takes { self.old.fault ≡ None → Takes (APacket (seen packet.entry)) self.old self.new }
@@ -83,6 +85,9 @@ impl Host {
         // No reader and no writer has a part in it.
         ensures not_own { self.old.fault ≡ None → IfErr result (λ fault. is_own fault ≡ false) }
         ensures stopped { IsSome self.old.fault → self.new ≡ self.old }
+        // And of all that is taken in, for every start and input:
+        ensures policy { KeepsThePolicy }
+        ensures apart { KeepsConnectionsApart }
     {
         if let Some(fault) = self.fault {
             return Err(fault);
@@ -93,6 +98,7 @@ impl Host {
     }
 
     /// Does what the application asks, once all is out; or refuses it, and changes nothing.
+    #[tactic(auto, using(crate::proofs::Promises::keeps_the_policy, crate::proofs::Promises::keeps_connections_apart))]
     pub fn app(&mut self, call: App<'_>) -> Result<(), AppFault>
         requires drained { all_out self.old ≡ true }
         ensures takes { self.old.fault ≡ None → Takes (ACall (call_of call.entry)) self.old self.new }
@@ -101,6 +107,9 @@ impl Host {
         ensures stopped { IsSome self.old.fault → result ≡ Err AppFault.Stopped }
         ensures fault { self.new.fault ≡ self.old.fault }
         ensures unchanged { OnErr result (self.new ≡ self.old) }
+        // And of all that is taken in, for every start and input:
+        ensures policy { KeepsThePolicy }
+        ensures apart { KeepsConnectionsApart }
     {
         if self.fault.is_some() {
             return Err(AppFault::Stopped);
@@ -110,6 +119,7 @@ impl Host {
 
     /// Replaces the table, once all is out, and gives the old one back with its values as they are; or
     /// gives the new one back with the fault, and changes nothing.
+    #[tactic(auto, using(crate::proofs::Promises::keeps_the_policy, crate::proofs::Promises::keeps_connections_apart))]
     pub fn replace(&mut self, table: Table) -> Result<Table, (AppFault, Table)>
         requires drained { all_out self.old ≡ true }
         ensures takes { self.old.fault ≡ None → Takes (ATable table) self.old self.new }
@@ -120,6 +130,9 @@ impl Host {
         ensures stopped { IsSome self.old.fault → IfErr result (λ refused. refused.0 ≡ AppFault.Stopped) }
         ensures fault { self.new.fault ≡ self.old.fault }
         ensures unchanged { OnErr result (self.new ≡ self.old) }
+        // And of all that is taken in, for every start and input:
+        ensures policy { KeepsThePolicy }
+        ensures apart { KeepsConnectionsApart }
     {
         if self.fault.is_some() {
             return Err((AppFault::Stopped, table));

@@ -3,6 +3,7 @@
 ghost use Rattle.std.specs.Prelude.{◌≡◌, ◌≤◌, [], length, None, Some, IsSome, IsOk, IfErr, IfOk, OnErr, true};
 ghost use Rattle.std.specs.Io.KnownBytes.{Consumes, IsAtEnd, Keeps};
 ghost use Rattle.gatt_host.specs.Feeding.{is_read, is_write, FailsIf, Serves};
+ghost use Rattle.gatt_host.specs.Promises.{KeepsConnectionsApart, KeepsThePolicy};
 ghost use Rattle.gatt_host.specs.Whole.{all_out, Takes};
 ghost use Rattle.gatt_laws.specs.Input.{TheEnd};
 ghost use Rattle.octets.specs.Stream.{CountsFailure};
@@ -27,6 +28,7 @@ pub struct End {
 /// goes back, until the reader is at its end or as many turns are over as there may be. The octets of a
 /// packet that is unfinished at the end are dropped. After a fault it answers that, and changes
 /// nothing.
+#[tactic(auto, using(crate::proofs::Promises::keeps_the_policy, crate::proofs::Promises::keeps_connections_apart))]
 pub fn serve<R: Source, W: Sink>(
     host: &mut Host,
     reader: &mut R,
@@ -43,6 +45,9 @@ pub fn serve<R: Source, W: Sink>(
     ensures stopped { IsSome host.old.fault → host.new ≡ host.old }
     ensures reader_stopped { IsSome host.old.fault → reader.new ≡ reader.old }
     ensures writer_stopped { IsSome host.old.fault → writer.new ≡ writer.old }
+    // And of all that is taken in, for every start and input:
+    ensures policy { KeepsThePolicy }
+    ensures apart { KeepsConnectionsApart }
 {
     feed(host, &[], writer)?;
     let mut octets = [0; TURN];
