@@ -1,13 +1,6 @@
-//! Tests of the attribute layers and the commands over them: PDUs of clients to example tables, each
-//! with its answer, and inputs of the commands, each with what is printed.
+//! Tests of the attribute layers: PDUs of clients to example tables, each with its answer.
 #![tactic(auto)]
 
-#[cfg(test)]
-mod att_command;
-#[cfg(test)]
-mod check_command;
-#[cfg(test)]
-mod command_faults;
 #[cfg(test)]
 mod hearer;
 #[cfg(test)]

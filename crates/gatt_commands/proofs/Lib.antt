@@ -3,6 +3,10 @@ pub mod Inputs
 pub mod KeyFiles
 pub mod Printing
 pub mod Reports
+pub mod RowsFiles
+pub mod RunOrders
+pub mod ScriptFiles
+pub mod ServeFaults
 pub mod Sessions
 pub mod TableFiles
 pub mod Texts

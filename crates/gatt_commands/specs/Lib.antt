@@ -3,5 +3,10 @@ pub mod Check
 pub mod Fault
 pub mod Input
 pub mod KeyFile
+pub mod Lines
+pub mod RowsFile
+pub mod ScriptFile
+pub mod Serving
 pub mod Session
 pub mod TableFile
+pub mod Turns

@@ -8,7 +8,7 @@ use Rattle.att_table.specs.TableFault.{number_of}
 use Rattle.att_table.specs.file.TableFile.{table_read}
 use Rattle.octets.specs.Number.{Octets}
 use Rattle.gatt_commands.specs.declared.fault.ShellFault.{ShellFault}
-use Rattle.gatt_commands.specs.declared.fault.ShellFault.TheVariants.{Table, Unreadable, Memory}
+use Rattle.gatt_commands.specs.declared.fault.ShellFault.TheVariants.{Table, Next, Unreadable, Memory}
 
 -- the table that a file gives, or its first fault: one that is not UTF-8 is not TOML
 unfoldable pub table_in : Octets → Result Contents TableFault
@@ -30,3 +30,14 @@ IsTableFileFault (Table number) = Unit {0}
 IsTableFileFault Unreadable = Unit {0}
 IsTableFileFault Memory = Unit {0}
 IsTableFileFault _ = ⊥
+
+-- the same of one that replaces another
+abbrev pub next_of : ShellFault → ShellFault
+next_of (Table number) = Next number
+next_of fault = fault
+
+abbrev pub IsNextFileFault : ShellFault → Type 0
+IsNextFileFault (Next number) = Unit {0}
+IsNextFileFault Unreadable = Unit {0}
+IsNextFileFault Memory = Unit {0}
+IsNextFileFault _ = ⊥

@@ -1,18 +1,30 @@
 //! The commands of the program, and what each says where it ends before its work is done.
 #![tactic(auto)]
 
+mod acts;
 mod att;
 mod check;
+mod exchange;
 mod fault;
 mod input;
 mod key_file;
 mod lazy_file;
+mod opening;
 mod output;
+mod rows_file;
+mod rows_path;
+mod run;
+mod script_file;
+mod serve;
 mod server;
 mod session;
 mod table_file;
+mod told;
 
 pub use att::att_lines;
 pub use check::{KeysPath, TablePath, check_files, check_paths};
 pub use fault::{ShellFault, status, text};
 pub use input::{CHUNK, READS};
+pub use rows_path::RowsPath;
+pub use run::{NextPath, RunPaths, ScriptPath, run_paths, run_script};
+pub use serve::{Address, ServePaths, TURNS, serve_on, serve_paths};

@@ -1,10 +1,14 @@
 //! Output of the commands.
 
-ghost use Rattle.std.specs.Prelude.{◌≡◌, IfErr, OnOk};
+ghost use Rattle.std.specs.Prelude.{◌≡◌, ◌≤◌, ◌*◌, ◌++◌, ◌∷◌, [], length, Ok, Err, IfErr, OnOk};
+ghost use Rattle.std.specs.Fmt.{decimal};
+ghost use Rattle.hex.specs.Hex.{encode_lower};
 ghost use Rattle.std.specs.Io.KnownBytes.{Appends};
 ghost use Rattle.gatt_commands.specs.Att.{PrintsFront};
+ghost use Rattle.gatt_commands.specs.declared.fault.ShellFault.{ShellFault};
 
 use crate::fault::ShellFault;
+use itoa::Buffer;
 use std::io::{ErrorKind, Write};
 
 /// Writes a text out, or the front of it where the writer fails. A write that is interrupted is made
@@ -27,4 +31,41 @@ pub(crate) fn print<W: Write>(text: &[u8], writer: &mut W) -> Result<(), ShellFa
         }
     }
     Err(ShellFault::Unwritten)
+}
+
+/// Writes octets out in hexadecimal, at most 517, and a line feed.
+pub(crate) fn print_hex_line<W: Write>(octets: &[u8], writer: &mut W) -> Result<(), ShellFault>
+    requires { length octets.now ≤ 517 }
+    ensures ok { OnOk result (Appends (W.contents writer.old) (W.contents writer.new) (encode_lower octets.now ++ 10 ∷ [])) }
+    ensures front { result ≡ Err ShellFault.Unwritten
+        → PrintsFront (encode_lower octets.now ++ 10 ∷ []) (W.contents writer.old) (W.contents writer.new) }
+    ensures faults { IfErr result (λ fault. fault ≡ ShellFault.Unwritten) }
+{
+    let mut text = [0; 2 * 517 + 1];
+    let end = 2 * octets.len();
+    hex::encode_to_slice(octets, &mut text[..end]).unwrap();
+    text[end] = b'\n';
+    print(&text[..=end], writer)
+}
+
+/// Writes a number out in decimal, and a line feed.
+pub(crate) fn print_number_line<W: Write>(number: u64, writer: &mut W) -> Result<(), ShellFault>
+    ensures ok { OnOk result (Appends (W.contents writer.old) (W.contents writer.new) (decimal number ++ 10 ∷ [])) }
+    ensures faults { IfErr result (λ fault. fault ≡ ShellFault.Unwritten) }
+{
+    let mut digits = Buffer::new();
+    print(digits.format(number).as_bytes(), writer)?;
+    print(b"\n", writer)
+}
+
+/// How a run ended whose rows were written afterwards: its own fault stands before one of the rows.
+pub(crate) fn outcome_of(
+    ran: Result<(), ShellFault>,
+    written: Result<(), ShellFault>,
+) -> Result<(), ShellFault>
+    ensures fault { (fault : ShellFault) → ran ≡ Err fault → result ≡ Err fault }
+    ensures written { ran ≡ Ok tt → result ≡ written }
+{
+    ran?;
+    written
 }

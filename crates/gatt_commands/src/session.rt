@@ -5,7 +5,7 @@ ghost use Rattle.gatt_commands.specs.Att.{pdu_of, door_server, PrintsFront};
 ghost use Rattle.gatt_commands.specs.Session.{IsStartFault, nothing, ends_at};
 
 use crate::fault::ShellFault;
-use crate::output::print;
+use crate::output::{print, print_hex_line};
 use crate::server::DoorServer;
 use arrayvec::ArrayVec;
 use std::alloc::Global;
@@ -106,23 +106,9 @@ impl Session {
         }
         let mut answer = ArrayVec::new();
         if self.server.answer(pdu, &mut answer) {
-            print_answer(answer.as_slice(), writer)
+            print_hex_line(answer.as_slice(), writer)
         } else {
             print(b"-\n", writer)
         }
     }
-}
-
-fn print_answer<W: Write>(answer: &[u8], writer: &mut W) -> Result<(), ShellFault>
-    requires { length answer.now ≤ 517 }
-    ensures ok { OnOk result (Appends (W.contents writer.old) (W.contents writer.new) (encode_lower answer.now ++ 10 ∷ [])) }
-    ensures front { result ≡ Err ShellFault.Unwritten
-        → PrintsFront (encode_lower answer.now ++ 10 ∷ []) (W.contents writer.old) (W.contents writer.new) }
-    ensures faults { IfErr result (λ fault. fault ≡ ShellFault.Unwritten) }
-{
-    let mut text = [0; 2 * 517 + 1];
-    let end = 2 * answer.len();
-    hex::encode_to_slice(answer, &mut text[..end]).unwrap();
-    text[end] = b'\n';
-    print(&text[..=end], writer)
 }

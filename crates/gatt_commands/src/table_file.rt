@@ -1,8 +1,8 @@
 //! Table files, as octets of an input.
 
-ghost use Rattle.std.specs.Prelude.{◌≡◌, ◌≢◌, ℕ, IfErr, IfOk, IfSome};
+ghost use Rattle.std.specs.Prelude.{◌≡◌, ◌≢◌, ℕ, is_some, IfErr, IfOk, IfSome, IsOk};
 ghost use Rattle.octets.specs.Memory.{Gives};
-ghost use Rattle.gatt_commands.specs.TableFile.{table_in, IsRefusedAs, IsTableRefusal, IsTableFileFault};
+ghost use Rattle.gatt_commands.specs.TableFile.{table_in, IsRefusedAs, IsTableRefusal, IsTableFileFault, IsNextFileFault, next_of};
 
 use crate::fault::ShellFault;
 use crate::input;
@@ -20,6 +20,36 @@ pub(crate) fn read_table<R: Read>(alloc: Global, reader: &mut R) -> Result<Table
 {
     let octets = input::read_all(alloc, reader)?;
     judged_table(alloc, octets.as_slice())
+}
+
+/// Reads the table file that replaces another, where there is one.
+pub(crate) fn read_next<R: Read>(
+    alloc: Global,
+    reader: &mut Option<R>,
+) -> Result<Option<Table>, ShellFault>
+    ensures some { IfOk result (λ next. is_some next ≡ is_some reader.old) }
+    ensures table { IsOk result → IfSome reader.old (λ file. IfSome (R.remaining file) (λ octets. IsOk (table_in octets))) }
+    ensures refused { (number : ℕ) → result ≡ Err (ShellFault.Next number) → number ≢ 10
+        → IfSome reader.old (λ file. IfSome (R.remaining file) (λ octets. IsRefusedAs number (table_in octets))) }
+    ensures faults { IfErr result IsNextFileFault }
+{
+    let Some(reader) = reader else {
+        return Ok(None);
+    };
+    match read_table(alloc, reader) {
+        Ok(table) => Ok(Some(table)),
+        Err(fault) => Err(next_fault(fault)),
+    }
+}
+
+/// What a fault of a table file is, where the table replaces another.
+fn next_fault(fault: ShellFault) -> ShellFault
+    ensures { result ≡ next_of fault }
+{
+    match fault {
+        ShellFault::Table(number) => ShellFault::Next(number),
+        other => other,
+    }
 }
 
 /// The table of a file with these octets, or the number of the fault for which it is refused: refused

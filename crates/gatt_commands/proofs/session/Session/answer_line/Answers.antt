@@ -1,4 +1,4 @@
-use Rattle.std.proofs.Common.{◌≡◌, refl, arith}
+use Rattle.std.proofs.Common.{refl, arith}
 use Rattle.std.proofs.lemmas.Grind.{common_steps}
 use Rattle.gatt_commands.proofs.Printing.{breaks_answer, breaks_dash}
 use Rattle.gatt_commands.proofs.session.Session.answer_line.Goals as goal
@@ -9,7 +9,7 @@ returns-then-answer-clause-breaks_off g c h = record {
   spelled = grind (arith, common_steps);
   front =
       breaks_answer _ _ _ _ _ _ c.answer.ensures.answer c.if-answer.true c.as_slice-then-answer.ensures.value
-      (c.print_answer.ensures.front h);
+      (c.print_hex_line.ensures.front h);
 }
 
 pub returns-else-answer-clause-breaks_off : goal.returns-else-answer-clause-breaks_off

@@ -116,5 +116,6 @@ fn takes_the_files_in_their_order(rt: HostRuntime) -> Result<(), Fail> {
     judges_paths(&rt, TABLE, TABLE, Err(ShellFault::Keys(9)), "");
     let nowhere = "check_nothing.toml";
     judges_paths(&rt, TABLE, nowhere, Err(ShellFault::Unreadable), "");
-    Ok(())
+    fs::remove_file(&rt, TABLE)?;
+    Ok(fs::remove_file(&rt, PEERS)?)
 }

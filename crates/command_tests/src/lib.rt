@@ -1,0 +1,22 @@
+//! Tests of the commands and of what each says where it ends: inputs, with what is printed and written
+//! for them, and a controller over a connection.
+#![tactic(auto)]
+
+#[cfg(test)]
+mod att_command;
+#[cfg(test)]
+mod check_command;
+#[cfg(test)]
+mod closed;
+#[cfg(test)]
+mod command_faults;
+#[cfg(test)]
+mod run_command;
+#[cfg(test)]
+mod run_files;
+#[cfg(test)]
+mod run_paths;
+#[cfg(test)]
+mod serve_command;
+#[cfg(test)]
+mod serve_paths;

@@ -1,0 +1,353 @@
+//! The command `run`: scripts, and what is printed for them.
+
+use att_table::examples::{DOOR, PORCH, PORCH_NEXT, POST};
+use gatt_commands::run_script;
+use le_security::examples::KEYS;
+use std::alloc::Global;
+use std::process::Abort;
+
+/// A script over a table and, where there is one, another that replaces it; and what it prints.
+#[derive(Clone, Copy)]
+struct Run {
+    table: &'static str,
+    next: Option<&'static str>,
+    script: &'static str,
+    printed: &'static str,
+}
+
+/// Runs scripts, each over a host of its own with no rows, and compares what they print.
+fn prints(rt: &impl Abort, alloc: Global, runs: &[Run]) {
+    for run in runs {
+        let mut printed: Vec<u8> = Vec::new(alloc);
+        let ran = run_script(
+            alloc,
+            &mut run.table.as_bytes(),
+            &mut run.next.map(|next| next.as_bytes()),
+            &mut KEYS.as_bytes(),
+            &mut b"".as_slice(),
+            &mut run.script.as_bytes(),
+            &mut Vec::new(alloc),
+            &mut printed,
+        );
+        assert!(rt;
+            ran.is_ok() && printed.as_slice() == run.printed.as_bytes(),
+            "{}",
+            run.script
+        );
+    }
+}
+
+const AT_THE_DOOR: Run = Run {
+    table: DOOR,
+    next: None,
+    script: "",
+    printed: "",
+};
+
+const REQUESTS: Run = Run {
+    script: "\
+connect U 1 c0:00:00:00:00:0a
+U < 0a0300
+U < 0a0a00
+U <6 01030001100000
+",
+    printed: "\
+U > 0b4c6f636b
+U > 010a0a0005
+U >6 0505
+",
+    ..AT_THE_DOOR
+};
+
+/// The last line needs no line feed.
+const SIGNALLING: Run = Run {
+    script: "\
+# A phone, and what it asks.
+
+connect U 1 c0:00:00:00:00:0a
+U <5 120908000000000000000000
+# That is all.
+U < -
+U < 0a0300",
+    printed: "\
+U >5 010902000000
+U > 0b4c6f636b
+",
+    ..AT_THE_DOOR
+};
+
+#[test]
+fn prints_what_each_phone_hears_by_channel(rt: HostRuntime) {
+    prints(&rt, rt.alloc(), &[AT_THE_DOOR, REQUESTS, SIGNALLING]);
+}
+
+/// What one phone has prepared, another neither writes nor drops. A third kind of Execute Write is
+/// not there.
+const PREPARED: Run = Run {
+    script: "\
+connect A 1 c0:00:00:00:00:0a
+connect B 1 c0:00:00:00:00:0b
+A < 161500000061
+B < 161500000062
+A < 1801
+A < 0a1500
+B < 1800
+A < 0a1500
+B < 1802
+",
+    printed: "\
+A > 171500000061
+B > 171500000062
+A > 19
+A > 0b61
+B > 19
+A > 0b61
+B > 0118000004
+",
+    ..AT_THE_DOOR
+};
+
+#[test]
+fn keeps_what_each_phone_prepares_apart(rt: HostRuntime) {
+    prints(&rt, rt.alloc(), &[PREPARED]);
+}
+
+/// What is prepared, and what is configured for a value of another type, goes with the old table.
+const REPLACED: Run = Run {
+    table: PORCH,
+    next: Some(PORCH_NEXT),
+    script: "\
+connect U 1 c0:00:00:00:00:0a
+U < 1204000200
+U < 1208000100
+update 7 01
+U < 160a00000061
+replace
+U < 1e
+U < 1801
+U < 0a0a00
+update 7 02
+U < 0a0800
+U < 0a0400
+",
+    printed: "\
+U > 13
+U > 13
+U > 1b070001
+U > 170a00000061
+U > 1d03000100ffff
+U > 19
+U > 0b
+U > 0b0000
+U > 0b0200
+",
+};
+
+/// The two tables change places each time, and each keeps the values that it has.
+const REPLACED_TWICE: Run = Run {
+    table: PORCH,
+    next: Some(PORCH_NEXT),
+    script: "\
+connect U 1 c0:00:00:00:00:0a
+update 7 01
+replace
+U < 0a0700
+replace
+U < 0a0700
+",
+    printed: "\
+U > 0b00
+U > 0b01
+",
+};
+
+#[test]
+fn replaces_the_table(rt: HostRuntime) {
+    prints(&rt, rt.alloc(), &[REPLACED, REPLACED_TWICE]);
+}
+
+/// A phone is authorized up to a moment, and not at it. That moment stays past.
+const AUTHORIZED: Run = Run {
+    table: POST,
+    next: None,
+    script: "\
+connect U 1 c0:00:00:00:00:0a
+allow U 1000
+U < 0a0300
+tick 999
+U < 0a0300
+tick 1000
+U < 0a0300
+allow U 1000
+U < 0a0300
+",
+    printed: "\
+U > 0b00
+U > 0b00
+U > 010a030008
+U > 010a030008
+",
+};
+
+const ALLOWED_AND_DENIED: Run = Run {
+    table: POST,
+    next: None,
+    script: "\
+connect U 1 c0:00:00:00:00:0a
+allow U
+tick 18446744073709551614
+U < 0a0300
+deny U
+U < 0a0300
+",
+    printed: "\
+U > 0b00
+U > 010a030008
+",
+};
+
+#[test]
+fn ends_an_authorization_at_its_moment(rt: HostRuntime) {
+    prints(&rt, rt.alloc(), &[AUTHORIZED, ALLOWED_AND_DENIED]);
+}
+
+const CALLS_REFUSED: Run = Run {
+    script: "\
+update 99 01
+update 7 0100
+update 10 0102
+allow U
+tick 5
+tick 4
+tick 5
+",
+    printed: "\
+fault 1
+fault 2
+fault 3
+fault 4
+fault 5
+",
+    ..AT_THE_DOOR
+};
+
+const REPLACEMENT_REFUSED: Run = Run {
+    next: Some(PORCH),
+    script: "\
+replace
+connect U 1 c0:00:00:00:00:0a
+U < 0a0300
+",
+    printed: "\
+fault 7
+U > 0b4c6f636b
+",
+    ..AT_THE_DOOR
+};
+
+/// There is room for four connections.
+const ACTS_REFUSED: Run = Run {
+    script: "\
+drop U
+connect U 1 c0:00:00:00:00:0a
+connect U 1 c0:00:00:00:00:0a
+connect V 1 c0:00:00:00:00:0b
+connect W 1 c0:00:00:00:00:0c
+connect X 1 c0:00:00:00:00:0d
+connect Y 1 c0:00:00:00:00:0e
+drop V
+connect Y 1 c0:00:00:00:00:0e
+Y < 0a0300
+",
+    printed: "\
+U refused 1
+U refused 2
+Y refused 3
+Y > 0b4c6f636b
+",
+    ..AT_THE_DOOR
+};
+
+#[test]
+fn prints_the_number_of_each_refusal(rt: HostRuntime) {
+    prints(
+        &rt,
+        rt.alloc(),
+        &[CALLS_REFUSED, REPLACEMENT_REFUSED, ACTS_REFUSED],
+    );
+}
+
+/// A link that had a key goes on without one: authentication failure.
+const CLEARED: Run = Run {
+    script: "\
+connect P 1 c0:00:00:00:00:01
+encrypt P 0101010101010101 257
+P < 0a0a00
+clear P
+P < 0a0a00
+",
+    printed: "\
+P > 0b00
+P ended 05
+P refused 1
+",
+    ..AT_THE_DOOR
+};
+
+/// Two packets may be on their way to a phone, and sixteen answers wait for them: remote user
+/// terminated connection.
+const NOT_FETCHED: Run = Run {
+    script: "\
+connect U 1 c0:00:00:00:00:0a
+hold U
+U < 0a0300
+U < 0a0300
+U < 0a0300
+U < 0a0300
+U < 0a0300
+U < 0a0300
+U < 0a0300
+U < 0a0300
+U < 0a0300
+U < 0a0300
+U < 0a0300
+U < 0a0300
+U < 0a0300
+U < 0a0300
+U < 0a0300
+U < 0a0300
+U < 0a0300
+U < 0a0300
+U < 0a0300
+",
+    printed: "\
+U > 0b4c6f636b
+U > 0b4c6f636b
+U ended 13
+",
+    ..AT_THE_DOOR
+};
+
+/// A phone that is held gets as many packets more as it has taken.
+const FETCHED: Run = Run {
+    script: "\
+connect U 1 c0:00:00:00:00:0a
+hold U
+U < 0a0300
+U < 0a0300
+U < 0a0600
+done U 0
+done U 1
+",
+    printed: "\
+U > 0b4c6f636b
+U > 0b4c6f636b
+U > 0b64
+",
+    ..AT_THE_DOOR
+};
+
+#[test]
+fn prints_which_connection_is_ended(rt: HostRuntime) {
+    prints(&rt, rt.alloc(), &[CLEARED, NOT_FETCHED, FETCHED]);
+}

@@ -1,0 +1,201 @@
+//! The command `run`: the order in which its files are judged, and the rows that it writes.
+
+use crate::closed::Closed;
+use att_table::examples::{DOOR, PORCH, PORCH_NEXT};
+use gatt_commands::{ShellFault, run_script};
+use le_security::examples::KEYS;
+use std::alloc::Global;
+use std::io::Write;
+use std::process::Abort;
+
+/// The files of a run.
+#[derive(Clone, Copy)]
+struct Inputs {
+    table: &'static str,
+    next: Option<&'static str>,
+    keys: &'static str,
+    rows: &'static str,
+    script: &'static str,
+}
+
+/// What a run prints, the rows that it writes, and how it ends.
+#[derive(Clone, Copy)]
+struct Outcome {
+    printed: &'static str,
+    rows: &'static str,
+    ended: Result<(), ShellFault>,
+}
+
+/// Runs over inputs, and writes the rows and what is printed to two writers.
+fn run<V: Write, W: Write>(
+    alloc: Global,
+    inputs: &Inputs,
+    rows: &mut V,
+    printed: &mut W,
+) -> Result<(), ShellFault> {
+    run_script(
+        alloc,
+        &mut inputs.table.as_bytes(),
+        &mut inputs.next.map(|next| next.as_bytes()),
+        &mut inputs.keys.as_bytes(),
+        &mut inputs.rows.as_bytes(),
+        &mut inputs.script.as_bytes(),
+        rows,
+        printed,
+    )
+}
+
+/// Runs over inputs, and compares what that prints and writes, and how it ends.
+fn runs(rt: &impl Abort, alloc: Global, cases: &[(Inputs, Outcome)]) {
+    for (inputs, outcome) in cases {
+        let mut rows: Vec<u8> = Vec::new(alloc);
+        let mut printed: Vec<u8> = Vec::new(alloc);
+        let ended = run(alloc, inputs, &mut rows, &mut printed);
+        assert!(rt;
+            ended == outcome.ended
+                && printed.as_slice() == outcome.printed.as_bytes()
+                && rows.as_slice() == outcome.rows.as_bytes(),
+            "{}",
+            inputs.script
+        );
+    }
+}
+
+/// A phone with a key has subscribed to the battery level.
+const SUBSCRIBED: &str = "1 c0:00:00:00:00:01 7 1\n";
+
+const GOOD: Inputs = Inputs {
+    table: DOOR,
+    next: None,
+    keys: KEYS,
+    rows: SUBSCRIBED,
+    script: "connect U 1 c0:00:00:00:00:0a\nU < 0a0300\n",
+};
+
+/// Nothing is printed or written where a file is refused.
+const fn refused(fault: ShellFault) -> Outcome {
+    Outcome {
+        printed: "",
+        rows: "",
+        ended: Err(fault),
+    }
+}
+
+/// All files are bad, and then one after the other is good.
+const BAD: Inputs = Inputs {
+    table: "service",
+    next: Some(""),
+    keys: "bell = 1",
+    rows: "1 c0:00:00:00:00:01 07 1\n",
+    script: "replace\nreplace \n",
+};
+
+#[test]
+fn judges_table_next_keys_rows_and_script_in_turn(rt: HostRuntime) {
+    let table = Inputs {
+        table: PORCH,
+        ..BAD
+    };
+    let next = Inputs {
+        next: Some(PORCH_NEXT),
+        ..table
+    };
+    let keys = Inputs { keys: KEYS, ..next };
+    let rows = Inputs {
+        rows: SUBSCRIBED,
+        ..keys
+    };
+    runs(
+        &rt,
+        rt.alloc(),
+        &[
+            (BAD, refused(ShellFault::Table(1))),
+            (table, refused(ShellFault::Next(2))),
+            (next, refused(ShellFault::Keys(9))),
+            (keys, refused(ShellFault::Rows(1))),
+            (rows, refused(ShellFault::Script(2))),
+        ],
+    );
+}
+
+/// Lines that are bad, and the number of each: blank lines and comments count.
+const BAD_LINES: &[(&str, u64)] = &[
+    (
+        "connect U 1 c0:00:00:00:00:0a\n\n# A phone.\nU < 0a030\n",
+        4,
+    ),
+    ("connect U 2 c0:00:00:00:00:0a\n", 1),
+    ("U < 0a0300\nreplace\n", 2),
+    ("tick -1\n", 1),
+    ("connect connect 1 c0:00:00:00:00:0a\n", 1),
+];
+
+#[test]
+fn prints_nothing_of_a_script_with_a_bad_line(rt: HostRuntime) {
+    for (script, line) in BAD_LINES {
+        let inputs = Inputs {
+            script: *script,
+            ..GOOD
+        };
+        runs(
+            &rt,
+            rt.alloc(),
+            &[(inputs, refused(ShellFault::Script(*line)))],
+        );
+    }
+}
+
+/// The rows are those of the phones with keys: what a phone has configured, and what was there.
+const WRITTEN: &[(Inputs, Outcome)] = &[
+    (
+        GOOD,
+        Outcome {
+            printed: "U > 0b4c6f636b\n",
+            rows: SUBSCRIBED,
+            ended: Ok(()),
+        },
+    ),
+    (
+        Inputs {
+            rows: "",
+            script: "connect P 1 c0:00:00:00:00:01\nencrypt P 0101010101010101 257\nP < 1207000100\n",
+            ..GOOD
+        },
+        Outcome {
+            printed: "P > 13\n",
+            rows: SUBSCRIBED,
+            ended: Ok(()),
+        },
+    ),
+    (
+        Inputs {
+            script: "connect P 1 c0:00:00:00:00:01\nencrypt P 0101010101010101 257\nupdate 6 41\nP < 1207000000\n",
+            ..GOOD
+        },
+        Outcome {
+            printed: "P > 1b060041\nP > 13\n",
+            rows: "",
+            ended: Ok(()),
+        },
+    ),
+];
+
+#[test]
+fn writes_the_rows_at_the_end(rt: HostRuntime) {
+    runs(&rt, rt.alloc(), WRITTEN);
+}
+
+#[test]
+fn writes_the_rows_where_the_output_fails(rt: HostRuntime) {
+    let mut rows: Vec<u8> = Vec::new(rt.alloc());
+    let ended = run(rt.alloc(), &GOOD, &mut rows, &mut Closed);
+    assert!(&rt; ended == Err(ShellFault::Unwritten) && rows.as_slice() == SUBSCRIBED.as_bytes());
+}
+
+#[test]
+fn tells_rows_that_cannot_be_written(rt: HostRuntime) {
+    let mut printed: Vec<u8> = Vec::new(rt.alloc());
+    let ended = run(rt.alloc(), &GOOD, &mut Closed, &mut printed);
+    let wanted = b"U > 0b4c6f636b\n".as_slice();
+    assert!(&rt; ended == Err(ShellFault::Unwritten) && printed.as_slice() == wanted);
+}

@@ -1,0 +1,152 @@
+//! The command `serve`, over a connection on this machine.
+
+use arrayvec::ArrayVec;
+use att_table::Table;
+use att_table::examples::DOOR;
+use gatt_commands::{ShellFault, serve_on};
+use gatt_host::{Config, Host};
+use gatt_subs::Rows;
+use le_security::Keys;
+use le_security::examples::KEYS;
+use std::alloc::Global;
+use std::io;
+use std::io::{Read, Write};
+use std::net::{Net, Shutdown, TcpListener, TcpStream};
+use std::process::Abort;
+use std::time::Duration;
+
+/// What the controller sends: it is initialised, and a phone connects.
+const TOLD: &[&[u8]] = &[
+    &[0x04, 0x0e, 0x04, 0x01, 0x03, 0x0c, 0x00],
+    &[0x04, 0x0e, 0x04, 0x01, 0x01, 0x0c, 0x00],
+    &[0x04, 0x0e, 0x04, 0x01, 0x01, 0x20, 0x00],
+    &[0x04, 0x0e, 0x07, 0x01, 0x02, 0x20, 0x00, 0x1b, 0x00, 0x04],
+    &[0x04, 0x0e, 0x04, 0x01, 0x06, 0x20, 0x00],
+    &[0x04, 0x0e, 0x04, 0x01, 0x08, 0x20, 0x00],
+    &[0x04, 0x0e, 0x04, 0x01, 0x0a, 0x20, 0x00],
+    &[
+        0x04, 0x3e, 0x13, 0x01, 0x00, 0x40, 0x00, 0x01, 0x01, 0x0a, 0x00, 0x00, 0x00, 0x00, 0xc0,
+        0x18, 0x00, 0x00, 0x00, 0x48, 0x00, 0x00,
+    ],
+];
+
+/// What the host writes.
+const WRITTEN: &[&[u8]] = &[
+    &[0x01, 0x03, 0x0c, 0x00],
+    &[
+        0x01, 0x01, 0x0c, 0x08, 0xff, 0xff, 0xff, 0xff, 0xff, 0x9f, 0x00, 0x20,
+    ],
+    &[
+        0x01, 0x01, 0x20, 0x08, 0x1f, 0x00, 0x00, 0x00, 0x00, 0x00, 0x00, 0x00,
+    ],
+    &[0x01, 0x02, 0x20, 0x00],
+    &[
+        0x01, 0x06, 0x20, 0x0f, 0xa0, 0x00, 0xa0, 0x00, 0x00, 0x00, 0x00, 0x00, 0x00, 0x00, 0x00,
+        0x00, 0x00, 0x07, 0x00,
+    ],
+    &[0x01, 0x08, 0x20, 0x20, 0x03, 0x02, 0x01, 0x06],
+    &[0x00; 28],
+    &[0x01, 0x0a, 0x20, 0x01, 0x01],
+    &[0x01, 0x0a, 0x20, 0x01, 0x01],
+];
+
+/// A phone with a key has subscribed to the battery level.
+const SUBSCRIBED: &str = "1 c0:00:00:00:00:01 7 1\n";
+
+/// A host with two slots, at the public address of its controller.
+fn opened(rt: &impl Abort, alloc: Global) -> Host {
+    let table = Table::read(alloc, DOOR).expect(rt, "the table");
+    let keys = Keys::read(alloc, KEYS).expect(rt, "the keys");
+    let rows = Rows::read(alloc, SUBSCRIBED).expect(rt, "the rows");
+    let mut advertising = ArrayVec::new();
+    advertising.push(0x02);
+    advertising.push(0x01);
+    advertising.push(0x06);
+    let config = Config {
+        slots: 2,
+        rx_mtu: 247,
+        address: None,
+        advertising,
+    };
+    Host::open(alloc, table, keys, rows, config).expect(rt, "the host")
+}
+
+/// A listener on this machine.
+fn listening<R: Abort + Net<Listener = TcpListener, Stream = TcpStream>>(rt: &R) -> TcpListener {
+    TcpListener::bind(rt, "127.0.0.1:0").expect(rt, "a listener")
+}
+
+/// A controller that has connected to a listener, has sent its packets and sends no more.
+fn connected<R: Abort + Net<Listener = TcpListener, Stream = TcpStream>>(
+    rt: &R,
+    listener: &TcpListener,
+    packets: &[&[u8]],
+) -> TcpStream {
+    let address = listener.local_addr().expect(rt, "an address");
+    let stream = TcpStream::connect(rt, address).expect(rt, "a connection");
+    send(&stream, packets).expect(rt, "octets that are sent");
+    stream
+}
+
+/// Sends packets, and no more.
+fn send(mut stream: &TcpStream, packets: &[&[u8]]) -> io::Result<()> {
+    for packet in packets {
+        stream.write_all(packet)?;
+    }
+    stream.shutdown(Shutdown::Write)
+}
+
+/// Serves a listener with a new host, and compares how that ends. The rows are written at the end
+/// where a connection was accepted.
+fn serves(
+    rt: &impl Abort,
+    alloc: Global,
+    listener: &TcpListener,
+    ended: Result<(), ShellFault>,
+    rows: &str,
+) {
+    let mut host = opened(rt, alloc);
+    let mut written: Vec<u8> = Vec::new(alloc);
+    let served = serve_on(listener, &mut host, &mut written);
+    assert!(rt; served == ended && written.as_slice() == rows.as_bytes());
+}
+
+/// Compares what has come back with these packets, one behind the other.
+fn hears(rt: &impl Abort, mut stream: &TcpStream, packets: &[&[u8]]) {
+    let patience = stream.set_read_timeout(Some(Duration::from_secs(10)));
+    assert!(rt; patience.is_ok());
+    for packet in packets {
+        let mut octets = [0; 64];
+        let part = octets.get_mut(..packet.len()).expect(rt, "room");
+        assert!(rt;
+            stream.read_exact(part).is_ok() && *part == **packet,
+            "{packet:?}"
+        );
+    }
+    let rest = stream.read(&mut [0; 1]);
+    assert!(rt; matches!(rest, Ok(0)));
+}
+
+#[test]
+fn serves_the_first_connection(rt: HostRuntime) {
+    let listener = listening(&rt);
+    let controller = connected(&rt, &listener, TOLD);
+    serves(&rt, rt.alloc(), &listener, Ok(()), SUBSCRIBED);
+    hears(&rt, &controller, WRITTEN);
+}
+
+/// The rows are written after a fault too.
+#[test]
+fn tells_a_fault_of_the_host(rt: HostRuntime) {
+    let listener = listening(&rt);
+    let _controller = connected(&rt, &listener, &[&[0x07]]);
+    let fault = ShellFault::Host(1);
+    serves(&rt, rt.alloc(), &listener, Err(fault), SUBSCRIBED);
+}
+
+#[test]
+fn writes_no_rows_where_nothing_is_accepted(rt: HostRuntime) {
+    let listener = listening(&rt);
+    assert!(&rt; listener.set_nonblocking(true).is_ok());
+    serves(&rt, rt.alloc(), &listener, Err(ShellFault::Listen), "");
+}

@@ -1,0 +1,54 @@
+-- The order in which the files of a run are judged.
+use Rattle.std.proofs.Common.{◌≡◌, ◌<◌, ℕ, Bool, List, Option, Some, None, sym, rules, subst, ◌∙◌, arith}
+use Rattle.std.specs.Prelude.{IfSome, IsOk, IsErrAnd, Result, Ok, Err}
+use Rattle.scripts.specs.declared.script_fault.ScriptFault.{ScriptFault}
+use Rattle.scripts.specs.declared.script_fault.ScriptFault.TheVariants.{BadLine}
+use Rattle.scripts.specs.Script.{Acts}
+use Rattle.gatt_commands.specs.declared.fault.ShellFault.{ShellFault}
+use Rattle.gatt_commands.specs.declared.fault.ShellFault.TheVariants.{Table, Keys, Rows, Next, Script, Host, Controller, TooLong, NotHex, Unreadable, Unwritten, Listen, Memory}
+use Rattle.gatt_commands.specs.ScriptFile.{script_in, IsScriptRefusal}
+use Rattle.gatt_commands.specs.Turns.{IsPast, OfScript, place_of, place_of_fault}
+
+-- what gave a value was accepted
+pub accepted : {A E : Type 0} (known : Option (List ℕ)) (read : List ℕ → Result A E) (value : A)
+    → IfSome known (λ octets. read octets ≡ Ok value) → IfSome known (λ octets. IsOk (read octets))
+accepted None read value is = tt
+accepted (Some octets) read value is = rw is (search rules)
+
+-- what is judged is all of the input
+pub judged_all : (known : Option (List ℕ)) (items text : List ℕ) (judged given : Bool) (wanted : Result Acts ScriptFault)
+    → IfSome known (λ input. items ≡ input) → text ≡ items → judged ≡ given → script_in judged text ≡ wanted
+    → IfSome known (λ octets. script_in given octets ≡ wanted)
+judged_all None items text judged given wanted all same has is = tt
+judged_all (Some input) items text judged given wanted all same has is =
+    subst (λ (octets : List ℕ). script_in given octets ≡ wanted) (same ∙ all) (subst (λ (next : Bool). script_in next text ≡ wanted) has is)
+
+-- a script is refused for the line that is told
+pub refused_at : (has_next : Bool) (text : List ℕ) (outer : Result Unit ShellFault) (fault : ShellFault) (line : ℕ)
+    → IsErrAnd outer (λ passed_on. passed_on ≡ fault) → IsScriptRefusal has_next text fault → outer ≡ Err (Script line)
+    → script_in has_next text ≡ Err (BadLine line)
+refused_at has_next text (Ok done) fault line was refusal is = absurd was
+refused_at has_next text (Err passed_on) fault line was refusal is =
+    let same : fault ≡ Script line = cc (was, is) in subst (IsScriptRefusal has_next text) same refusal
+
+past : (has_next : Bool) (text : List ℕ) (fault : ShellFault) → IsScriptRefusal has_next text fault → place_of OfScript < place_of_fault fault → ⊥
+past has_next text (Script line) refusal later = omega (arith, later)
+past has_next text Memory refusal later = omega (arith, later)
+past has_next text (Table number) refusal later = refusal
+past has_next text (Keys number) refusal later = refusal
+past has_next text (Rows number) refusal later = refusal
+past has_next text (Next number) refusal later = refusal
+past has_next text (Host number) refusal later = refusal
+past has_next text (Controller number) refusal later = refusal
+past has_next text TooLong refusal later = refusal
+past has_next text (NotHex line) refusal later = refusal
+past has_next text Unreadable refusal later = refusal
+past has_next text Unwritten refusal later = refusal
+past has_next text Listen refusal later = refusal
+
+-- where a script is refused, no run begins
+pub never_past : (has_next : Bool) (text : List ℕ) (outer : Result Unit ShellFault) (fault : ShellFault)
+    → IsErrAnd outer (λ passed_on. passed_on ≡ fault) → IsScriptRefusal has_next text fault → IsPast OfScript outer → ⊥
+never_past has_next text (Ok done) fault was refusal later = absurd was
+never_past has_next text (Err passed_on) fault was refusal later =
+    past has_next text fault refusal (subst (λ (f : ShellFault). place_of OfScript < place_of_fault f) was later)

@@ -1,0 +1,57 @@
+-- What is printed of the lines of a script: this profile's own.
+use Rattle.std.specs.Prelude.{ℕ, ◌<◌, ◌==◌, ◌++◌, if◌then◌else◌, List, [], ◌∷◌, codes, slice_index_or}
+use Rattle.std.specs.Fmt.{decimal}
+use Rattle.le_l2cap.specs.declared.channel.TheConstants.{LE_SIGNALLING, SECURITY_MANAGER}
+use Rattle.le_l2cap.specs.Frame.{BasicFrame}
+use Rattle.hex.specs.Hex.{encode_lower}
+use Rattle.gatt_commands.specs.declared.acts.Refused.{Refused}
+use Rattle.gatt_commands.specs.declared.acts.Refused.TheVariants.{Call, Act}
+use Rattle.gatt_commands.specs.declared.fault.ShellFault.{ShellFault}
+use Rattle.gatt_commands.specs.declared.fault.ShellFault.TheVariants.{Host, Controller, TooLong, Unwritten, Memory}
+use Rattle.octets.specs.Number.{Octets}
+
+-- a refusal is of one of so many phones, or of none
+abbrev pub IsOfPhone : ℕ → Refused → Type 0
+IsOfPhone count (Call number) = Unit {0}
+IsOfPhone count (Act phone number) = phone < count
+
+-- a line ends with a line feed
+abbrev pub line_feed : Octets
+line_feed = 10 ∷ []
+
+-- between a name and a payload stands the channel: none is that of the Attribute Protocol
+abbrev pub sign_of : ℕ → Octets
+sign_of channel =
+    if channel == LE_SIGNALLING then codes " >5 "
+    else if channel == SECURITY_MANAGER then codes " >6 "
+    else codes " > "
+
+-- a frame that a phone of a name has heard
+abbrev pub frame_line : Octets → BasicFrame → Octets
+frame_line name frame = name ++ sign_of frame.cid ++ encode_lower frame.payload ++ line_feed
+
+-- the host ended the connection of a phone of a name
+abbrev pub ended_line : Octets → ℕ → Octets
+ended_line name reason = name ++ codes " ended " ++ encode_lower (reason ∷ []) ++ line_feed
+
+-- a call of the application, or an act of a phone, was refused
+abbrev pub refused_line : List Octets → Refused → Octets
+refused_line names (Call number) = codes "fault " ++ decimal number ++ line_feed
+refused_line names (Act phone number) = slice_index_or names phone [] ++ codes " refused " ++ decimal number ++ line_feed
+
+-- what may end the exchange of packets
+abbrev pub IsExchangeFault : ShellFault → Type 0
+IsExchangeFault (Host number) = Unit {0}
+IsExchangeFault (Controller number) = Unit {0}
+IsExchangeFault TooLong = Unit {0}
+IsExchangeFault _ = ⊥
+
+-- what may end a run
+abbrev pub IsRunFault : ShellFault → Type 0
+IsRunFault Unwritten = Unit {0}
+IsRunFault fault = IsExchangeFault fault
+
+-- what may end it from the start of the controller on
+abbrev pub IsHostRunFault : ShellFault → Type 0
+IsHostRunFault Memory = Unit {0}
+IsHostRunFault fault = IsRunFault fault

@@ -1,0 +1,128 @@
+//! What a line of a script has phones and the application do.
+
+ghost use Rattle.std.specs.Prelude.{◌≡◌, ◌<◌, ◌≤◌, ℕ, true, IfSome, IsSome, OnErr};
+ghost use Rattle.gatt_host.specs.Whole.{all_out};
+ghost use Rattle.scripts.specs.Phones.{IsOfPhoneBelow};
+ghost use Rattle.gatt_commands.specs.Lines.{IsOfPhone};
+
+use arrayvec::ArrayVec;
+use att_table::Table;
+use gatt_host::{App, Host};
+use scripts::{Act, PhoneAct};
+use sim_controller::{Sim, SimFault};
+
+/// The handle of the first phone's connection. Those of the others follow it.
+pub(crate) const FIRST_HANDLE: u16 = 0x40;
+
+/// Who refused what a line does, and the number of the fault.
+#[derive(Clone, Copy, Debug, PartialEq, Eq)]
+pub(crate) enum Refused {
+    /// The host refused a call of the application.
+    Call(u8),
+    /// The controller refused an act of a phone.
+    Act { phone: u8, number: u8 },
+}
+
+/// Does what a line says, unless it is refused. A table that is replaced stands in the other's place.
+pub(crate) fn do_act(
+    host: &mut Host,
+    sim: &mut Sim,
+    next: &mut Option<Table>,
+    act: &Act<'_>,
+) -> Option<Refused>
+    requires drained { all_out host.old ≡ true }
+    requires phone { IsOfPhoneBelow 8 act.now }
+    ensures named { (count : ℕ) → IsOfPhoneBelow count act.now → IfSome result (IsOfPhone count) }
+    // What is refused changes nothing.
+    ensures host { IsSome result → host.new ≡ host.old }
+    ensures sim { IsSome result → sim.new ≡ sim.old }
+    ensures next { IsSome result → next.new ≡ next.old }
+{
+    match act {
+        Act::Phone { phone, act } => {
+            let fault = do_phone_act(sim, *phone, act).err()?;
+            Some(Refused::Act {
+                phone: *phone,
+                number: fault.number(),
+            })
+        }
+        Act::Authorize { phone, until } => {
+            let handle = FIRST_HANDLE + u16::from(*phone);
+            call(host, App::Authorize(handle, *until))
+        }
+        Act::Update { handle, value } => {
+            let mut octets = ArrayVec::new();
+            value.decode(&mut octets);
+            call(host, App::Update(*handle, octets.as_slice()))
+        }
+        Act::Tick { time } => call(host, App::Tick(*time)),
+        Act::Replace => replace(host, next),
+    }
+}
+
+/// A call of the application.
+fn call(host: &mut Host, call: App<'_>) -> Option<Refused>
+    requires { all_out host.old ≡ true }
+    ensures named { (count : ℕ) → IfSome result (IsOfPhone count) }
+    ensures unchanged { IsSome result → host.new ≡ host.old }
+{
+    let fault = host.app(call).err()?;
+    Some(Refused::Call(fault.number()))
+}
+
+/// The tables change places, where there is another one.
+fn replace(host: &mut Host, next: &mut Option<Table>) -> Option<Refused>
+    requires { all_out host.old ≡ true }
+    ensures named { (count : ℕ) → IfSome result (IsOfPhone count) }
+    ensures host { IsSome result → host.new ≡ host.old }
+    ensures next { IsSome result → next.new ≡ next.old }
+{
+    let table = next.take()?;
+    match host.replace(table) {
+        Ok(old) => {
+            *next = Some(old);
+            None
+        }
+        Err((fault, table)) => {
+            *next = Some(table);
+            Some(Refused::Call(fault.number()))
+        }
+    }
+}
+
+/// What a phone does.
+fn do_phone_act(sim: &mut Sim, phone: u8, act: &PhoneAct<'_>) -> Result<(), SimFault>
+    requires { phone < 8 }
+    ensures { OnErr result (sim.new ≡ sim.old) }
+{
+    match act {
+        PhoneAct::Connect { peer } => sim.act(sim_controller::PhoneAct::Connect {
+            phone,
+            peer: *peer,
+        }),
+        PhoneAct::Drop => sim.act(sim_controller::PhoneAct::Drop { phone }),
+        PhoneAct::Encrypt {
+            random_number,
+            diversifier,
+        } => sim.act(sim_controller::PhoneAct::Encrypt {
+            phone,
+            rand: *random_number,
+            ediv: *diversifier,
+        }),
+        PhoneAct::Clear => sim.act(sim_controller::PhoneAct::Clear { phone }),
+        PhoneAct::Send { channel, payload } => {
+            let mut octets = ArrayVec::new();
+            payload.decode(&mut octets);
+            sim.act(sim_controller::PhoneAct::Send {
+                phone,
+                cid: *channel,
+                payload: octets.as_slice(),
+            })
+        }
+        PhoneAct::Hold => sim.act(sim_controller::PhoneAct::Hold { phone }),
+        PhoneAct::Done { packets } => sim.act(sim_controller::PhoneAct::Done {
+            phone,
+            packets: *packets,
+        }),
+    }
+}

@@ -1,0 +1,44 @@
+//! The host that the commands open.
+
+ghost use Rattle.std.specs.Prelude.{◌≡◌, IfErr};
+
+use crate::fault::ShellFault;
+use arrayvec::ArrayVec;
+use att_table::Table;
+use gatt_host::{Config, Host};
+use gatt_subs::Rows;
+use le_security::Keys;
+use std::alloc::Global;
+
+/// As many connections as the host may have at once.
+const SLOTS: usize = 4;
+
+/// The largest PDU of the Attribute Protocol that the host receives, in octets.
+const RX_MTU: u16 = 247;
+
+/// The advertising data: flags for general discovery, without BR/EDR.
+const ADVERTISING: [u8; 3] = [0x02, 0x01, 0x06];
+
+/// A host with these files, at the public address of its controller.
+pub(crate) fn open_host(
+    alloc: Global,
+    table: Table,
+    keys: Keys,
+    rows: Rows,
+) -> Result<Host, ShellFault>
+    ensures { IfErr result (λ fault. fault ≡ ShellFault.Memory) }
+{
+    Host::open(alloc, table, keys, rows, configured()).map_err(|_| ShellFault::Memory)
+}
+
+/// What the host is opened with, beside its files.
+fn configured() -> Config {
+    let mut advertising = ArrayVec::new();
+    advertising.try_extend_from_slice(&ADVERTISING).unwrap();
+    Config {
+        slots: SLOTS,
+        rx_mtu: RX_MTU,
+        address: None,
+        advertising,
+    }
+}

@@ -1,0 +1,59 @@
+//! Rows files, as octets of an input, and as what is written at the end of a run.
+
+ghost use Rattle.std.specs.Prelude.{◌≡◌, ◌≢◌, ℕ, IfErr, IfOk, IfSome, OnOk};
+ghost use Rattle.std.specs.Io.KnownBytes.{Appends};
+ghost use Rattle.octets.specs.Memory.{Gives};
+ghost use Rattle.gatt_subs.specs.RowsText.{text_of};
+ghost use Rattle.gatt_commands.specs.RowsFile.{rows_in, AreRefusedAs, IsRowsRefusal, IsRowsFileFault};
+
+use crate::fault::ShellFault;
+use crate::input;
+use gatt_subs::{Rows, RowsFault};
+use octets::Writer;
+use std::alloc::Global;
+use std::io::{Read, Write};
+use std::str;
+
+/// Reads a rows file, and gives its rows.
+pub(crate) fn read_rows<R: Read>(alloc: Global, reader: &mut R) -> Result<Rows, ShellFault>
+    ensures rows { IfOk result (λ rows. IfSome (R.remaining reader.old) (λ octets. rows_in octets ≡ Ok rows)) }
+    ensures refused { (number : ℕ) → result ≡ Err (ShellFault.Rows number) → number ≢ 4
+        → IfSome (R.remaining reader.old) (λ octets. AreRefusedAs number (rows_in octets)) }
+    ensures faults { IfErr result IsRowsFileFault }
+{
+    let octets = input::read_all(alloc, reader)?;
+    judged_rows(alloc, octets.as_slice())
+}
+
+/// The rows of a file with these octets, or the number of the fault for which it is refused: refused
+/// memory is a fault of the file like any other.
+fn judged_rows(alloc: Global, octets: &[u8]) -> Result<Rows, ShellFault>
+    ensures rows { IfOk result (λ rows. rows_in octets.now ≡ Ok rows) }
+    ensures refused { IfErr result (IsRowsRefusal octets.now) }
+{
+    match rows_in(alloc, octets) {
+        Ok(rows) => Ok(rows),
+        Err(fault) => Err(ShellFault::Rows(fault.number())),
+    }
+}
+
+/// The rows of a file with these octets: in one that is not UTF-8 the first line is bad.
+#[tactic(auto, using(crate::proofs::RowsFiles::of_text, crate::proofs::RowsFiles::of_no_text))]
+fn rows_in(alloc: Global, octets: &[u8]) -> Result<Rows, RowsFault>
+    ensures { Gives RowsFault.OutOfMemory (rows_in octets.now) result }
+{
+    match str::from_utf8(octets) {
+        Ok(text) => Rows::read(alloc, text),
+        Err(_) => Err(RowsFault::BadLine(1)),
+    }
+}
+
+/// Writes the rows out as a rows file, or the front of it where the writer fails.
+pub(crate) fn write_rows<W: Write>(rows: &Rows, writer: &mut W) -> Result<(), ShellFault>
+    ensures faults { IfErr result (λ fault. fault ≡ ShellFault.Unwritten) }
+{
+    if rows.text(&mut Writer::new(&mut *writer)).is_err() || writer.flush().is_err() {
+        return Err(ShellFault::Unwritten);
+    }
+    Ok(())
+}

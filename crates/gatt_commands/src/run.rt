@@ -1,0 +1,177 @@
+//! The command `run`.
+
+ghost use Rattle.std.specs.Prelude.{◌≡◌, ◌≢◌, ℕ, is_some, IfErr, IfOk, IfSome, IsOk};
+ghost use Rattle.scripts.specs.Phones.{HasNamedPhones};
+ghost use Rattle.scripts.specs.declared.script_fault.ScriptFault.TheVariants.{BadLine};
+ghost use Rattle.gatt_commands.specs.KeyFile.{keys_in, AreRefusedAs as KeysAreRefusedAs};
+ghost use Rattle.gatt_commands.specs.Lines.{IsRunFault, IsHostRunFault};
+ghost use Rattle.gatt_commands.specs.RowsFile.{rows_in, AreRefusedAs};
+ghost use Rattle.gatt_commands.specs.ScriptFile.{script_in};
+ghost use Rattle.gatt_commands.specs.TableFile.{table_in, IsRefusedAs};
+ghost use Rattle.gatt_commands.specs.Turns.{IsPast, OfTable, OfNext, OfKeys, OfRows, OfScript};
+
+use crate::acts::do_act;
+use crate::check::{KeysPath, TablePath};
+use crate::exchange::exchange;
+use crate::fault::ShellFault;
+use crate::input::read_all;
+use crate::key_file::read_keys;
+use crate::lazy_file::LazyFile;
+use crate::opening::open_host;
+use crate::output::outcome_of;
+use crate::rows_file::{read_rows, write_rows};
+use crate::rows_path::{RowsPath, RowsReader, RowsWriter};
+use crate::script_file::judged_script;
+use crate::table_file::{read_next, read_table};
+use crate::told::print_outcome;
+use att_table::Table;
+use gatt_host::Host;
+use scripts::Script;
+use sim_controller::{Sim, SimConfig};
+use std::alloc::Global;
+use std::fs::Files;
+use std::io::{Read, Write};
+
+/// What the simulated controller tells of itself, and how it cuts what it gives.
+const SIMULATED: SimConfig = SimConfig {
+    acl_len: 27,
+    packets: 8,
+    shared: false,
+    cut: 27,
+};
+
+/// Reads a table, a table to replace it by, keys, rows and a script, and runs the script with a host
+/// over a simulated controller. At the end the rows that then stand are written. Each file is read
+/// only once those in front of it have been accepted.
+pub fn run_script<T: Read, N: Read, K: Read, R: Read, S: Read, V: Write, W: Write>(
+    alloc: Global,
+    table: &mut T,
+    next: &mut Option<N>,
+    keys: &mut K,
+    rows: &mut R,
+    script: &mut S,
+    rows_writer: &mut V,
+    writer: &mut W,
+) -> Result<(), ShellFault>
+    // A file is refused for its first fault, or for want of memory.
+    ensures table { (number : ℕ) → result ≡ Err (ShellFault.Table number) → number ≢ 10
+        → IfSome (T.remaining table.old) (λ octets. IsRefusedAs number (table_in octets)) }
+    ensures next { (number : ℕ) → result ≡ Err (ShellFault.Next number) → number ≢ 10
+        → IfSome next.old (λ file. IfSome (N.remaining file) (λ octets. IsRefusedAs number (table_in octets))) }
+    ensures keys { (number : ℕ) → result ≡ Err (ShellFault.Keys number) → number ≢ 8
+        → IfSome (K.remaining keys.old) (λ octets. KeysAreRefusedAs number (keys_in octets)) }
+    ensures rows { (number : ℕ) → result ≡ Err (ShellFault.Rows number) → number ≢ 4
+        → IfSome (R.remaining rows.old) (λ octets. AreRefusedAs number (rows_in octets)) }
+    ensures script { (line : ℕ) → result ≡ Err (ShellFault.Script line)
+        → IfSome (S.remaining script.old) (λ octets. script_in (is_some next.old) octets ≡ Err (BadLine line)) }
+    // And only where those in front of it are accepted: table, next, keys, rows, script. Then the run
+    // begins.
+    ensures table_first { IsPast OfTable result → IfSome (T.remaining table.old) (λ octets. IsOk (table_in octets)) }
+    ensures next_second { IsPast OfNext result → IfSome next.old (λ file. IfSome (N.remaining file) (λ octets. IsOk (table_in octets))) }
+    ensures keys_third { IsPast OfKeys result → IfSome (K.remaining keys.old) (λ octets. IsOk (keys_in octets)) }
+    ensures rows_fourth { IsPast OfRows result → IfSome (R.remaining rows.old) (λ octets. IsOk (rows_in octets)) }
+    ensures script_last { IsPast OfScript result → IfSome (S.remaining script.old) (λ octets. IsOk (script_in (is_some next.old) octets)) }
+{
+    let table = read_table(alloc, table)?;
+    let mut next = read_next(alloc, next)?;
+    let keys = read_keys(alloc, keys)?;
+    let rows = read_rows(alloc, rows)?;
+    let octets = read_all(alloc, script)?;
+    let script = judged_script(alloc, octets.as_slice(), next.is_some())?;
+    let mut host = open_host(alloc, table, keys, rows)?;
+    run_host(alloc, &mut host, &mut next, &script, rows_writer, writer)
+}
+
+/// Runs a script with a host over a simulated controller, and then writes the rows that stand. A fault
+/// of the run stands before one of the rows.
+fn run_host<V: Write, W: Write>(
+    alloc: Global,
+    host: &mut Host,
+    next: &mut Option<Table>,
+    script: &Script<'_>,
+    rows_writer: &mut V,
+    writer: &mut W,
+) -> Result<(), ShellFault>
+    requires { HasNamedPhones script.now }
+    ensures { IfErr result IsHostRunFault }
+{
+    let Ok(mut sim) = Sim::new(alloc, SIMULATED) else {
+        return Err(ShellFault::Memory);
+    };
+    let ran = run_lines(host, &mut sim, next, script, writer);
+    outcome_of(ran, write_rows(host.rows(), rows_writer))
+}
+
+/// Runs the lines of a script: before the first and after each, host and controller hand each other
+/// all that they have, and then what the line has brought is printed.
+fn run_lines<W: Write>(
+    host: &mut Host,
+    sim: &mut Sim,
+    next: &mut Option<Table>,
+    script: &Script<'_>,
+    writer: &mut W,
+) -> Result<(), ShellFault>
+    requires { HasNamedPhones script.now }
+    ensures { IfErr result IsRunFault }
+{
+    exchange(host, sim)?;
+    for act in script.acts() {
+        let refused = do_act(host, sim, next, act);
+        exchange(host, sim)?;
+        print_outcome(sim, script.names(), refused, writer)?;
+    }
+    Ok(())
+}
+
+/// The path of a table file that replaces another, where there is one.
+#[derive(Clone, Copy)]
+pub struct NextPath<'a>(pub Option<&'a str>);
+
+/// The path of a script.
+#[derive(Clone, Copy)]
+pub struct ScriptPath<'a>(pub &'a str);
+
+/// The paths of the files of a run.
+#[derive(Clone, Copy)]
+pub struct RunPaths<'a> {
+    /// The table file.
+    pub table: TablePath<'a>,
+    /// The table file that replaces it.
+    pub next: NextPath<'a>,
+    /// The key file.
+    pub keys: KeysPath<'a>,
+    /// The rows file.
+    pub rows: RowsPath<'a>,
+    /// The script.
+    pub script: ScriptPath<'a>,
+}
+
+/// The same of the files at these paths. None is opened before its turn.
+pub fn run_paths<F: Files, W: Write>(
+    alloc: Global,
+    files: &F,
+    paths: RunPaths<'_>,
+    writer: &mut W,
+) -> Result<(), ShellFault> {
+    let mut table = LazyFile::new(files, paths.table.0);
+    let mut next = next_file(files, paths.next);
+    let mut keys = LazyFile::new(files, paths.keys.0);
+    let mut rows = RowsReader::new(files, paths.rows);
+    let mut script = LazyFile::new(files, paths.script.0);
+    let mut rows_writer = RowsWriter::new(files, paths.rows);
+    run_script(
+        alloc,
+        &mut table,
+        &mut next,
+        &mut keys,
+        &mut rows,
+        &mut script,
+        &mut rows_writer,
+        writer,
+    )
+}
+
+/// The table file that replaces another, where there is one.
+fn next_file<'a, F: Files>(files: &'a F, path: NextPath<'a>) -> Option<LazyFile<'a, F>> {
+    Some(LazyFile::new(files, path.0?))
+}

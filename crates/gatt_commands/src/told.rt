@@ -1,0 +1,124 @@
+//! What is printed of a line of a script.
+
+ghost use Rattle.std.specs.Prelude.{◌≡◌, ◌<◌, ◌≤◌, [], ◌∷◌, length, Ok, IfErr, IfSome, OnOk};
+ghost use Rattle.std.specs.Io.KnownBytes.{Appends};
+ghost use Rattle.le_l2cap.specs.Frame.{frame_of, BasicFrame};
+ghost use Rattle.octets.specs.Number.{Octets};
+ghost use Rattle.gatt_commands.specs.Lines.{IsOfPhone, ended_line, frame_line, refused_line, sign_of};
+
+use crate::acts::Refused;
+use crate::fault::ShellFault;
+use crate::output::{print, print_hex_line, print_number_line};
+use arrayvec::ArrayVec;
+use le_l2cap::{channel, read_frame};
+use scripts::{MAX_PHONES, Name};
+use sim_controller::Sim;
+use std::io::Write;
+
+/// Prints what a line has brought: what was refused of it, and then for each phone the frames that it
+/// has heard, and whether the host has ended its connection.
+pub(crate) fn print_outcome<W: Write>(
+    sim: &mut Sim,
+    names: &[Name<'_>],
+    refused: Option<Refused>,
+    writer: &mut W,
+) -> Result<(), ShellFault>
+    requires few { length names.now ≤ 8 }
+    requires named { IfSome refused (IsOfPhone (length names.now)) }
+    ensures faults { IfErr result (λ fault. fault ≡ ShellFault.Unwritten) }
+    ensures waiting { sim.new.waiting ≡ sim.old.waiting }
+{
+    if let Some(refused) = refused {
+        print_refused(names, refused, writer)?;
+    }
+    for phone in 0..names.len() {
+        print_phone(sim, phone as u8, &names[phone], writer)?;
+    }
+    Ok(())
+}
+
+/// Prints the number of the fault for which a call of the application, or an act of a phone, was
+/// refused.
+fn print_refused<W: Write>(
+    names: &[Name<'_>],
+    refused: Refused,
+    writer: &mut W,
+) -> Result<(), ShellFault>
+    requires { IsOfPhone (length names.now) refused }
+    ensures ok { OnOk result (Appends (W.contents writer.old) (W.contents writer.new) (refused_line names.now refused)) }
+    ensures faults { IfErr result (λ fault. fault ≡ ShellFault.Unwritten) }
+{
+    match refused {
+        Refused::Call(number) => {
+            print(b"fault ", writer)?;
+            print_number_line(u64::from(number), writer)
+        }
+        Refused::Act { phone, number } => {
+            print(names[usize::from(phone)].as_str().as_bytes(), writer)?;
+            print(b" refused ", writer)?;
+            print_number_line(u64::from(number), writer)
+        }
+    }
+}
+
+/// Prints what a phone has heard, and whether the host has ended its connection.
+fn print_phone<W: Write>(
+    sim: &mut Sim,
+    phone: u8,
+    name: &Name<'_>,
+    writer: &mut W,
+) -> Result<(), ShellFault>
+    requires { phone < 8 }
+    ensures faults { IfErr result (λ fault. fault ≡ ShellFault.Unwritten) }
+    ensures waiting { sim.new.waiting ≡ sim.old.waiting }
+{
+    let mut frame = ArrayVec::new();
+    for _frame in 0..u64::MAX {
+        if !sim.heard(phone, &mut frame) {
+            break;
+        }
+        print_frame(name, frame.as_slice(), writer)?;
+    }
+    match sim.ended(phone) {
+        Some(reason) => print_ended(name, reason, writer),
+        None => Ok(()),
+    }
+}
+
+/// Prints a frame that a phone has heard: its channel and its payload.
+fn print_frame<W: Write>(name: &Name<'_>, octets: &[u8], writer: &mut W) -> Result<(), ShellFault>
+    requires { length octets.now ≤ 521 }
+    ensures ok { (frame : BasicFrame) → frame_of octets.now ≡ Ok frame
+        → OnOk result (Appends (W.contents writer.old) (W.contents writer.new) (frame_line name.now frame)) }
+    ensures faults { IfErr result (λ fault. fault ≡ ShellFault.Unwritten) }
+{
+    let Ok(frame) = read_frame(octets) else {
+        return Ok(());
+    };
+    print(name.as_str().as_bytes(), writer)?;
+    print(sign_of(frame.cid), writer)?;
+    print_hex_line(frame.payload, writer)
+}
+
+/// What stands between a name and a payload on a channel.
+fn sign_of(cid: u16) -> &'static [u8]
+    ensures { result.now ≡ sign_of cid }
+{
+    if cid == channel::LE_SIGNALLING {
+        b" >5 "
+    } else if cid == channel::SECURITY_MANAGER {
+        b" >6 "
+    } else {
+        b" > "
+    }
+}
+
+/// Prints that the host has ended the connection of a phone, for a reason.
+fn print_ended<W: Write>(name: &Name<'_>, reason: u8, writer: &mut W) -> Result<(), ShellFault>
+    ensures ok { OnOk result (Appends (W.contents writer.old) (W.contents writer.new) (ended_line name.now reason)) }
+    ensures faults { IfErr result (λ fault. fault ≡ ShellFault.Unwritten) }
+{
+    print(name.as_str().as_bytes(), writer)?;
+    print(b" ended ", writer)?;
+    print_hex_line(&[reason], writer)
+}
