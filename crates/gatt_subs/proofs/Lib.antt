@@ -3,6 +3,8 @@ pub mod Entries
 pub mod Heard
 pub mod InOrder
 pub mod Lines
+pub mod LinesBack
+pub mod ReadBack
 pub mod Places
 pub mod RowsLine
 pub mod Supported

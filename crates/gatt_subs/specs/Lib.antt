@@ -12,3 +12,4 @@ pub mod RowsLends
 pub mod Fit
 pub mod Changes
 pub mod RowsText
+pub mod ReadBack

@@ -1,0 +1,46 @@
+-- Rows that a rows file can have: this profile's own.
+use Rattle.std.specs.Prelude.{◌≡◌, ℕ, ◌<◌, ◌≤◌, List, [], ◌∷◌, length, Ok}
+use Rattle.std.specs.List.{All}
+use Rattle.le_hci.specs.declared.peer.Peer.{Peer}
+use Rattle.gatt_subs.specs.declared.row_entry.RowEntry.{RowEntry}
+use Rattle.gatt_subs.specs.declared.unfitted.TheConstants.{MAX_ENTRIES, MAX_OWED}
+use Rattle.gatt_subs.specs.RowEntry.{order_of, rank_of}
+use Rattle.gatt_subs.specs.Rows.{Subscriptions}
+use Rattle.gatt_subs.specs.RowsText.{configured, owed_in, text_of}
+use Rattle.gatt_subs.specs.Unfitted.{Written, rows_read}
+
+-- a peer that a line can name
+pub record IsNamed (peer : Peer) : Type 0 where
+  pub kind : peer.kind ≤ 1
+  pub address : length peer.address ≡ 6
+  pub octets : All (λ octet. octet < 256) peer.address
+
+-- what a line can have of it: at a handle some of the two bits
+pub record IsConfigured (entry : RowEntry) : Type 0 where
+  pub peer : IsNamed entry.peer
+  pub from_one : 1 ≤ entry.handle
+  pub handle : entry.handle < 65536
+  pub some : 1 ≤ entry.bits
+  pub bits : entry.bits ≤ 3
+
+-- each element comes before all later ones
+abbrev pub Climbs : {X : Type 0} → (X → ℕ) → List X → Type 0
+Climbs order [] = Unit
+Climbs order (x ∷ xs) = All (λ y. order x < order y) xs × Climbs order xs
+
+-- what a rows file can say: each once, in its order, and no more than there may be
+pub record IsOfAFile (written : Written) : Type 0 where
+  pub entries : All IsConfigured written.entries
+  pub owed : All IsNamed written.owed
+  pub climbs : Climbs order_of written.entries
+  pub owed_climb : Climbs rank_of written.owed
+  pub few : length written.entries ≤ MAX_ENTRIES
+  pub owed_few : length written.owed ≤ MAX_OWED
+
+-- all that rows say, whether they are fitted or not
+abbrev pub said_by : Subscriptions → Written
+said_by rows = record { entries = configured rows; owed = owed_in rows }
+
+-- the text of rows is read as what they say
+abbrev pub ReadsBack : Subscriptions → Type 0
+ReadsBack rows = IsOfAFile (said_by rows) → rows_read (text_of rows) ≡ Ok (said_by rows)
