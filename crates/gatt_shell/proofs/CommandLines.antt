@@ -1,18 +1,23 @@
 -- What the words of a command line mean to the parser, computed.
-use Rattle.std.proofs.Common.{◌≡◌, ◌⊎◌, inl, inr, [], ◌∷◌, drop, codes, option_map, List, ℕ, Some, None, true, refl, subst, ap, ◌∙◌}
+use Rattle.std.proofs.Common.{◌≡◌, ◌⊎◌, inl, inr, [], ◌∷◌, drop, codes, option_map, List, ℕ, Some, None, true, false, ◌||◌, refl, sym, subst, ap, ◌∙◌, Bool}
+use Rattle.std.proofs.Math.Bool.{or-false}
 use Rattle.std.specs.Box.{box_value}
-use Rattle.clap.specs.Words.{App, HasKind, Kinds, Text, fault_of, first_of, first_value, is_simple_and_free, kind_of, rows_of, subcommand_name_of, subcommand_of, subcommand_rows, subcommand_rows_of, takes}
+use Rattle.clap.specs.Built.{AddsArg, AddsSubcommand}
+use Rattle.clap.specs.Words.{App, HasKind, IsAmong, Kinds, Shape, Text, app_of, shape_of, with_subcommand, fault_of, first_of, first_value, is_simple_and_free, kind_of, rows_of, subcommand_name_of, subcommand_of, subcommand_rows, subcommand_rows_of, takes}
+use Rattle.clap.specs.declared.builder.Arg.{Arg}
+use Rattle.clap.specs.declared.builder.Command.{Command}
+use Rattle.clap.specs.declared.builder.Command.TheViews.{out-Command}
 use Rattle.clap.specs.declared.parser.matches.Found.{Found}
 use Rattle.clap.specs.declared.ArgMatches.{ArgMatches}
 use Rattle.clap.specs.declared.parser.matches.ArgMatches.TheViews.{out-ArgMatches, out-SubCommand}
 use Rattle.clap.specs.declared.error.ErrorKind.{ErrorKind}
-use Rattle.clap.specs.declared.error.ErrorKind.TheVariants.{DisplayHelp, DisplayVersion, MissingSubcommand}
+use Rattle.clap.specs.declared.error.ErrorKind.TheVariants.{InvalidValue, UnknownArgument, InvalidSubcommand, NoEquals, ValueValidation, TooManyValues, TooFewValues, WrongNumberOfValues, ArgumentConflict, MissingRequiredArgument, MissingSubcommand, DisplayHelp, DisplayHelpOnMissingArgumentOrSubcommand, DisplayVersion, Io, Format, OutOfMemory}
 use Rattle.clap.specs.declared.Error.{Error}
 use Rattle.clap.proofs.OnLiterals.{clap_on_literals}
 use Rattle.clap.proofs.WalkLemmas.{first_value-rows}
 use Rattle.gatt_shell.specs.CommandLine.{command_line}
 use Rattle.gatt_shell.specs.Refusal.{ShowsUnlessMemory, refusal_for}
-use Rattle.gatt_shell.specs.declared.words.Refusal.TheVariants.{Misunderstood, Memory}
+use Rattle.gatt_shell.specs.declared.words.Refusal.TheVariants.{Shown, Misunderstood, Memory}
 
 -- the word `att` alone passes
 pub att_taken : (program : List ℕ) → takes command_line (program ∷ codes "att" ∷ []) ≡ true
@@ -116,3 +121,50 @@ faulty app words rest kind app_is e h faults =
     let none : fault_of app words ≡ [] = h (ap is_simple_and_free app_is) in
     let some : fault_of app words ≡ kind ∷ [] = ap (λ a. fault_of a words) app_is ∙ faults_behind words rest e ∙ faults in
     cc (none, some)
+
+-- an argument that is not global makes no command global
+pub stays_local : {old new : Command} {arg : Arg} → AddsArg old arg new → arg.global ≡ false
+    → (out-Command new).has_globals ≡ (out-Command old).has_globals
+stays_local {old} adds local =
+    adds.globals ∙ ap (λ (is_global : Bool). (out-Command old).has_globals || is_global) local ∙ or-false (out-Command old).has_globals
+
+-- a command with no global argument stands behind those of the program so far
+pub added_to : {old sub new : Command} {app : App} {shape : Shape} → AddsSubcommand old sub new → (out-Command sub).has_globals ≡ false
+    → app_of old ≡ app → shape_of sub ≡ shape → app_of new ≡ with_subcommand app shape
+added_to {sub = sub} {app = app} adds local app_is shape_is =
+    adds.shape local ∙ ap (λ (front : App). with_subcommand front (shape_of sub)) app_is ∙ ap (λ (last : Shape). with_subcommand app last) shape_is
+
+-- only an error that asks for help or the version is shown
+pub only_shown : (error text : Error) (kind : ErrorKind) → refusal_for error kind ≡ Shown text
+    → (error ≡ text) × ((kind ≡ DisplayHelp) ⊎ (kind ≡ DisplayVersion))
+only_shown error text DisplayHelp e = (cc e, inl refl)
+only_shown error text DisplayVersion e = (cc e, inr refl)
+only_shown error text OutOfMemory e = absurd (cc e)
+only_shown error text InvalidValue e = absurd (cc e)
+only_shown error text UnknownArgument e = absurd (cc e)
+only_shown error text InvalidSubcommand e = absurd (cc e)
+only_shown error text NoEquals e = absurd (cc e)
+only_shown error text ValueValidation e = absurd (cc e)
+only_shown error text TooManyValues e = absurd (cc e)
+only_shown error text TooFewValues e = absurd (cc e)
+only_shown error text WrongNumberOfValues e = absurd (cc e)
+only_shown error text ArgumentConflict e = absurd (cc e)
+only_shown error text MissingRequiredArgument e = absurd (cc e)
+only_shown error text MissingSubcommand e = absurd (cc e)
+only_shown error text DisplayHelpOnMissingArgumentOrSubcommand e = absurd (cc e)
+only_shown error text Io e = absurd (cc e)
+only_shown error text Format e = absurd (cc e)
+
+-- an error that is shown has one of the kinds of the words: no memory was refused
+pub shown_among : (error text : Error) (kinds : Kinds) → HasKind kinds error → refusal_for error (kind_of error) ≡ Shown text
+    → IsAmong (kind_of text) kinds × ((kind_of text ≡ DisplayHelp) ⊎ (kind_of text ≡ DisplayVersion))
+shown_among error text kinds h e =
+    let shown = only_shown error text (kind_of error) e in
+    let P : Error → Type 0 = λ shown_error. IsAmong (kind_of shown_error) kinds × ((kind_of shown_error ≡ DisplayHelp) ⊎ (kind_of shown_error ≡ DisplayVersion)) in
+    elim h [
+      | inl memory ↦ absurd (memory-not_shown error text memory e)
+      | inr among ↦ subst P shown.0 (among, shown.1)
+    ]
+  where
+    memory-not_shown : (error text : Error) → kind_of error ≡ OutOfMemory → refusal_for error (kind_of error) ≡ Shown text → ⊥
+    memory-not_shown error text memory e = let none : Memory ≡ Shown text = sym (ap (refusal_for error) memory) ∙ e in absurd (cc none)

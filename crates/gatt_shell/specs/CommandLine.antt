@@ -3,7 +3,7 @@ use Rattle.std.specs.Prelude.{◌≡◌, ℕ, List, [], codes, true, Option, Som
 use Rattle.clap.specs.Words.{App, Row, Rule, Shape, Text, first_of, new_app, new_rule, with_rule, with_subcommand}
 use Rattle.clap.specs.declared.builder.action.ArgAction.TheVariants.{Set}
 use Rattle.gatt_shell.specs.declared.words.Choice.{Choice}
-use Rattle.gatt_shell.specs.declared.words.Choice.TheVariants.{Att, Check}
+use Rattle.gatt_shell.specs.declared.words.Choice.TheVariants.{Att, Check, Run, Serve}
 
 -- the command `att`, which has no argument
 abbrev pub att_shape : Shape
@@ -17,6 +17,22 @@ file_rule name = record (new_rule name) { required = true; action = Some Set }
 abbrev pub check_shape : Shape
 check_shape = (with_rule (with_rule (new_app (codes "check")) (file_rule (codes "TABLE"))) (file_rule (codes "KEYS"))).top
 
+-- an option that is a path and may be left out
+abbrev pub option_rule : Text → Rule
+option_rule name = record (new_rule name) { long = Some name; action = Some Set; value_names = 1 }
+
+-- the command `run`, of a table file, a key file and a script
+abbrev pub run_shape : Shape
+run_shape = (with_rule (with_rule (with_rule (with_rule (with_rule (new_app (codes "run"))
+    (file_rule (codes "TABLE"))) (file_rule (codes "KEYS"))) (file_rule (codes "SCRIPT")))
+    (option_rule (codes "rows"))) (option_rule (codes "next"))).top
+
+-- the command `serve`, of a table file, a key file and an address
+abbrev pub serve_shape : Shape
+serve_shape = (with_rule (with_rule (with_rule (with_rule (new_app (codes "serve"))
+    (file_rule (codes "TABLE"))) (file_rule (codes "KEYS"))) (file_rule (codes "ADDRESS")))
+    (option_rule (codes "rows"))).top
+
 -- the program, which has a version
 abbrev pub program_shape : Shape
 program_shape = record (new_app (codes "gatt_shell")).top {
@@ -26,18 +42,31 @@ program_shape = record (new_app (codes "gatt_shell")).top {
 
 -- the program, of which a command has to be named
 abbrev pub command_line : App
-command_line = with_subcommand (with_subcommand (record { top = program_shape; subs = [] }) att_shape) check_shape
+command_line =
+    with_subcommand (with_subcommand (with_subcommand (with_subcommand (record { top = program_shape; subs = [] })
+    att_shape) check_shape) run_shape) serve_shape
 
 -- the name that chooses a command
 abbrev pub name_of : Choice → List ℕ
 name_of Att = codes "att"
 name_of (Check table keys) = codes "check"
+name_of (Run paths) = codes "run"
+name_of (Serve paths address) = codes "serve"
 
 -- the files of a choice are those that these arguments of its command give
 abbrev pub HasFilesOf : List Row → Choice → Type 0
 HasFilesOf arguments Att = Unit {0}
 HasFilesOf arguments (Check table keys) =
     (first_of (codes "TABLE") arguments ≡ Some table.0.now) × (first_of (codes "KEYS") arguments ≡ Some keys.0.now)
+HasFilesOf arguments (Run paths) =
+    (first_of (codes "TABLE") arguments ≡ Some paths.table.0.now) × (first_of (codes "KEYS") arguments ≡ Some paths.keys.0.now)
+    × (first_of (codes "SCRIPT") arguments ≡ Some paths.script.0.now)
+    × (first_of (codes "rows") arguments ≡ option_map (λ path. path.now) paths.rows.0)
+    × (first_of (codes "next") arguments ≡ option_map (λ path. path.now) paths.next.0)
+HasFilesOf arguments (Serve paths address) =
+    (first_of (codes "TABLE") arguments ≡ Some paths.table.0.now) × (first_of (codes "KEYS") arguments ≡ Some paths.keys.0.now)
+    × (first_of (codes "ADDRESS") arguments ≡ Some address.0.now)
+    × (first_of (codes "rows") arguments ≡ option_map (λ path. path.now) paths.rows.0)
 
 -- the same of a command that is named with its arguments
 abbrev pub HasFiles : Option (Text × List Row) → Choice → Type 0

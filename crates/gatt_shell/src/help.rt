@@ -65,3 +65,66 @@ pub const KEYS: &str = "KEYS";
 
 /// What the key file is.
 pub const KEYS_ABOUT: &str = "The key file: the long-term keys of known peers";
+
+/// The name of the command `run`.
+pub const RUN: &str = "run";
+
+/// What `run` does, in a line.
+pub const RUN_ABOUT: &str = "Run a script of phones against a host and a simulated controller";
+
+/// What `run` reads and prints.
+pub const RUN_DETAILS: &str = "\
+Run a script of phones against a host and a simulated controller, in memory.
+
+Each line of a script says what a phone or the application does: a phone connects, sends a PDU,
+encrypts its connection or leaves; the application updates a value, authorizes a phone, tells
+the time or replaces the table. After each line is printed what was refused, what each phone has
+heard, and which connection the host has ended; docs/FORMATS.md has all lines and what they print.
+The rows file keeps what the phones have configured: it is read first and written at the end, and
+one that is not there is empty.
+
+  gatt_shell run examples/door.toml examples/keys.toml examples/first_contact.script";
+
+/// The argument of the script.
+pub const SCRIPT: &str = "SCRIPT";
+
+/// What the script is.
+pub const SCRIPT_ABOUT: &str = "The script: what phones and the application do, line by line";
+
+/// The name of the command `serve`.
+pub const SERVE: &str = "serve";
+
+/// What `serve` does, in a line.
+pub const SERVE_ABOUT: &str = "Serve a controller over one TCP connection";
+
+/// What `serve` reads and listens to.
+pub const SERVE_DETAILS: &str = "\
+Serve a controller over one TCP connection.
+
+The octets of the connection are H4, the UART transport of a Bluetooth controller. The first
+connection that is accepted is served until it ends, and then the program ends. docs/SERVE.md says
+how a controller on a serial line is joined. The rows file keeps what the phones have configured:
+it is read first and written at the end, and one that is not there is empty.
+
+  gatt_shell serve examples/door.toml examples/keys.toml 127.0.0.1:5000";
+
+/// The argument of the address.
+pub const ADDRESS: &str = "ADDRESS";
+
+/// What the address is.
+pub const ADDRESS_ABOUT: &str = "Where to listen: an IP address and a port, as 127.0.0.1:5000";
+
+/// The name of the option that names a rows file.
+pub const ROWS: &str = "rows";
+
+/// What the rows file is.
+pub const ROWS_ABOUT: &str = "The rows file: what the phones with keys have configured";
+
+/// The name of the option that names a table which replaces the first.
+pub const NEXT: &str = "next";
+
+/// What that table is.
+pub const NEXT_ABOUT: &str = "The table file that the line `replace` of a script replaces TABLE by";
+
+/// What stands for the value of an option that names a file.
+pub const FILE: &str = "FILE";

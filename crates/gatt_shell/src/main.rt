@@ -10,9 +10,10 @@ ghost use Rattle.gatt_commands.specs.Check.{IsCheckFault};
 ghost use Rattle.gatt_commands.specs.Fault.{status_of};
 
 use arrayvec::ArrayVec;
-use gatt_commands::{KeysPath, ShellFault, TablePath};
+use gatt_commands::{Address, KeysPath, RunPaths, ServePaths, ShellFault, TablePath};
 use std::fs::Files;
 use std::io::{ErrorKind, LineWriter, Write};
+use std::net::{Net, TcpListener, TcpStream};
 use std::process::ExitCode;
 use std::rt::Env;
 use std::{env, io, str};
@@ -93,6 +94,28 @@ fn run_check(
     gatt_commands::check_paths(rt.alloc(), rt, table, keys, &mut io::writer(rt))
 }
 
+/// Runs a script, and prints what its lines bring, which is written out at each line feed and at the
+/// end. None of the files is opened before its turn.
+fn run_script(
+    rt: &(impl Files + Print + AllocGlobal),
+    paths: RunPaths<'_>,
+) -> Result<(), ShellFault> {
+    let Ok(mut writer) = LineWriter::new(rt.alloc(), io::writer(rt)) else {
+        return Err(ShellFault::Memory);
+    };
+    let ran = gatt_commands::run_paths(rt.alloc(), rt, paths, &mut writer);
+    outcome_of(ran, writer.flush().is_ok())
+}
+
+/// Serves a controller over the first connection to an address.
+fn serve(
+    rt: &(impl Files + Net<Listener = TcpListener, Stream = TcpStream> + AllocGlobal),
+    paths: ServePaths<'_>,
+    address: Address<'_>,
+) -> Result<(), ShellFault> {
+    gatt_commands::serve_paths(rt.alloc(), rt, paths, address)
+}
+
 /// The words of the command line. One that is no text is not understood.
 fn words_of(rt: &(impl Env + AllocGlobal)) -> Result<Vec<String>, Refusal> {
     match env::args(rt) {
@@ -103,16 +126,34 @@ fn words_of(rt: &(impl Env + AllocGlobal)) -> Result<Vec<String>, Refusal> {
 }
 
 /// Does what the words of the command line ask for, and returns the status of the program.
-fn run_words(rt: &(impl Files + Input + Print + Eprint + AllocGlobal), words: &[String]) -> u8 {
+fn run_words(
+    rt: &(impl Files
+        + Net<Listener = TcpListener, Stream = TcpStream>
+        + Input
+        + Print
+        + Eprint
+        + AllocGlobal),
+    words: &[String],
+) -> u8 {
     match words::chosen(rt.alloc(), words) {
         Ok(Choice::Att) => exit_status(rt, run_att(rt)),
         Ok(Choice::Check { table, keys }) => exit_status(rt, run_check(rt, table, keys)),
+        Ok(Choice::Run(paths)) => exit_status(rt, run_script(rt, paths)),
+        Ok(Choice::Serve { paths, address }) => exit_status(rt, serve(rt, paths, address)),
         Err(refusal) => refusal_status(rt, &refusal),
     }
 }
 
 /// Does what the command line asks for, and returns the status of the program.
-fn run(rt: &(impl Env + Files + Input + Print + Eprint + AllocGlobal)) -> u8 {
+fn run(
+    rt: &(impl Env
+        + Files
+        + Net<Listener = TcpListener, Stream = TcpStream>
+        + Input
+        + Print
+        + Eprint
+        + AllocGlobal),
+) -> u8 {
     match words_of(rt) {
         Ok(words) => run_words(rt, words.as_slice()),
         Err(refusal) => refusal_status(rt, &refusal),

@@ -1,18 +1,20 @@
 //! The command line: which command its words choose, and what is told where they choose none.
 ghost use Rattle.std.specs.Prelude.{◌≡◌, ◌⊎◌, [], ◌∷◌, map, drop, codes, option_map, string_bytes};
 ghost use Rattle.std.specs.Prelude.{IfSome, IfOk, IfErr, IsErrAnd, MatchResult, false};
-ghost use Rattle.clap.specs.Words.{IsAmong, app_of, fault_of, kind_of, shape_of};
+ghost use Rattle.clap.specs.Words.{IsAmong, app_of, fault_of, kind_of, shape_of, with_rule};
 ghost use Rattle.clap.specs.declared.builder.Command.TheViews.{out-Command};
 ghost use Rattle.clap.specs.Words.{found_of, rows_of, subcommand_name_of, subcommand_of, subcommand_rows_of};
 ghost use Rattle.clap.specs.Words.{rule_of, IsPlainArg};
-ghost use Rattle.gatt_shell.specs.CommandLine.{att_shape, file_rule, check_shape, command_line, name_of};
+ghost use Rattle.gatt_shell.specs.CommandLine.{att_shape, file_rule, option_rule, check_shape, run_shape, serve_shape, command_line, name_of};
 ghost use Rattle.gatt_shell.specs.CommandLine.{HasFiles, HasFilesOf};
 ghost use Rattle.gatt_shell.specs.Refusal.{ShowsUnlessMemory, refusal_for};
 
 use crate::help;
 use clap::error::ErrorKind;
 use clap::{Arg, ArgAction, ArgMatches, Command, Error};
-use gatt_commands::{KeysPath, TablePath};
+use gatt_commands::{
+    Address, KeysPath, NextPath, RowsPath, RunPaths, ScriptPath, ServePaths, TablePath,
+};
 use std::alloc::{AllocError, Global};
 
 /// The command that the words choose.
@@ -26,6 +28,15 @@ pub enum Choice<'a> {
         table: TablePath<'a>,
         /// The key file.
         keys: KeysPath<'a>,
+    },
+    /// Runs a script.
+    Run(RunPaths<'a>),
+    /// Serves a controller over a connection.
+    Serve {
+        /// The files.
+        paths: ServePaths<'a>,
+        /// Where the connection is accepted.
+        address: Address<'a>,
     },
 }
 
@@ -68,6 +79,8 @@ fn choice_in<'a>(matches: &ArgMatches<'a>) -> Result<Choice<'a>, Refusal>
     match name {
         help::ATT => Ok(Choice::Att),
         help::CHECK => checking(arguments).ok_or(Refusal::Misunderstood),
+        help::RUN => running(arguments).ok_or(Refusal::Misunderstood),
+        help::SERVE => serving(arguments).ok_or(Refusal::Misunderstood),
         _ => Err(Refusal::Misunderstood),
     }
 }
@@ -84,6 +97,36 @@ fn checking<'a>(arguments: &ArgMatches<'a>) -> Option<Choice<'a>>
         table: TablePath(table),
         keys: KeysPath(keys),
     })
+}
+
+/// The choice of `run`, with its files.
+#[tactic(auto, using(crate::proofs::CommandLines::first_in_rows))]
+fn running<'a>(arguments: &ArgMatches<'a>) -> Option<Choice<'a>>
+    ensures name { IfSome result (λ choice. name_of choice ≡ codes "run") }
+    ensures files { IfSome result (HasFilesOf (rows_of (found_of arguments.now))) }
+{
+    Some(Choice::Run(RunPaths {
+        table: TablePath(arguments.get_str(help::TABLE)?),
+        next: NextPath(arguments.get_str(help::NEXT)),
+        keys: KeysPath(arguments.get_str(help::KEYS)?),
+        rows: RowsPath(arguments.get_str(help::ROWS)),
+        script: ScriptPath(arguments.get_str(help::SCRIPT)?),
+    }))
+}
+
+/// The choice of `serve`, with its files and its address.
+#[tactic(auto, using(crate::proofs::CommandLines::first_in_rows))]
+fn serving<'a>(arguments: &ArgMatches<'a>) -> Option<Choice<'a>>
+    ensures name { IfSome result (λ choice. name_of choice ≡ codes "serve") }
+    ensures files { IfSome result (HasFilesOf (rows_of (found_of arguments.now))) }
+{
+    let paths = ServePaths {
+        table: TablePath(arguments.get_str(help::TABLE)?),
+        keys: KeysPath(arguments.get_str(help::KEYS)?),
+        rows: RowsPath(arguments.get_str(help::ROWS)),
+    };
+    let address = Address(arguments.get_str(help::ADDRESS)?);
+    Some(Choice::Serve { paths, address })
 }
 
 /// What is told where the parser refuses the words: its text only where help or the version was
@@ -121,17 +164,87 @@ fn file_argument<'a>(alloc: Global, name: &'a str, about: &'a str) -> Arg<'a>
         .action(ArgAction::Set)
 }
 
+/// The command with one more argument, a path that has to be there.
+fn with_file<'a>(
+    alloc: Global,
+    command: Command<'a>,
+    name: &'a str,
+    about: &'a str,
+) -> Result<Command<'a>, AllocError>
+    ensures app { IfOk result (λ added. app_of added ≡ with_rule (app_of command.entry) (file_rule name.entry.now)) }
+    ensures local { IfOk result (λ added. (out-Command added).has_globals ≡ (out-Command command.entry).has_globals) }
+{
+    command.arg(file_argument(alloc, name, about))
+}
+
 /// The command `check`.
 fn check_command<'a>(alloc: Global) -> Result<Command<'a>, AllocError>
     ensures shape { IfOk result (λ command. shape_of command ≡ check_shape) }
     ensures local { IfOk result (λ command. (out-Command command).has_globals ≡ false) }
 {
-    Command::new(alloc, help::CHECK)
+    let command = Command::new(alloc, help::CHECK)
         .about(help::CHECK_ABOUT)
         .long_about(help::CHECK_DETAILS)
-        .after_help(help::STATUSES)
-        .arg(file_argument(alloc, help::TABLE, help::TABLE_ABOUT))?
-        .arg(file_argument(alloc, help::KEYS, help::KEYS_ABOUT))
+        .after_help(help::STATUSES);
+    let command = with_file(alloc, command, help::TABLE, help::TABLE_ABOUT)?;
+    with_file(alloc, command, help::KEYS, help::KEYS_ABOUT)
+}
+
+/// An option that names a file, and may be left out.
+fn file_option<'a>(alloc: Global, name: &'a str, about: &'a str) -> Arg<'a>
+    ensures rule { rule_of result ≡ option_rule name.entry.now }
+    ensures plain { IsPlainArg result }
+    ensures local { result.global ≡ false }
+{
+    Arg::new(alloc, name)
+        .long(name)
+        .value_name(help::FILE)
+        .help(about)
+        .action(ArgAction::Set)
+}
+
+/// The command with one more option, which names a file.
+fn with_option<'a>(
+    alloc: Global,
+    command: Command<'a>,
+    name: &'a str,
+    about: &'a str,
+) -> Result<Command<'a>, AllocError>
+    ensures app { IfOk result (λ added. app_of added ≡ with_rule (app_of command.entry) (option_rule name.entry.now)) }
+    ensures local { IfOk result (λ added. (out-Command added).has_globals ≡ (out-Command command.entry).has_globals) }
+{
+    command.arg(file_option(alloc, name, about))
+}
+
+/// The command `run`.
+fn run_command<'a>(alloc: Global) -> Result<Command<'a>, AllocError>
+    ensures shape { IfOk result (λ command. shape_of command ≡ run_shape) }
+    ensures local { IfOk result (λ command. (out-Command command).has_globals ≡ false) }
+{
+    let command = Command::new(alloc, help::RUN)
+        .about(help::RUN_ABOUT)
+        .long_about(help::RUN_DETAILS)
+        .after_help(help::STATUSES);
+    let command = with_file(alloc, command, help::TABLE, help::TABLE_ABOUT)?;
+    let command = with_file(alloc, command, help::KEYS, help::KEYS_ABOUT)?;
+    let command = with_file(alloc, command, help::SCRIPT, help::SCRIPT_ABOUT)?;
+    let command = with_option(alloc, command, help::ROWS, help::ROWS_ABOUT)?;
+    with_option(alloc, command, help::NEXT, help::NEXT_ABOUT)
+}
+
+/// The command `serve`.
+fn serve_command<'a>(alloc: Global) -> Result<Command<'a>, AllocError>
+    ensures shape { IfOk result (λ command. shape_of command ≡ serve_shape) }
+    ensures local { IfOk result (λ command. (out-Command command).has_globals ≡ false) }
+{
+    let command = Command::new(alloc, help::SERVE)
+        .about(help::SERVE_ABOUT)
+        .long_about(help::SERVE_DETAILS)
+        .after_help(help::STATUSES);
+    let command = with_file(alloc, command, help::TABLE, help::TABLE_ABOUT)?;
+    let command = with_file(alloc, command, help::KEYS, help::KEYS_ABOUT)?;
+    let command = with_file(alloc, command, help::ADDRESS, help::ADDRESS_ABOUT)?;
+    with_option(alloc, command, help::ROWS, help::ROWS_ABOUT)
 }
 
 /// The command line that the program takes.
@@ -145,7 +258,9 @@ fn command<'a>(alloc: Global) -> Result<Command<'a>, AllocError>
         .after_help(help::STATUSES)
         .subcommand_required(true)
         .subcommand(att_command(alloc))?
-        .subcommand(check_command(alloc)?)
+        .subcommand(check_command(alloc)?)?
+        .subcommand(run_command(alloc)?)?
+        .subcommand(serve_command(alloc)?)
 }
 
 /// The command that the words of the command line choose, of which the first is the program's

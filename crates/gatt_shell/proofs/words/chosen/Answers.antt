@@ -1,8 +1,9 @@
-use Rattle.std.proofs.Common.{rules, ◌≡◌, [], ◌∷◌, map, codes, option_map, string_bytes, List, ℕ, Some, true, refl, subst, ap, ◌∙◌}
-use Rattle.clap.specs.Words.{HasKind, Kinds, app_of, is_simple, subcommand_name_of, subcommand_of, subcommand_rows_of, takes}
+use Rattle.std.proofs.Common.{rules, ◌≡◌, [], ◌∷◌, map, codes, option_map, string_bytes, List, ℕ, Some, true, refl, sym, subst, ap, ◌∙◌}
+use Rattle.clap.specs.Words.{HasKind, Kinds, app_of, fault_of, is_simple, is_simple_and_free, subcommand_name_of, subcommand_of, subcommand_rows_of, takes}
 use Rattle.gatt_shell.specs.CommandLine.{command_line}
 use Rattle.gatt_shell.specs.Refusal.{refusal_for}
-use Rattle.gatt_shell.proofs.CommandLines.{att_taken, att_named, none_faults, help_faults, version_faults, takes_behind, named_behind, missing_refused, help_shown, version_shown, name-rows, kinds_at, faulty}
+use Rattle.gatt_shell.specs.declared.words.Refusal.TheVariants.{Shown}
+use Rattle.gatt_shell.proofs.CommandLines.{att_taken, att_named, none_faults, help_faults, version_faults, takes_behind, named_behind, missing_refused, help_shown, version_shown, shown_among, name-rows, kinds_at, faulty}
 use Rattle.gatt_shell.proofs.words.chosen.Goals as goal
 
 pub returns-in-Ok-try_get_matches_from-clause-att :
@@ -59,3 +60,14 @@ returns-in-Err-clause-no_word c = λ e.
     let P : Kinds → Type 0 = λ kinds. HasKind kinds error in
     let kinds = kinds_at (app_of c.in-Ok.command) (map string_bytes c.args.words.now) _ error (search rules) e c.in-Err.ensures.kinds in
     rw c.refusal_of.ensures (missing_refused error (subst P none_faults kinds))
+
+pub returns-in-Err-clause-shown : goal.returns-in-Err-clause-shown
+returns-in-Err-clause-shown c = λ text e.
+    let error = c.in-Err.error in
+    let P : Kinds → Type 0 = λ kinds. HasKind kinds error in
+    let app_is : app_of c.in-Ok.command ≡ command_line = search rules in
+    let kinds : HasKind (fault_of command_line (map string_bytes c.args.words.now)) error =
+    subst P (ap (λ app. fault_of app (map string_bytes c.args.words.now)) app_is)
+    (c.in-Err.ensures.kinds (ap is_simple_and_free app_is)) in
+    let refused : c.refusal_of.result ≡ Shown text = cc e in
+    shown_among error text _ kinds (sym c.refusal_of.ensures ∙ refused)
