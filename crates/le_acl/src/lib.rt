@@ -7,5 +7,5 @@ mod reassembler;
 mod sender;
 
 pub use pdus::MAX_PDUS;
-pub use reassembler::{Piece, Reassembler};
+pub use reassembler::{Piece, Reassembler, is_frame};
 pub use sender::{Full, Sender};

@@ -1,5 +1,5 @@
 ghost use Rattle.std.specs.Prelude.{◌≡◌, ◌≤◌, ◌↔◌, ◌++◌, length, take, Some, IsSome};
-ghost use Rattle.le_acl.specs.Frame.{FragmentsMakeTheirFrame};
+ghost use Rattle.le_acl.specs.Frame.{FragmentsMakeTheirFrame, is_frame};
 ghost use Rattle.le_acl.specs.Reassembler.{GivesFrames, nothing, assembled_of, with_continuation, assembly_of};
 
 use std::cmp::Ordering;
@@ -98,6 +98,13 @@ impl Reassembler {
         &self.octets[..self.len]
     }
 
+    /// Drops what is held.
+    pub fn clear(&mut self)
+        ensures { self.new ≡ nothing }
+    {
+        self.state = State::Idle;
+    }
+
     fn piece(&self) -> Piece
         ensures { (result ≡ Piece.Frame) ↔ IsSome self.now.frame }
     {
@@ -106,6 +113,14 @@ impl Reassembler {
             State::Idle | State::Unfinished => Piece::Nothing,
         }
     }
+}
+
+/// Whether octets are a whole frame: a header, and as long a payload as it states, at most 521 in all.
+#[inline(always)]
+pub fn is_frame(octets: &[u8]) -> bool
+    ensures { result ≡ is_frame octets.now }
+{
+    octets.len() <= LARGEST && state_of(octets) == State::Whole
 }
 
 /// Joins a fragment to the octets so far, which are less than a frame.
