@@ -1,3 +1,4 @@
+pub mod WholeFrames
 pub mod Answering
 pub mod Commands
 pub mod CommandsFirst

@@ -4,7 +4,7 @@ use Rattle.att_table.specs.Table.{Contents}
 use Rattle.gatt_host.specs.Answers.{stop_of}
 use Rattle.gatt_host.specs.Asked.{call_happening, replacement_happening}
 use Rattle.gatt_host.specs.Held.{Held}
-use Rattle.gatt_host.specs.Meaning.{Frames, Happening, IsAfter}
+use Rattle.gatt_host.specs.Meaning.{Frames, Happening, IsAfter, once_heard}
 use Rattle.gatt_host.specs.Packet.{TakesEvent, acl_happening, event_stop, frames_after_acl}
 use Rattle.gatt_host.specs.Stands.{IsSound, LeadsTo, Stands}
 use Rattle.gatt_laws.specs.Calls.{Call, Refused, call_event, replacement_event}
@@ -49,7 +49,7 @@ StopsForTheSame = (state : State) (held : Held) (reported : Result Reported BadE
 -- the frames that are put together at the slots are those of their connections' fragments
 abbrev pub HoldsFrames : State → Fragments → Frames → Type 0
 HoldsFrames state fragments frames = (place : ℕ) (ordinal : Ordinal) → slice_get state.slots place ≡ Some (Some ordinal) →
-    get_or frames place nothing ≡ assembly_after (fragments ordinal)
+    get_or frames place nothing ≡ once_heard (assembly_after (fragments ordinal))
 
 -- an ACL packet, by the frames before it; and the frames after it are those of the fragments with its own
 abbrev pub FragmentsLeadOn : Type 0

@@ -91,6 +91,10 @@ abbrev pub with_fragment : Assembly → Fragment → Assembly
 with_fragment assembly (Beginning octets) = assembled_of octets
 with_fragment assembly (Continuation octets) = with_continuation assembly octets
 
+-- a frame that is heard is dropped: what is unfinished is left
+abbrev pub once_heard : Assembly → Assembly
+once_heard assembly = record { unfinished = assembly.unfinished; frame = None }
+
 abbrev pub frame_happening : ℕ → Option Own → Happening
 frame_happening place None = Passes
 frame_happening place (Some own) = At place own

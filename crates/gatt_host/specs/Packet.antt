@@ -4,7 +4,7 @@ use Rattle.gatt_host.specs.Answers.{stop_of}
 use Rattle.gatt_host.specs.declared.host_fault.HostFault.{HostFault}
 use Rattle.gatt_host.specs.declared.host_fault.HostFault.TheVariants as stop
 use Rattle.gatt_host.specs.Held.{Held, Credits}
-use Rattle.gatt_host.specs.Meaning.{Frames, Happening, frames_after, Passes, IsAfter, assembly_happening, reported_happening, with_fragment}
+use Rattle.gatt_host.specs.Meaning.{Frames, Happening, frames_after, Passes, IsAfter, assembly_happening, once_heard, reported_happening, with_fragment}
 use Rattle.gatt_laws.specs.Packets.{completed_event, status_event, status_of}
 use Rattle.gatt_slots.specs.Slots.{place_serving}
 use Rattle.le_acl.specs.declared.reassembler.Piece.{Piece}
@@ -17,14 +17,23 @@ use Rattle.le_h4.specs.Packet.{Packet, AclPacket, EventPacket, ScoPacket}
 use Rattle.le_hci.specs.Event.{Reported, event_of}
 use Rattle.octets.specs.Number.{Octets}
 
--- a fragment of a connection that serves joins its frame, which is heard where it is whole
-abbrev pub frames_with : Option ℕ → Option Fragment → Frames → Frames
-frames_with (Some place) (Some fragment) frames = set frames place (with_fragment (get_or frames place nothing) fragment)
-frames_with place fragment frames = frames
+-- a fragment of the connection at a place joins those before it, and a frame that it makes whole is heard and dropped
+abbrev pub fragment_happening : ℕ → Option Fragment → Assembly → Happening
+fragment_happening place None earlier = Passes
+fragment_happening place (Some fragment) earlier = assembly_happening place (with_fragment earlier fragment)
 
-abbrev pub fragment_happening : Option ℕ → Option Fragment → Frames → Happening
-fragment_happening (Some place) (Some fragment) frames = assembly_happening place (with_fragment (get_or frames place nothing) fragment)
-fragment_happening place fragment frames = Passes
+abbrev pub fragment_left : Option Fragment → Assembly → Assembly
+fragment_left None earlier = earlier
+fragment_left (Some fragment) earlier = once_heard (with_fragment earlier fragment)
+
+-- the same by the place of a connection, if it serves
+abbrev pub frames_with : Option ℕ → Option Fragment → Frames → Frames
+frames_with None fragment frames = frames
+frames_with (Some place) fragment frames = set frames place (fragment_left fragment (get_or frames place nothing))
+
+abbrev pub happening_with : Option ℕ → Option Fragment → Frames → Happening
+happening_with None fragment frames = Passes
+happening_with (Some place) fragment frames = fragment_happening place fragment (get_or frames place nothing)
 
 abbrev pub frames_after_acl : Held → ℕ → ℕ → ℕ → Octets → Frames → Frames
 frames_after_acl held handle boundary broadcast octets frames =
@@ -32,7 +41,7 @@ frames_after_acl held handle boundary broadcast octets frames =
 
 abbrev pub acl_happening : Held → ℕ → ℕ → ℕ → Octets → Frames → Happening
 acl_happening held handle boundary broadcast octets frames =
-    fragment_happening (place_serving held.slots handle) (fragment_of boundary broadcast octets) frames
+    happening_with (place_serving held.slots handle) (fragment_of boundary broadcast octets) frames
 
 -- a frame, where the newest fragment made one whole
 abbrev pub frame_given : Piece → Assembly → Option Octets

@@ -5,7 +5,7 @@ use Rattle.gatt_host.specs.Asked.{call_happening, replacement_happening}
 use Rattle.gatt_host.specs.Answers.{told_fault}
 use Rattle.gatt_host.specs.declared.host_fault.HostFault.{HostFault}
 use Rattle.gatt_host.specs.Held.{Held}
-use Rattle.gatt_host.specs.Meaning.{Frames, Happening, Passes, IsAfter, HasRowsOfTheTable}
+use Rattle.gatt_host.specs.Meaning.{Frames, Happening, Passes, IsAfter, HasRowsOfTheTable, once_heard}
 use Rattle.gatt_host.specs.Packet.{TakesEvent, acl_happening, event_stop, frames_after_acl, frames_after_event}
 use Rattle.gatt_host.specs.Stands.{Stands, IsSound}
 use Rattle.gatt_laws.specs.Calls.{Call, Refused, call_event, replacement_event}
@@ -23,7 +23,7 @@ use Rattle.octets.specs.Number.{Octets}
 -- a frame for each slot that may be opened
 pub record IsPutTogether (state : State) (fragments : Fragments) (frames : Frames) : Type 0 where
   pub there : (place : ℕ) (ordinal : Ordinal) → slice_get state.slots place ≡ Some (Some ordinal)
-      → get_or frames place nothing ≡ assembly_after (fragments ordinal)
+      → get_or frames place nothing ≡ once_heard (assembly_after (fragments ordinal))
   pub fresh : (ordinal : Ordinal) → state.next ≤ ordinal → fragments ordinal ≡ []
   pub room : state.room.slots ≤ length frames
 

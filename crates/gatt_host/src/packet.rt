@@ -1,5 +1,6 @@
 //! Packets from the controller, as what happens to a host.
 
+ghost use Rattle.std.specs.Bool.{OnTrue};
 ghost use Rattle.std.specs.Prelude.{◌≡◌, ◌<◌, false, true, length, get_or, IsSome, IsOk, IfSome, IfErr, Some, OnErr};
 ghost use Rattle.std.specs.Result.{result_err};
 ghost use Rattle.std.specs.Option.{option_and_then, option_map_or};
@@ -7,18 +8,20 @@ ghost use Rattle.gatt_laws.specs.Packets.{of_octets, of_frame};
 ghost use Rattle.gatt_host.specs.GoingOut.{is_drained};
 ghost use Rattle.gatt_host.specs.Held.{kept_at, open_slots};
 ghost use Rattle.gatt_host.specs.Whole.{is_own, LeadsBy};
-ghost use Rattle.gatt_host.specs.Meaning.{frame_happening, with_fragment, HasRowsOfTheTable, IsAfter};
+ghost use Rattle.gatt_host.specs.Meaning.{frame_happening, once_heard, with_fragment, HasRowsOfTheTable, IsAfter};
 ghost use Rattle.le_h4.specs.Packet.{seen};
-ghost use Rattle.gatt_host.specs.Packet.{acl_happening, packet_stop, TakesPacket, event_stop, frame_given, frames_after_acl, frames_after_event, TakesEvent};
+ghost use Rattle.gatt_host.specs.Packet.{acl_happening, packet_stop, TakesPacket, event_stop, fragment_happening, fragment_left, frame_given, frames_after_acl, frames_after_event, TakesEvent};
 ghost use Rattle.gatt_slots.specs.Slots.{IsThere};
-ghost use Rattle.le_acl.specs.Fragment.{fragment_of};
+ghost use Rattle.le_acl.specs.Fragment.{fragment_of, Beginning};
+ghost use Rattle.le_acl.specs.Frame.{is_frame};
+ghost use Rattle.le_acl.specs.Reassembler.{assembled_of, nothing};
 ghost use Rattle.le_hci.specs.Event.{event_of};
 ghost use Rattle.le_l2cap.specs.Frame.{frame_of};
 
 use crate::host_fault::HostFault;
 use crate::host_state::HostState;
 use gatt_slots::find_serving;
-use le_acl::{Piece, Reassembler};
+use le_acl::{Piece, Reassembler, is_frame};
 use le_h4::PacketRef;
 use le_hci::{BadEvent, Event, read_event};
 use le_l2cap::channel::{ATT, LE_SIGNALLING, SECURITY_MANAGER};
@@ -100,13 +103,49 @@ pub(crate) fn acl(
     ensures after { IsAfter (acl_happening state.old handle pb bc octets.now frames.old) state.old state.new }
     ensures frames { frames.new ≡ frames_after_acl state.old handle pb bc octets.now frames.old }
 {
-    let Some(place) = find_serving(state.slots.as_slice(), handle) else {
-        return state.nothing();
-    };
-    match join(&mut frames[place], pb, bc, octets) {
-        Piece::Frame => state.frame(place, frames[place].frame()),
+    match find_serving(state.slots.as_slice(), handle) {
+        Some(place) => fragment(state, &mut frames[place], place, pb, bc, octets),
+        None => state.nothing(),
+    }
+}
+
+/// Takes in a fragment of the connection of a slot: a frame that it makes whole is heard, and dropped.
+#[tactic(auto, using(crate::proofs::WholeFrames::nothing_left))]
+fn fragment(
+    state: &mut HostState,
+    frame: &mut Reassembler,
+    place: usize,
+    pb: u8,
+    bc: u8,
+    octets: &[u8],
+)
+    requires there { IsThere state.old.slots place }
+    requires rows { HasRowsOfTheTable state.old }
+    ensures after { IsAfter (fragment_happening place (fragment_of pb bc octets.now) frame.old) state.old state.new }
+    ensures left { frame.new ≡ fragment_left (fragment_of pb bc octets.now) frame.old }
+{
+    if is_whole(pb, bc, octets) {
+        // Most frames lie whole in one packet, and are heard where they lie.
+        frame.clear();
+        return state.frame(place, octets);
+    }
+    match join(frame, pb, bc, octets) {
+        Piece::Frame => {
+            state.frame(place, frame.frame());
+            frame.clear();
+        }
         Piece::Nothing => state.nothing(),
     }
+}
+
+/// Whether a fragment is a whole frame.
+#[tactic(auto, using(crate::proofs::WholeFrames::gives_frame, crate::proofs::WholeFrames::leaves_nothing))]
+fn is_whole(pb: u8, bc: u8, octets: &[u8]) -> bool
+    ensures begins { OnTrue result (fragment_of pb bc octets.now ≡ Some (Beginning octets.now)) }
+    ensures frame { OnTrue result ((assembled_of octets.now).frame ≡ Some octets.now) }
+    ensures left { OnTrue result (once_heard (assembled_of octets.now) ≡ nothing) }
+{
+    bc == 0 && (pb == FIRST || pb == FIRST_NOT_FLUSHED) && is_frame(octets)
 }
 
 /// Puts a fragment to those before it.

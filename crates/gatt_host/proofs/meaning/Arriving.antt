@@ -55,8 +55,7 @@ arrival-other fragments (Some arrived) = octets-other arrived.0 (frame_at (arriv
 -- as many frames as before
 as-many : (place : Option ℕ) (fragment : Option Fragment) (frames : Frames) → length (frames_with place fragment frames) ≡ length frames
 as-many None fragment frames = refl
-as-many (Some place) None frames = refl
-as-many (Some place) (Some fragment) frames = length-set frames place _
+as-many (Some place) fragment frames = length-set frames place _
 
 -- who has not come has no fragment
 still-fresh : (state : State) (fragments : Fragments) (found : Option Ordinal) (place : Option ℕ) (fragment : Option Fragment)

@@ -9,7 +9,7 @@ use Rattle.gatt_host.proofs.Nexts.{clash}
 use Rattle.gatt_host.proofs.standing.ForAll.{each_length}
 use Rattle.gatt_host.proofs.standing.Holding.{Holds, holds, some-is, were_open}
 use Rattle.gatt_host.specs.Held.{Held}
-use Rattle.gatt_host.specs.Meaning.{Frames}
+use Rattle.gatt_host.specs.Meaning.{Frames, once_heard}
 use Rattle.gatt_host.specs.Owing.{all_given, slot_held}
 use Rattle.gatt_host.specs.Standing.{IsPutTogether}
 use Rattle.gatt_host.specs.Stands.{IsSound, Stands, slots_for as slots_opened}
@@ -194,10 +194,10 @@ together_coming state held fragments frames handle peer sound stands free is = r
     inside = omega (arith, free-within state.slots free, few_slots state held sound stands, is.room)
 
     read : (place : ℕ) (ordinal : Ordinal) → CameOrWas state.next state.slots place ordinal
-        → get_or (set frames (first_free state.slots) nothing) place nothing ≡ assembly_after (fragments ordinal)
+        → get_or (set frames (first_free state.slots) nothing) place nothing ≡ once_heard (assembly_after (fragments ordinal))
     read place ordinal (inl came) =
         ap (λ (at : ℕ). get_or (set frames (first_free state.slots) nothing) at nothing) came.0
         ∙ get_or-set_same frames (first_free state.slots) nothing nothing inside
-        ∙ sym (ap (λ (own : Ordinal). assembly_after (fragments own)) came.1
-        ∙ ap (λ (none : List Fragment). assembly_after none) (is.fresh state.next (omega arith)))
+        ∙ sym (ap (λ (own : Ordinal). once_heard (assembly_after (fragments own))) came.1
+        ∙ ap (λ (none : List Fragment). once_heard (assembly_after none)) (is.fresh state.next (omega arith)))
     read place ordinal (inr was) = get_or-set_other frames (first_free state.slots) place nothing nothing was.0 ∙ is.there place ordinal was.1

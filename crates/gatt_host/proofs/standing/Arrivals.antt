@@ -2,7 +2,7 @@
 use Rattle.std.proofs.Common.{◌≡◌, ◌≢◌, ℕ, ◌≤◌, ◌<◌, Bool, true, false, List, [], ◌∷◌, length, set, get_or, slice_get, Option, Some, None, Result, Ok, Err, refl, sym, ap, subst, ◌∙◌, arith}
 use Rattle.std.specs.Prelude.{◌==◌, ◌||◌, if◌then◌else◌}
 use Rattle.std.proofs.lemmas.Bool.{eq-eqb, eqb-true}
-use Rattle.std.proofs.lemmas.List.{get_or-set_same, get_or-set_other}
+use Rattle.std.proofs.lemmas.List.{get_or-set_same, get_or-set_other, set-get_or}
 use Rattle.std.proofs.lemmas.Option.{slice_get_within}
 use Rattle.gatt_host.proofs.Nexts.{clash}
 use Rattle.gatt_host.proofs.standing.Happenings.{finds, own_leads, passes-lead, serves-at}
@@ -10,8 +10,8 @@ use Rattle.gatt_host.proofs.standing.Holding.{some-is}
 use Rattle.gatt_host.proofs.standing.OneSlot.{same_place}
 use Rattle.gatt_host.specs.Held.{Held}
 use Rattle.gatt_host.specs.Leading.{LeadsWith, HoldsFrames, FragmentsLeadOn, FramesFollow}
-use Rattle.gatt_host.specs.Meaning.{Frames, Happening, frame_happening, with_fragment}
-use Rattle.gatt_host.specs.Packet.{frames_with, fragment_happening}
+use Rattle.gatt_host.specs.Meaning.{Frames, Happening, frame_happening, once_heard, with_fragment}
+use Rattle.gatt_host.specs.Packet.{frames_with, happening_with}
 use Rattle.gatt_host.specs.Stands.{IsServing, IsSound, Stands}
 use Rattle.gatt_laws.specs.Calls.{serving}
 use Rattle.gatt_laws.specs.Event.{Ordinal, Own, Event, Asks, Signals}
@@ -30,7 +30,7 @@ use Rattle.le_l2cap.specs.Frame.{BasicFrame, frame_of}
 use Rattle.octets.specs.Number.{Octets}
 
 -- one fragment more
-one-more : (fragment : Fragment) (fragments : List Fragment) → with_fragment (assembly_after fragments) fragment ≡ assembly_after (fragment ∷ fragments)
+one-more : (fragment : Fragment) (fragments : List Fragment) → with_fragment (once_heard (assembly_after fragments)) fragment ≡ assembly_after (fragment ∷ fragments)
 one-more (Beginning octets) fragments = refl
 one-more (Continuation octets) fragments = refl
 
@@ -56,7 +56,7 @@ module _ (state : State) (held : Held) (sound : IsSound state) (stands : Stands 
     octets-lead None = passes-lead state held sound stands
     octets-lead (Some octets) = frame-leads (frame_of octets)
 
-    fragment-leads : (fragment : Fragment) (fragments : List Fragment) (assembly : Assembly) → assembly ≡ assembly_after fragments
+    fragment-leads : (fragment : Fragment) (fragments : List Fragment) (assembly : Assembly) → assembly ≡ once_heard (assembly_after fragments)
         → Leads (frame_event ordinal (of_octets (frame_at (fragment ∷ fragments)))) (frame_happening place (of_octets (with_fragment assembly fragment).frame))
     fragment-leads fragment fragments assembly is =
         let frame : (with_fragment assembly fragment).frame ≡ frame_at (fragment ∷ fragments) =
@@ -67,15 +67,15 @@ module _ (state : State) (held : Held) (sound : IsSound state) (stands : Stands 
 
   module _ (fragments : Fragments) (frames : Frames) (holds : HoldsFrames state fragments frames) (handle : ℕ) where
     arrival-leads : (found : Option Ordinal) (place : Option ℕ) (fragment : Option Fragment) → serving state handle ≡ found → Finds state.slots found place
-        → Leads (arrival_event fragments (arrival_of found fragment)) (fragment_happening place fragment frames)
+        → Leads (arrival_event fragments (arrival_of found fragment)) (happening_with place fragment frames)
     arrival-leads None place fragment by none =
-        subst (λ (place : Option ℕ). Leads (arrival_event fragments (arrival_of None fragment)) (fragment_happening place fragment frames)) (sym none)
+        subst (λ (place : Option ℕ). Leads (arrival_event fragments (arrival_of None fragment)) (happening_with place fragment frames)) (sym none)
         (passes-lead state held sound stands)
     arrival-leads (Some ordinal) place None by found =
-        subst (λ (place : Option ℕ). Leads (arrival_event fragments (arrival_of (Some ordinal) None)) (fragment_happening place None frames)) (sym found.is)
+        subst (λ (place : Option ℕ). Leads (arrival_event fragments (arrival_of (Some ordinal) None)) (happening_with place None frames)) (sym found.is)
         (passes-lead state held sound stands)
     arrival-leads (Some ordinal) place (Some fragment) by found =
-        subst (λ (place : Option ℕ). Leads (arrival_event fragments (arrival_of (Some ordinal) (Some fragment))) (fragment_happening place (Some fragment) frames)) (sym found.is)
+        subst (λ (place : Option ℕ). Leads (arrival_event fragments (arrival_of (Some ordinal) (Some fragment))) (happening_with place (Some fragment) frames)) (sym found.is)
         (fragment-leads found.at ordinal (serves-at state held sound stands handle found.at ordinal by found.has) fragment (fragments ordinal) (get_or frames found.at nothing)
         (holds found.at ordinal found.has))
 
@@ -83,11 +83,11 @@ module _ (state : State) (held : Held) (sound : IsSound state) (stands : Stands 
     module _ (room : length state.slots ≤ length frames) where
       frame-set : (at : ℕ) (own : Ordinal) (fragment : Fragment) → slice_get state.slots at ≡ Some (Some own)
           → HoldsFrames state (λ ordinal. if ordinal == own then fragment ∷ fragments ordinal else fragments ordinal)
-          (set frames at (with_fragment (get_or frames at nothing) fragment))
+          (set frames at (once_heard (with_fragment (get_or frames at nothing) fragment)))
       frame-set at own fragment has = λ place ordinal there.
-          let new : Assembly = with_fragment (get_or frames at nothing) fragment in
+          let new : Assembly = once_heard (with_fragment (get_or frames at nothing) fragment) in
           elim (ordinal == own) as (λ (same : Bool). (ordinal == own) ≡ same
-          → get_or (set frames at new) place nothing ≡ assembly_after (if same then fragment ∷ fragments ordinal else fragments ordinal)) [
+          → get_or (set frames at new) place nothing ≡ once_heard (assembly_after (if same then fragment ∷ fragments ordinal else fragments ordinal))) [
             | true ↦ λ same.
                 let is : ordinal ≡ own = eqb-true ordinal own same in
                 let places : at ≡ place =
@@ -95,9 +95,9 @@ module _ (state : State) (held : Held) (sound : IsSound state) (stands : Stands 
                 let within : at < length frames = let below = slice_get_within state.slots at (Some own) has in omega (arith, below, room) in
                 ap (λ (k : ℕ). get_or (set frames at new) k nothing) (sym places)
                 ∙ get_or-set_same frames at new nothing within
-                ∙ ap (λ (assembly : Assembly). with_fragment assembly fragment) (holds at own has)
-                ∙ one-more fragment (fragments own)
-                ∙ ap (λ (one : Ordinal). assembly_after (fragment ∷ fragments one)) (sym is)
+                ∙ ap (λ (assembly : Assembly). once_heard (with_fragment assembly fragment)) (holds at own has)
+                ∙ ap once_heard (one-more fragment (fragments own))
+                ∙ ap (λ (one : Ordinal). once_heard (assembly_after (fragment ∷ fragments one))) (sym is)
             | false ↦ λ differs.
                 let apart : place ≢ at = λ same.
                 let read : Some (Some ordinal) ≡ Some (Some own) = sym there ∙ ap (λ (k : ℕ). slice_get state.slots k) same ∙ has in
@@ -110,7 +110,8 @@ module _ (state : State) (held : Held) (sound : IsSound state) (stands : Stands 
       frames-follow None place fragment none =
           subst (λ (place : Option ℕ). HoldsFrames state (with_arrival fragments (arrival_of None fragment)) (frames_with place fragment frames)) (sym none) holds
       frames-follow (Some ordinal) place None found =
-          subst (λ (place : Option ℕ). HoldsFrames state (with_arrival fragments (arrival_of (Some ordinal) None)) (frames_with place None frames)) (sym found.is) holds
+          subst (λ (place : Option ℕ). HoldsFrames state (with_arrival fragments (arrival_of (Some ordinal) None)) (frames_with place None frames)) (sym found.is)
+          (subst (HoldsFrames state fragments) (sym (set-get_or frames found.at nothing)) holds)
       frames-follow (Some ordinal) place (Some fragment) found =
           subst (λ (place : Option ℕ). HoldsFrames state (with_arrival fragments (arrival_of (Some ordinal) (Some fragment))) (frames_with place (Some fragment) frames)) (sym found.is)
           (frame-set found.at ordinal fragment found.has)
