@@ -1,9 +1,8 @@
 -- All slots at the end of an event.
-use Rattle.std.proofs.Common.{◌≡◌, ℕ, Bool, true, false, List, [], map, Option, Some, None, refl, sym, ap, subst, ◌∙◌}
+use Rattle.std.proofs.Common.{◌≡◌, ℕ, Bool, true, false, List, map, Option, Some, None, refl, sym, ap, subst, ◌∙◌}
 use Rattle.std.specs.Prelude.{is_some, if◌then◌else◌, ◌==◌, slice_get}
 use Rattle.std.specs.Option.{option_map}
-use Rattle.att_numbers.specs.Types.{Handle, Row}
-use Rattle.att_table.specs.Table.{Contents}
+use Rattle.att_numbers.specs.Types.{Handle}
 use Rattle.gatt_laws.specs.Controller.{Slots}
 use Rattle.gatt_laws.specs.Event.{Ordinal}
 use Rattle.gatt_laws.specs.Part.{Part, is_there, key_of}

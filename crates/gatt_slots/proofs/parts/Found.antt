@@ -16,7 +16,7 @@ use Rattle.gatt_slots.proofs.parts.Events.{completed_kept}
 use Rattle.gatt_slots.proofs.parts.Kept.{kept_there}
 use Rattle.gatt_slots.proofs.parts.Places.{Finds, finds_same, all_same, changed_at}
 use Rattle.gatt_slots.specs.Kept.{Kept, kept_of, kept_if_there}
-use Rattle.gatt_slots.specs.Slots.{Held, is_serving, is_holding, place_serving, place_holding, after_entry, after_entries}
+use Rattle.gatt_slots.specs.Slots.{Held, is_serving, is_holding, place_serving, place_holding, after_entries}
 use Rattle.gatt_slots.specs.Turn.{after_completed}
 use Rattle.le_hci.specs.declared.event.CompletedPackets.{CompletedPackets}
 
