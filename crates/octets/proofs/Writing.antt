@@ -1,10 +1,10 @@
--- What a sink takes in turn.
-use Rattle.std.proofs.Common.{◌≡◌, ℕ, ◌+◌, [], ◌++◌, take, drop, Option, Some, None, refl, sym, ap, subst, ◌∙◌, append_assoc}
+-- What a sink takes in turn, and what is counted.
+use Rattle.std.proofs.Common.{◌≡◌, ℕ, ◌+◌, arith, [], ◌++◌, take, drop, Option, Some, None, refl, sym, ap, subst, ◌∙◌, append_assoc}
 use Rattle.std.proofs.KnownBytes.{Appends-nil, Appends-trans}
 use Rattle.std.proofs.lemmas.List.{append-nil, take-append-drop}
 use Rattle.std.specs.Io.KnownBytes.{Appends, Keeps}
 use Rattle.octets.specs.Number.{Octets}
-use Rattle.octets.specs.Stream.{CountsNone, CountsOne, WritesFront}
+use Rattle.octets.specs.Stream.{CountsMany, CountsNone, CountsOne, WritesFront}
 
 kept-appends : (mid holds : Option Octets) → Keeps mid holds → Appends mid holds []
 kept-appends None holds kept = tt
@@ -57,7 +57,7 @@ pub breaks_kept : (text rest : Octets) (held mid holds : Option Octets) → HasW
 breaks_kept text rest held mid holds so_far kept =
     breaks_off text [] rest held mid holds so_far (record { written = []; appended = kept-appends mid holds kept; left = []; parts = refl })
 
--- failures that are counted one after the other
+-- what is counted one after the other
 pub counts_none : (before mid now : Option ℕ) → CountsNone before mid → CountsNone mid now → CountsNone before now
 counts_none (Some b) (Some m) (Some n) first second = second ∙ first
 counts_none None None None first second = tt
@@ -77,3 +77,18 @@ counts_one (Some b) None now first second = absurd first
 pub counts_same : (before : Option ℕ) → CountsNone before before
 counts_same (Some b) = refl
 counts_same None = tt
+
+-- none so far
+pub many_none : (before : Option ℕ) → CountsMany 0 before before
+many_none (Some b) = omega arith
+many_none None = tt
+
+-- and one more
+pub many_more : (more : ℕ) (before mid now : Option ℕ) → CountsMany more before mid → CountsOne mid now → CountsMany (more + 1) before now
+many_more more (Some b) (Some m) (Some n) first second = omega (arith, first, second)
+many_more more (Some b) (Some m) None first second = omega (arith, first, second)
+many_more more (Some b) None None first second = omega (arith, first)
+many_more more (Some b) None (Some n) first second = absurd second
+many_more more None None None first second = tt
+many_more more None None (Some n) first second = absurd second
+many_more more None (Some m) now first second = absurd first

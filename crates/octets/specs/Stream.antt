@@ -1,5 +1,5 @@
--- What a sink was given, and the failures of a source or a sink, as long as they are counted.
-use Rattle.std.specs.Prelude.{◌≡◌, ℕ, ◌+◌, ◌++◌, ⊤, MatchResult, Option, Some, None, Result}
+-- What a sink was given, and what is counted of a source or a sink, as long as it is.
+use Rattle.std.specs.Prelude.{◌≡◌, ℕ, ◌+◌, ◌<◌, ◌++◌, ◌==◌, ◌&&◌, nat_lt, Bool, true, false, ⊤, MatchResult, Option, Some, None, Result, Ok, Err}
 use Rattle.std.specs.Io.KnownBytes.{Appends}
 use Rattle.octets.specs.Number.{Octets}
 
@@ -7,18 +7,35 @@ use Rattle.octets.specs.Number.{Octets}
 abbrev pub largest_count : ℕ
 largest_count = 18446744073709551615
 
--- the failures are as many as they were
+-- the count is as it was
 abbrev pub CountsNone : Option ℕ → Option ℕ → Type 0
 CountsNone (Some before) (Some now) = now ≡ before
 CountsNone None None = ⊤
 CountsNone _ _ = ⊥
 
--- the failures are one more, and those behind the largest count are no longer counted
+-- the count is one more, and what is behind the largest count is no longer counted
 abbrev pub CountsOne : Option ℕ → Option ℕ → Type 0
 CountsOne (Some before) (Some now) = now ≡ before + 1
 CountsOne (Some before) None = before ≡ largest_count
 CountsOne None None = ⊤
 CountsOne None (Some now) = ⊥
+
+-- one more where something is so, and as many as before where it is not
+abbrev pub CountsIf : Bool → Option ℕ → Option ℕ → Type 0
+CountsIf true before now = CountsOne before now
+CountsIf false before now = CountsNone before now
+
+-- the count is so many more
+abbrev pub CountsMany : ℕ → Option ℕ → Option ℕ → Type 0
+CountsMany more (Some before) (Some now) = now ≡ before + more
+CountsMany more (Some before) None = largest_count < before + more
+CountsMany more None None = ⊤
+CountsMany more None (Some now) = ⊥
+
+-- a read that gives no octet, although there is room for one, has found the end
+abbrev pub finds_end : {E : Type 0} → Result ℕ E → ℕ → Bool
+finds_end (Ok count) room = (count == 0) && nat_lt 0 room
+finds_end (Err why) room = false
 
 -- an error adds one to the failures, and nothing else does
 abbrev pub CountsFailure : {T E : Type 0} → Option ℕ → Option ℕ → Result T E → Type 0

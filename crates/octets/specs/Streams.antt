@@ -6,9 +6,15 @@ use Rattle.octets.specs.declared.stream.Writer.{Writer}
 use Rattle.octets.specs.declared.stream.SliceSource.{SliceSource}
 use Rattle.octets.specs.declared.stream.ArraySink.{ArraySink}
 
--- the reader behind a source, and how many reads have failed, as long as they are counted
+-- the reader behind a source, and how many reads were made, have found the end and have failed, as long as they are counted
 abbrev pub reader_of : {R : Type 0} → Reader R → R
 reader_of source = source.reader
+
+abbrev pub reads_of : {R : Type 0} → Reader R → Option ℕ
+reads_of source = source.reads
+
+abbrev pub ends_of : {R : Type 0} → Reader R → Option ℕ
+ends_of source = source.ends
 
 abbrev pub failed_reads_of : {R : Type 0} → Reader R → Option ℕ
 failed_reads_of source = source.failed_reads

@@ -1,7 +1,7 @@
 ghost use Rattle.std.specs.Prelude.{◌≡◌, ℕ, ◌<◌, ◌≤◌, Option, Some, None, IfOk, IfErr, OnOk, OnErr, [], length};
 ghost use Rattle.std.specs.Io.KnownBytes.{Appends, ReadConsumes, WriteAppends};
 ghost use Rattle.octets.specs.Number.{Octets};
-ghost use Rattle.octets.specs.Stream.{CountsFailure, CountsOne, WritesFront};
+ghost use Rattle.octets.specs.Stream.{finds_end, CountsFailure, CountsIf, CountsOne, WritesFront};
 
 use arrayvec::ArrayVec;
 use std::io::{ErrorKind, Read, Write};
@@ -15,6 +15,12 @@ pub trait Source {
     /// The octets that reads will give from here on, where they are known.
     ghost remaining: { Self → Option Octets };
 
+    /// How many reads were made so far, as long as they are counted.
+    ghost reads: { Self → Option ℕ };
+
+    /// How many reads have found the end of the octets so far, as long as they are counted.
+    ghost ends: { Self → Option ℕ };
+
     /// How many reads have failed so far, as long as they are counted.
     ghost failures: { Self → Option ℕ };
 
@@ -23,6 +29,8 @@ pub trait Source {
     fn read(&mut self, buf: &mut [u8]) -> Result<usize, Failed>
         ensures bound { IfOk result (λ count. count ≤ length buf.old) }
         ensures octets { ReadConsumes (remaining self.old) (remaining self.new) result buf.new }
+        ensures reads { CountsOne (reads self.old) (reads self.new) }
+        ensures ends { CountsIf (finds_end result (length buf.old)) (ends self.old) (ends self.new) }
         ensures failures { CountsFailure (failures self.old) (failures self.new) result };
 }
 
@@ -43,11 +51,11 @@ pub trait Sink {
         ensures failures { CountsFailure (failures self.old) (failures self.new) result };
 }
 
-/// One failure more, as long as they are counted.
-fn one_more(failures: Option<u64>) -> Option<u64>
-    ensures { CountsOne failures result }
+/// One more, as long as it is counted.
+fn one_more(counted: Option<u64>) -> Option<u64>
+    ensures { CountsOne counted result }
 {
-    match failures {
+    match counted {
         Some(count) if count < u64::MAX => Some(count + 1),
         _ => None,
     }
@@ -71,19 +79,25 @@ pub fn write_all<W: Sink>(octets: &[u8], sink: &mut W) -> Result<(), Failed>
 #[derive(Drop)]
 pub struct Reader<R> {
     reader: R,
+    reads: Option<u64>,
+    ends: Option<u64>,
     failed_reads: Option<u64>,
 }
 
 impl<R> Reader<R> {
-    ghost use Rattle.octets.specs.Streams.{reader_of, failed_reads_of};
+    ghost use Rattle.octets.specs.Streams.{reader_of, reads_of, ends_of, failed_reads_of};
 
-    /// A source that has not failed yet.
+    /// A source of which nothing was read yet.
     pub fn new(reader: R) -> Self
         ensures reader { reader_of result ≡ reader }
+        ensures reads { reads_of result ≡ Some 0 }
+        ensures ends { ends_of result ≡ Some 0 }
         ensures failures { failed_reads_of result ≡ Some 0 }
     {
         Reader {
             reader,
+            reads: Some(0),
+            ends: Some(0),
             failed_reads: Some(0),
         }
     }
@@ -92,14 +106,33 @@ impl<R> Reader<R> {
 impl<R: Read> Source for Reader<R> {
     ghost remaining = { λ source. R.remaining source.reader };
 
+    ghost reads = { λ source. source.reads };
+
+    ghost ends = { λ source. source.ends };
+
     ghost failures = { λ source. source.failed_reads };
 
     fn read(&mut self, buf: &mut [u8]) -> Result<usize, Failed> {
+        let room = buf.len();
         let read = read_uninterrupted(&mut self.reader, buf);
+        self.reads = one_more(self.reads);
+        if finds_end(read, room) {
+            self.ends = one_more(self.ends);
+        }
         if read.is_err() {
             self.failed_reads = one_more(self.failed_reads);
         }
         read
+    }
+}
+
+/// Whether a read has found the end: it gave no octet although there was room for one.
+fn finds_end(read: Result<usize, Failed>, room: usize) -> bool
+    ensures { result ≡ finds_end read room }
+{
+    match read {
+        Ok(count) => count == 0 && 0 < room,
+        Err(_) => false,
     }
 }
 
@@ -171,7 +204,7 @@ fn write_uninterrupted<W: Write>(writer: &mut W, buf: &[u8]) -> Result<usize, Fa
     Err(Failed)
 }
 
-/// Octets in memory as a source, which never fails.
+/// Octets in memory as a source, which never fails and counts no reads.
 #[derive(Drop)]
 pub struct SliceSource<'a> {
     left: &'a [u8],
@@ -190,6 +223,10 @@ impl<'a> SliceSource<'a> {
 
 impl Source for SliceSource<'_> {
     ghost remaining = { λ source. Some source.left.now };
+
+    ghost reads = { λ _. None };
+
+    ghost ends = { λ _. None };
 
     ghost failures = { λ _. Some 0 };
 
