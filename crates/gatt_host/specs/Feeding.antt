@@ -12,7 +12,7 @@ use Rattle.gatt_host.specs.Whole.{Leads, StandsAt, Whole}
 use Rattle.gatt_laws.specs.Input.{Course, Item, AnOctet, ACall, TheEnd, after_item, call_refusal, course}
 use Rattle.gatt_laws.specs.Start.{Start}
 use Rattle.octets.specs.Number.{Octets}
-use Rattle.octets.specs.Stream.{CountsNone, CountsOne, WritesFront}
+use Rattle.octets.specs.Stream.{CountsMany, WritesFront}
 
 -- the octets of packets, one packet after another
 abbrev pub joined : List Octets → Octets
@@ -44,11 +44,7 @@ comes_of_feeding stop.Read = false
 comes_of_feeding stop.Turns = false
 comes_of_feeding fault = true
 
--- the reader or the writer has failed once, where the fault is that
-abbrev pub FailsIf : Bool → Option ℕ → Option ℕ → Type 0
-FailsIf true before after = CountsOne before after
-FailsIf false before after = CountsNone before after
-
+-- whether it is the writer that has failed, or the reader
 abbrev pub is_write : Option HostFault → Bool
 is_write (Some stop.Write) = true
 is_write fault = false
@@ -105,3 +101,11 @@ pub record Serves (result : Result End HostFault) (turns : ℕ) (old new : Whole
   pub at_end : IsOk result → IsAtEnd left
   pub ended : IfOk result (λ (end : End). (0 < end.turns) × IsReadIn (end.turns - 1) read)
   pub over : result ≡ Err stop.Turns → IsReadIn turns read
+
+-- there are no more reads than there may be: as many as the end tells, and all of them where they are over
+pub record Reads (result : Result End HostFault) (turns : ℕ) (before after : Option ℕ) : Type 0 where
+  pub made : ℕ
+  pub counted : CountsMany made before after
+  pub most : made ≤ turns
+  pub told : IfOk result (λ (end : End). end.turns ≡ made)
+  pub over : result ≡ Err stop.Turns → made ≡ turns

@@ -2,13 +2,14 @@
 
 ghost use Rattle.std.specs.Prelude.{◌≡◌, ◌≤◌, ◌<◌, ◌∷◌, [], take, false, true, length, None, Some, IsSome, IsOk, IfOk, IfErr, Err};
 ghost use Rattle.std.specs.Result.{result_err};
-ghost use Rattle.gatt_host.specs.Feeding.{comes_of_feeding, items_taken, octet_items, is_write, FailsIf, Feeds};
+ghost use Rattle.gatt_host.specs.Feeding.{comes_of_feeding, items_taken, octet_items, is_write, Feeds};
 ghost use Rattle.gatt_host.specs.Answers.{lost_fault};
 ghost use Rattle.gatt_host.specs.GoingOut.{is_drained};
 ghost use Rattle.gatt_host.specs.Held.{open_slots};
 ghost use Rattle.gatt_host.specs.Meaning.{HasRowsOfTheTable};
 ghost use Rattle.gatt_host.specs.Promises.{KeepsConnectionsApart, KeepsThePolicy};
 ghost use Rattle.gatt_host.specs.Whole.{all_out, is_own, outcome_of, Leads};
+ghost use Rattle.octets.specs.Stream.{CountsIf};
 
 use crate::host::Host;
 use crate::host_fault::HostFault;
@@ -29,7 +30,7 @@ pub fn feed<W: Sink>(host: &mut Host, octets: &[u8], out: &mut W) -> Result<(), 
     ensures outcome { result ≡ outcome_of host.new.fault }
     ensures out { IsOk result → all_out host.new ≡ true }
     ensures feeding { host.old.fault ≡ None → IfErr result (λ fault. comes_of_feeding fault ≡ true) }
-    ensures failures { host.old.fault ≡ None → FailsIf (is_write host.new.fault) (W.failures out.old) (W.failures out.new) }
+    ensures failures { host.old.fault ≡ None → CountsIf (is_write host.new.fault) (W.failures out.old) (W.failures out.new) }
     ensures stopped { IsSome host.old.fault → host.new ≡ host.old }
     ensures sink_stopped { IsSome host.old.fault → out.new ≡ out.old }
     // And of all that is taken in, for every start and input:
@@ -56,7 +57,7 @@ pub(crate) fn write_out<W: Sink>(host: &mut Host, out: &mut W) -> Result<(), Hos
     ensures fault { result ≡ outcome_of host.new.fault }
     ensures write { IfErr result (λ fault. fault ≡ HostFault.Write) }
     ensures out { IsOk result → all_out host.new ≡ true }
-    ensures failures { FailsIf (is_write host.new.fault) (W.failures out.old) (W.failures out.new) }
+    ensures failures { CountsIf (is_write host.new.fault) (W.failures out.old) (W.failures out.new) }
 {
     let mut packet = ArrayVec::new();
     while host.next_out(&mut packet) {

@@ -1,12 +1,12 @@
 //! A reader and a writer stand for the controller.
 
-ghost use Rattle.std.specs.Prelude.{◌≡◌, ◌≤◌, [], length, None, Some, IsSome, IsOk, IfErr, IfOk, OnErr, true};
+ghost use Rattle.std.specs.Prelude.{◌≡◌, ◌≤◌, ◌==◌, [], is_ok, length, None, Some, IsSome, IsOk, IfErr, IfOk, OnErr, true};
 ghost use Rattle.std.specs.Io.KnownBytes.{Consumes, IsAtEnd, Keeps};
-ghost use Rattle.gatt_host.specs.Feeding.{is_read, is_write, FailsIf, Serves};
+ghost use Rattle.gatt_host.specs.Feeding.{is_read, is_write, Reads, Serves};
 ghost use Rattle.gatt_host.specs.Promises.{KeepsConnectionsApart, KeepsThePolicy};
 ghost use Rattle.gatt_host.specs.Whole.{all_out, Takes};
 ghost use Rattle.gatt_laws.specs.Input.{TheEnd};
-ghost use Rattle.octets.specs.Stream.{CountsFailure};
+ghost use Rattle.octets.specs.Stream.{CountsFailure, CountsIf, CountsNone, CountsOne};
 
 use crate::feeding::{feed, stop};
 use crate::host::Host;
@@ -40,8 +40,10 @@ pub fn serve<R: Source, W: Sink>(
     ensures going_on { IsOk result → host.new.fault ≡ None }
     ensures out { IsOk result → all_out host.new ≡ true }
     ensures fault { IfErr result (λ fault. host.new.fault ≡ Some fault) }
-    ensures reads { host.old.fault ≡ None → FailsIf (is_read host.new.fault) (R.failures reader.old) (R.failures reader.new) }
-    ensures writes { host.old.fault ≡ None → FailsIf (is_write host.new.fault) (W.failures writer.old) (W.failures writer.new) }
+    ensures reads { host.old.fault ≡ None → Reads result turns (R.reads reader.old) (R.reads reader.new) }
+    ensures ends { host.old.fault ≡ None → CountsIf (is_ok result) (R.ends reader.old) (R.ends reader.new) }
+    ensures read_failures { host.old.fault ≡ None → CountsIf (is_read host.new.fault) (R.failures reader.old) (R.failures reader.new) }
+    ensures write_failures { host.old.fault ≡ None → CountsIf (is_write host.new.fault) (W.failures writer.old) (W.failures writer.new) }
     ensures stopped { IsSome host.old.fault → host.new ≡ host.old }
     ensures reader_stopped { IsSome host.old.fault → reader.new ≡ reader.old }
     ensures writer_stopped { IsSome host.old.fault → writer.new ≡ writer.old }
@@ -70,6 +72,9 @@ fn read_turn<'a, R: Source>(reader: &mut R, octets: &'a mut [u8; TURN]) -> Resul
     ensures consumed { IfOk result (λ read. Consumes (R.remaining reader.old) (R.remaining reader.new) read.now) }
     ensures at_end { IfOk result (λ read. read.now ≡ [] → IsAtEnd (R.remaining reader.new)) }
     ensures kept { OnErr result (Keeps (R.remaining reader.old) (R.remaining reader.new)) }
+    ensures reads { CountsOne (R.reads reader.old) (R.reads reader.new) }
+    ensures ends { IfOk result (λ read. CountsIf (length read.now == 0) (R.ends reader.old) (R.ends reader.new)) }
+    ensures no_end { OnErr result (CountsNone (R.ends reader.old) (R.ends reader.new)) }
     ensures failures { CountsFailure (R.failures reader.old) (R.failures reader.new) result }
 {
     let count = reader.read(octets)?;

@@ -9,14 +9,14 @@ use Rattle.gatt_host.proofs.Nexts.{clash}
 use Rattle.gatt_host.proofs.whole.Items.{leads_nowhere, leads_on, leads_stopped}
 use Rattle.gatt_host.specs.declared.host_fault.HostFault.{HostFault}
 use Rattle.gatt_host.specs.declared.host_fault.HostFault.TheVariants as stop
-use Rattle.gatt_host.specs.Feeding.{BreaksOff, FailsIf, Feeds, TakesAll, comes_of_feeding, is_write, joined, octet_items}
+use Rattle.gatt_host.specs.Feeding.{BreaksOff, Feeds, TakesAll, comes_of_feeding, is_write, joined, octet_items}
 use Rattle.gatt_host.specs.Whole.{Leads, SameFault, StandsAt, Whole, is_own, outcome_of}
 use Rattle.gatt_laws.proofs.Courses.{items_append}
 use Rattle.gatt_laws.proofs.Streams.{stays_stopped}
 use Rattle.gatt_laws.specs.Input.{AnOctet, Course, Item, after_items, at_start, course}
 use Rattle.gatt_laws.specs.Packets.{Fault}
 use Rattle.octets.specs.Number.{Octets}
-use Rattle.octets.specs.Stream.{CountsFailure, CountsNone, CountsOne, WritesFront}
+use Rattle.octets.specs.Stream.{CountsFailure, CountsIf, CountsNone, CountsOne, WritesFront}
 
 pub joined_append : (packets others : List Octets) → joined (packets ++ others) ≡ joined packets ++ joined others
 joined_append packets others = flat_map-append (λ (packet : Octets). packet) packets others
@@ -236,8 +236,8 @@ taken_breaks octets rest old mid new before between after found has is feeds =
     (feeds_then (octet_items has.taken) [] old mid new before between after found has.takes feeds)))
 
 -- the failures that are counted
-pub counts_where_going : (found : Option HostFault) (before after : Option ℕ) → found ≡ None → FailsIf (is_write found) before after → CountsNone before after
-counts_where_going found before after none fails = subst (λ (found : Option HostFault). FailsIf (is_write found) before after) none fails
+pub counts_where_going : (found : Option HostFault) (before after : Option ℕ) → found ≡ None → CountsIf (is_write found) before after → CountsNone before after
+counts_where_going found before after none fails = subst (λ (found : Option HostFault). CountsIf (is_write found) before after) none fails
 
 -- by whether a call failed
 pub on_err_at : {T E : Type 0} (result : Result T E) (P : Type 0) → is_err result ≡ true → OnErr result P → P

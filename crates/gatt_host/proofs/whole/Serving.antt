@@ -1,5 +1,5 @@
 -- What a reader gives is taken in turn by turn, up to the end of its stream.
-use Rattle.std.proofs.Common.{◌≡◌, ℕ, ◌+◌, ◌≤◌, true, false, Result, Ok, Err, List, [], ◌∷◌, ◌++◌, length, Option, Some, None, refl, sym, ap, subst, ◌∙◌, inl, inr, arith, append-nil}
+use Rattle.std.proofs.Common.{◌≡◌, ℕ, ◌+◌, ◌≤◌, Bool, true, false, Result, Ok, Err, List, [], ◌∷◌, ◌++◌, length, Option, Some, None, refl, sym, ap, subst, ◌∙◌, inl, inr, arith, append-nil}
 use Rattle.std.proofs.KnownBytes.{Consumes-kept, Consumes-nil, Consumes-trans}
 use Rattle.std.proofs.lemmas.Bool.{cases_Bool, eqb-true, leb-false}
 use Rattle.std.proofs.lemmas.List.{length-append}
@@ -11,12 +11,13 @@ use Rattle.gatt_host.specs.declared.host_fault.HostFault.{HostFault}
 use Rattle.gatt_host.proofs.Nexts.{clash}
 use Rattle.gatt_host.specs.declared.host_fault.HostFault.TheVariants as stop
 use Rattle.gatt_host.specs.declared.serving.End.{End}
-use Rattle.gatt_host.specs.Feeding.{Feeds, IsReadIn, Serves, TakesAll, comes_of_feeding, is_write, octet_items}
+use Rattle.gatt_host.specs.Feeding.{Feeds, IsReadIn, Reads, Serves, TakesAll, comes_of_feeding, is_write, octet_items}
 use Rattle.gatt_host.specs.Whole.{Takes, Whole, is_own}
 use Rattle.gatt_laws.specs.Input.{Item, TheEnd}
 use Rattle.le_h4.specs.Deframer.{Deframing, at_start, still}
 use Rattle.le_h4.specs.Division.{division}
 use Rattle.octets.specs.Number.{Octets}
+use Rattle.octets.specs.Stream.{CountsIf, CountsMany, CountsNone}
 
 -- where nothing is held, a stream divides from its start
 from-the-start : (rest : Octets) → still at_start rest ≡ division rest
@@ -143,6 +144,16 @@ serves_broken result fault turns given octets old mid new remaining between left
       over = λ is_over. absurd (no-turns fault (err-is is_over) comes);
     })
 
+-- the reads that were made where the host stops
+pub reads_stopped : (result : Result End HostFault) (fault : HostFault) (made turns : ℕ) (before after : Option ℕ) → result ≡ Err fault → CountsMany made before after → made ≤ turns
+    → (fault ≡ stop.Turns → made ≡ turns) → Reads result turns before after
+reads_stopped result fault made turns before after answers counted most over =
+    subst (λ (result : Result End HostFault). Reads result turns before after) (sym answers)
+    (record { made = made; counted = counted; most = most; told = tt; over = λ is_over. over (err-is is_over) })
+
+pub no_turns : {P : Type 0} (fault : HostFault) → comes_of_feeding fault ≡ true → fault ≡ stop.Turns → P
+no_turns fault comes is = absurd (no-turns fault is comes)
+
 -- what a read that failed leaves
 pub kept_where_failed : {A E P : Type 0} (result : Result A E) → ((x : A) → result ≡ Ok x → ⊥) → OnErr result P → P
 kept_where_failed (Ok x) fails kept = absurd (fails x refl)
@@ -156,3 +167,7 @@ empty_where (octet ∷ read) is = absurd (omega (arith, eqb-true (length (octet 
 pub some_where : (read : Octets) → (length read == 0) ≡ false → 1 ≤ length read
 some_where [] is = absurd (clash (sym is))
 some_where (octet ∷ read) is = omega arith
+
+-- a read that gives some octets has not found the end
+pub counts_where_some : (read : Octets) (before after : Option ℕ) → (length read == 0) ≡ false → CountsIf (length read == 0) before after → CountsNone before after
+counts_where_some read before after some counts = subst (λ (is : Bool). CountsIf is before after) some counts

@@ -1,14 +1,14 @@
-use Rattle.std.proofs.Common.{◌≡◌, [], None, Err, refl, sym, subst, ap, arith, ◌∙◌}
+use Rattle.std.proofs.Common.{◌≡◌, ◌+◌, [], None, Err, refl, sym, subst, ap, arith, ◌∙◌}
 use Rattle.std.proofs.KnownBytes.{Keeps-refl}
 use Rattle.std.proofs.lemmas.Result.{err_from_is_err_and}
 use Rattle.std.specs.Io.KnownBytes.{Consumes}
 use Rattle.gatt_host.proofs.whole.Feeds.{counts_where_going, going_takes, none_answered}
-use Rattle.gatt_host.proofs.whole.Serving.{empty_where, some_where, kept_where_failed, serves_broken, serves_ended, serves_stopped, served_more}
+use Rattle.gatt_host.proofs.whole.Serving.{counts_where_some, empty_where, no_turns, reads_stopped, some_where, kept_where_failed, serves_broken, serves_ended, serves_stopped, served_more}
 use Rattle.gatt_host.specs.declared.host_fault.HostFault.{HostFault}
 use Rattle.gatt_host.specs.declared.host_fault.HostFault.TheVariants as stop
 use Rattle.gatt_host.specs.Feeding.{octet_items}
 use Rattle.gatt_host.specs.Whole.{Whole}
-use Rattle.octets.proofs.Writing.{counts_none}
+use Rattle.octets.proofs.Writing.{counts_none, many_more}
 use Rattle.gatt_host.proofs.serving.serve.Goals as goal
 
 pub returns-in_default-clause-serves : goal.returns-in_default-clause-serves
@@ -18,6 +18,12 @@ returns-in_default-clause-serves g c = λ none.
     (g.W.Sink.contents c.args.writer.now) (g.W.Sink.contents c.loop-turn.writer)
     c.stop.ensures.fault c.loop-turn.invariant.none c.stop.ensures.stopped refl refl
     (kept_where_failed c.read_turn.result c.in_default.not-Ok c.read_turn.ensures.kept) c.loop-turn.invariant.served (λ is. cc is)
+
+pub returns-in_default-clause-reads : goal.returns-in_default-clause-reads
+returns-in_default-clause-reads g c = λ none.
+    reads_stopped c.stop.result stop.Read (c.loop-turn.turn + 1) c.args.turns (g.R.Source.reads c.args.reader.now) (g.R.Source.reads c.read_turn.new.reader)
+    c.stop.ensures.fault (many_more c.loop-turn.turn _ _ _ c.loop-turn.invariant.reads c.read_turn.ensures.reads)
+    (omega (arith, c.loop-turn-test.true)) (λ is. cc is)
 
 pub returns-then-is_empty-clause-serves : goal.returns-then-is_empty-clause-serves
 returns-then-is_empty-clause-serves g c = λ none.
@@ -38,6 +44,13 @@ returns-in_err-feed-2-clause-serves g c = λ none.
     (stopped.1 ∙ ap (λ (why : HostFault). Err why) stopped.2) (c.in_err-feed-2.ensures.feeding c.loop-turn.invariant.none)
     c.in-Ok.ensures.consumed c.loop-turn.invariant.served (c.feed-in-loop-turn.ensures.feeds c.loop-turn.invariant.none)
 
+pub returns-in_err-feed-2-clause-reads : goal.returns-in_err-feed-2-clause-reads
+returns-in_err-feed-2-clause-reads g c = λ none.
+    let stopped = err_from_is_err_and c.from_residual-in_err-feed-2.result c.from_residual-in_err-feed-2.ensures.1 in
+    reads_stopped c.from_residual-in_err-feed-2.result c.in_err-feed-2.field-0.0 (c.loop-turn.turn + 1) c.args.turns (g.R.Source.reads c.args.reader.now) (g.R.Source.reads c.read_turn.new.reader)
+    (stopped.1 ∙ ap (λ (why : HostFault). Err why) stopped.2) (many_more c.loop-turn.turn _ _ _ c.loop-turn.invariant.reads c.read_turn.ensures.reads)
+    (omega (arith, c.loop-turn-test.true)) (no_turns c.in_err-feed-2.field-0.0 (c.in_err-feed-2.ensures.feeding c.loop-turn.invariant.none))
+
 pub loop-turn-preserved : goal.loop-turn-preserved
 loop-turn-preserved g c =
     let mid : Whole = c.loop-turn.host in
@@ -53,8 +66,10 @@ loop-turn-preserved g c =
       few = omega (arith, c.loop-turn-test.true);
       none = none;
       drained = c.in_ok-feed-2.ensures.out refl;
-      reads = counts_none _ _ _ c.loop-turn.invariant.reads c.in-Ok.ensures.failures;
-      writes = counts_none _ _ _ c.loop-turn.invariant.writes (counts_where_going new.fault _ _ none (c.feed-in-loop-turn.ensures.failures c.loop-turn.invariant.none));
+      reads = many_more c.loop-turn.turn _ _ _ c.loop-turn.invariant.reads c.read_turn.ensures.reads;
+      ends = counts_none _ _ _ c.loop-turn.invariant.ends (counts_where_some c.in-Ok.read.now _ _ (sym c.is_empty.ensures ∙ c.if-is_empty.false) c.in-Ok.ensures.ends);
+      read_failures = counts_none _ _ _ c.loop-turn.invariant.read_failures c.in-Ok.ensures.failures;
+      write_failures = counts_none _ _ _ c.loop-turn.invariant.write_failures (counts_where_going new.fault _ _ none (c.feed-in-loop-turn.ensures.failures c.loop-turn.invariant.none));
     }
 
 pub returns-clause-serves : goal.returns-clause-serves

@@ -2,7 +2,7 @@ use Rattle.std.proofs.Common.{◌≡◌, ◌≤◌, true, None}
 use Rattle.gatt_host.proofs.serving.serve.Given as goal
 use Rattle.gatt_host.proofs.whole.Serving.{HasServed}
 use Rattle.gatt_host.specs.Whole.{all_out}
-use Rattle.octets.specs.Stream.{CountsNone}
+use Rattle.octets.specs.Stream.{CountsMany, CountsNone}
 
 abbrev pub invariant-loop-turn : goal.invariant-loop-turn
 invariant-loop-turn g l = record {
@@ -10,6 +10,8 @@ invariant-loop-turn g l = record {
   few : l.turn ≤ l.turns;
   none : l.host.fault ≡ None;
   drained : all_out l.host ≡ true;
-  reads : CountsNone (g.R.Source.failures l.fn.reader) (g.R.Source.failures l.reader);
-  writes : CountsNone (g.W.Sink.failures l.fn.writer) (g.W.Sink.failures l.writer);
+  reads : CountsMany l.turn (g.R.Source.reads l.fn.reader) (g.R.Source.reads l.reader);
+  ends : CountsNone (g.R.Source.ends l.fn.reader) (g.R.Source.ends l.reader);
+  read_failures : CountsNone (g.R.Source.failures l.fn.reader) (g.R.Source.failures l.reader);
+  write_failures : CountsNone (g.W.Sink.failures l.fn.writer) (g.W.Sink.failures l.writer);
 }
