@@ -1,4 +1,5 @@
 pub mod Appending
+pub mod Exchanging
 pub mod Inputs
 pub mod KeyFiles
 pub mod Printing

@@ -1,8 +1,10 @@
 //! Packets between a host and its simulated controller.
 
 ghost use Rattle.std.specs.Prelude.{◌≡◌, [], true, IfErr, IfOk, IsOk};
-ghost use Rattle.std.specs.Bool.{OnFalse};
+ghost use Rattle.std.specs.Bool.{OnFalse, OnTrue};
+ghost use Rattle.gatt_host.specs.Answers.{lost_fault};
 ghost use Rattle.gatt_host.specs.Whole.{all_out};
+ghost use Rattle.gatt_commands.specs.Exchange.{ControllerAnswers, ExchangesUntil, HandsNext, HostAnswers, HostHears, IsQuiet, pair_of};
 ghost use Rattle.gatt_commands.specs.Lines.{IsExchangeFault};
 
 use crate::fault::ShellFault;
@@ -17,6 +19,7 @@ pub(crate) const MAX_EXCHANGED: u64 = 100_000;
 /// Host and controller hand each other packets until neither has anything to give: what the host gives
 /// goes first, so all is out before a packet of the controller goes in.
 pub(crate) fn exchange(host: &mut Host, sim: &mut Sim) -> Result<(), ShellFault>
+    ensures exchanges { ExchangesUntil result (pair_of host.old sim.old) (pair_of host.new sim.new) }
     ensures out { IsOk result → all_out host.new ≡ true }
     ensures taken { IsOk result → sim.new.waiting ≡ [] }
     ensures faults { IfErr result IsExchangeFault }
@@ -34,6 +37,7 @@ pub(crate) fn exchange(host: &mut Host, sim: &mut Sim) -> Result<(), ShellFault>
 
 /// Hands over the next packet, and answers whether there was one.
 fn hand_over(host: &mut Host, sim: &mut Sim) -> Result<bool, ShellFault>
+    ensures hands { HandsNext result (pair_of host.old sim.old) (pair_of host.new sim.new) }
     ensures out { IfOk result (λ handed. OnFalse handed (all_out host.new ≡ true)) }
     ensures taken { IfOk result (λ handed. OnFalse handed (sim.new.waiting ≡ [])) }
     ensures faults { IfErr result IsExchangeFault }
@@ -52,6 +56,9 @@ fn hand_over(host: &mut Host, sim: &mut Sim) -> Result<bool, ShellFault>
 
 /// Whether another packet would be handed over.
 fn has_packet(host: &Host, sim: &mut Sim) -> bool
+    ensures quiet { OnFalse result (IsQuiet (pair_of host.now sim.old)) }
+    ensures unchanged { OnFalse result (sim.new ≡ sim.old) }
+    ensures more { OnTrue result (IsQuiet (pair_of host.now sim.old) → ⊥) }
     ensures out { OnFalse result (all_out host.now ≡ true) }
     ensures taken { OnFalse result (sim.new.waiting ≡ []) }
 {
@@ -60,7 +67,8 @@ fn has_packet(host: &Host, sim: &mut Sim) -> bool
 
 /// The controller takes a packet of the host.
 fn give_controller(sim: &mut Sim, packet: &[u8]) -> Result<(), ShellFault>
-    ensures { IfErr result IsExchangeFault }
+    ensures answers { ControllerAnswers packet.now result sim.old sim.new }
+    ensures faults { IfErr result IsExchangeFault }
 {
     sim.from_host(packet)
         .map_err(|fault| ShellFault::Controller(fault.number()))
@@ -69,13 +77,30 @@ fn give_controller(sim: &mut Sim, packet: &[u8]) -> Result<(), ShellFault>
 /// The host takes a packet of the controller, all of which is out.
 fn give_host(host: &mut Host, packet: &[u8]) -> Result<(), ShellFault>
     requires { all_out host.old ≡ true }
-    ensures { IfErr result IsExchangeFault }
+    ensures answers { HostAnswers packet.now result host.old host.new }
+    ensures faults { IfErr result IsExchangeFault }
+{
+    hear(host, packet).map_err(|fault| ShellFault::Host(fault.number()))
+}
+
+/// The host takes in the first packet that octets have.
+fn hear(host: &mut Host, octets: &[u8]) -> Result<(), HostFault>
+    requires { all_out host.old ≡ true }
+    ensures { HostHears octets.now result host.old host.new }
 {
     let mut deframer = Deframer::new();
-    let taken = match deframer.feed(packet) {
+    match deframer.feed(octets) {
         Ok(fed) if fed.packet => host.packet(deframer.packet()),
         Ok(_) => Ok(()),
-        Err(H4Fault::Desync(indicator)) => Err(HostFault::Desync(indicator)),
-    };
-    taken.map_err(|fault| ShellFault::Host(fault.number()))
+        Err(fault) => Err(lost_fault(fault)),
+    }
+}
+
+/// Where octets cannot be divided any further, as the host says it.
+fn lost_fault(fault: H4Fault) -> HostFault
+    ensures { result ≡ lost_fault fault }
+{
+    match fault {
+        H4Fault::Desync(indicator) => HostFault::Desync(indicator),
+    }
 }

@@ -1,0 +1,174 @@
+-- Host and controller hand each other packets: this profile's own.
+use Rattle.std.specs.Prelude.{◌≡◌, ◌⊎◌, ℕ, zero, suc, ◌<◌, ◌≤◌, Bool, true, false, List, [], ◌∷◌, drop, slice_get, Some, None, Result, Ok, Err, IsSome}
+use Rattle.std.specs.Option.{option_map}
+use Rattle.gatt_host.specs.declared.host_fault.HostFault.{HostFault}
+use Rattle.gatt_host.specs.declared.host_fault.HostFault.TheVariants.{Desync}
+use Rattle.gatt_host.specs.Numbers.{number_of_fault}
+use Rattle.gatt_host.specs.Whole.{Leads, Takes, Whole, all_out}
+use Rattle.gatt_laws.specs.Input.{APacket}
+use Rattle.le_h4.specs.Division.{End, Unfinished, Lost, division}
+use Rattle.le_h4.specs.Packet.{Packet}
+use Rattle.octets.specs.Number.{Octets}
+use Rattle.sim_controller.specs.Answers.{after_host, host_fault}
+use Rattle.sim_controller.specs.FromHost.{host_packet_of}
+use Rattle.sim_controller.specs.SimFault.{number_of}
+use Rattle.sim_controller.specs.Simulated.{Simulated}
+use Rattle.sim_controller.specs.Told.{octets_of, sent_of}
+use Rattle.gatt_commands.specs.declared.fault.ShellFault.{ShellFault}
+use Rattle.gatt_commands.specs.declared.fault.ShellFault.TheVariants.{Host, Controller, TooLong}
+
+-- a host and its controller
+pub record Pair : Type 0 where
+  pub host : Whole
+  pub sim : Simulated
+
+abbrev pub pair_of : Whole → Simulated → Pair
+pair_of host sim = record { host = host; sim = sim }
+
+-- neither has a packet to give
+pub record IsQuiet (pair : Pair) : Type 0 where
+  pub out : all_out pair.host ≡ true
+  pub taken : pair.sim.waiting ≡ []
+
+-- the host gives its next packet
+pub record HostGives (packet : Octets) (old new : Whole) : Type 0 where
+  pub due : all_out old ≡ false
+  pub goes : Leads [] (packet ∷ []) old new
+  pub going : new.fault ≡ None
+
+-- the controller takes it, or refuses it for a fault of this number, and then does not change
+pub record ControllerTakes (packet : Octets) (old new : Simulated) : Type 0 where
+  pub accepted : host_fault old (host_packet_of packet) ≡ None
+  pub after : new ≡ after_host old (host_packet_of packet)
+
+pub record ControllerRefuses (number : ℕ) (packet : Octets) (old new : Simulated) : Type 0 where
+  pub refused : option_map number_of (host_fault old (host_packet_of packet)) ≡ Some number
+  pub unchanged : new ≡ old
+
+-- the controller gives the first packet that waits
+pub record ControllerGives (packet : Octets) (old new : Simulated) : Type 0 where
+  pub first : option_map (λ told. octets_of (sent_of told)) (slice_get old.waiting 0) ≡ Some packet
+  pub after : new ≡ record old { waiting = drop 1 old.waiting }
+
+-- the host takes in the first packet of a division, and goes on
+pub record GoesOn (packet : Packet) (old new : Whole) : Type 0 where
+  pub takes : Takes (APacket packet) old new
+  pub going : new.fault ≡ None
+
+abbrev pub TakesFirst : List Packet → End → Whole → Whole → Type 0
+TakesFirst (packet ∷ packets) end old new = GoesOn packet old new
+TakesFirst [] Unfinished old new = new ≡ old
+TakesFirst [] (Lost indicator) old new = ⊥
+
+-- or it stops there for a fault, or had stopped before, or an octet begins no packet
+pub record Stops (fault : HostFault) (packet : Packet) (old new : Whole) : Type 0 where
+  pub takes : old.fault ≡ None → Takes (APacket packet) old new
+  pub stopped : IsSome old.fault → new ≡ old
+  pub fault_then : new.fault ≡ Some fault
+
+pub record IsLost (fault : HostFault) (indicator : ℕ) (old new : Whole) : Type 0 where
+  pub desync : fault ≡ Desync indicator
+  pub unchanged : new ≡ old
+
+abbrev pub StopsAtFirst : HostFault → List Packet → End → Whole → Whole → Type 0
+StopsAtFirst fault (packet ∷ packets) end old new = Stops fault packet old new
+StopsAtFirst fault [] Unfinished old new = ⊥
+StopsAtFirst fault [] (Lost indicator) old new = IsLost fault indicator old new
+
+-- octets are to the host what they divide into
+abbrev pub HostTakes : Octets → Whole → Whole → Type 0
+HostTakes octets old new = TakesFirst (division octets).packets (division octets).end old new
+
+abbrev pub HostStops : HostFault → Octets → Whole → Whole → Type 0
+HostStops fault octets old new = StopsAtFirst fault (division octets).packets (division octets).end old new
+
+abbrev pub HostHears : Octets → Result (Unit {0}) HostFault → Whole → Whole → Type 0
+HostHears octets (Ok done) old new = HostTakes octets old new
+HostHears octets (Err fault) old new = HostStops fault octets old new
+
+-- a fault is told by its number
+pub record StopsFor (number : ℕ) (packet : Octets) (old new : Whole) : Type 0 where
+  pub fault : HostFault
+  pub numbered : number ≡ number_of_fault fault
+  pub stops : HostStops fault packet old new
+
+-- what the controller and the host answer to a packet
+abbrev pub ControllerAnswers : Octets → Result (Unit {0}) ShellFault → Simulated → Simulated → Type 0
+ControllerAnswers packet (Ok done) old new = ControllerTakes packet old new
+ControllerAnswers packet (Err (Controller number)) old new = ControllerRefuses number packet old new
+ControllerAnswers packet (Err fault) old new = ⊥
+
+abbrev pub HostAnswers : Octets → Result (Unit {0}) ShellFault → Whole → Whole → Type 0
+HostAnswers packet (Ok done) old new = HostTakes packet old new
+HostAnswers packet (Err (Host number)) old new = StopsFor number packet old new
+HostAnswers packet (Err fault) old new = ⊥
+
+-- one packet is handed over: one of the host while there is one, and else one of the controller
+pub record GoesOut (before after : Pair) : Type 0 where
+  pub packet : Octets
+  pub gives : HostGives packet before.host after.host
+  pub takes : ControllerTakes packet before.sim after.sim
+
+pub record GoesIn (before after : Pair) : Type 0 where
+  pub packet : Octets
+  pub out : all_out before.host ≡ true
+  pub gives : ControllerGives packet before.sim after.sim
+  pub takes : HostTakes packet before.host after.host
+
+abbrev pub HandsOver : Pair → Pair → Type 0
+HandsOver before after = GoesOut before after ⊎ GoesIn before after
+
+-- or refused for a fault of this number
+pub record IsRefused (number : ℕ) (before after : Pair) : Type 0 where
+  pub packet : Octets
+  pub gives : HostGives packet before.host after.host
+  pub refuses : ControllerRefuses number packet before.sim after.sim
+
+pub record IsStopped (number : ℕ) (before after : Pair) : Type 0 where
+  pub packet : Octets
+  pub out : all_out before.host ≡ true
+  pub gives : ControllerGives packet before.sim after.sim
+  pub stops : StopsFor number packet before.host after.host
+
+-- so many packets are handed over
+abbrev pub Exchanges : ℕ → Pair → Pair → Type 0
+Exchanges zero before after = after ≡ before
+Exchanges (suc count) before after = (middle : Pair) × HandsOver before middle × Exchanges count middle after
+
+-- all of them, until neither has another one
+pub record ExchangesAll (before after : Pair) : Type 0 where
+  pub count : ℕ
+  pub most : count ≤ 100000
+  pub exchanges : Exchanges count before after
+  pub quiet : IsQuiet after
+
+-- as many as there may be, with another one to give
+pub record ExchangesTooMany (before : Pair) (host : Whole) : Type 0 where
+  pub last : Pair
+  pub exchanges : Exchanges 100000 before last
+  pub more : IsQuiet last → ⊥
+  pub host_then : host ≡ last.host
+
+-- fewer, and then one that ends it
+pub record EndsBy (Ends : Pair → Pair → Type 0) (before after : Pair) : Type 0 where
+  pub count : ℕ
+  pub fewer : count < 100000
+  pub last : Pair
+  pub exchanges : Exchanges count before last
+  pub ends : Ends last after
+
+-- what became of the next packet: it is handed over, there is none, or it is refused
+abbrev pub HandsNext : Result Bool ShellFault → Pair → Pair → Type 0
+HandsNext (Ok true) before after = HandsOver before after
+HandsNext (Ok false) before after = IsQuiet before × (after ≡ before)
+HandsNext (Err (Host number)) before after = IsStopped number before after
+HandsNext (Err (Controller number)) before after = IsRefused number before after
+HandsNext (Err fault) before after = ⊥
+
+-- and of an exchange
+abbrev pub ExchangesUntil : Result (Unit {0}) ShellFault → Pair → Pair → Type 0
+ExchangesUntil (Ok done) before after = ExchangesAll before after
+ExchangesUntil (Err (Host number)) before after = EndsBy (IsStopped number) before after
+ExchangesUntil (Err (Controller number)) before after = EndsBy (IsRefused number) before after
+ExchangesUntil (Err TooLong) before after = ExchangesTooMany before after.host
+ExchangesUntil (Err fault) before after = ⊥
