@@ -10,4 +10,5 @@ pub mod ScriptFiles
 pub mod ServeFaults
 pub mod Sessions
 pub mod TableFiles
+pub mod Telling
 pub mod Texts

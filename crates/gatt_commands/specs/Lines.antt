@@ -1,8 +1,13 @@
 -- What is printed of the lines of a script: this profile's own.
-use Rattle.std.specs.Prelude.{ℕ, ◌<◌, ◌==◌, ◌++◌, if◌then◌else◌, List, [], ◌∷◌, codes, slice_index_or}
+use Rattle.std.specs.Prelude.{ℕ, ◌<◌, ◌==◌, ◌++◌, if◌then◌else◌, List, [], ◌∷◌, codes, slice_index_or, Option, None, Result, Ok, Err}
 use Rattle.std.specs.Fmt.{decimal}
+use Rattle.std.specs.List.{flat_map}
+use Rattle.std.specs.Option.{option_map_or}
 use Rattle.le_l2cap.specs.declared.channel.TheConstants.{LE_SIGNALLING, SECURITY_MANAGER}
-use Rattle.le_l2cap.specs.Frame.{BasicFrame}
+use Rattle.le_l2cap.specs.declared.frame.Skip.{Skip}
+use Rattle.le_l2cap.specs.Frame.{BasicFrame, frame_of}
+use Rattle.sim_controller.specs.Phone.{Phone}
+use Rattle.sim_controller.specs.Simulated.{Simulated, phone_at, with_phone}
 use Rattle.hex.specs.Hex.{encode_lower}
 use Rattle.gatt_commands.specs.declared.acts.Refused.{Refused}
 use Rattle.gatt_commands.specs.declared.acts.Refused.TheVariants.{Call, Act}
@@ -30,9 +35,34 @@ sign_of channel =
 abbrev pub frame_line : Octets → BasicFrame → Octets
 frame_line name frame = name ++ sign_of frame.cid ++ encode_lower frame.payload ++ line_feed
 
+-- octets that are no frame are passed over
+abbrev pub frame_line_if : Octets → Result BasicFrame Skip → Octets
+frame_line_if name (Ok frame) = frame_line name frame
+frame_line_if name (Err skip) = []
+
+abbrev pub heard_line : Octets → Octets → Octets
+heard_line name octets = frame_line_if name (frame_of octets)
+
 -- the host ended the connection of a phone of a name
 abbrev pub ended_line : Octets → ℕ → Octets
 ended_line name reason = name ++ codes " ended " ++ encode_lower (reason ∷ []) ++ line_feed
+
+-- the frames that a phone of a name has heard, and then the end of its connection, where the host ended it
+abbrev pub heard_text : Octets → List Octets → Octets
+heard_text name heard = flat_map (heard_line name) heard
+
+abbrev pub ended_text : Octets → Option ℕ → Octets
+ended_text name ended = option_map_or (ended_line name) ended []
+
+abbrev pub phone_text : Octets → Phone → Octets
+phone_text name phone = heard_text name phone.heard ++ ended_text name phone.ended
+
+-- once that is told, nothing is left to hear
+abbrev pub told_phone : Phone → Phone
+told_phone phone = record phone { heard = []; ended = None }
+
+abbrev pub with_told_phone : Simulated → ℕ → Simulated
+with_told_phone old phone = with_phone old phone (told_phone (phone_at old phone))
 
 -- a call of the application, or an act of a phone, was refused
 abbrev pub refused_line : List Octets → Refused → Octets

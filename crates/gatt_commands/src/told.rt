@@ -4,7 +4,8 @@ ghost use Rattle.std.specs.Prelude.{◌≡◌, ◌<◌, ◌≤◌, [], ◌∷◌
 ghost use Rattle.std.specs.Io.KnownBytes.{Appends};
 ghost use Rattle.le_l2cap.specs.Frame.{frame_of, BasicFrame};
 ghost use Rattle.octets.specs.Number.{Octets};
-ghost use Rattle.gatt_commands.specs.Lines.{IsOfPhone, ended_line, frame_line, refused_line, sign_of};
+ghost use Rattle.sim_controller.specs.Simulated.{phone_at};
+ghost use Rattle.gatt_commands.specs.Lines.{IsOfPhone, ended_line, frame_line, heard_line, phone_text, refused_line, sign_of, with_told_phone};
 
 use crate::acts::Refused;
 use crate::fault::ShellFault;
@@ -69,14 +70,13 @@ fn print_phone<W: Write>(
     writer: &mut W,
 ) -> Result<(), ShellFault>
     requires { phone < 8 }
+    ensures ok { OnOk result (Appends (W.contents writer.old) (W.contents writer.new) (phone_text name.now (phone_at sim.old phone))) }
+    ensures told { OnOk result (sim.new ≡ with_told_phone sim.old phone) }
     ensures faults { IfErr result (λ fault. fault ≡ ShellFault.Unwritten) }
     ensures waiting { sim.new.waiting ≡ sim.old.waiting }
 {
     let mut frame = ArrayVec::new();
-    for _frame in 0..u64::MAX {
-        if !sim.heard(phone, &mut frame) {
-            break;
-        }
+    while sim.heard(phone, &mut frame) {
         print_frame(name, frame.as_slice(), writer)?;
     }
     match sim.ended(phone) {
@@ -90,6 +90,7 @@ fn print_frame<W: Write>(name: &Name<'_>, octets: &[u8], writer: &mut W) -> Resu
     requires { length octets.now ≤ 521 }
     ensures ok { (frame : BasicFrame) → frame_of octets.now ≡ Ok frame
         → OnOk result (Appends (W.contents writer.old) (W.contents writer.new) (frame_line name.now frame)) }
+    ensures line { OnOk result (Appends (W.contents writer.old) (W.contents writer.new) (heard_line name.now octets.now)) }
     ensures faults { IfErr result (λ fault. fault ≡ ShellFault.Unwritten) }
 {
     let Ok(frame) = read_frame(octets) else {
