@@ -102,7 +102,7 @@ pub record Serves (result : Result End HostFault) (turns : ℕ) (old new : Whole
   pub ended : IfOk result (λ (end : End). (0 < end.turns) × IsReadIn (end.turns - 1) read)
   pub over : result ≡ Err stop.Turns → IsReadIn turns read
 
--- there are no more reads than there may be: as many as the end tells, and all of them where they are over
+-- no more reads are made than there are turns: as many as the end tells, and as many as there are where those are over
 pub record Reads (result : Result End HostFault) (turns : ℕ) (before after : Option ℕ) : Type 0 where
   pub made : ℕ
   pub counted : CountsMany made before after

@@ -17,7 +17,7 @@ use Rattle.gatt_laws.specs.Input.{Item, TheEnd}
 use Rattle.le_h4.specs.Deframer.{Deframing, at_start, still}
 use Rattle.le_h4.specs.Division.{division}
 use Rattle.octets.specs.Number.{Octets}
-use Rattle.octets.specs.Stream.{CountsIf, CountsMany, CountsNone}
+use Rattle.octets.specs.Stream.{CountsIf, CountsMany, CountsNone, CountsOne}
 
 -- where nothing is held, a stream divides from its start
 from-the-start : (rest : Octets) → still at_start rest ≡ division rest
@@ -168,6 +168,9 @@ pub some_where : (read : Octets) → (length read == 0) ≡ false → 1 ≤ leng
 some_where [] is = absurd (clash (sym is))
 some_where (octet ∷ read) is = omega arith
 
--- a read that gives some octets has not found the end
+-- whether a read has found the end
+pub counts_where_none : (read : Octets) (before after : Option ℕ) → (length read == 0) ≡ true → CountsIf (length read == 0) before after → CountsOne before after
+counts_where_none read before after none counts = subst (λ (is : Bool). CountsIf is before after) none counts
+
 pub counts_where_some : (read : Octets) (before after : Option ℕ) → (length read == 0) ≡ false → CountsIf (length read == 0) before after → CountsNone before after
 counts_where_some read before after some counts = subst (λ (is : Bool). CountsIf is before after) some counts

@@ -3,12 +3,12 @@ use Rattle.std.proofs.KnownBytes.{Keeps-refl}
 use Rattle.std.proofs.lemmas.Result.{err_from_is_err_and}
 use Rattle.std.specs.Io.KnownBytes.{Consumes}
 use Rattle.gatt_host.proofs.whole.Feeds.{counts_where_going, going_takes, none_answered}
-use Rattle.gatt_host.proofs.whole.Serving.{counts_where_some, empty_where, no_turns, reads_stopped, some_where, kept_where_failed, serves_broken, serves_ended, serves_stopped, served_more}
+use Rattle.gatt_host.proofs.whole.Serving.{counts_where_none, counts_where_some, empty_where, no_turns, reads_stopped, some_where, kept_where_failed, serves_broken, serves_ended, serves_stopped, served_more}
 use Rattle.gatt_host.specs.declared.host_fault.HostFault.{HostFault}
 use Rattle.gatt_host.specs.declared.host_fault.HostFault.TheVariants as stop
 use Rattle.gatt_host.specs.Feeding.{octet_items}
 use Rattle.gatt_host.specs.Whole.{Whole}
-use Rattle.octets.proofs.Writing.{counts_none, many_more}
+use Rattle.octets.proofs.Writing.{counts_none, counts_one, many_more}
 use Rattle.gatt_host.proofs.serving.serve.Goals as goal
 
 pub returns-in_default-clause-serves : goal.returns-in_default-clause-serves
@@ -34,6 +34,10 @@ returns-then-is_empty-clause-serves g c = λ none.
     c.end_stream.ensures.fault
     (subst (Consumes (g.R.Source.remaining c.loop-turn.reader) (g.R.Source.remaining c.read_turn.new.reader)) nothing c.in-Ok.ensures.consumed)
     (c.in-Ok.ensures.at_end nothing) c.end_stream.ensures.takes c.loop-turn.invariant.served
+
+pub returns-then-is_empty-clause-ends : goal.returns-then-is_empty-clause-ends
+returns-then-is_empty-clause-ends g c = λ none.
+    counts_one _ _ _ c.loop-turn.invariant.ends (counts_where_none c.in-Ok.read.now _ _ (sym c.is_empty.ensures ∙ c.if-is_empty.true) c.in-Ok.ensures.ends)
 
 pub returns-in_err-feed-2-clause-serves : goal.returns-in_err-feed-2-clause-serves
 returns-in_err-feed-2-clause-serves g c = λ none.
