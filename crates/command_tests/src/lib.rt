@@ -11,6 +11,8 @@ mod closed;
 #[cfg(test)]
 mod command_faults;
 #[cfg(test)]
+mod equal_views;
+#[cfg(test)]
 mod run_command;
 #[cfg(test)]
 mod run_files;

@@ -1,0 +1,178 @@
+//! What a phone hears is its own: however the lines of another phone fall between its own, it hears
+//! the same.
+
+use gatt_commands::run_script;
+use le_security::examples::KEYS;
+use std::alloc::Global;
+use std::process::Abort;
+use std::str;
+use std::test::Fail;
+
+/// Two services with a level and a note each: the level at 3 and the note at 6 are those of the phone
+/// U, and the level at 9 and the note at 12 those of the phone V.
+const TABLE: &str = r#"
+[[service]]
+uuid = "fff0"
+[[service.characteristic]]
+uuid = "fff1"
+value = "00"
+fixed = true
+properties = ["read", "write", "notify", "indicate"]
+[[service.characteristic]]
+uuid = "fff4"
+value = ""
+max = 64
+properties = ["read", "write"]
+
+[[service]]
+uuid = "fff0"
+[[service.characteristic]]
+uuid = "fff1"
+value = "00"
+fixed = true
+properties = ["read", "write", "notify"]
+[[service.characteristic]]
+uuid = "fff4"
+value = ""
+max = 64
+properties = ["read", "write"]
+write = { encrypted = true }
+"#;
+
+/// The lines of U, and of the application about its level.
+const LINES_OF_U: &str = "\
+connect U 1 c0:00:00:00:00:0a
+U < 021900
+U < 1204000100
+U < 0a0300
+U < 12030001
+U < 1606000000000102030405060708090a0b0c0d0e0f10111213
+U < 160600140018191a1b1c1d
+U < 1801
+U < 0a0600
+U < 0c06001800
+update 3 02
+U < 1204000200
+update 3 03
+update 3 04
+U < 0a0300
+U < 1e
+U < 1e
+";
+
+/// What U hears: its ATT_MTU is 25, so 24 octets of its note at once. What it writes itself it is not
+/// told of. The level of the last update waits until the indication of the one before is confirmed.
+const HEARD_BY_U: &str = "\
+U > 03f700
+U > 13
+U > 0b00
+U > 13
+U > 1706000000000102030405060708090a0b0c0d0e0f10111213
+U > 170600140018191a1b1c1d
+U > 19
+U > 0b000102030405060708090a0b0c0d0e0f1011121318191a1b
+U > 0d1c1d
+U > 1b030002
+U > 13
+U > 1d030003
+U > 0b04
+U > 1d030004
+";
+
+/// The lines of V, and of the application about its level. It prepares a write of the note of U and
+/// drops it, and a write of the level of U is refused.
+const LINES_OF_V: &str = "\
+connect V 1 c0:00:00:00:00:01
+encrypt V 0101010101010101 257
+V < 026400
+V < 120a000100
+V < 12090007
+V < 160600000074776f
+V < 1800
+V < 160c0000006f6e65
+V < 160c0003002074776f
+V < 1801
+V < 0a0c00
+V < 12030000ff
+update 9 08
+hold V
+V < 0a0900
+V < 0e09000c00
+V < 0a0a00
+update 9 09
+done V 2
+drop V
+";
+
+/// What V hears. Where packets are not completed, two are on their way and the others wait.
+const HEARD_BY_V: &str = "\
+V > 03f700
+V > 13
+V > 13
+V > 170600000074776f
+V > 19
+V > 170c0000006f6e65
+V > 170c0003002074776f
+V > 19
+V > 0b6f6e652074776f
+V > 011203000d
+V > 1b090008
+V > 0b08
+V > 0f086f6e652074776f
+V > 0b0100
+V > 1b090009
+";
+
+/// Whose line comes next, until all have come: 17 are those of U, and 20 those of V.
+const ORDERS: [&str; 3] = [
+    "UUUUUUUUUUUUUUUUUVVVVVVVVVVVVVVVVVVVV",
+    "VVVVVVVVVVVVVVVVVVVVUUUUUUUUUUUUUUUUU",
+    "VUVUVVUVUUVUVUVVUVUUVUVVUUVVVUVUVUUVV",
+];
+
+/// Writes both phones' lines in an order.
+fn interleaved(alloc: Global, order: &str) -> Result<String, Fail> {
+    let (mut of_u, mut of_v) = (LINES_OF_U.lines(), LINES_OF_V.lines());
+    let mut script = String::new(alloc);
+    for phone in order.bytes() {
+        let line = if phone == b'U' {
+            of_u.next()
+        } else {
+            of_v.next()
+        };
+        script.push_str(line.unwrap_or_default())?;
+        script.push('\n')?;
+    }
+    Ok(script)
+}
+
+/// Runs a script, and compares what each phone hears.
+fn hears(rt: &impl Abort, alloc: Global, script: &str) -> Result<(), Fail> {
+    let mut printed: Vec<u8> = Vec::new(alloc);
+    let ran = run_script(
+        alloc,
+        &mut TABLE.as_bytes(),
+        &mut None::<&[u8]>,
+        &mut KEYS.as_bytes(),
+        &mut b"".as_slice(),
+        &mut script.as_bytes(),
+        &mut Vec::new(alloc),
+        &mut printed,
+    );
+    assert!(rt; ran.is_ok(), "{script}");
+    let printed = str::from_utf8(&printed).unwrap_or_default();
+    for (name, heard) in [("U", HEARD_BY_U), ("V", HEARD_BY_V)] {
+        let lines = printed.lines().filter(|line| line.starts_with(name));
+        assert!(rt; lines.eq(heard.lines()), "{script}");
+    }
+    Ok(())
+}
+
+#[test]
+fn each_hears_the_same_in_each_order(rt: HostRuntime) -> Result<(), Fail> {
+    for order in ORDERS {
+        let script = interleaved(rt.alloc(), order)?;
+        hears(&rt, rt.alloc(), &script)?;
+    }
+    Ok(())
+}
