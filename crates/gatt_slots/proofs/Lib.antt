@@ -1,3 +1,4 @@
+pub mod Quiet
 pub mod Bonds
 pub mod Served
 pub mod EachSlot

@@ -150,10 +150,15 @@ fn row_in_force<'a>(link: &Link, peer: &Peer, own: &'a ConfigRow, rows: &'a Rows
 
 impl Slot {
     /// Tells the connection of values that were written, and then what is due.
+    #[tactic(auto, using(crate::proofs::Quiet::nothing_heard))]
     pub fn hear(&mut self, table: &Table, rows: &Rows, handles: &[u16], now: u64)
         ensures { self.new ≡ option_map (λ kept. after_hearing table.now now (row_of rows.now kept.peer) handles.now kept) self.old }
     {
         if self.used != Use::Live {
+            return;
+        }
+        // Most events tell a connection nothing.
+        if handles.is_empty() && !self.pending.waits() {
             return;
         }
         let standing = standing(&self.link, self.key_known, self.until, now);

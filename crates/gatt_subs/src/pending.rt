@@ -1,5 +1,5 @@
-ghost use Rattle.std.specs.Prelude.{◌≡◌, ◌<◌, ◌≤◌, true, IfSome};
-ghost use Rattle.std.specs.Bool.{OnTrue};
+ghost use Rattle.std.specs.Prelude.{◌≡◌, ◌≢◌, ◌<◌, ◌≤◌, true, IfSome, []};
+ghost use Rattle.std.specs.Bool.{OnTrue, OnFalse};
 ghost use Rattle.att_table.specs.Table.{is_value_at};
 ghost use Rattle.gatt_subs.specs.Hearing.{is_indicated};
 ghost use Rattle.gatt_subs.specs.HeardOnly.{RaisesOnlyWhatIsHeard, ReleasesOnlyWhatIsHeard, ReleasesOnlyWhatWaits};
@@ -117,6 +117,15 @@ impl Pending {
             outdated: false,
         });
         Some(handle)
+    }
+
+    /// Whether a value waits to be indicated.
+    #[inline(always)]
+    pub fn waits(&self) -> bool
+        ensures some { OnTrue result (self.now.waiting ≢ []) }
+        ensures none { OnFalse result (self.now.waiting ≡ []) }
+    {
+        !self.waiting.is_empty()
     }
 
     /// Takes in a confirmation. One with nothing unconfirmed changes nothing.
