@@ -1,12 +1,12 @@
 -- What a phone has heard is told, frame by frame.
-use Rattle.std.proofs.Common.{◌≡◌, ℕ, zero, suc, ◌<◌, List, [], ◌∷◌, ◌++◌, drop, length, slice_get, slice_index_or, slice_set, Option, Some, None, refl, sym, ap, subst, ◌∙◌, append_assoc, arith}
+use Rattle.std.proofs.Common.{◌≡◌, ℕ, zero, suc, ◌+◌, ◌<◌, List, [], ◌∷◌, ◌++◌, take, drop, length, slice_get, slice_index_or, slice_set, Option, Some, refl, sym, ap, subst, ◌∙◌, append_assoc, arith}
 use Rattle.std.specs.Io.KnownBytes.{Appends}
 use Rattle.std.proofs.lemmas.Grind.{common_steps}
-use Rattle.std.specs.List.{flat_map}
-use Rattle.gatt_commands.proofs.Appending.{appends-append, appends-nothing}
-use Rattle.gatt_commands.specs.Lines.{heard_line, heard_text, ended_text, phone_text, told_phone, with_told_phone}
+use Rattle.std.proofs.lemmas.List.{append-nil}
+use Rattle.gatt_commands.proofs.Appending.{appends-append}
+use Rattle.gatt_commands.specs.Lines.{heard_line, heard_text, phone_text, phones_text, told_phone, told_phones, with_told_phone, with_told_phones}
 use Rattle.octets.specs.Number.{Octets}
-use Rattle.sim_controller.specs.Phone.{Phone, absent, after_hearing, after_telling}
+use Rattle.sim_controller.specs.Phone.{Phone, absent, after_hearing}
 use Rattle.sim_controller.specs.Simulated.{Simulated, phone_at, with_phone}
 
 -- one phone is replaced
@@ -36,16 +36,6 @@ pub record HasTold (name : Octets) (place : ℕ) (old new : Simulated) (held hol
   pub link : (phone_at new place).link ≡ (phone_at old place).link
   pub others : (phone : Phone) → with_phone new place phone ≡ with_phone old place phone
 
-pub told_none : (name : Octets) (place : ℕ) (old : Simulated) (held : Option Octets) → HasTold name place old old held held
-told_none name place old held = record {
-  told = [];
-  appended = appends-nothing held;
-  parts = refl;
-  ended = refl;
-  link = refl;
-  others = λ phone. refl;
-}
-
 heard-split : (name frame : Octets) (heard : List Octets) → slice_get heard 0 ≡ Some frame
     → heard_text name heard ≡ heard_line name frame ++ heard_text name (drop 1 heard)
 heard-split name frame [] is = grind (arith, common_steps)
@@ -69,4 +59,60 @@ told_more name frame place old mid new held between holds so_far first after app
       others =
           λ phone. ap (λ (phones : List Phone). record mid { phones = phones }) (set-twice mid.phones place (after_hearing (phone_at mid place)) phone)
           ∙ so_far.others phone;
+    })
+
+-- one phone after another
+phone-still : (count : ℕ) (phones : List Phone) → slice_index_or (told_phones count phones) count absent ≡ slice_index_or phones count absent
+phone-still zero phones = refl
+phone-still (suc count) [] = refl
+phone-still (suc count) (phone ∷ phones) = phone-still count phones
+
+phone-told : (count : ℕ) (phones : List Phone)
+    → slice_set (told_phones count phones) count (told_phone (slice_index_or (told_phones count phones) count absent)) ≡ told_phones (suc count) phones
+phone-told zero [] = grind (arith, common_steps)
+phone-told zero (phone ∷ phones) = grind (arith, common_steps)
+phone-told (suc count) [] = grind (arith, common_steps)
+phone-told (suc count) (phone ∷ phones) = ap (λ (rest : List Phone). told_phone phone ∷ rest) (phone-told count phones)
+
+text-next : (count : ℕ) (names : List Octets) (phones : List Phone) → count < length names
+    → phones_text (take (suc count) names) phones
+    ≡ phones_text (take count names) phones ++ phone_text (slice_index_or names count []) (slice_index_or phones count absent)
+text-next count [] phones below = absurd (omega arith)
+text-next zero (name ∷ names) [] below = refl
+text-next zero (name ∷ names) (phone ∷ phones) below = append-nil (phone_text name phone)
+text-next (suc count) (name ∷ names) [] below = refl
+text-next (suc count) (name ∷ names) (phone ∷ phones) below =
+    let next = text-next count names phones (omega arith) in
+    ap (λ (octets : Octets). phone_text name phone ++ octets) next
+    ∙ sym (append_assoc (phone_text name phone) (phones_text (take count names) phones) (phone_text (slice_index_or names count []) (slice_index_or phones count absent)))
+
+-- so many of the phones are told
+pub record HasToldPhones (count : ℕ) (names : List Octets) (old new : Simulated) (held holds : Option Octets) : Type 0 where
+  pub appended : Appends held holds (phones_text (take count names) old.phones)
+  pub after : new ≡ with_told_phones old count
+
+-- whatever stands past the end
+any-default : (names : List Octets) (place : ℕ) (first second : Octets) → place < length names → slice_index_or names place first ≡ slice_index_or names place second
+any-default [] place first second below = absurd (omega arith)
+any-default (name ∷ names) zero first second below = refl
+any-default (name ∷ names) (suc place) first second below = any-default names place first second (omega arith)
+
+pub phones_more : (count : ℕ) (names : List Octets) (name : Octets) (old mid new : Simulated) (held between holds : Option Octets) → count < length names
+    → name ≡ slice_index_or names count name → HasToldPhones count names old mid held between
+    → Appends between holds (phone_text name (phone_at mid count)) → new ≡ with_told_phone mid count → HasToldPhones (count + 1) names old new held holds
+phones_more count names name old mid new held between holds below named so_far appended after =
+    let one : suc count ≡ count + 1 = omega arith in
+    subst (λ (next : ℕ). HasToldPhones next names old new held holds) one
+    (let same : phone_at mid count ≡ phone_at old count = ap (λ (sim : Simulated). phone_at sim count) so_far.after ∙ phone-still count old.phones in
+    let text : Appends between holds (phone_text (slice_index_or names count []) (phone_at old count)) =
+    subst (λ (name : Octets). Appends between holds (phone_text name (phone_at old count))) (named ∙ any-default names count name [] below)
+    (subst (λ (phone : Phone). Appends between holds (phone_text name phone)) same appended)
+    in
+    record {
+      appended =
+          subst (Appends held holds) (sym (text-next count names old.phones below))
+          (appends-append held between holds (phones_text (take count names) old.phones) (phone_text (slice_index_or names count []) (phone_at old count)) so_far.appended text);
+      after =
+          after ∙ ap (λ (sim : Simulated). with_told_phone sim count) so_far.after
+          ∙ ap (λ (phones : List Phone). record old { phones = phones }) (phone-told count old.phones);
     })

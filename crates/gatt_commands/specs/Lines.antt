@@ -1,5 +1,5 @@
 -- What is printed of the lines of a script: this profile's own.
-use Rattle.std.specs.Prelude.{ℕ, ◌<◌, ◌==◌, ◌++◌, if◌then◌else◌, List, [], ◌∷◌, codes, slice_index_or, Option, None, Result, Ok, Err}
+use Rattle.std.specs.Prelude.{ℕ, zero, suc, ◌<◌, ◌==◌, ◌++◌, if◌then◌else◌, List, [], ◌∷◌, codes, slice_index_or, Option, None, Result, Ok, Err}
 use Rattle.std.specs.Fmt.{decimal}
 use Rattle.std.specs.List.{flat_map}
 use Rattle.std.specs.Option.{option_map_or}
@@ -64,10 +64,31 @@ told_phone phone = record phone { heard = []; ended = None }
 abbrev pub with_told_phone : Simulated → ℕ → Simulated
 with_told_phone old phone = with_phone old phone (told_phone (phone_at old phone))
 
+-- the phones that have names, by their numbers
+abbrev pub phones_text : List Octets → List Phone → Octets
+phones_text [] phones = []
+phones_text (name ∷ names) [] = []
+phones_text (name ∷ names) (phone ∷ phones) = phone_text name phone ++ phones_text names phones
+
+abbrev pub told_phones : ℕ → List Phone → List Phone
+told_phones zero phones = phones
+told_phones (suc count) [] = []
+told_phones (suc count) (phone ∷ phones) = told_phone phone ∷ told_phones count phones
+
+abbrev pub with_told_phones : Simulated → ℕ → Simulated
+with_told_phones old count = record old { phones = told_phones count old.phones }
+
 -- a call of the application, or an act of a phone, was refused
 abbrev pub refused_line : List Octets → Refused → Octets
 refused_line names (Call number) = codes "fault " ++ decimal number ++ line_feed
 refused_line names (Act phone number) = slice_index_or names phone [] ++ codes " refused " ++ decimal number ++ line_feed
+
+-- what a line has brought: what was refused of it, and then what each phone has heard
+abbrev pub refused_text : List Octets → Option Refused → Octets
+refused_text names refused = option_map_or (refused_line names) refused []
+
+abbrev pub outcome_text : List Octets → Option Refused → List Phone → Octets
+outcome_text names refused phones = refused_text names refused ++ phones_text names phones
 
 -- what may end the exchange of packets
 abbrev pub IsExchangeFault : ShellFault → Type 0

@@ -5,7 +5,7 @@ ghost use Rattle.std.specs.Io.KnownBytes.{Appends};
 ghost use Rattle.le_l2cap.specs.Frame.{frame_of, BasicFrame};
 ghost use Rattle.octets.specs.Number.{Octets};
 ghost use Rattle.sim_controller.specs.Simulated.{phone_at};
-ghost use Rattle.gatt_commands.specs.Lines.{IsOfPhone, ended_line, frame_line, heard_line, phone_text, refused_line, sign_of, with_told_phone};
+ghost use Rattle.gatt_commands.specs.Lines.{IsOfPhone, ended_line, frame_line, heard_line, outcome_text, phone_text, phones_text, refused_line, sign_of, with_told_phone, with_told_phones};
 
 use crate::acts::Refused;
 use crate::fault::ShellFault;
@@ -26,12 +26,29 @@ pub(crate) fn print_outcome<W: Write>(
 ) -> Result<(), ShellFault>
     requires few { length names.now ≤ 8 }
     requires named { IfSome refused (IsOfPhone (length names.now)) }
+    ensures ok { OnOk result (Appends (W.contents writer.old) (W.contents writer.new) (outcome_text names.now refused sim.old.phones)) }
+    ensures told { OnOk result (sim.new ≡ with_told_phones sim.old (length names.now)) }
     ensures faults { IfErr result (λ fault. fault ≡ ShellFault.Unwritten) }
     ensures waiting { sim.new.waiting ≡ sim.old.waiting }
 {
     if let Some(refused) = refused {
         print_refused(names, refused, writer)?;
     }
+    print_phones(sim, names, writer)
+}
+
+/// Prints what each phone that has a name has heard, by their numbers.
+fn print_phones<W: Write>(
+    sim: &mut Sim,
+    names: &[Name<'_>],
+    writer: &mut W,
+) -> Result<(), ShellFault>
+    requires { length names.now ≤ 8 }
+    ensures ok { OnOk result (Appends (W.contents writer.old) (W.contents writer.new) (phones_text names.now sim.old.phones)) }
+    ensures told { OnOk result (sim.new ≡ with_told_phones sim.old (length names.now)) }
+    ensures faults { IfErr result (λ fault. fault ≡ ShellFault.Unwritten) }
+    ensures waiting { sim.new.waiting ≡ sim.old.waiting }
+{
     for phone in 0..names.len() {
         print_phone(sim, phone as u8, &names[phone], writer)?;
     }
