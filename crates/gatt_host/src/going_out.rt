@@ -106,7 +106,7 @@ fn write_command(command: &Command<'_>, out: &mut ArrayVec<u8, 260>)
 fn place_with_command(slots: &[Slot]) -> Option<usize>
     ensures { result ≡ position has_command slots.now }
 {
-    slots.iter().position(|slot| slot.command().is_some())
+    slots.iter().position(|slot| slot.has_command())
 }
 
 /// The first slot that may give a packet.
@@ -175,6 +175,9 @@ fn command_out(controller: &mut Controller, slots: &mut [Slot], out: &mut ArrayV
     if let Some(opcode) = slot_command_out(slots, out) {
         controller.sent(opcode);
         return true;
+    }
+    if controller.advertising || controller.refused {
+        return false;
     }
     controller.enabling_out(has_room(slots), out)
 }

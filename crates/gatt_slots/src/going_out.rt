@@ -1,6 +1,6 @@
 //! What goes out for the connection of a slot: the command that is due for it, and its packets.
 
-ghost use Rattle.std.specs.Prelude.{◌≡◌, is_none, Some};
+ghost use Rattle.std.specs.Prelude.{◌≡◌, is_none, is_some, Some};
 ghost use Rattle.std.specs.Bool.{OnTrue, OnFalse};
 ghost use Rattle.std.specs.Option.{option_and_then, option_map};
 ghost use Rattle.le_hci.specs.Command.{command_of};
@@ -26,6 +26,13 @@ impl Slot {
             (None, Some(None)) => Some(Command::LeLongTermKeyRequestNegativeReply { handle }),
             (None, None) => None,
         }
+    }
+
+    /// Whether a command is due for the connection.
+    pub fn has_command(&self) -> bool
+        ensures { result ≡ is_some (command_due self.now) }
+    {
+        self.used != Use::Free && (self.reason.is_some() || self.reply.is_some())
     }
 
     /// Takes in that the command that was due is sent.
