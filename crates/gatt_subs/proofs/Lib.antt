@@ -4,6 +4,8 @@ pub mod Heard
 pub mod InOrder
 pub mod Lines
 pub mod LinesBack
+pub mod LinesRead
+pub mod RowsRead
 pub mod ReadBack
 pub mod Places
 pub mod RowsLine

@@ -14,7 +14,7 @@ ghost use Rattle.att_table.specs.ConfigRow.{bits_at, has_room, HasOneEntryEach};
 ghost use Rattle.gatt_subs.specs.declared.rows_fault.RowsFault.TheVariants.{OutOfMemory};
 ghost use Rattle.gatt_subs.specs.Fit.{fitted_bond, fitted_rows, row_fitted, HasFittedBonds};
 ghost use Rattle.gatt_subs.specs.InOrder.{Ascends};
-ghost use Rattle.gatt_subs.specs.ReadBack.{ReadsBack};
+ghost use Rattle.gatt_subs.specs.ReadBack.{said_by, IsOfAFile, ReadsBack};
 ghost use Rattle.gatt_subs.specs.RowEntry.{is_at, rank_of};
 ghost use Rattle.gatt_subs.specs.Rows.{place_of, bond_of, row_of, row_in, row_read, owes, bonds_with, with_bond, with_row, with_set, with_owed, kept_bond, subscriptions_read, ChangesBond};
 ghost use Rattle.gatt_subs.specs.Changes.{with_changes_owed};
@@ -60,7 +60,17 @@ impl Rows {
 
     /// Reads a rows file, and gives what it says or its first fault. Memory may be refused at any
     /// point.
+    #[tactic(auto, using(crate::proofs::RowsRead::read_can_be_written))]
     pub fn read(alloc: Global, text: &str) -> Result<Rows, RowsFault>
+        ensures rows { Gives OutOfMemory (subscriptions_read text.now) result }
+        // So their text can be read again.
+        ensures of_a_file { IfOk result (λ rows. IsOfAFile (said_by rows)) }
+    {
+        Rows::read_unfitted(alloc, text)
+    }
+
+    /// Reads a rows file. No peer has a bond yet.
+    fn read_unfitted(alloc: Global, text: &str) -> Result<Rows, RowsFault>
         ensures { Gives OutOfMemory (subscriptions_read text.now) result }
     {
         Ok(Rows {
