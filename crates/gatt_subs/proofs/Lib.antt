@@ -6,6 +6,7 @@ pub mod Lines
 pub mod LinesBack
 pub mod LinesRead
 pub mod RowsRead
+pub mod RowsFitted
 pub mod ReadBack
 pub mod Places
 pub mod RowsLine

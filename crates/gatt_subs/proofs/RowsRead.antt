@@ -25,10 +25,10 @@ use Rattle.gatt_subs.specs.Unfitted.{Written, has_entry, has_peer, lines_of, not
 use Rattle.gatt_subs.proofs.LinesRead.{CanBeWritten, line_read}
 
 -- peers that stand at the same place are one
-octet_then : (x y a b : ℕ) → x < 256 → y < 256 → x + 256 * a ≡ y + 256 * b → (x ≡ y) × (a ≡ b)
+pub octet_then : (x y a b : ℕ) → x < 256 → y < 256 → x + 256 * a ≡ y + 256 * b → (x ≡ y) × (a ≡ b)
 octet_then x y a b small small' same = (omega (arith, small, small', same), omega (arith, small, small', same))
 
-place_then : (x y a b : ℕ) → a < 65536 → b < 65536 → x * 65536 + a ≡ y * 65536 + b → (x ≡ y) × (a ≡ b)
+pub place_then : (x y a b : ℕ) → a < 65536 → b < 65536 → x * 65536 + a ≡ y * 65536 + b → (x ≡ y) × (a ≡ b)
 place_then x y a b small small' same = (omega (arith, small, small', same), omega (arith, small, small', same))
 
 abbrev seven : ℕ → ℕ → ℕ → ℕ → ℕ → ℕ → ℕ → ℕ
@@ -62,7 +62,7 @@ rank_of_six peer is =
 small_at : (peer : Peer) (i : ℕ) → IsNamed peer → i < 6 → slice_index peer.address i < 256
 small_at peer i is within = All-get_or (λ octet. octet < 256) peer.address i 0 (omega (arith, within, is.address)) is.octets
 
-one_peer : (one other : Peer) → IsNamed one → IsNamed other → rank_of one ≡ rank_of other → one ≡ other
+pub one_peer : (one other : Peer) → IsNamed one → IsNamed other → rank_of one ≡ rank_of other → one ≡ other
 one_peer one other is is' same =
     let all = sym (rank_of_six one is) ∙ same ∙ rank_of_six other is' in
     let first = octet_then _ _ _ _ (small_at one 0 is (omega arith)) (small_at other 0 is' (omega arith)) all in
@@ -76,7 +76,7 @@ one_peer one other is is' same =
     λ i. record { kind = sixth.1 i; address = address i }
 
 -- a list that climbs, with one more that is none of its elements
-all_in_order : {X : Type 0} (order : X → ℕ) (P : X → Type 0) (x : X) (xs : List X) → P x → All P xs → All P (in_order order x xs)
+pub all_in_order : {X : Type 0} (order : X → ℕ) (P : X → Type 0) (x : X) (xs : List X) → P x → All P xs → All P (in_order order x xs)
 all_in_order order P x [] p all = All-cons P x [] p (All-nil P)
 all_in_order order P x (y ∷ ys) p all =
     elim (nat_lt (order x) (order y)) as (λ before. All P (if before then x ∷ y ∷ ys else y ∷ in_order order x ys)) [
@@ -84,7 +84,7 @@ all_in_order order P x (y ∷ ys) p all =
       | false ↦ All-cons P y (in_order order x ys) (All-head P y ys all) (all_in_order order P x ys p (All-tail P y ys all))
     ]
 
-length_in_order : {X : Type 0} (order : X → ℕ) (x : X) (xs : List X) → length (in_order order x xs) ≡ suc (length xs)
+pub length_in_order : {X : Type 0} (order : X → ℕ) (x : X) (xs : List X) → length (in_order order x xs) ≡ suc (length xs)
 length_in_order order x [] = refl
 length_in_order order x (y ∷ ys) =
     elim (nat_lt (order x) (order y)) as (λ before. length (if before then x ∷ y ∷ ys else y ∷ in_order order x ys) ≡ suc (suc (length ys))) [
@@ -98,7 +98,7 @@ all_above order less least (y ∷ ys) lt all =
     let here : least < order y = All-head (λ y. least < order y) y ys all in
     All-cons (λ y. less < order y) y ys (omega (arith, lt, here)) (all_above order less least ys lt (All-tail (λ y. least < order y) y ys all))
 
-climbs_in_order : {X : Type 0} (order : X → ℕ) (x : X) (xs : List X) → Climbs order xs → All (λ y. order y ≢ order x) xs → Climbs order (in_order order x xs)
+pub climbs_in_order : {X : Type 0} (order : X → ℕ) (x : X) (xs : List X) → Climbs order xs → All (λ y. order y ≢ order x) xs → Climbs order (in_order order x xs)
 climbs_in_order order x [] climbs apart = (All-nil (λ y. order x < order y), tt)
 climbs_in_order {X} order x (y ∷ ys) climbs apart =
     elim (nat_lt (order x) (order y)) as (λ before. nat_lt (order x) (order y) ≡ before → Climbs order (if before then x ∷ y ∷ ys else y ∷ in_order order x ys)) [
@@ -120,11 +120,11 @@ is_there entry other good good' same =
     let same_one : same_peer other.peer entry.peer ≡ true = subst (λ (peer : Peer). same_peer other.peer peer ≡ true) peer (same_as_itself other.peer) in
     ap (λ (one : Bool). one && (other.handle == entry.handle)) same_one ∙ eq-eqb other.handle entry.handle parts.1
 
-clash : true ≡ false → ⊥
+pub clash : true ≡ false → ⊥
 clash is = cc is
 
 -- what is none of the elements of a list stands at none of their places
-neither : (x y : Bool) → (x || y) ≡ false → (x ≡ false) × (y ≡ false)
+pub neither : (x y : Bool) → (x || y) ≡ false → (x ≡ false) × (y ≡ false)
 neither false y is = (refl, is)
 neither true y is = cc is
 

@@ -1,13 +1,16 @@
 -- Rows that a rows file can have: this profile's own.
 use Rattle.std.specs.Prelude.{◌≡◌, ℕ, ◌<◌, ◌≤◌, List, [], ◌∷◌, length, Ok}
 use Rattle.std.specs.List.{All}
+use Rattle.att_numbers.specs.Types.{Handle}
+use Rattle.att_table.specs.ConfigRow.{IsEntry, HasOneEntryEach}
 use Rattle.le_hci.specs.declared.peer.Peer.{Peer}
+use Rattle.gatt_subs.specs.declared.bond.Bond.{Bond}
 use Rattle.gatt_subs.specs.declared.row_entry.RowEntry.{RowEntry}
 use Rattle.gatt_subs.specs.declared.unfitted.TheConstants.{MAX_ENTRIES, MAX_OWED}
 use Rattle.gatt_subs.specs.RowEntry.{order_of, rank_of}
 use Rattle.gatt_subs.specs.Rows.{Subscriptions}
 use Rattle.gatt_subs.specs.RowsText.{configured, owed_in, text_of}
-use Rattle.gatt_subs.specs.Unfitted.{Written, rows_read}
+use Rattle.gatt_subs.specs.Unfitted.{Written, nothing_written, rows_read}
 
 -- a peer that a line can name
 pub record IsNamed (peer : Peer) : Type 0 where
@@ -37,6 +40,21 @@ pub record IsOfAFile (written : Written) : Type 0 where
   pub few : length written.entries ≤ MAX_ENTRIES
   pub owed_few : length written.owed ≤ MAX_OWED
 
+-- a bond whose row a rows file can have
+pub record IsBondOfAFile (bond : Bond) : Type 0 where
+  pub entries : All IsEntry bond.row
+  pub handles : All (λ (entry : Handle × ℕ). entry.0 < 65536) bond.row
+  pub once : HasOneEntryEach bond.row
+  pub few : length bond.row ≤ 64
+
+-- fitted rows of peers that lines can name, each once and in order
+pub record IsFitted (rows : Subscriptions) : Type 0 where
+  pub peers : All IsNamed rows.peers
+  pub climbs : Climbs rank_of rows.peers
+  pub few : length rows.peers ≤ 64
+  pub bonds : All IsBondOfAFile rows.bonds
+  pub unfitted : rows.unfitted ≡ nothing_written
+
 -- all that rows say, whether they are fitted or not
 abbrev pub said_by : Subscriptions → Written
 said_by rows = record { entries = configured rows; owed = owed_in rows }
@@ -44,3 +62,7 @@ said_by rows = record { entries = configured rows; owed = owed_in rows }
 -- the text of rows is read as what they say
 abbrev pub ReadsBack : Subscriptions → Type 0
 ReadsBack rows = IsOfAFile (said_by rows) → rows_read (text_of rows) ≡ Ok (said_by rows)
+
+-- what fitted rows say can be written
+abbrev pub FittedCanBeWritten : Subscriptions → Type 0
+FittedCanBeWritten rows = IsFitted rows → IsOfAFile (said_by rows)

@@ -14,7 +14,7 @@ ghost use Rattle.att_table.specs.ConfigRow.{bits_at, has_room, HasOneEntryEach};
 ghost use Rattle.gatt_subs.specs.declared.rows_fault.RowsFault.TheVariants.{OutOfMemory};
 ghost use Rattle.gatt_subs.specs.Fit.{fitted_bond, fitted_rows, row_fitted, HasFittedBonds};
 ghost use Rattle.gatt_subs.specs.InOrder.{Ascends};
-ghost use Rattle.gatt_subs.specs.ReadBack.{said_by, IsOfAFile, ReadsBack};
+ghost use Rattle.gatt_subs.specs.ReadBack.{said_by, FittedCanBeWritten, IsOfAFile, ReadsBack};
 ghost use Rattle.gatt_subs.specs.RowEntry.{is_at, rank_of};
 ghost use Rattle.gatt_subs.specs.Rows.{place_of, bond_of, row_of, row_in, row_read, owes, bonds_with, with_bond, with_row, with_set, with_owed, kept_bond, subscriptions_read, ChangesBond};
 ghost use Rattle.gatt_subs.specs.Changes.{with_changes_owed};
@@ -147,13 +147,14 @@ impl Rows {
 
     /// Writes the rows as a rows file: what is configured, in ascending order of peers and handles, and
     /// then the peers that are owed. Where the sink fails, the front of that is written.
-    #[tactic(auto, using(crate::proofs::ReadBack::reads_back))]
+    #[tactic(auto, using(crate::proofs::ReadBack::reads_back, crate::proofs::RowsFitted::fitted_can_be_written))]
     pub fn text<W: Sink>(&self, sink: &mut W) -> Result<(), Failed>
         ensures ok { OnOk result (Appends (W.contents sink.old) (W.contents sink.new) (text_of self.now)) }
         ensures front { OnErr result (WritesFront (text_of self.now) (W.contents sink.old) (W.contents sink.new)) }
         ensures failures { CountsFailure (W.failures sink.old) (W.failures sink.new) result }
-        // And it is read as what the rows say.
+        // And it is read as what the rows say, as fitted rows can be written.
         ensures read_back { ReadsBack self.now }
+        ensures fitted { FittedCanBeWritten self.now }
     {
         rows_text::write_rows(&self.peers, &self.bonds, &self.unfitted, sink)
     }
