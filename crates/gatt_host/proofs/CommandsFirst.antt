@@ -7,7 +7,8 @@ use Rattle.std.proofs.lemmas.Bool.{cases_lt, eqb-true, le-ltb, lt-ltb, ltb-false
 use Rattle.gatt_host.proofs.Commands.{Touched, OneSent, Facts, command_goes, either_unchanged, none_after, right_true}
 use Rattle.gatt_host.proofs.Nexts.{clash, some_of, takes_enabling, takes_init, takes_none, takes_slot}
 use Rattle.gatt_host.proofs.SlotCommands.{NoneDue, Other, Behind, Without, FirstDue, NoCommand, ACommand, moved, other_part, own_part, room_same, search_slots, told_same}
-use Rattle.gatt_host.specs.GoingOut.{with_first, has_command, init_command, command_in, command_next, has_room, slots_commanded}
+use Rattle.gatt_host.specs.GoingOut.{with_first, init_command, command_in, command_next, has_room, slots_commanded}
+use Rattle.gatt_slots.specs.Commands.{has_command}
 use Rattle.gatt_host.specs.Owing.{Handed, slots_held, left_of, GivesTheFirst}
 use Rattle.gatt_laws.specs.Controller.{Controller, command_for, commands_for, command_of_init, commands_due, commands_sent, controller_after, count_before, disconnect_or, enabling, has_free, is_enabling, reply_due, without_command, after_sending}
 use Rattle.gatt_laws.specs.Event.{Ordinal}

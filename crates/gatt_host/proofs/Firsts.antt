@@ -1,14 +1,16 @@
 -- The first of a list that passes a test: what it is, and the list with it changed.
-use Rattle.std.proofs.Common.{◌≡◌, ℕ, zero, suc, ◌+◌, ◌<◌, Bool, true, false, List, [], ◌∷◌, length, Option, Some, None, refl, sym, ap, ◌∙◌, arith}
+use Rattle.std.proofs.Common.{◌≡◌, ℕ, zero, suc, ◌+◌, ◌<◌, Bool, true, false, ◌||◌, List, [], ◌∷◌, length, Option, Some, None, refl, sym, ap, ◌∙◌, arith}
 use Rattle.std.specs.Prelude.{cond, is_some, get_or}
-use Rattle.std.specs.List.{position, position_from}
-use Rattle.std.specs.Option.{option_and_then, option_or}
+use Rattle.std.specs.List.{list_any, position, position_from}
+use Rattle.std.specs.Option.{option_and_then, option_map, option_map_or, option_or}
+use Rattle.std.proofs.lemmas.Option.{slice_get-get_or}
 use Rattle.std.proofs.lemmas.Iterator.Adapters.{position_from-zero}
 use Rattle.std.proofs.lemmas.List.Quantifiers.{position-Some}
 use Rattle.std.proofs.Math.ListN.{set}
-use Rattle.gatt_host.specs.GoingOut.{with_first, has_command, command_in, packet_in}
-use Rattle.gatt_slots.specs.Commands.{command_due, gives, packet_of}
+use Rattle.gatt_host.specs.GoingOut.{with_first, command_in, packet_in}
+use Rattle.gatt_slots.specs.Commands.{command_due, gives, packet_of, has_command}
 use Rattle.gatt_slots.specs.Kept.{Kept}
+use Rattle.gatt_slots.specs.Slots.{kept_at, slots_at}
 use Rattle.le_hci.specs.Command.{Commanded}
 
 module _ {A : Type 0} (test : A → Bool) where
@@ -108,9 +110,28 @@ no_command slots none = empty slots (none-passes has_command slots none)
     empty [] none = refl
     empty (slot ∷ slots) none = none-first (command_due slot) (command_in slots) none.0 ∙ empty slots none.1
 
-pub command_there : (slots : List (Option Kept)) → is_some (position has_command slots) ≡ is_some (command_in slots)
-command_there slots =
-    elim (position has_command slots) as (λ found. position has_command slots ≡ found → is_some found ≡ is_some (command_in slots)) [
-      | Some place ↦ λ at. sym (ap is_some (first_command slots place None at) ∙ first_passes has_command slots place None at)
-      | None ↦ λ none. sym (ap is_some (no_command slots none))
-    ] refl
+-- what is found at the first place that passes
+module _ (test : Option Kept → Bool) (slots found : List (Option Kept)) (same : found ≡ slots) (place : ℕ) (at : position test slots ≡ Some place) where
+  pub found_at : kept_at found place ≡ get_or slots place None
+  found_at =
+      ap (λ (slots : List (Option Kept)). kept_at slots place) same
+      ∙ ap (λ (it : Option (Option Kept)). option_map_or (λ (slot : Option Kept). slot) it None) (slice_get-get_or slots place None (position-Some test slots place None at).0)
+
+  pub found_passes : test (kept_at found place) ≡ true
+  found_passes = ap test found_at ∙ first_passes test slots place None at
+
+  pub found_changed : (change : Kept → Kept) → slots_at place change found ≡ with_first test (option_map change) slots
+  found_changed change =
+      ap (λ (slots : List (Option Kept)). slots_at place change slots) same
+      ∙ ap (λ (it : Option (Option Kept)). option_map_or (λ (slot : Option Kept). set slots place (option_map change slot)) it slots)
+      (slice_get-get_or slots place None (position-Some test slots place None at).0)
+      ∙ sym (first_changed test (option_map change) slots place None at)
+
+-- some slot has a command where there is a first one
+pub any_command : (slots : List (Option Kept)) → list_any has_command slots ≡ is_some (command_in slots)
+any_command [] = refl
+any_command (slot ∷ slots) = ap (λ rest. has_command slot || rest) (any_command slots) ∙ either (command_due slot) (command_in slots)
+  where
+    either : (due other : Option Commanded) → (is_some due || is_some other) ≡ is_some (option_or due other)
+    either (Some command) other = refl
+    either None other = refl

@@ -1,7 +1,9 @@
 -- What goes out next, by what is due.
 use Rattle.std.proofs.Common.{◌≡◌, Bool, true, false, List, [], ◌∷◌, Option, Some, None, refl, sym, ap, ◌∙◌}
 use Rattle.std.specs.Prelude.{nat_lt, ◌&&◌, not, is_some, if◌then◌else◌}
+use Rattle.std.specs.Bool.{OnFalse}
 use Rattle.std.specs.Option.{option_map, option_map_or, option_or}
+use Rattle.std.proofs.lemmas.Bool.{OnFalse_at}
 use Rattle.gatt_laws.specs.Controller.{Controller, controller_after}
 use Rattle.gatt_host.specs.GoingOut.{init_command, command_in, has_room, enabling_command, command_next, controller_then, next_out, packet_in}
 use Rattle.gatt_laws.specs.State.{command_octets}
@@ -58,3 +60,13 @@ packet_next controller slots none = ap (λ due. option_or (option_map command_oc
 pub no_command_next : (controller : Controller) (slots : List (Option Kept)) (goes : Bool) → goes ≡ is_some (command_next controller slots) → goes ≡ false
     → command_next controller slots ≡ None
 no_command_next controller slots goes is stays = is_none_where (command_next controller slots) (sym is ∙ stays)
+
+-- before the controller is initialised its command is the next one
+pub init_then : (controller new : Controller) (goes : Bool) → nat_lt 0 controller.credit ≡ true → goes ≡ is_some (init_command controller)
+    → ((command : Commanded) → init_command controller ≡ Some command → new ≡ controller_after controller (command ∷ []))
+    → OnFalse goes (new ≡ controller) → new ≡ controller_then controller []
+init_then controller new goes takes is after stays = by (init_command controller) refl
+  where
+    by : (found : Option Commanded) → init_command controller ≡ found → new ≡ controller_then controller []
+    by (Some command) at = after command at ∙ sym (then_controller controller [] (Some command) (takes_init controller [] command takes at))
+    by None at = OnFalse_at (is ∙ ap is_some at) stays ∙ sym (then_controller controller [] None (takes_enabling controller [] false takes at refl refl))

@@ -5,7 +5,8 @@ use Rattle.std.specs.Option.{option_map, option_or, option_to_list}
 use Rattle.std.proofs.lemmas.Bool.{eq-eqb, eqb-true}
 use Rattle.gatt_host.proofs.Commands.{left_false, left_true, none_after, right_false, right_true, same_too}
 use Rattle.gatt_host.proofs.Nexts.{clash}
-use Rattle.gatt_host.specs.GoingOut.{with_first, has_command, command_in, has_room}
+use Rattle.gatt_host.specs.GoingOut.{with_first, command_in, has_room}
+use Rattle.gatt_slots.specs.Commands.{has_command}
 use Rattle.gatt_host.specs.Owing.{Handed, slot_held}
 use Rattle.gatt_laws.specs.Controller.{Controller, Slots, command_for, commands_for, count_before, has_free, without_command}
 use Rattle.gatt_laws.specs.Event.{Ordinal}

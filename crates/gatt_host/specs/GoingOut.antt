@@ -6,7 +6,7 @@ use Rattle.std.specs.List.{list_any}
 use Rattle.std.specs.Option.{option_and_then, option_map, option_map_or, option_or}
 use Rattle.gatt_laws.specs.Controller.{Controller, controller_after}
 use Rattle.gatt_laws.specs.State.{command_octets}
-use Rattle.gatt_slots.specs.Commands.{command_due, gives, packet_of, without_command, without_packet}
+use Rattle.gatt_slots.specs.Commands.{command_due, gives, has_command, packet_of, without_command, without_packet}
 use Rattle.gatt_slots.specs.Kept.{Kept}
 use Rattle.le_hci.specs.Command.{Commanded, LeSetAdvertiseEnable}
 use Rattle.le_hci.specs.Init.{command_awaited}
@@ -22,9 +22,6 @@ abbrev pub init_command : Controller → Option Commanded
 init_command controller = if controller.awaiting then None else command_awaited controller.init
 
 -- the command of the first slot for which one is due
-abbrev pub has_command : Option Kept → Bool
-has_command slot = is_some (command_due slot)
-
 abbrev pub command_in : List (Option Kept) → Option Commanded
 command_in [] = None
 command_in (slot ∷ slots) = option_or (command_due slot) (command_in slots)

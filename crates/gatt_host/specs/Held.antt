@@ -1,6 +1,6 @@
 -- What a host holds, and what each event makes of it before anything goes out.
-use Rattle.std.specs.Prelude.{◌≡◌, ℕ, ◌&&◌, if◌then◌else◌, List, [], ◌∷◌, take, set, map, slice_get, length, Option, Some, None, Result, Ok}
-use Rattle.std.specs.Option.{option_map, option_map_or, option_to_list}
+use Rattle.std.specs.Prelude.{◌≡◌, ℕ, ◌&&◌, if◌then◌else◌, List, [], ◌∷◌, take, map, length, Option, Some, None, Result, Ok}
+use Rattle.std.specs.Option.{option_map_or, option_to_list}
 use Rattle.att_numbers.specs.Types.{Handle, Mtu, Row}
 use Rattle.att_table.specs.Changer.{changer_of}
 use Rattle.att_table.specs.Table.{Contents, with_value}
@@ -14,7 +14,7 @@ use Rattle.gatt_laws.specs.State.{announced, told_of}
 use Rattle.gatt_laws.specs.Turn.{gained_encryption}
 use Rattle.gatt_slots.specs.Kept.{Kept}
 use Rattle.gatt_slots.specs.Request.{table_after, bond_served, kept_served, handles_of}
-use Rattle.gatt_slots.specs.Slots.{kept_at as kept_at_place, all_heard, all_after_time, all_after_table, after_entries}
+use Rattle.gatt_slots.specs.Slots.{at_place, kept_at as kept_at_place, all_heard, all_after_time, all_after_table, after_entries, slots_at}
 use Rattle.gatt_slots.specs.Turn as turn
 use Rattle.gatt_slots.specs.Turn.{after_authorizing, after_key_asked, after_link_step, after_signal}
 use Rattle.gatt_subs.specs.Changes.{with_changes_owed}
@@ -63,12 +63,6 @@ after_update handle value held =
     after_end None [] (handle ∷ []) (record held { table = record held.table { values = with_value held.table.values handle value } })
 
 -- something happens to the connection of a slot
-abbrev pub at_place : {A : Type 0} → ℕ → (A → A) → List A → List A
-at_place place change xs = option_map_or (λ x. set xs place (change x)) (slice_get xs place) xs
-
-abbrev pub slots_at : ℕ → (Kept → Kept) → List (Option Kept) → List (Option Kept)
-slots_at place change slots = at_place place (option_map change) slots
-
 abbrev pub kept_at : Held → ℕ → Option Kept
 kept_at held place = kept_at_place held.slots place
 

@@ -12,7 +12,6 @@ ghost use Rattle.gatt_slots.specs.Slots.{place_serving};
 use crate::app::{App, AppFault};
 use crate::host_state::HostState;
 use att_table::{Attr, Role, Table};
-use gatt_slots::find_serving;
 
 impl HostState {
     /// Does what the application asks, or refuses it and changes nothing.
@@ -55,7 +54,7 @@ impl HostState {
         ensures refused { IfErr result (λ fault. authorize_happening until (place_serving self.old.slots handle) ≡ Err (refused_of fault)) }
         ensures unchanged { OnErr result (self.new ≡ self.old) }
     {
-        let Some(place) = find_serving(self.slots.as_slice(), handle) else {
+        let Some(place) = self.slots.find_serving(handle) else {
             return Err(AppFault::NoSuchConnection);
         };
         self.authorize(place, until);

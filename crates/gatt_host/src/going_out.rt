@@ -7,15 +7,15 @@ ghost use Rattle.std.specs.List.{list_any, position};
 ghost use Rattle.std.specs.Option.{option_map};
 ghost use Rattle.gatt_laws.specs.Controller.{controller_after};
 ghost use Rattle.gatt_laws.specs.State.{State, command_octets};
-ghost use Rattle.gatt_slots.specs.Commands.{gives, without_command, without_packet};
-ghost use Rattle.gatt_host.specs.GoingOut.{command_in, command_next, controller_then, has_command, has_room, init_command, is_drained, next_out, packet_in, slots_commanded, slots_then, with_first};
+ghost use Rattle.gatt_slots.specs.Commands.{gives, without_command, without_packet, has_command};
+ghost use Rattle.gatt_host.specs.GoingOut.{command_in, command_next, controller_then, has_room, init_command, is_drained, next_out, packet_in, slots_commanded, slots_then, with_first};
 ghost use Rattle.gatt_host.specs.Owing.{IsDone, IsOwing, OwesTheRest, OwesWhatAnEventBrings};
 ghost use Rattle.octets.specs.Number.{Octets};
 ghost use Rattle.le_hci.specs.Command.{Commanded, LeSetAdvertiseEnable, command_of, opcode_of};
 
 use crate::controller::Controller;
 use arrayvec::ArrayVec;
-use gatt_slots::Slot;
+use gatt_slots::Slots;
 use le_hci::{Command, opcode};
 
 impl Controller {
@@ -102,62 +102,41 @@ fn write_command(command: &Command<'_>, out: &mut ArrayVec<u8, 260>)
     le_h4::write_command(&packet, out);
 }
 
-/// The first slot for which a command is due.
-fn place_with_command(slots: &[Slot]) -> Option<usize>
-    ensures { result ≡ position has_command slots.now }
-{
-    slots.iter().position(|slot| slot.has_command())
-}
-
-/// The first slot that may give a packet.
-fn place_that_gives(slots: &[Slot]) -> Option<usize>
-    ensures { result ≡ position gives slots.now }
-{
-    slots.iter().position(|slot| slot.gives())
-}
-
-/// A slot is free.
-fn has_room(slots: &[Slot]) -> bool
-    ensures { result ≡ has_room slots.now }
-{
-    slots.iter().any(|slot| slot.is_free())
-}
-
 /// Writes the packet of the first slot that may give one.
-fn packet_out(slots: &mut [Slot], out: &mut ArrayVec<u8, 260>) -> bool
+fn packet_out(slots: &mut Slots, out: &mut ArrayVec<u8, 260>) -> bool
     ensures goes { result ≡ is_some (packet_in slots.old) }
     ensures octets { OnTrue result (packet_in slots.old ≡ Some out.new.items) }
     ensures after { slots.new ≡ with_first gives (option_map without_packet) slots.old }
     ensures unchanged { OnFalse result (slots.new ≡ slots.old) }
     ensures out_unchanged { OnFalse result (out.new.items ≡ out.old.items) }
 {
-    let Some(place) = place_that_gives(slots) else {
+    let Some(place) = slots.first_that_gives() else {
         return false;
     };
-    slots[place].next_packet(out)
+    slots.next_packet(place, out)
 }
 
 /// Writes the first command that is due for a slot, and takes in that it is sent. Says its opcode.
-fn slot_command_out(slots: &mut [Slot], out: &mut ArrayVec<u8, 260>) -> Option<u16>
+fn slot_command_out(slots: &mut Slots, out: &mut ArrayVec<u8, 260>) -> Option<u16>
     ensures opcode { result ≡ option_map opcode_of (command_in slots.old) }
     ensures octets { (command : Commanded) → command_in slots.old ≡ Some command → out.new.items ≡ command_octets command }
     ensures after { slots.new ≡ with_first has_command (option_map without_command) slots.old }
     ensures unchanged { OnFalse (is_some result) (slots.new ≡ slots.old) }
     ensures out_unchanged { OnFalse (is_some result) (out.new.items ≡ out.old.items) }
 {
-    let Some(place) = place_with_command(slots) else {
+    let Some(place) = slots.first_with_command() else {
         return None;
     };
-    let Some(command) = slots[place].command() else {
+    let Some(command) = slots.command(place) else {
         unreachable!()
     };
     write_command(&command, out);
-    slots[place].command_sent();
+    slots.command_sent(place);
     Some(command.opcode())
 }
 
 /// Writes the next command that is due, where the controller takes one, and takes in that it is sent.
-fn command_out(controller: &mut Controller, slots: &mut [Slot], out: &mut ArrayVec<u8, 260>) -> bool
+fn command_out(controller: &mut Controller, slots: &mut Slots, out: &mut ArrayVec<u8, 260>) -> bool
     ensures goes { result ≡ is_some (command_next controller.old slots.old) }
     ensures octets { OnTrue result (option_map command_octets (command_next controller.old slots.old) ≡ Some out.new.items) }
     ensures controller { controller.new ≡ controller_then controller.old slots.old }
@@ -179,18 +158,14 @@ fn command_out(controller: &mut Controller, slots: &mut [Slot], out: &mut ArrayV
     if controller.advertising || controller.refused {
         return false;
     }
-    controller.enabling_out(has_room(slots), out)
+    controller.enabling_out(slots.has_room(), out)
 }
 
 /// Writes what goes out next in place of what `out` holds: a command that is due, while the controller
 /// takes any, and else a packet of the first slot that may give one. There is nothing, and nothing
 /// changes, once all is out.
 #[tactic(auto, using(crate::proofs::Entering::owes_what_an_event_brings))]
-pub fn next_out(
-    controller: &mut Controller,
-    slots: &mut [Slot],
-    out: &mut ArrayVec<u8, 260>,
-) -> bool
+pub fn next_out(controller: &mut Controller, slots: &mut Slots, out: &mut ArrayVec<u8, 260>) -> bool
     ensures goes { result ≡ is_some (next_out controller.old slots.old) }
     ensures octets { OnTrue result (next_out controller.old slots.old ≡ Some out.new.items) }
     ensures controller { controller.new ≡ controller_then controller.old slots.old }
@@ -210,7 +185,7 @@ pub fn next_out(
 }
 
 /// Writes the next command, or else the next packet.
-fn either_out(controller: &mut Controller, slots: &mut [Slot], out: &mut ArrayVec<u8, 260>) -> bool
+fn either_out(controller: &mut Controller, slots: &mut Slots, out: &mut ArrayVec<u8, 260>) -> bool
     ensures goes { result ≡ is_some (next_out controller.old slots.old) }
     ensures octets { OnTrue result (next_out controller.old slots.old ≡ Some out.new.items) }
     ensures controller { controller.new ≡ controller_then controller.old slots.old }
@@ -226,7 +201,7 @@ fn either_out(controller: &mut Controller, slots: &mut [Slot], out: &mut ArrayVe
 }
 
 /// A command is due, and the controller takes one.
-fn has_command(controller: &Controller, slots: &[Slot]) -> bool
+fn has_command(controller: &Controller, slots: &Slots) -> bool
     ensures { result ≡ is_some (command_next controller.now slots.now) }
 {
     if !controller.takes() {
@@ -235,14 +210,14 @@ fn has_command(controller: &Controller, slots: &[Slot]) -> bool
     if controller.has_init_command() {
         return true;
     }
-    if place_with_command(slots).is_some() {
+    if slots.has_command() {
         return true;
     }
-    controller.is_to_advertise(has_room(slots))
+    controller.is_to_advertise(slots.is_free())
 }
 
 /// Nothing is to go out.
-pub fn is_drained(controller: &Controller, slots: &[Slot]) -> bool
+pub fn is_drained(controller: &Controller, slots: &Slots) -> bool
     ensures drained { result ≡ is_drained controller.now slots.now }
     // Then nothing is owed, and else something is.
     ensures done { (final : State) (owed : List Octets) → IsOwing final owed controller.now slots.now
@@ -253,18 +228,33 @@ pub fn is_drained(controller: &Controller, slots: &[Slot]) -> bool
 }
 
 /// No command is due that the controller takes, and no slot may give a packet.
-fn none_waits(controller: &Controller, slots: &[Slot]) -> bool
+fn none_waits(controller: &Controller, slots: &Slots) -> bool
     ensures { result ≡ is_drained controller.now slots.now }
 {
     if has_command(controller, slots) {
         return false;
     }
-    !any_gives(slots)
+    !slots.gives()
 }
 
-/// A slot may give a packet.
-fn any_gives(slots: &[Slot]) -> bool
-    ensures { result ≡ list_any gives slots.now }
+/// The same before the controller is initialised, where no slot has a connection: the command of
+/// initialisation.
+pub(crate) fn init_out(controller: &mut Controller, out: &mut ArrayVec<u8, 260>) -> bool
+    ensures goes { result ≡ is_some (next_out controller.old []) }
+    ensures octets { OnTrue result (next_out controller.old [] ≡ Some out.new.items) }
+    ensures controller { controller.new ≡ controller_then controller.old [] }
+    ensures controller_unchanged { OnFalse result (controller.new ≡ controller.old) }
+    ensures out_unchanged { OnFalse result (out.new.items ≡ out.old.items) }
 {
-    slots.iter().any(|slot| slot.gives())
+    if !controller.takes() {
+        return false;
+    }
+    controller.init_command_out(out)
+}
+
+/// Nothing is to go out before the controller is initialised.
+pub(crate) fn is_init_drained(controller: &Controller) -> bool
+    ensures { result ≡ is_drained controller.now [] }
+{
+    !(controller.takes() && controller.has_init_command())
 }

@@ -15,11 +15,11 @@ ghost use Rattle.le_hci.specs.Event.{completed_packets_of};
 ghost use Rattle.le_security.specs.Link.{Encryption, Refresh};
 
 use crate::controller::Controller;
-use crate::going_out::{is_drained, next_out};
+use crate::going_out::{init_out, is_drained, is_init_drained, next_out};
 use crate::host_fault::HostFault;
 use arrayvec::ArrayVec;
 use att_table::Table;
-use gatt_slots::{Slot, complete_all, hear_all, replace_all, tick_all};
+use gatt_slots::Slots;
 use gatt_subs::Rows;
 use le_hci::Peer;
 use le_security::Keys;
@@ -40,7 +40,7 @@ pub(crate) struct HostState {
     pub(crate) time: u64,
     pub(crate) controller: Controller,
     /// As many as connections may come to have.
-    pub(crate) slots: Vec<Slot>,
+    pub(crate) slots: Slots,
 }
 
 impl Model for HostState {
@@ -61,10 +61,10 @@ impl Model for HostState {
       rx_mtu = h.rx_mtu;
       time = h.time;
       controller = h.controller;
-      slots = h.slots.items;
+      slots = h.slots;
     } };
 
-    ghost invariant = { λ h. (23 ≤ h.rx_mtu) × (h.rx_mtu ≤ 517) × (length h.slots.items ≤ 8) };
+    ghost invariant = { λ h. (23 ≤ h.rx_mtu) × (h.rx_mtu ≤ 517) };
 }
 
 // Each event: what it changes, and then what is heard.
@@ -73,15 +73,8 @@ impl HostState {
     pub(crate) fn nothing(&mut self)
         ensures { self.new ≡ after_nothing self.old }
     {
-        hear(
-            &mut self.slots,
-            &self.table,
-            &self.rows,
-            None,
-            &[],
-            &[],
-            self.time,
-        );
+        self.slots
+            .hear(&self.table, &self.rows, None, &[], &[], self.time);
     }
 
     /// Time goes by, in milliseconds.
@@ -89,16 +82,8 @@ impl HostState {
         ensures { self.new ≡ after_tick now self.old }
     {
         self.time = now;
-        tick_all(self.slots.as_mut_slice(), now);
-        hear(
-            &mut self.slots,
-            &self.table,
-            &self.rows,
-            None,
-            &[],
-            &[],
-            now,
-        );
+        self.slots.tick(now);
+        self.nothing();
     }
 
     /// The application writes a value.
@@ -109,15 +94,8 @@ impl HostState {
         ensures { self.new ≡ after_update handle value.now self.old }
     {
         self.table.set(handle, value);
-        hear(
-            &mut self.slots,
-            &self.table,
-            &self.rows,
-            None,
-            &[],
-            &[handle],
-            self.time,
-        );
+        self.slots
+            .hear(&self.table, &self.rows, None, &[], &[handle], self.time);
     }
 
     /// The application authorizes the connection of a slot up to a moment.
@@ -125,16 +103,8 @@ impl HostState {
         requires { place < length self.old.slots }
         ensures { self.new ≡ after_authorize place until self.old }
     {
-        self.slots[place].authorize(until);
-        hear(
-            &mut self.slots,
-            &self.table,
-            &self.rows,
-            None,
-            &[],
-            &[],
-            self.time,
-        );
+        self.slots.authorize(place, until);
+        self.nothing();
     }
 
     /// The controller asks for the key of the connection of a slot.
@@ -142,16 +112,9 @@ impl HostState {
         requires { place < length self.old.slots }
         ensures { self.new ≡ after_ask_key place random_number diversifier self.old }
     {
-        self.slots[place].ask_key(&self.keys, random_number, diversifier);
-        hear(
-            &mut self.slots,
-            &self.table,
-            &self.rows,
-            None,
-            &[],
-            &[],
-            self.time,
-        );
+        self.slots
+            .ask_key(place, &self.keys, random_number, diversifier);
+        self.nothing();
     }
 
     /// A payload comes on a channel that is not that of the Attribute Protocol.
@@ -159,32 +122,16 @@ impl HostState {
         requires { place < length self.old.slots }
         ensures { self.new ≡ after_signals place channel payload.now self.old }
     {
-        self.slots[place].signal(channel, payload);
-        hear(
-            &mut self.slots,
-            &self.table,
-            &self.rows,
-            None,
-            &[],
-            &[],
-            self.time,
-        );
+        self.slots.signal(place, channel, payload);
+        self.nothing();
     }
 
     /// Packets are completed.
     pub(crate) fn complete(&mut self, entries: &[[u8; 4]])
         ensures { self.new ≡ after_completing (map completed_packets_of entries.now) self.old }
     {
-        complete_all(self.slots.as_mut_slice(), entries);
-        hear(
-            &mut self.slots,
-            &self.table,
-            &self.rows,
-            None,
-            &[],
-            &[],
-            self.time,
-        );
+        self.slots.complete(entries);
+        self.nothing();
     }
 
     /// A connection goes.
@@ -192,17 +139,9 @@ impl HostState {
         requires { place < length self.old.slots }
         ensures { self.new ≡ after_going place self.old }
     {
-        self.slots[place].go();
+        self.slots.go(place);
         self.controller.went();
-        hear(
-            &mut self.slots,
-            &self.table,
-            &self.rows,
-            None,
-            &[],
-            &[],
-            self.time,
-        );
+        self.nothing();
     }
 
     /// A PDU of the Attribute Protocol comes from the connection of a slot.
@@ -212,15 +151,15 @@ impl HostState {
         requires row { IfSome (kept_at self.old place) (λ kept. IsRowOf self.old.table.attributes (row_in_force (row_at self.old kept) kept)) }
         ensures { IfSome (kept_at self.old place) (λ kept. Serves place pdu.now kept self.old self.new) }
     {
-        let written = self.slots[place].serve(
+        let written = self.slots.serve(
+            place,
             &mut self.table,
             &mut self.rows,
             self.changer,
             self.time,
             pdu,
         );
-        hear(
-            &mut self.slots,
+        self.slots.hear(
             &self.table,
             &self.rows,
             Some(place),
@@ -236,8 +175,8 @@ impl HostState {
         requires there { IsSome (kept_at self.old place) }
         ensures { self.new ≡ after_link place (Encryption status enabled) self.old }
     {
-        let owed = self.slots[place].is_owed(&self.rows);
-        let gained = self.slots[place].encrypt(status, enabled);
+        let owed = self.slots.is_owed(place, &self.rows);
+        let gained = self.slots.encrypt(place, status, enabled);
         self.hear_changes(place, gained && owed);
     }
 
@@ -247,8 +186,8 @@ impl HostState {
         requires there { IsSome (kept_at self.old place) }
         ensures { self.new ≡ after_link place (Refresh status) self.old }
     {
-        let owed = self.slots[place].is_owed(&self.rows);
-        let gained = self.slots[place].refresh(status);
+        let owed = self.slots.is_owed(place, &self.rows);
+        let gained = self.slots.refresh(place, status);
         self.hear_changes(place, gained && owed);
     }
 
@@ -258,8 +197,7 @@ impl HostState {
         ensures { self.new ≡ after_end (Some place) (if due then option_to_list self.old.changer else []) [] self.old }
     {
         match self.changer {
-            Some(changer) if due => hear(
-                &mut self.slots,
+            Some(changer) if due => self.slots.hear(
                 &self.table,
                 &self.rows,
                 Some(place),
@@ -267,15 +205,9 @@ impl HostState {
                 &[],
                 self.time,
             ),
-            _ => hear(
-                &mut self.slots,
-                &self.table,
-                &self.rows,
-                Some(place),
-                &[],
-                &[],
-                self.time,
-            ),
+            _ => self
+                .slots
+                .hear(&self.table, &self.rows, Some(place), &[], &[], self.time),
         }
     }
 
@@ -292,17 +224,9 @@ impl HostState {
         let share = share(self.slots.len(), buffers.packets);
         let acl_len = acl_len(buffers.length);
         let key_known = self.keys.known(&peer);
-        self.slots[place].come(handle, peer, key_known, self.rx_mtu, share, acl_len);
+        self.slots.come(place, handle, peer, key_known, self.rx_mtu, share, acl_len);
         self.controller.came();
-        hear(
-            &mut self.slots,
-            &self.table,
-            &self.rows,
-            None,
-            &[],
-            &[],
-            self.time,
-        );
+        self.nothing();
     }
 
     /// A command is complete.
@@ -354,7 +278,7 @@ impl HostState {
         ensures given { result ≡ self.old.table }
         ensures after { self.new ≡ after_replacing table self.old }
     {
-        replace_all(self.slots.as_mut_slice(), &self.table, &table);
+        self.slots.replace(&self.table, &table);
         self.rows.keep(&self.table, &table);
         let old = mem::replace(&mut self.table, table);
         self.changer = self.table.changer();
@@ -362,25 +286,12 @@ impl HostState {
         match self.changer {
             Some(changer) => {
                 self.table.set(changer, &ALL_CHANGED);
-                hear(
-                    &mut self.slots,
-                    &self.table,
-                    &self.rows,
-                    None,
-                    &[],
-                    &[changer],
-                    self.time,
-                );
+                self.slots
+                    .hear(&self.table, &self.rows, None, &[], &[changer], self.time);
             }
-            None => hear(
-                &mut self.slots,
-                &self.table,
-                &self.rows,
-                None,
-                &[],
-                &[],
-                self.time,
-            ),
+            None => self
+                .slots
+                .hear(&self.table, &self.rows, None, &[], &[], self.time),
         }
         old
     }
@@ -396,9 +307,9 @@ impl HostState {
         ensures out_unchanged { OnFalse result (out.new.items ≡ out.old.items) }
     {
         if self.controller.is_ready() {
-            return next_out(&mut self.controller, self.slots.as_mut_slice(), out);
+            return next_out(&mut self.controller, &mut self.slots, out);
         }
-        next_out(&mut self.controller, &mut [], out)
+        init_out(&mut self.controller, out)
     }
 
     /// Whether nothing is to go out.
@@ -406,27 +317,11 @@ impl HostState {
         ensures { result ≡ is_drained self.now.controller (open_slots self.now) }
     {
         if self.controller.is_ready() {
-            is_drained(&self.controller, self.slots.as_slice())
+            is_drained(&self.controller, &self.slots)
         } else {
-            is_drained(&self.controller, &[])
+            is_init_drained(&self.controller)
         }
     }
-}
-
-/// Ends an event: all connections hear of the values that it raised, and of what is then due.
-fn hear(
-    slots: &mut Vec<Slot>,
-    table: &Table,
-    rows: &Rows,
-    own: Option<usize>,
-    here: &[u16],
-    handles: &[u16],
-    now: u64,
-)
-    ensures heard { slots.new.items ≡ all_heard table.now now rows.now own here.now handles.now slots.old.items }
-    ensures count { length slots.new.items ≡ length slots.old.items }
-{
-    hear_all(slots.as_mut_slice(), table, rows, own, here, handles, now);
 }
 
 /// How many packets of one connection may be outstanding.

@@ -12,7 +12,7 @@ use crate::controller::Controller;
 use crate::host::Host;
 use crate::host_state::HostState;
 use att_table::Table;
-use gatt_slots::Slot;
+use gatt_slots::Slots;
 use gatt_subs::Rows;
 use le_acl::Reassembler;
 use le_h4::Deframer;
@@ -45,7 +45,7 @@ impl Host {
         if rows.fit(alloc, &keys, &table).is_err() {
             return Err(OpenFault::OutOfMemory);
         }
-        let Ok(slots) = free_slots(alloc, config.slots) else {
+        let Ok(slots) = Slots::new(alloc, config.slots) else {
             return Err(OpenFault::OutOfMemory);
         };
         Ok(Host {
@@ -83,15 +83,4 @@ fn may_be_used(address: Option<[u8; 6]>) -> bool
         Some(address) => address[5] >= STATIC,
         None => true,
     }
-}
-
-/// Slots that are free, each with room for all that it may come to keep.
-fn free_slots(alloc: Global, count: usize) -> Result<Vec<Slot>, AllocError>
-    ensures { IfOk result (λ slots. slots.items ≡ replicate count None) }
-{
-    let mut slots = Vec::with_capacity(alloc, count)?;
-    for _ in 0..count {
-        slots.push(Slot::new(alloc)?)?;
-    }
-    Ok(slots)
 }

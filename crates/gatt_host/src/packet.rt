@@ -20,7 +20,6 @@ ghost use Rattle.le_l2cap.specs.Frame.{frame_of};
 
 use crate::host_fault::HostFault;
 use crate::host_state::HostState;
-use gatt_slots::find_serving;
 use le_acl::{Piece, Reassembler, is_frame};
 use le_h4::PacketRef;
 use le_hci::{BadEvent, Event, read_event};
@@ -103,7 +102,7 @@ pub(crate) fn acl(
     ensures after { IsAfter (acl_happening state.old handle pb bc octets.now frames.old) state.old state.new }
     ensures frames { frames.new ≡ frames_after_acl state.old handle pb bc octets.now frames.old }
 {
-    match find_serving(state.slots.as_slice(), handle) {
+    match state.slots.find_serving(handle) {
         Some(place) => fragment(state, &mut frames[place], place, pb, bc, octets),
         None => state.nothing(),
     }

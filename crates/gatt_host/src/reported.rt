@@ -9,7 +9,6 @@ ghost use Rattle.le_hci.specs.Event.{report_of};
 ghost use Rattle.le_hci.specs.InitTold.{told_in};
 
 use crate::host_state::HostState;
-use gatt_slots::{find_free, find_holding, find_serving};
 use le_acl::Reassembler;
 use le_hci::{Event, Peer};
 
@@ -72,7 +71,7 @@ impl HostState {
         if status != 0 {
             return self.nothing();
         }
-        match find_holding(self.slots.as_slice(), handle) {
+        match self.slots.find_holding(handle) {
             Some(place) => self.go(place),
             None => self.nothing(),
         }
@@ -82,7 +81,7 @@ impl HostState {
     fn encryption_changed(&mut self, status: u8, handle: u16, enabled: u8)
         ensures { IsAfter (at_found (place_serving self.old.slots handle) (Encrypted status enabled)) self.old self.new }
     {
-        match find_serving(self.slots.as_slice(), handle) {
+        match self.slots.find_serving(handle) {
             Some(place) => self.encrypt(place, status, enabled),
             None => self.nothing(),
         }
@@ -92,7 +91,7 @@ impl HostState {
     fn key_refreshed(&mut self, status: u8, handle: u16)
         ensures { IsAfter (at_found (place_serving self.old.slots handle) (Refreshed status)) self.old self.new }
     {
-        match find_serving(self.slots.as_slice(), handle) {
+        match self.slots.find_serving(handle) {
             Some(place) => self.refresh(place, status),
             None => self.nothing(),
         }
@@ -102,7 +101,7 @@ impl HostState {
     fn key_asked(&mut self, handle: u16, random_number: [u8; 8], diversifier: u16)
         ensures { IsAfter (at_found (place_serving self.old.slots handle) (KeyAsked random_number diversifier)) self.old self.new }
     {
-        match find_serving(self.slots.as_slice(), handle) {
+        match self.slots.find_serving(handle) {
             Some(place) => self.ask_key(place, random_number, diversifier),
             None => self.nothing(),
         }
@@ -126,10 +125,10 @@ impl HostState {
         if status != 0 || role != PERIPHERAL || handle > LAST_CONNECTION_HANDLE {
             return self.nothing();
         }
-        if find_holding(self.slots.as_slice(), handle).is_some() {
+        if self.slots.find_holding(handle).is_some() {
             return self.nothing();
         }
-        match find_free(self.slots.as_slice()) {
+        match self.slots.find_free() {
             Some(place) => {
                 frames[place] = Reassembler::new();
                 self.come(place, handle, peer);

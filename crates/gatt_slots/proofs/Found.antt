@@ -8,7 +8,7 @@ use Rattle.gatt_slots.specs.Kept.{Kept}
 use Rattle.gatt_slots.specs.Slots.{Held, is_serving, is_holding, kept_at, place_serving, place_holding, place_free, IsThere}
 
 -- what is read at a place is what stands there
-kept-is : (slots : Held) (place : ℕ) → place < length slots → kept_at slots place ≡ get_or slots place None
+pub kept-is : (slots : Held) (place : ℕ) → place < length slots → kept_at slots place ≡ get_or slots place None
 kept-is slots place within =
     ap (λ (found : Option (Option Kept)). option_map_or (λ (slot : Option Kept). slot) found None) (slice_get-get_or slots place None within)
 

@@ -4,3 +4,5 @@ pub mod Served
 pub mod EachSlot
 pub mod parts
 pub mod Found
+pub mod Covering
+pub mod AtPlace

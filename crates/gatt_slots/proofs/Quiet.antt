@@ -1,9 +1,15 @@
 -- A connection of which nothing was written, and to which nothing waits to be indicated, hears nothing.
-use Rattle.std.proofs.Common.{◌≡◌, ℕ, Bool, true, false, nat_lt, if◌then◌else◌, List, [], length, Option, Some, None, refl, sym, ap, ◌∙◌}
+use Rattle.std.proofs.Common.{◌≡◌, ℕ, ◌+◌, Bool, true, false, ◌||◌, nat_lt, ◌==◌, ◌∷◌, if◌then◌else◌, List, [], length, Option, Some, None, refl, sym, ap, ◌∙◌, arith}
+use Rattle.std.proofs.lemmas.Bool.Decides.{nat_tests}
 use Rattle.att_numbers.specs.Types.{Handle, Row}
 use Rattle.att_table.specs.Table.{Contents}
 use Rattle.gatt_slots.specs.Hearing.{Ear, Told, after_hearing, ear_of, told_of, told_released, with_told}
+use Rattle.std.specs.List.{list_any}
+use Rattle.std.specs.Option.{option_map_or}
 use Rattle.gatt_slots.specs.Kept.{Kept}
+use Rattle.gatt_slots.specs.Places.{is_some_handle, waits}
+use Rattle.gatt_slots.specs.Slots.{Held, all_heard, handles_for, heard_by, heard_from}
+use Rattle.gatt_subs.specs.Rows.{Subscriptions, row_of}
 use Rattle.gatt_subs.specs.declared.pending.Unconfirmed.{Unconfirmed}
 use Rattle.gatt_subs.specs.Indications.{Indications}
 use Rattle.le_acl.specs.Outgoing.{Outgoing}
@@ -38,3 +44,36 @@ nothing_heard table now bond kept none =
       | true ↦ ap (with_told kept) same
       | false ↦ refl
     ]
+
+-- and where nothing waits for any of them, and nothing was written, none hears anything
+none-waits : (waiting : List Handle) → is_some_handle waiting ≡ false → waiting ≡ []
+none-waits [] none = refl
+none-waits (handle ∷ handles) none = cc none
+
+quiet-slot : (table : Contents) (now : ℕ) (rows : Subscriptions) (slot : Option Kept) → waits slot ≡ false → heard_by table now rows [] slot ≡ slot
+quiet-slot table now rows None none = refl
+quiet-slot table now rows (Some kept) none =
+    ap (λ (it : Kept). Some it) (nothing_heard table now (row_of rows kept.peer) kept (none-waits kept.pending.waiting none))
+
+all-quiet : (hear : ℕ → Option Kept → Option Kept) → ((place : ℕ) (slot : Option Kept) → waits slot ≡ false → hear place slot ≡ slot)
+    → (start : ℕ) (slots : Held) → list_any waits slots ≡ false → heard_from start hear slots ≡ slots
+all-quiet hear quiet start [] none = refl
+all-quiet hear quiet start (slot ∷ slots) none =
+    let parts = both-none (waits slot) (list_any waits slots) none in
+    λ i. quiet start slot parts.0 i ∷ all-quiet hear quiet (start + 1) slots parts.1 i
+  where
+    both-none : (first rest : Bool) → (first || rest) ≡ false → (first ≡ false) × (rest ≡ false)
+    both-none true rest none = cc none
+    both-none false rest none = (refl, none)
+
+pub nothing_heard_by_all : (table : Contents) (now : ℕ) (rows : Subscriptions) (own : Option ℕ) (slots : Held) → list_any waits slots ≡ false
+    → slots ≡ all_heard table now rows own [] [] slots
+nothing_heard_by_all table now rows own slots none =
+    sym (all-quiet (λ place slot. heard_by table now rows (handles_for own [] [] place) slot)
+    (λ place slot idle. ap (λ (handles : List Handle). heard_by table now rows handles slot) (either (option_map_or (λ (at : ℕ). at == place) own false) [])
+    ∙ quiet-slot table now rows slot idle)
+    0 slots none)
+
+pub none_there : (handles : List Handle) → (length handles == 0) ≡ true → handles ≡ []
+none_there [] none = refl
+none_there (handle ∷ handles) none = absurd (grind (arith, nat_tests, none))

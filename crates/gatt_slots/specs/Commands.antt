@@ -12,6 +12,9 @@ abbrev pub command_due : Option Kept → Option Commanded
 command_due None = None
 command_due (Some kept) = disconnect_or kept.handle kept.reason (reply_due kept.handle kept.reply)
 
+abbrev pub has_command : Option Kept → Bool
+has_command slot = is_some (command_due slot)
+
 -- once it is sent
 abbrev pub without_command : Kept → Kept
 without_command kept = if is_some kept.reason then record kept { reason = None } else record kept { reply = None }

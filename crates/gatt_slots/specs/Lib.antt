@@ -5,3 +5,4 @@ pub mod Hearing
 pub mod Turn
 pub mod Request
 pub mod Slots
+pub mod Places

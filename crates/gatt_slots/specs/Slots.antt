@@ -35,6 +35,13 @@ place_free slots = position is_none slots
 abbrev pub kept_at : Held → ℕ → Option Kept
 kept_at slots place = option_map_or (λ (slot : Option Kept). slot) (slice_get slots place) None
 
+-- something happens at a place, and to the connection of its slot
+abbrev pub at_place : {A : Type 0} → ℕ → (A → A) → List A → List A
+at_place place change xs = option_map_or (λ x. set xs place (change x)) (slice_get xs place) xs
+
+abbrev pub slots_at : ℕ → (Kept → Kept) → Held → Held
+slots_at place change slots = at_place place (option_map change) slots
+
 pub record IsThere (slots : Held) (place : ℕ) : Type 0 where
   pub within : place < length slots
   pub kept : IsSome (kept_at slots place)

@@ -5,6 +5,7 @@ ghost use Rattle.std.specs.Option.{option_map, option_copied};
 ghost use Rattle.att_table.specs.Table.{attribute_at, is_value_at, value_at};
 ghost use Rattle.gatt_laws.specs.Heard.{att_pdu};
 ghost use Rattle.gatt_slots.specs.Hearing.{after_hearing, row_in_force, told_in_turn, told_raised, told_released, with_told};
+ghost use Rattle.gatt_slots.specs.Places.{waits};
 ghost use Rattle.gatt_subs.specs.Rows.{owes, row_of};
 ghost use Rattle.le_acl.specs.Outgoing.{with_pdu};
 ghost use Rattle.octets.specs.Number.{two_octets};
@@ -174,6 +175,13 @@ impl Slot {
             &mut self.pending,
             &mut self.sender,
         );
+    }
+
+    /// Whether a value waits to be indicated to the connection.
+    pub(crate) fn waits(&self) -> bool
+        ensures { result ≡ waits self.now }
+    {
+        self.used != Use::Free && self.pending.waits()
     }
 
     /// Whether the peer of the connection is owed an indication of a changed table.

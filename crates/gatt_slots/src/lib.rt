@@ -2,14 +2,14 @@
 //! goes out on it.
 #![tactic(auto)]
 
+mod each;
 mod going_out;
 mod hearing;
+mod marks;
+mod places;
 mod request;
 mod slot;
 mod slots;
 mod turn;
 
-pub use slot::Slot;
-pub use slots::{
-    complete_all, find_free, find_holding, find_serving, hear_all, replace_all, tick_all,
-};
+pub use slots::Slots;

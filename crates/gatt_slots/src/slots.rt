@@ -1,122 +1,391 @@
-//! All slots of a host: which has a connection, and what an event does to each.
+//! The slots of a host, as one value that knows where something may be due.
 
-ghost use Rattle.std.specs.Prelude.{◌≡◌, ◌<◌, is_none, length, map, IfSome};
+ghost use Rattle.std.specs.Prelude.{◌≡◌, ◌<◌, ◌≤◌, ◌^◌, is_none, is_some, length, map, replicate, take, None, Some, IfOk, IfSome, IsSome};
+ghost use Rattle.std.specs.Bool.{OnTrue, OnFalse};
+ghost use Rattle.std.specs.List.{list_any, position};
+ghost use Rattle.std.specs.Option.{option_and_then, option_map};
+ghost use Rattle.att_table.specs.ConfigRow.{IsRowOf};
+ghost use Rattle.gatt_laws.specs.Turn.{gained_encryption};
+ghost use Rattle.gatt_slots.specs.Commands.{command_due, gives, has_command, packet_of, without_command, without_packet};
+ghost use Rattle.gatt_slots.specs.Hearing.{row_in_force};
+ghost use Rattle.gatt_slots.specs.Places.{waits};
+ghost use Rattle.gatt_slots.specs.Request.{bond_served, handles_of, kept_served, table_after};
+ghost use Rattle.gatt_slots.specs.Slots.{after_entries, all_after_table, all_after_time, all_heard, at_place, kept_at, place_free, place_holding, place_serving, slots_at, IsThere};
+ghost use Rattle.gatt_slots.specs.Turn.{after_authorizing, after_key_asked, after_link_step, after_signal, come};
+ghost use Rattle.gatt_subs.specs.Rows.{owes, row_of, ChangesBond};
+ghost use Rattle.le_hci.specs.Command.{command_of};
 ghost use Rattle.le_hci.specs.Event.{completed_packets_of};
-ghost use Rattle.gatt_slots.specs.Slots.{after_entries, after_entry, all_after_table, all_after_time, all_heard, is_holding, is_serving, handles_for, place_free, place_holding, place_serving, IsThere};
+ghost use Rattle.le_security.specs.Keys.{answer_of};
+ghost use Rattle.le_security.specs.Link.{after_step, Encryption, Refresh};
 
-use crate::slot::{Slot, Use};
+use crate::each::{
+    complete_all, find_free, find_holding, find_serving, hear_all, replace_all, tick_all,
+};
+use crate::marks::Marks;
+use crate::places::{Due, first_due};
+use crate::slot::Slot;
+use arrayvec::ArrayVec;
 use att_table::Table;
 use gatt_subs::Rows;
-use le_hci::CompletedPackets;
+use le_hci::{Command, Peer};
+use le_security::Keys;
+use std::alloc::{AllocError, Global};
+use std::marker::Model;
 
-/// The slot whose connection has a handle and serves.
-#[tactic(auto, using(crate::proofs::Found::serving_there))]
-pub fn find_serving(slots: &[Slot], handle: u16) -> Option<usize>
-    ensures place { result ≡ place_serving slots.now handle }
-    ensures there { IfSome result (IsThere slots.now) }
-{
-    slots.iter().position(|slot| slot.is_serving(handle))
+/// The slots of a host, in their order: at most 8.
+#[derive(Drop)]
+pub struct Slots {
+    slots: Vec<Slot>,
+    marks: Marks,
 }
 
-/// The slot whose connection has a handle, also one that is ending.
-#[tactic(auto, using(crate::proofs::Found::holding_there))]
-pub fn find_holding(slots: &[Slot], handle: u16) -> Option<usize>
-    ensures place { result ≡ place_holding slots.now handle }
-    ensures there { IfSome result (IsThere slots.now) }
-{
-    slots.iter().position(|slot| slot.is_holding(handle))
+impl Model for Slots {
+    ghost use Rattle.gatt_slots.specs.Places.{IsMarked};
+    ghost use Rattle.gatt_slots.specs.Slots.{Held};
+
+    ghost Value = { Held };
+
+    ghost view = { λ s. s.slots.items };
+
+    ghost invariant = { λ s. IsMarked s.slots.items s.marks };
 }
 
-/// The first slot that is free.
-#[tactic(auto, using(crate::proofs::Found::free_within))]
-pub fn find_free(slots: &[Slot]) -> Option<usize>
-    ensures place { result ≡ place_free slots.now }
-    ensures within { IfSome result (λ place. place < length slots.now) }
-{
-    slots.iter().position(|slot| slot.is_free())
-}
-
-impl Slot {
-    fn is_serving(&self, handle: u16) -> bool
-        ensures { result ≡ is_serving handle self.now }
+impl Slots {
+    /// Slots that are free, each with room for all that it may come to keep.
+    pub fn new(alloc: Global, count: usize) -> Result<Slots, AllocError>
+        requires { count ≤ 8 }
+        ensures { IfOk result (λ slots. slots ≡ replicate count None) }
     {
-        self.used == Use::Live && self.handle == handle
+        Ok(Slots {
+            slots: free_slots(alloc, count)?,
+            marks: Marks::all(),
+        })
     }
 
-    fn is_holding(&self, handle: u16) -> bool
-        ensures { result ≡ is_holding handle self.now }
+    /// How many there are.
+    pub fn len(&self) -> usize
+        ensures count { result ≡ length self.now }
+        ensures few { result ≤ 8 }
     {
-        self.used != Use::Free && self.handle == handle
+        self.slots.len()
+    }
+
+    /// Keeps the first ones, at most as many.
+    pub fn truncate(&mut self, count: usize)
+        ensures { self.new ≡ take count self.old }
+    {
+        self.slots.truncate(count);
+        self.marks = Marks::all();
+    }
+
+    /// The slot whose connection has a handle and serves.
+    pub fn find_serving(&self, handle: u16) -> Option<usize>
+        ensures place { result ≡ place_serving self.now handle }
+        ensures there { IfSome result (IsThere self.now) }
+        ensures few { IfSome result (λ place. place < 8) }
+    {
+        find_serving(self.slots.as_slice(), handle)
+    }
+
+    /// The slot whose connection has a handle, also one that is ending.
+    pub fn find_holding(&self, handle: u16) -> Option<usize>
+        ensures place { result ≡ place_holding self.now handle }
+        ensures there { IfSome result (IsThere self.now) }
+    {
+        find_holding(self.slots.as_slice(), handle)
+    }
+
+    /// The first slot that is free.
+    pub fn find_free(&self) -> Option<usize>
+        ensures place { result ≡ place_free self.now }
+        ensures within { IfSome result (λ place. place < length self.now) }
+        ensures few { IfSome result (λ place. place < 8) }
+    {
+        find_free(self.slots.as_slice())
+    }
+
+    /// Authorizes the connection of a slot while the time is below a moment, in milliseconds.
+    pub fn authorize(&mut self, place: usize, until: u64)
+        requires { place < length self.old }
+        ensures { self.new ≡ slots_at place (after_authorizing until) self.old }
+    {
+        self.slots[place].authorize(until);
+        self.marks.change(place);
+    }
+
+    /// Takes in a new connection at a slot, to a server that receives PDUs of `rx_mtu` octets. At most
+    /// `share` of its packets may be outstanding, with at most `acl_len` octets of data each.
+    pub fn come(
+        &mut self,
+        place: usize,
+        handle: u16,
+        peer: Peer,
+        key_known: bool,
+        rx_mtu: u16,
+        share: u16,
+        acl_len: u16,
+    )
+        requires place { place < length self.old }
+        requires handle { handle < 2 ^ 12 }
+        requires rx_mtu_least { 23 ≤ rx_mtu }
+        requires rx_mtu_most { rx_mtu ≤ 517 }
+        requires share { 0 < share }
+        requires acl_len_least { 27 ≤ acl_len }
+        requires acl_len_most { acl_len ≤ 251 }
+        ensures { self.new ≡ at_place place (λ slot. Some (come handle peer key_known rx_mtu share acl_len)) self.old }
+    {
+        self.slots[place].come(handle, peer, key_known, rx_mtu, share, acl_len);
+        self.marks.change(place);
+    }
+
+    /// Frees a slot.
+    pub fn go(&mut self, place: usize)
+        requires { place < length self.old }
+        ensures { self.new ≡ at_place place (λ slot. None) self.old }
+    {
+        self.slots[place].go();
+        self.marks.change(place);
+    }
+
+    /// The controller asked for the key of the link of a slot: it is looked up, and a reply is due.
+    pub fn ask_key(&mut self, place: usize, keys: &Keys, random_number: [u8; 8], diversifier: u16)
+        requires { place < length self.old }
+        ensures { self.new ≡ slots_at place (λ kept. after_key_asked (answer_of keys.now kept.peer random_number diversifier) kept) self.old }
+    {
+        self.slots[place].ask_key(keys, random_number, diversifier);
+        self.marks.change(place);
+    }
+
+    /// Encryption of the link of a slot was changed, or could not be: `true` where it has a key now and
+    /// had none. Where it lost its key the connection is ended.
+    pub fn encrypt(&mut self, place: usize, status: u8, enabled: u8) -> bool
+        requires { place < length self.old }
+        ensures after { self.new ≡ slots_at place (after_link_step (Encryption status enabled)) self.old }
+        ensures gained { IfSome (kept_at self.old place) (λ kept. result ≡ gained_encryption kept.link.key (after_step kept.link (Encryption status enabled)).key) }
+    {
+        let gained = self.slots[place].encrypt(status, enabled);
+        self.marks.change(place);
+        gained
+    }
+
+    /// The key of the link of a slot was refreshed, or could not be.
+    pub fn refresh(&mut self, place: usize, status: u8) -> bool
+        requires { place < length self.old }
+        ensures after { self.new ≡ slots_at place (after_link_step (Refresh status)) self.old }
+        ensures gained { IfSome (kept_at self.old place) (λ kept. result ≡ gained_encryption kept.link.key (after_step kept.link (Refresh status)).key) }
+    {
+        let gained = self.slots[place].refresh(status);
+        self.marks.change(place);
+        gained
+    }
+
+    /// Whether the peer of the connection of a slot is owed an indication of a changed table.
+    pub fn is_owed(&self, place: usize, rows: &Rows) -> bool
+        requires { place < length self.now }
+        ensures { IfSome (kept_at self.now place) (λ kept. result ≡ owes rows.now kept.peer) }
+    {
+        self.slots[place].is_owed(rows)
+    }
+
+    /// Takes in a payload on the channel of LE signalling or of the Security Manager.
+    pub fn signal(&mut self, place: usize, channel: u16, payload: &[u8])
+        requires { place < length self.old }
+        ensures { self.new ≡ slots_at place (after_signal channel payload.now) self.old }
+    {
+        self.slots[place].signal(channel, payload);
+        self.marks.change(place);
+    }
+
+    /// Serves a PDU of the Attribute Protocol on the connection of a slot, and gives the handles that
+    /// it wrote. The connection is ended where an answer is due and there is no room for it.
+    pub fn serve(
+        &mut self,
+        place: usize,
+        table: &mut Table,
+        rows: &mut Rows,
+        changer: Option<u16>,
+        now: u64,
+        pdu: &[u8],
+    ) -> ArrayVec<u16, 32>
+        requires place { place < length self.old }
+        requires there { IsSome (kept_at self.old place) }
+        requires row { IfSome (kept_at self.old place) (λ kept. IsRowOf table.old.attributes (row_in_force (row_of rows.old kept.peer) kept)) }
+        ensures after { self.new ≡ slots_at place (λ kept. kept_served table.old now (row_of rows.old kept.peer) pdu.now kept) self.old }
+        ensures table { IfSome (kept_at self.old place) (λ kept. table.new ≡ table_after table.old now (row_of rows.old kept.peer) pdu.now kept) }
+        ensures bond { IfSome (kept_at self.old place) (λ kept. ChangesBond (bond_served table.old now changer (row_of rows.old kept.peer) pdu.now kept) kept.peer rows.old rows.new) }
+        ensures written { IfSome (kept_at self.old place) (λ kept. result.items ≡ handles_of table.old now (row_of rows.old kept.peer) pdu.now kept) }
+    {
+        let written = self.slots[place].serve(table, rows, changer, now, pdu);
+        self.marks.go_on(place);
+        written
+    }
+
+    /// Counts packets as completed, each entry at most those that are outstanding. Entries of unknown
+    /// handles are ignored.
+    pub fn complete(&mut self, entries: &[[u8; 4]])
+        ensures { self.new ≡ after_entries (map completed_packets_of entries.now) self.old }
+    {
+        complete_all(self.slots.as_mut_slice(), &mut self.marks, entries);
+    }
+
+    /// Takes in the time, in milliseconds.
+    pub fn tick(&mut self, now: u64)
+        ensures { self.new ≡ all_after_time now self.old }
+    {
+        tick_all(self.slots.as_mut_slice(), now);
+        self.marks = Marks::all();
+    }
+
+    /// Takes in that a table replaces another.
+    pub fn replace(&mut self, old: &Table, new: &Table)
+        ensures { self.new ≡ all_after_table old.now.attributes new.now.attributes self.old }
+    {
+        replace_all(self.slots.as_mut_slice(), old, new);
+        self.marks = Marks::all();
+    }
+
+    /// Ends an event: the connections hear of the values that it raised for them, in the order of their
+    /// slots, that of the slot `own` of those of `here` and the others of `handles`, and of what is then
+    /// due.
+    #[tactic(auto, using(crate::proofs::Quiet::nothing_heard_by_all))]
+    pub fn hear(
+        &mut self,
+        table: &Table,
+        rows: &Rows,
+        own: Option<usize>,
+        here: &[u16],
+        handles: &[u16],
+        now: u64,
+    )
+        ensures heard { self.new ≡ all_heard table.now now rows.now own here.now handles.now self.old }
+        ensures count { length self.new ≡ length self.old }
+    {
+        // Most events tell no connection anything.
+        if here.is_empty() && handles.is_empty() && !self.marks.waiting {
+            return;
+        }
+        hear_all(
+            self.slots.as_mut_slice(),
+            table,
+            rows,
+            own,
+            here,
+            handles,
+            now,
+        );
+        self.marks = Marks::all();
+        self.marks.waiting = any_waits(self.slots.as_slice());
+    }
+
+    /// A slot is free.
+    pub fn has_room(&mut self) -> bool
+        ensures room { result ≡ list_any (λ slot. is_none slot) self.old }
+        ensures unchanged { self.new ≡ self.old }
+    {
+        if self.marks.free {
+            self.marks.free = any_free(self.slots.as_slice());
+        }
+        self.marks.free
+    }
+
+    /// The first slot for which a command is due.
+    pub fn first_with_command(&mut self) -> Option<usize>
+        ensures place { result ≡ position has_command self.old }
+        ensures within { IfSome result (λ place. place < length self.old) }
+        ensures unchanged { self.new ≡ self.old }
+    {
+        first_due(
+            self.slots.as_slice(),
+            Due::Command,
+            &mut self.marks.commands,
+        )
+    }
+
+    /// The first slot that may give a packet.
+    pub fn first_that_gives(&mut self) -> Option<usize>
+        ensures place { result ≡ position gives self.old }
+        ensures within { IfSome result (λ place. place < length self.old) }
+        ensures unchanged { self.new ≡ self.old }
+    {
+        first_due(self.slots.as_slice(), Due::Packet, &mut self.marks.packets)
+    }
+
+    /// The command that is due for the connection of a slot: to disconnect it, else to reply to the
+    /// request for its key.
+    pub fn command(&self, place: usize) -> Option<Command<'static>>
+        requires { place < length self.now }
+        ensures { option_map command_of result ≡ command_due (kept_at self.now place) }
+    {
+        self.slots[place].command()
+    }
+
+    /// Takes in that the command that was due for the connection of a slot is sent.
+    pub fn command_sent(&mut self, place: usize)
+        requires { place < length self.old }
+        ensures { self.new ≡ slots_at place without_command self.old }
+    {
+        self.slots[place].command_sent();
+        self.marks.go_on(place);
+    }
+
+    /// Writes the next packet of the connection of a slot in place of what `out` holds. There is none,
+    /// and nothing changes, where all is given that may be.
+    pub fn next_packet(&mut self, place: usize, out: &mut ArrayVec<u8, 260>) -> bool
+        requires { place < length self.old }
+        ensures gives { result ≡ gives (kept_at self.old place) }
+        ensures packet { OnTrue result (option_and_then packet_of (kept_at self.old place) ≡ Some out.new.items) }
+        ensures after { OnTrue result (self.new ≡ slots_at place without_packet self.old) }
+        ensures unchanged { OnFalse result (self.new ≡ self.old) }
+        ensures out_unchanged { OnFalse result (out.new.items ≡ out.old.items) }
+    {
+        let gives = self.slots[place].next_packet(out);
+        self.marks.go_on(place);
+        gives
+    }
+
+    /// A command is due for the connection of a slot.
+    pub fn has_command(&self) -> bool
+        ensures { result ≡ list_any has_command self.now }
+    {
+        self.slots.iter().any(|slot| slot.has_command())
+    }
+
+    /// A slot may give a packet.
+    pub fn gives(&self) -> bool
+        ensures { result ≡ list_any gives self.now }
+    {
+        self.slots.iter().any(|slot| slot.gives())
+    }
+
+    /// A slot is free.
+    pub fn is_free(&self) -> bool
+        ensures { result ≡ list_any (λ slot. is_none slot) self.now }
+    {
+        any_free(self.slots.as_slice())
     }
 }
 
-/// Ends an event: the connections hear of the values that it raised for them, in the order of their
-/// slots, that of the slot `own` of those of `here` and the others of `handles`, and of what is then
-/// due.
-pub fn hear_all(
-    slots: &mut [Slot],
-    table: &Table,
-    rows: &Rows,
-    own: Option<usize>,
-    here: &[u16],
-    handles: &[u16],
-    now: u64,
-)
-    ensures { slots.new ≡ all_heard table.now now rows.now own here.now handles.now slots.old }
+/// A slot is free.
+fn any_free(slots: &[Slot]) -> bool
+    ensures { result ≡ list_any (λ slot. is_none slot) slots.now }
 {
-    for place in 0..slots.len() {
-        slots[place].hear(table, rows, raised_for(place, own, here, handles), now);
-    }
+    slots.iter().any(|slot| slot.is_free())
 }
 
-/// The values that are raised for the connection of a slot.
-fn raised_for<'a>(
-    place: usize,
-    own: Option<usize>,
-    here: &'a [u16],
-    handles: &'a [u16],
-) -> &'a [u16]
-    ensures { result.now ≡ handles_for own here.now handles.now place }
+/// A value waits to be indicated to the connection of a slot.
+fn any_waits(slots: &[Slot]) -> bool
+    ensures { result ≡ list_any waits slots.now }
 {
-    match own {
-        Some(at) if at == place => here,
-        _ => handles,
-    }
+    slots.iter().any(|slot| slot.waits())
 }
 
-/// Takes in the time, in milliseconds.
-pub fn tick_all(slots: &mut [Slot], now: u64)
-    ensures { slots.new ≡ all_after_time now slots.old }
+/// Free slots, as many.
+fn free_slots(alloc: Global, count: usize) -> Result<Vec<Slot>, AllocError>
+    ensures { IfOk result (λ slots. slots.items ≡ replicate count None) }
 {
-    for place in 0..slots.len() {
-        slots[place].tick(now);
+    let mut slots = Vec::with_capacity(alloc, count)?;
+    for _ in 0..count {
+        slots.push(Slot::new(alloc)?)?;
     }
-}
-
-/// Takes in that a table replaces another.
-pub fn replace_all(slots: &mut [Slot], old: &Table, new: &Table)
-    ensures { slots.new ≡ all_after_table old.now.attributes new.now.attributes slots.old }
-{
-    for place in 0..slots.len() {
-        slots[place].replace(old, new);
-    }
-}
-
-/// Counts packets as completed, each entry at most those that are outstanding. Entries of unknown
-/// handles are ignored.
-pub fn complete_all(slots: &mut [Slot], entries: &[[u8; 4]])
-    ensures { slots.new ≡ after_entries (map completed_packets_of entries.now) slots.old }
-{
-    for octets in entries {
-        complete_entry(slots, &CompletedPackets::read(octets));
-    }
-}
-
-/// Counts the packets of one entry as completed.
-fn complete_entry(slots: &mut [Slot], entry: &CompletedPackets)
-    ensures { slots.new ≡ after_entry entry.now slots.old }
-{
-    if let Some(place) = find_holding(slots, entry.handle) {
-        slots[place].complete(entry.packets);
-    }
+    Ok(slots)
 }

@@ -8,7 +8,7 @@ use Rattle.gatt_host.proofs.Nexts.{clash}
 use Rattle.gatt_host.proofs.standing.Holding.{Holds, ends, holds, some-is, were_open}
 use Rattle.gatt_host.proofs.standing.OneSlot.{none_raised_at, ready_where}
 use Rattle.gatt_host.proofs.standing.Turned.{at_own_peer, bonds_alike}
-use Rattle.gatt_host.specs.Held.{Held, after_coming, after_going, at_place, share_in, size_in}
+use Rattle.gatt_host.specs.Held.{Held, after_coming, after_going, share_in, size_in}
 use Rattle.gatt_host.specs.Owing.{all_given, slot_held}
 use Rattle.gatt_host.specs.Stands.{GoingLeadsOn, ComingLeadsOn, HasKeysOfItsPeer, slots_for, Stands, IsSound}
 use Rattle.gatt_laws.proofs.Settled.{none_next}
@@ -22,7 +22,7 @@ use Rattle.gatt_laws.specs.State.{State, change_of, told_of, step, out}
 use Rattle.gatt_slots.proofs.parts.Kept.{kept_there}
 use Rattle.gatt_slots.proofs.parts.Places.{one_freed, takes_the_first}
 use Rattle.gatt_slots.specs.Kept.{Kept, kept_if_there}
-use Rattle.gatt_slots.specs.Slots.{place_free}
+use Rattle.gatt_slots.specs.Slots.{place_free, at_place}
 use Rattle.gatt_slots.specs.Turn.{come}
 use Rattle.le_hci.specs.declared.buffers.Buffers.{Buffers}
 use Rattle.le_hci.specs.declared.peer.Peer.{Peer}

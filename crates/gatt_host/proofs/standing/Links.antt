@@ -7,7 +7,7 @@ use Rattle.att_policy.specs.declared.standing.KeyFacts.{KeyFacts}
 use Rattle.gatt_host.proofs.standing.Holding.{Holds, ends, holds, keyed_alike, HearsRaised}
 use Rattle.gatt_host.proofs.standing.OneSlot.{raised_at}
 use Rattle.gatt_host.proofs.standing.Turned.{holds_alone, kept_here}
-use Rattle.gatt_host.specs.Held.{Held, kept_at, owed_here, slots_at, after_link}
+use Rattle.gatt_host.specs.Held.{Held, kept_at, owed_here, after_link}
 use Rattle.gatt_host.specs.Owing.{all_given}
 use Rattle.gatt_host.specs.Stands.{bond_in, EncryptionLeadsOn, RefreshLeadsOn, HoldsBonds, HasKeysOfItsPeer, IsServing, Stands, IsSound}
 use Rattle.gatt_laws.specs.Event.{Ordinal, Own, Of, Encrypted, Refreshed}
@@ -18,7 +18,7 @@ use Rattle.gatt_laws.specs.Turn.{Turn, live_turn, turn_of, turn_to, with_step, l
 use Rattle.gatt_slots.proofs.parts.Turns.{encrypted_kept, encrypted_raised, refreshed_kept, refreshed_raised, live_turned}
 use Rattle.gatt_slots.specs.Hearing.{after_hearing}
 use Rattle.gatt_slots.specs.Kept.{Kept, kept_of}
-use Rattle.gatt_slots.specs.Slots.{handles_for}
+use Rattle.gatt_slots.specs.Slots.{handles_for, slots_at}
 use Rattle.gatt_slots.specs.Turn.{after_link_step}
 use Rattle.gatt_subs.specs.declared.bond.Bond.{Bond}
 use Rattle.gatt_subs.specs.Rows.{Subscriptions, owes}

@@ -8,14 +8,13 @@ use Rattle.att_numbers.specs.Types.{Handle, Row}
 use Rattle.att_table.specs.Table.{Contents}
 use Rattle.gatt_host.proofs.Nexts.{clash}
 use Rattle.gatt_host.proofs.standing.Holding.{some-is, has_slot_there, HearsRaised}
-use Rattle.gatt_host.specs.Held.{at_place}
 use Rattle.gatt_laws.specs.Controller.{Slots, is_ready}
 use Rattle.gatt_laws.specs.Event.{Ordinal}
 use Rattle.gatt_laws.specs.Settled.{has_slot, HaveOneSlotEach, IsSettled}
 use Rattle.gatt_laws.specs.State.{State, at_ordinal, all_raised}
 use Rattle.gatt_slots.specs.Hearing.{after_hearing}
 use Rattle.gatt_slots.specs.Kept.{Kept}
-use Rattle.gatt_slots.specs.Slots.{handles_for}
+use Rattle.gatt_slots.specs.Slots.{handles_for, at_place}
 
 -- a slot is taken only once the controller is initialised
 ready-slots : (state : State) (settled : IsSettled state) (place : ℕ) (ordinal : Ordinal) (ready : Bool) → is_ready state.controller ≡ ready

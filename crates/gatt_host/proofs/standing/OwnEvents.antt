@@ -7,7 +7,8 @@ use Rattle.gatt_host.proofs.Nexts.{clash}
 use Rattle.gatt_host.proofs.standing.Holding.{Holds, ends, holds, keyed_alike, SameLink}
 use Rattle.gatt_host.proofs.standing.OneSlot.{none_raised_at}
 use Rattle.gatt_host.proofs.standing.Turned.{holds_alone}
-use Rattle.gatt_host.specs.Held.{Held, slots_at, after_authorize, after_ask_key, after_signals}
+use Rattle.gatt_host.specs.Held.{Held, after_authorize, after_ask_key, after_signals}
+use Rattle.gatt_slots.specs.Slots.{slots_at}
 use Rattle.gatt_host.specs.Owing.{all_given}
 use Rattle.gatt_host.specs.Stands.{AuthorizingLeadsOn, AskingAKeyLeadsOn, SignalsLeadOn, HasKeysOfItsPeer, IsServing, Stands, IsSound}
 use Rattle.gatt_laws.specs.Event.{Ordinal, Own, Of, Authorized, KeyAsked, Signals}

@@ -10,7 +10,7 @@ use Rattle.gatt_host.proofs.Nexts.{clash}
 use Rattle.gatt_host.proofs.standing.Holding.{Holds, ends, holds, has_row, keyed_alike, some-is, HearsRaised, SameLink}
 use Rattle.gatt_host.proofs.standing.OneSlot.{raised_at}
 use Rattle.gatt_host.proofs.standing.Turned.{holds_turned, kept_here}
-use Rattle.gatt_host.specs.Held.{Held, kept_at, slots_at, after_serving, Serves}
+use Rattle.gatt_host.specs.Held.{Held, kept_at, after_serving, Serves}
 use Rattle.gatt_host.specs.Owing.{all_given}
 use Rattle.gatt_host.specs.Stands.{bond_in, RequestLeadsOn, HoldsBonds, HasKeysOfItsPeer, IsServing, Stands, IsSound}
 use Rattle.gatt_laws.specs.Event.{Ordinal, Of, Asks}
@@ -25,7 +25,7 @@ use Rattle.gatt_slots.proofs.parts.Turns.{live_turned}
 use Rattle.gatt_slots.specs.Hearing.{after_hearing}
 use Rattle.gatt_slots.specs.Kept.{Kept, kept_of, kept_if_there}
 use Rattle.gatt_slots.specs.Request.{is_full, bond_after, bond_served, confirms_changes, handles_of, kept_served, stored_of, table_after, with_owed_after}
-use Rattle.gatt_slots.specs.Slots.{handles_for}
+use Rattle.gatt_slots.specs.Slots.{handles_for, slots_at}
 use Rattle.gatt_subs.specs.declared.bond.Bond.{Bond}
 use Rattle.gatt_subs.specs.Rows.{Subscriptions, bond_of, row_of, ChangesBond}
 use Rattle.le_hci.specs.declared.peer.Peer.{Peer}

@@ -8,7 +8,8 @@ use Rattle.att_table.specs.Table.{Contents}
 use Rattle.gatt_host.proofs.Nexts.{clash}
 use Rattle.gatt_host.proofs.standing.Holding.{Holds}
 use Rattle.gatt_host.proofs.standing.OneSlot.{ready_where, changed_one}
-use Rattle.gatt_host.specs.Held.{Held, kept_at, slots_at}
+use Rattle.gatt_host.specs.Held.{Held, kept_at}
+use Rattle.gatt_slots.specs.Slots.{slots_at}
 use Rattle.gatt_host.specs.Owing.{all_given, slot_held, slots_held}
 use Rattle.gatt_host.specs.Stands.{HoldsBonds, HasKeysOfItsPeer}
 use Rattle.gatt_laws.specs.Controller.{is_ready}

@@ -1,5 +1,4 @@
-use Rattle.std.proofs.Common.{◌≡◌, ℕ, ◌<◌, Option, length, subst, sym, ap, ◌∙◌, arith}
-use Rattle.std.specs.Vec.{vec_len}
+use Rattle.std.proofs.Common.{ℕ, Option, length, sym, ap, ◌∙◌}
 use Rattle.gatt_host.specs.contracts.host_state.HostState.{the_view}
 use Rattle.gatt_host.specs.Held.{Held}
 use Rattle.gatt_host.proofs.Places.{come_then_heard}
@@ -11,12 +10,9 @@ use Rattle.gatt_host.proofs.host_state.HostState.come.Goals as goal
 pub returns : goal.returns
 returns c =
     let old : Held = the_view c.self.inside in
-    let within : c.args.place < length old.slots =
-    subst (λ (held : Held). c.args.place < length held.slots) (sym c.self.view_is) c.requires.place in
-    let count-is : vec_len c.self.inside.slots ≡ length old.slots = omega (arith, c.self.inside.slots.ok.0) in
-    come_then_heard old c.args.self.now c.self.view_is c.args.place c.args.handle c.args.peer c.share-share.result c.acl_len-acl_len.result c.known-key_known.result
-    c.index_mut.result.now c.come.new.self c.came.new.self c.hear.new.slots.items within c.index_mut.ensures.value
-    (c.share-share.ensures.share ∙ ap (λ (count : ℕ). share count c.in-Some.buffers.packets) (c.len.ensures ∙ count-is)
+    c.nothing.ensures ∙ come_then_heard old c.args.self.now c.self.view_is c.args.place c.args.handle c.args.peer c.share-share.result c.acl_len-acl_len.result c.known-key_known.result
+    c.came.new.self c.come.new.self
+    (c.share-share.ensures.share ∙ ap (λ (count : ℕ). share count c.in-Some.buffers.packets) c.len.ensures.count
     ∙ ap (λ (told : Option Buffers). share_of (length old.slots) told) (sym c.in-Some.is ∙ c.told.ensures.told))
     (c.acl_len-acl_len.ensures ∙ ap (λ (told : Option Buffers). size_of told) (sym c.in-Some.is ∙ c.told.ensures.told))
-    c.known-key_known.ensures c.come.ensures (c.came.ensures c.args.handle c.args.peer) c.hear.ensures.heard
+    c.known-key_known.ensures c.come.ensures (c.came.ensures c.args.handle c.args.peer)

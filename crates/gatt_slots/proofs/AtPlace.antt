@@ -1,0 +1,56 @@
+-- What happens at one place of the slots.
+use Rattle.std.proofs.Common.{◌≡◌, ℕ, ◌<◌, Bool, true, false, List, length, set, get_or, Option, Some, None, refl, sym, ap, ◌∙◌}
+use Rattle.std.specs.Prelude.{if◌then◌else◌}
+use Rattle.std.specs.Option.{option_map, option_map_or}
+use Rattle.std.proofs.lemmas.Option.{slice_get-get_or}
+use Rattle.att_numbers.specs.Types.{Row}
+use Rattle.att_table.specs.Table.{Contents}
+use Rattle.gatt_conn.specs.Answer.{is_confirmation}
+use Rattle.gatt_slots.proofs.Covering.{read_at}
+use Rattle.gatt_slots.specs.Kept.{Kept}
+use Rattle.gatt_slots.specs.Places.{is_some_handle, GoesOn}
+use Rattle.gatt_slots.specs.Request.{is_full, kept_served, pending_after}
+use Rattle.gatt_laws.specs.Turn.{remote_user_terminated}
+use Rattle.gatt_slots.specs.Turn.{after_ending}
+use Rattle.gatt_slots.specs.Slots.{Held, at_place, kept_at, slots_at}
+use Rattle.gatt_subs.specs.Indications.{Indications}
+use Rattle.gatt_subs.specs.Rows.{Subscriptions, row_of}
+use Rattle.octets.specs.Number.{Octets}
+
+pub set_at_place : {A : Type 0} (xs : List A) (place : ℕ) (change : A → A) (x : A) → place < length xs → x ≡ get_or xs place x
+    → set xs place (change x) ≡ at_place place change xs
+set_at_place {A = A} xs place change x within is =
+    ap (λ (it : A). set xs place (change it)) is
+    ∙ sym (ap (λ (found : Option A). option_map_or (λ (it : A). set xs place (change it)) found xs) (slice_get-get_or xs place x within))
+
+module _ (slots self : Held) (view : slots ≡ self) (place : ℕ) (slot : Option Kept) (within : place < length slots) (is : slot ≡ get_or slots place slot) where
+  pub there_at : slot ≡ kept_at self place
+  there_at = sym (read_at slots place slot within is) ∙ ap (λ (it : Held). kept_at it place) view
+
+  pub changed_at : (change : Kept → Kept) (changed : Option Kept) → changed ≡ option_map change slot → set slots place changed ≡ slots_at place change self
+  changed_at change changed changes =
+      ap (λ (it : Option Kept). set slots place it) changes
+      ∙ set_at_place slots place (λ (it : Option Kept). option_map change it) slot within is
+      ∙ ap (λ (it : Held). slots_at place change it) view
+
+-- a connection that is served goes on: nothing waits that did not wait
+confirmed-waits : (pdu : Octets) (pending : Indications) → (pending_after pdu pending).waiting ≡ pending.waiting
+confirmed-waits pdu pending = elim (is_confirmation pdu) as (λ (is : Bool). (let after : Indications = if is then record pending { unconfirmed = None } else pending in after).waiting ≡ pending.waiting) [
+  | true ↦ refl
+  | false ↦ refl
+]
+
+served-waits : (table : Contents) (now : ℕ) (bond : Option Row) (pdu : Octets) (kept : Kept)
+    → is_some_handle (kept_served table now bond pdu kept).pending.waiting ≡ true → is_some_handle kept.pending.waiting ≡ true
+served-waits table now bond pdu kept is = by (is_full pdu kept) _ (confirmed-waits pdu kept.pending) is
+  where
+    by : (full : Bool) (other : Kept) → other.pending.waiting ≡ kept.pending.waiting
+        → is_some_handle (let served : Kept = if full then after_ending remote_user_terminated kept else other in served).pending.waiting ≡ true
+        → is_some_handle kept.pending.waiting ≡ true
+    by true other same is = cc is
+    by false other same is = ap is_some_handle (sym same) ∙ is
+
+pub served_goes_on : (table : Contents) (now : ℕ) (rows : Subscriptions) (pdu : Octets) (slot : Option Kept)
+    → GoesOn slot (option_map (λ kept. kept_served table now (row_of rows kept.peer) pdu kept) slot)
+served_goes_on table now rows pdu None = record { waiting = λ is. is; free = λ is. is }
+served_goes_on table now rows pdu (Some kept) = record { waiting = served-waits table now (row_of rows kept.peer) pdu kept; free = λ is. is }

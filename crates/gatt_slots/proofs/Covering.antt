@@ -1,0 +1,193 @@
+-- What a set of places covers, as slots change and as places leave it.
+use Rattle.std.proofs.Common.{◌≡◌, ◌≢◌, ℕ, zero, suc, ◌+◌, ◌<◌, ◌≤◌, Bool, true, false, ◌||◌, List, [], ◌∷◌, length, set, get_or, Option, Some, None, refl, sym, ap, ◌∙◌, arith}
+use Rattle.std.specs.Prelude.{cond, is_none}
+use Rattle.std.specs.Int.{bit_at}
+use Rattle.std.specs.List.{list_any, position, position_from}
+use Rattle.std.specs.Option.{option_map_or}
+use Rattle.std.proofs.lemmas.Bool.{cases_eq, cases_lt}
+use Rattle.std.proofs.lemmas.Iterator.Adapters.{position_from-zero}
+use Rattle.std.proofs.lemmas.List.{get_or-set_same, get_or-set_other, length-set}
+use Rattle.std.proofs.lemmas.List.Quantifiers.{position-Some}
+use Rattle.std.proofs.lemmas.Nat.Bits.{bit_at-zero, bit_at_ones}
+use Rattle.std.proofs.lemmas.Option.{slice_get-get_or}
+use Rattle.std.proofs.Math.Logic.{⊎_elim}
+use Rattle.gatt_slots.proofs.Found.{kept-is}
+use Rattle.gatt_slots.specs.Kept.{Kept}
+use Rattle.gatt_slots.specs.Places.{is_due, waits, Covers, GoesOn, IsMarked}
+use Rattle.gatt_slots.specs.Slots.{Held, kept_at}
+use Rattle.gatt_slots.specs.declared.marks.Marks.{Marks}
+use Rattle.gatt_slots.specs.declared.places.Due.{Due}
+use Rattle.gatt_slots.specs.declared.places.Due.TheVariants.{Command, Packet}
+
+pub clash : {X : Type 0} {test : Bool} → test ≡ true → test ≡ false → X
+clash is not = absurd (no (sym is ∙ not))
+  where
+    no : true ≡ false → ⊥
+    no e = cc e
+
+-- what a slot keeps beyond the last: nothing
+pub past : (slots : Held) (place : ℕ) → length slots ≤ place → kept_at slots place ≡ None
+past [] place beyond = refl
+past (slot ∷ slots) zero beyond = absurd (omega arith)
+past (slot ∷ slots) (suc place) beyond = past slots place (omega arith)
+
+pub none-due : (due : Due) → is_due due None ≡ false
+none-due Command = refl
+none-due Packet = refl
+
+-- what is due is due at a slot that is there
+there : (due : Due) (slots : Held) (place : ℕ) → is_due due (kept_at slots place) ≡ true → place < length slots
+there due slots place is = ⊎_elim (λ within. within)
+    (λ beyond. clash is (ap (is_due due) (past slots place (omega (arith, beyond))) ∙ none-due due))
+    (cases_lt place (length slots))
+
+at-same : (slots : Held) (place : ℕ) (slot : Option Kept) → place < length slots → kept_at (set slots place slot) place ≡ slot
+at-same slots place slot within =
+    kept-is (set slots place slot) place (omega (arith, length-set slots place slot)) ∙ get_or-set_same slots place slot None within
+
+at-other : (slots : Held) (place other : ℕ) (slot : Option Kept) → other ≢ place → kept_at (set slots place slot) other ≡ kept_at slots other
+at-other slots place other slot apart = ⊎_elim
+    (λ within.
+    kept-is (set slots place slot) other (omega (arith, within, length-set slots place slot))
+    ∙ get_or-set_other slots place other slot None apart ∙ sym (kept-is slots other within))
+    (λ beyond.
+    past (set slots place slot) other (omega (arith, beyond, length-set slots place slot)) ∙ sym (past slots other (omega (arith, beyond))))
+    (cases_lt other (length slots))
+
+-- all places cover all that is due
+pub all_covered : (due : Due) (slots : Held) → length slots ≤ 8 → Covers due 255 slots
+all_covered due slots few = λ place is. bit_at_ones 8 place (omega (arith, there due slots place is))
+
+-- a slot is changed whose place comes into the set
+pub covered_with : (due : Due) (old new : ℕ) (slots : Held) (place : ℕ) (slot : Option Kept) → Covers due old slots → bit_at new place ≡ 1
+    → ((other : ℕ) → other ≢ place → bit_at new other ≡ bit_at old other) → Covers due new (set slots place slot)
+covered_with due old new slots place slot covers added others = λ other is. ⊎_elim
+    (λ same. ap (bit_at new) same ∙ added)
+    (λ apart. others other apart ∙ covers other (ap (is_due due) (sym (at-other slots place other slot apart)) ∙ is))
+    (cases_eq other place)
+
+-- a place leaves it at which nothing is due
+pub covered_without : (due : Due) (old new : ℕ) (slots : Held) (place : ℕ) → length slots ≤ 8 → Covers due old slots → is_due due (kept_at slots place) ≡ false
+    → ((other : ℕ) → other < 8 → other ≢ place → bit_at new other ≡ bit_at old other) → Covers due new slots
+covered_without due old new slots place few covers idle others = λ other is. ⊎_elim
+    (λ same. clash is (ap (λ at. is_due due (kept_at slots at)) same ∙ idle))
+    (λ apart. others other (omega (arith, there due slots other is)) apart ∙ covers other is)
+    (cases_eq other place)
+
+-- the first place at which something is due
+module _ {A : Type 0} (test : A → Bool) (d : A) where
+  some-passes : (n : ℕ) (xs : List A) (place : ℕ) → place < length xs → test (get_or xs place d) ≡ true → position_from test n xs ≡ None → ⊥
+  some-passes n [] place within is none = absurd (omega (arith, within))
+  some-passes n (x ∷ xs) zero within is none = found (sym (ap (λ (it : Bool). cond it (Some n) (position_from test (n + 1) xs)) is) ∙ none)
+    where
+      found : Some n ≡ None → ⊥
+      found e = cc e
+  some-passes n (x ∷ xs) (suc place) within is none =
+      elim (test x) as (λ (it : Bool). cond it (Some n) (position_from test (n + 1) xs) ≡ None → ⊥) [
+        | true ↦ λ found. no found
+        | false ↦ λ later. some-passes (n + 1) xs place (omega (arith, within)) is later
+      ] none
+    where
+      no : Some n ≡ None → ⊥
+      no e = cc e
+
+pub none_due : (due : Due) (slots : Held) → ((place : ℕ) → is_due due (kept_at slots place) ≡ false) → position (is_due due) slots ≡ None
+none_due due slots none =
+    elim (position (is_due due) slots) as (λ (found : Option ℕ). position (is_due due) slots ≡ found → found ≡ None) [
+      | None ↦ λ is. refl
+      | Some place ↦ λ is.
+          let at = position-Some (is_due due) slots place None is in
+          clash at.1 (ap (is_due due) (sym (kept-is slots place at.0)) ∙ none place)
+    ] refl
+
+pub first_due : (due : Due) (slots : Held) (place : ℕ) → is_due due (kept_at slots place) ≡ true
+    → ((other : ℕ) → other < place → is_due due (kept_at slots other) ≡ false) → position (is_due due) slots ≡ Some place
+first_due due slots place is before =
+    let within = there due slots place is in
+    elim (position (is_due due) slots) as (λ (found : Option ℕ). position (is_due due) slots ≡ found → found ≡ Some place) [
+      | None ↦ λ none. absurd (some-passes (is_due due) None 0 slots place within (ap (is_due due) (sym (kept-is slots place within)) ∙ is)
+          (sym (position_from-zero (is_due due) slots) ∙ none))
+      | Some other ↦ λ at.
+          let found = position-Some (is_due due) slots other None at in
+          let due-there : is_due due (kept_at slots other) ≡ true = ap (is_due due) (kept-is slots other found.0) ∙ found.1 in
+          ap Some (⊎_elim (λ less. clash due-there (before other less))
+          (λ least. ⊎_elim (λ more. clash (ap (is_due due) (sym (kept-is slots place within)) ∙ is) (found.2 place more))
+          (λ most. omega (arith, least, most)) (cases_lt place other)) (cases_lt other place))
+    ] refl
+
+-- what no slot is, none is after a change of one that was not, or is not then
+module _ (test : Option Kept → Bool) (slot : Option Kept) where
+  no-first : (first : Bool) (rest : Bool) → (first || rest) ≡ false → (first ≡ false) × (rest ≡ false)
+  no-first true rest none = cc none
+  no-first false rest none = (refl, none)
+
+  neither : (first : Bool) (rest : Bool) → first ≡ false → rest ≡ false → (first || rest) ≡ false
+  neither first rest not none = λ i. not i || none i
+
+  not-so : (old : Option Kept) → test old ≡ false → (test slot ≡ true → test old ≡ true) → test slot ≡ false
+  not-so old not keeps = elim (test slot) as (λ (it : Bool). (it ≡ true → test old ≡ true) → it ≡ false) [
+    | true ↦ λ keeps. clash (keeps refl) not
+    | false ↦ λ keeps. refl
+  ] keeps
+
+  pub none_with : (slots : Held) (place : ℕ) → list_any test slots ≡ false → (test slot ≡ true → test (kept_at slots place) ≡ true)
+      → list_any test (set slots place slot) ≡ false
+  none_with [] place none keeps = refl
+  none_with (first ∷ slots) zero none keeps =
+      let parts = no-first (test first) (list_any test slots) none in
+      neither (test slot) (list_any test slots) (not-so first parts.0 keeps) parts.1
+  none_with (first ∷ slots) (suc place) none keeps =
+      let parts = no-first (test first) (list_any test slots) none in
+      neither (test first) (list_any test (set slots place slot)) parts.0 (none_with slots place parts.1 keeps)
+
+-- the marks after a change of one slot
+module _ (slots : Held) (place : ℕ) (slot : Option Kept) (old new : Marks) (marked : IsMarked slots old)
+    (commands : bit_at new.commands.bits place ≡ 1) (other_commands : (other : ℕ) → other ≢ place → bit_at new.commands.bits other ≡ bit_at old.commands.bits other)
+    (packets : bit_at new.packets.bits place ≡ 1) (other_packets : (other : ℕ) → other ≢ place → bit_at new.packets.bits other ≡ bit_at old.packets.bits other) where
+  pub marked_with : (new.waiting ≡ false → list_any waits (set slots place slot) ≡ false) → (new.free ≡ false → list_any (λ it. is_none it) (set slots place slot) ≡ false)
+      → IsMarked (set slots place slot) new
+  marked_with waiting free = record {
+    few = omega (arith, marked.few, length-set slots place slot);
+    commands = covered_with Command old.commands.bits new.commands.bits slots place slot marked.commands commands other_commands;
+    packets = covered_with Packet old.packets.bits new.packets.bits slots place slot marked.packets packets other_packets;
+    waiting = waiting;
+    free = free;
+  }
+
+  pub marked_on : new.waiting ≡ old.waiting → new.free ≡ old.free → place < length slots → GoesOn (kept_at slots place) slot → IsMarked (set slots place slot) new
+  marked_on waiting free within goes = marked_with
+      (λ none. none_with waits slot slots place (marked.waiting (sym waiting ∙ none)) goes.waiting)
+      (λ none. none_with (λ it. is_none it) slot slots place (marked.free (sym free ∙ none)) goes.free)
+
+pub all_marked : (slots : Held) → length slots ≤ 8 → IsMarked slots (record { commands = record { bits = 255 }; packets = record { bits = 255 }; waiting = true; free = true })
+all_marked slots few = record {
+  few = few;
+  commands = all_covered Command slots few;
+  packets = all_covered Packet slots few;
+  waiting = λ none. cc none;
+  free = λ none. cc none;
+}
+
+-- an empty set covers nothing, and so nothing is due
+pub none_covered : (due : Due) (places : ℕ) (slots : Held) → Covers due places slots → places ≡ 0 → position (is_due due) slots ≡ None
+none_covered due places slots covers empty = none_due due slots (λ place. idle place (is_due due (kept_at slots place)) refl)
+  where
+    idle : (place : ℕ) (so : Bool) → is_due due (kept_at slots place) ≡ so → is_due due (kept_at slots place) ≡ false
+    idle place false is = is
+    idle place true is = bit (sym (covers place is) ∙ ap (λ (it : ℕ). bit_at it place) empty ∙ bit_at-zero place)
+      where
+        bit : ◌≡◌ {A = ℕ} 1 0 → is_due due (kept_at slots place) ≡ false
+        bit e = absurd (omega (arith, e))
+
+-- nothing is due at a place that is not in the set
+pub idle_outside : (due : Due) (places : ℕ) (slots : Held) (place : ℕ) → Covers due places slots → bit_at places place ≡ 0 → is_due due (kept_at slots place) ≡ false
+idle_outside due places slots place covers outside = by (is_due due (kept_at slots place)) refl
+  where
+    by : (so : Bool) → is_due due (kept_at slots place) ≡ so → is_due due (kept_at slots place) ≡ false
+    by false is = is
+    by true is = absurd (omega (arith, covers place is, outside))
+
+-- what is read at a place
+pub read_at : (slots : Held) (place : ℕ) (slot : Option Kept) → place < length slots → slot ≡ get_or slots place slot → kept_at slots place ≡ slot
+read_at slots place slot within is =
+    ap (λ (found : Option (Option Kept)). option_map_or (λ (it : Option Kept). it) found None) (slice_get-get_or slots place slot within) ∙ sym is

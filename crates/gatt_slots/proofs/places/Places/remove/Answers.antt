@@ -1,0 +1,25 @@
+use Rattle.std.proofs.Common.{w8, ◌≡◌, ℕ, ◌-◌, ◌*◌, ◌%◌, ◌^◌, ap, sym, ◌∙◌, arith}
+use Rattle.std.specs.Int.{bit_at}
+use Rattle.std.specs.Prelude.{bit_and}
+use Rattle.std.proofs.lemmas.Bool.{cases_lt}
+use Rattle.std.proofs.lemmas.Nat.{and_le_l}
+use Rattle.std.proofs.lemmas.Nat.Bits.{bit_at_clear_same, bit_at_clear_other}
+use Rattle.std.proofs.Math.Logic.{⊎_elim}
+use Rattle.gatt_slots.proofs.places.Places.remove.Goals as goal
+
+pub returns-clause-removed : goal.returns-clause-removed
+returns-clause-removed c = bit_at_clear_same w8 c.args.self.now.bits c.args.place c.requires
+
+pub returns-clause-others : goal.returns-clause-others
+returns-clause-others c = bit_at_clear_other w8 c.args.self.now.bits c.args.place c.requires
+
+pub returns-clause-fewer : goal.returns-clause-fewer
+returns-clause-fewer c = λ within.
+    let old : ℕ = c.args.self.now.bits in
+    let mask : ℕ = 255 - 1 * 2 ^ c.args.place % 256 in
+    let cleared = bit_at_clear_same w8 old c.args.place c.requires in
+    ⊎_elim (λ less. less)
+    (λ least.
+    let same : bit_and old mask ≡ old = omega (arith, least, and_le_l old mask) in
+    absurd (omega (arith, sym cleared ∙ ap (λ bits. bit_at bits c.args.place) same ∙ within)))
+    (cases_lt (bit_and old mask) old)

@@ -1,8 +1,0 @@
-use Rattle.std.proofs.Common.{◌≡◌, drop, map}
-use Rattle.le_hci.specs.Event.{completed_packets_of}
-use Rattle.gatt_slots.specs.Slots.{after_entries}
-use Rattle.gatt_slots.proofs.slots.complete_all.Given as goal
-
-abbrev pub invariant-loop-octets : goal.invariant-loop-octets
-invariant-loop-octets l =
-    after_entries (map completed_packets_of (drop l.octets-index l.entries)) l.slots ≡ after_entries (map completed_packets_of l.fn.entries) l.fn.slots

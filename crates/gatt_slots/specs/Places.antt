@@ -1,0 +1,47 @@
+-- Where something may be due in the slots of a host: sets of places, as the bits of a number, that cover all that is due.
+use Rattle.std.specs.Prelude.{◌≡◌, ℕ, ◌<◌, ◌≤◌, Bool, true, false, is_none, List, [], ◌∷◌, length, Option}
+use Rattle.std.specs.Int.{bit_at}
+use Rattle.std.specs.List.{list_any}
+use Rattle.std.specs.Option.{option_map_or}
+use Rattle.gatt_slots.specs.Commands.{gives, has_command}
+use Rattle.gatt_slots.specs.declared.marks.Marks.{Marks}
+use Rattle.gatt_slots.specs.declared.places.Due.{Due}
+use Rattle.gatt_slots.specs.declared.places.Due.TheVariants.{Command, Packet}
+use Rattle.gatt_slots.specs.Kept.{Kept}
+use Rattle.gatt_slots.specs.Slots.{Held, kept_at}
+
+-- a command is due for the connection of a slot, or a packet of it may be given
+abbrev pub is_due : Due → Option Kept → Bool
+is_due Command slot = has_command slot
+is_due Packet slot = gives slot
+
+-- the first place of a set
+pub record IsFirstPlace (set place : ℕ) : Type 0 where
+  pub few : place < 8
+  pub within : bit_at set place ≡ 1
+  pub before : (other : ℕ) → other < place → bit_at set other ≡ 0
+
+-- the set has each place at which something is due
+abbrev pub Covers : Due → ℕ → Held → Type 0
+Covers due set slots = (place : ℕ) → is_due due (kept_at slots place) ≡ true → bit_at set place ≡ 1
+
+-- a value waits to be indicated to the connection of a slot
+abbrev pub is_some_handle : List ℕ → Bool
+is_some_handle [] = false
+is_some_handle (handle ∷ handles) = true
+
+abbrev pub waits : Option Kept → Bool
+waits slot = option_map_or (λ (kept : Kept). is_some_handle kept.pending.waiting) slot false
+
+-- nothing is due, waits or is free but where it is marked
+pub record IsMarked (slots : Held) (marks : Marks) : Type 0 where
+  pub few : length slots ≤ 8
+  pub commands : Covers Command marks.commands.bits slots
+  pub packets : Covers Packet marks.packets.bits slots
+  pub waiting : marks.waiting ≡ false → list_any waits slots ≡ false
+  pub free : marks.free ≡ false → list_any (λ slot. is_none slot) slots ≡ false
+
+-- a connection goes on: its slot is not freed, and nothing waits that did not wait
+pub record GoesOn (old new : Option Kept) : Type 0 where
+  pub waiting : waits new ≡ true → waits old ≡ true
+  pub free : is_none new ≡ true → is_none old ≡ true

@@ -1,0 +1,58 @@
+//! Where something may be due in the slots of a host, so that an event looks at no others.
+
+ghost use Rattle.std.specs.Prelude.{◌≡◌, ◌<◌, ◌≤◌, length, set, Option};
+ghost use Rattle.gatt_slots.specs.Kept.{Kept};
+ghost use Rattle.gatt_slots.specs.Places.{GoesOn, IsMarked};
+ghost use Rattle.gatt_slots.specs.Slots.{kept_at, Held};
+
+use crate::places::Places;
+
+/// Nothing is due, waits or is free but where it is marked.
+#[derive(Clone, Copy)]
+pub(crate) struct Marks {
+    /// Where a command may be due.
+    pub(crate) commands: Places,
+    /// Where a packet may be given.
+    pub(crate) packets: Places,
+    /// Whether a value may wait to be indicated.
+    pub(crate) waiting: bool,
+    /// Whether a slot may be free.
+    pub(crate) free: bool,
+}
+
+impl Marks {
+    /// Anything may be so of any slot.
+    #[tactic(auto, using(crate::proofs::Covering::all_marked))]
+    pub(crate) fn all() -> Marks
+        ensures { (slots : Held) → length slots ≤ 8 → IsMarked slots result }
+    {
+        Marks {
+            commands: Places::ALL,
+            packets: Places::ALL,
+            waiting: true,
+            free: true,
+        }
+    }
+
+    /// Takes in that anything may have become of a slot.
+    pub(crate) fn change(&mut self, place: usize)
+        requires { place < 8 }
+        ensures { (slots : Held) (slot : Option Kept) → place < length slots → IsMarked slots self.old → IsMarked (set slots place slot) self.new }
+    {
+        self.commands.add(place);
+        self.packets.add(place);
+        self.waiting = true;
+        self.free = true;
+    }
+
+    /// Takes in that a command or a packet may be due at a slot, whose connection goes on.
+    #[inline(always)]
+    pub(crate) fn go_on(&mut self, place: usize)
+        requires { place < 8 }
+        ensures { (slots : Held) (slot : Option Kept) → place < length slots → IsMarked slots self.old → GoesOn (kept_at slots place) slot
+            → IsMarked (set slots place slot) self.new }
+    {
+        self.commands.add(place);
+        self.packets.add(place);
+    }
+}

@@ -1,0 +1,94 @@
+//! Sets of places among slots: where something may be due, so that no other slot is looked at.
+
+ghost use Rattle.std.specs.Prelude.{◌≡◌, ◌≢◌, ℕ, ◌<◌, ◌≤◌, length, None, IfSome};
+ghost use Rattle.std.specs.Int.{bit_at};
+ghost use Rattle.std.specs.List.{position};
+ghost use Rattle.gatt_slots.specs.Places.{is_due, Covers, IsFirstPlace};
+
+use crate::slot::Slot;
+
+/// What may be due at a slot.
+#[derive(Clone, Copy, PartialEq, Eq)]
+pub(crate) enum Due {
+    /// A command for its connection.
+    Command,
+    /// A packet of its connection.
+    Packet,
+}
+
+/// A set of places, each below 8.
+#[derive(Clone, Copy)]
+pub(crate) struct Places {
+    /// A place is in the set where its bit is set.
+    pub(crate) bits: u8,
+}
+
+impl Places {
+    /// Every place.
+    pub(crate) const ALL: Places = Places { bits: 0xFF };
+
+    /// Puts a place into the set.
+    #[inline(always)]
+    pub(crate) fn add(&mut self, place: usize)
+        requires { place < 8 }
+        ensures added { bit_at self.new.bits place ≡ 1 }
+        ensures others { (other : ℕ) → other ≢ place → bit_at self.new.bits other ≡ bit_at self.old.bits other }
+    {
+        self.bits |= 1 << place;
+    }
+
+    /// Takes a place out of the set.
+    #[inline(always)]
+    fn remove(&mut self, place: usize)
+        requires { place < 8 }
+        ensures removed { bit_at self.new.bits place ≡ 0 }
+        ensures others { (other : ℕ) → other < 8 → other ≢ place → bit_at self.new.bits other ≡ bit_at self.old.bits other }
+        ensures fewer { bit_at self.old.bits place ≡ 1 → self.new.bits < self.old.bits }
+    {
+        self.bits &= !(1 << place);
+    }
+
+    /// The first place of the set.
+    #[inline(always)]
+    fn first(self) -> Option<usize>
+        ensures none { result ≡ None → self.bits ≡ 0 }
+        ensures first { IfSome result (λ place. IsFirstPlace self.bits place) }
+    {
+        if self.bits == 0 {
+            return None;
+        }
+        Some(self.bits.trailing_zeros() as usize)
+    }
+}
+
+impl Slot {
+    /// Whether it is due.
+    #[inline(always)]
+    fn is_due(&self, due: Due) -> bool
+        ensures { result ≡ is_due due self.now }
+    {
+        match due {
+            Due::Command => self.has_command(),
+            Due::Packet => self.gives(),
+        }
+    }
+}
+
+/// The first slot at which something is due: in a place of the set, which covers it. Places at which
+/// it is not leave the set.
+#[inline(always)]
+pub(crate) fn first_due(slots: &[Slot], due: Due, places: &mut Places) -> Option<usize>
+    requires few { length slots.now ≤ 8 }
+    requires covers { Covers due places.old.bits slots.now }
+    ensures place { result ≡ position (is_due due) slots.now }
+    ensures within { IfSome result (λ place. place < length slots.now) }
+    ensures covers { Covers due places.new.bits slots.now }
+{
+    while let Some(place) = places.first() {
+        if place < slots.len() && slots[place].is_due(due) {
+            return Some(place);
+        }
+        places.remove(place);
+    }
+    None
+}
