@@ -18,7 +18,7 @@ begins-either octets true f g p q first second = first
 begins-either octets false f g p q first second = second
 
 -- the data and nothing else
-data-alone : (packet : List ℕ → Packet) (size : ℕ) (octets : List ℕ) → size ≤ length octets
+pub data-alone : (packet : List ℕ → Packet) (size : ℕ) (octets : List ℕ) → size ≤ length octets
     → with_data packet size (take size octets) ≡ FirstPacket (packet (take size octets)) []
 data-alone packet size octets h =
     with_data-whole packet size (take size octets) (omega (arith, length-take size octets))

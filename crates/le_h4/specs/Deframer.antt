@@ -36,7 +36,7 @@ pub record EndsWith (octets : Octets) (packet : Packet) : Type 0 where
   pub parts : octets ≡ earlier ++ spelling
   pub spelled : Spells spelling packet
 
--- a call: the octets that it took, and the packet that it marked, if there is one
+-- a call: the octets that it took, and the packet that it marked or lent, if there is one
 pub record Call : Type 0 where
   pub taken : Octets
   pub packets : List Packet
@@ -54,7 +54,7 @@ octets_of calls = flat_map (λ call. call.taken) calls
 abbrev pub packets_of : List Call → List Packet
 packets_of calls = flat_map (λ call. call.packets) calls
 
--- however a stream is cut into calls that hold no whole packet back, the packets that they mark are those of its division
+-- however a stream is cut into calls that hold no whole packet back, the packets that they mark or lend are those of its division
 abbrev pub MarksTheDivision : Type 0
 MarksTheDivision = (calls : List Call) (new : Deframing) → Feeds at_start calls new → (still new []).packets ≡ []
     → packets_of calls ≡ (division (octets_of calls)).packets

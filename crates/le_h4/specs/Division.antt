@@ -1,5 +1,5 @@
 -- A stream from a controller, divided into packets.
-use Rattle.std.specs.Prelude.{ℕ, suc, zero, nat_lt, Bool, false, if◌then◌else◌, List, [], ◌∷◌, ◌++◌, length, nat_le, drop}
+use Rattle.std.specs.Prelude.{ℕ, suc, zero, nat_lt, Bool, false, if◌then◌else◌, List, [], ◌∷◌, ◌++◌, length, nat_le, drop, Option, Some, None}
 use Rattle.octets.specs.Number.{Octets}
 use Rattle.le_h4.specs.Packet.{Packet, AclPacket, EventPacket, ScoPacket, First, FirstPacket, NoneYet, NoPacket, first_of}
 
@@ -24,6 +24,12 @@ abbrev pub is_long : Packet → Bool
 is_long (AclPacket handle pb bc octets) = nat_lt 1024 (length octets)
 is_long (EventPacket octets) = false
 is_long ScoPacket = false
+
+-- the packet that comes first, where it is kept, and what follows it
+abbrev pub kept_first : First → Option (Packet × Octets)
+kept_first (FirstPacket packet rest) = if is_long packet then None else Some (packet, rest)
+kept_first NoneYet = None
+kept_first (NoPacket indicator) = None
 
 -- packets, and then a division
 abbrev pub before : List Packet → Division → Division

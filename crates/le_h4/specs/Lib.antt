@@ -4,3 +4,4 @@ pub mod Gathering
 pub mod Held
 pub mod Packet
 pub mod Progress
+pub mod Whole

@@ -1,14 +1,16 @@
-ghost use Rattle.std.specs.Prelude.{◌≡◌, ℕ, ◌+◌, ◌-◌, ◌<◌, ◌≤◌, ◌↔◌, [], ◌++◌, length, take, drop, Some, None, IsTrue, IsSome, IsNone, IfOk, IfSome, OnOk};
+ghost use Rattle.std.specs.Prelude.{◌≡◌, ℕ, ◌+◌, ◌-◌, ◌<◌, ◌≤◌, ◌↔◌, [], ◌++◌, length, take, drop, ◌∷◌, Some, None, IsTrue, IsSome, IsNone, IfOk, IfSome, OnOk, if◌then◌else◌};
+ghost use Rattle.std.specs.Option.{option_map};
 ghost use Rattle.octets.specs.Number.{Octets};
-ghost use Rattle.le_h4.specs.Packet.{seen, first_of};
-ghost use Rattle.le_h4.specs.Division.{unfinished, lost, before};
+ghost use Rattle.le_h4.specs.Packet.{seen, first_of, Spells};
+ghost use Rattle.le_h4.specs.Division.{unfinished, lost, before, kept_first};
 ghost use Rattle.le_h4.specs.Deframer.{at_start, lost_at, still, marks, EndsWith, MarksTheDivision};
 ghost use Rattle.le_h4.specs.Progress.{Fits, packet_in};
 ghost use Rattle.le_h4.specs.Gathering.{Gathers};
 ghost use Rattle.le_h4.specs.Held.{unless_marked};
+ghost use Rattle.le_h4.specs.Whole.{lying_in, is_at_border};
 
 use crate::gathered::Gathered;
-use crate::packet::{PacketRef, read_packet};
+use crate::packet::{PacketRef, WholePacket, first_packet, read_packet};
 use crate::progress::{Progress, progress_at, whole_packet};
 use std::marker::Model;
 
@@ -56,7 +58,8 @@ impl Deframer {
     #[tactic(auto, using(crate::proofs::Laws::packets_feeds))]
     pub fn new() -> Self
         ensures at_start { result ≡ at_start }
-        // However the stream is cut into pieces, the packets that `feed` marks are the same.
+        // However the stream is cut into pieces, the packets that `feed` marks and `whole_packet` lends are
+        // the same.
         ensures division { MarksTheDivision }
     {
         Deframer {
@@ -94,6 +97,36 @@ impl Deframer {
                 Err(fault)
             }
         }
+    }
+
+    /// The packet that octets begin with, where none is unfinished, all of it is there and it is kept.
+    /// It is lent from the octets, and the deframer stays as it is: what follows is fed next, without
+    /// the octets that the packet takes.
+    #[inline(always)]
+    pub fn whole_packet<'a>(&self, octets: &'a [u8]) -> Option<WholePacket<'a>>
+        ensures first { option_map (lying_in octets.now) result
+            ≡ (if is_at_border self.now then kept_first (first_of octets.now) else None) }
+        // Whatever follows the octets that it takes, the packet comes first.
+        ensures divided { IfSome result (λ whole. (rest : Octets) → still self.now (take whole.used octets.now ++ rest)
+            ≡ before (seen whole.packet ∷ []) (still self.now rest)) }
+        ensures spelled { IfSome result (λ whole. Spells (take whole.used octets.now) (seen whole.packet)) }
+        ensures used { IfSome result (λ whole. whole.used ≤ length octets.now) }
+        ensures used_some { IfSome result (λ whole. 0 < whole.used) }
+        ensures unfinished { IfSome result (λ whole. still self.now [] ≡ unfinished) }
+    {
+        if self.is_at_border() {
+            first_packet(octets)
+        } else {
+            None
+        }
+    }
+
+    /// Whether no packet is unfinished, and none is passed over. One that is marked is whole.
+    #[inline(always)]
+    fn is_at_border(&self) -> bool
+        ensures { result ≡ is_at_border self.now }
+    {
+        self.skipping == 0 && (self.marked || self.gathered.is_empty())
     }
 
     /// The packet that the last call of `feed` marked.

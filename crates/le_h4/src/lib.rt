@@ -11,5 +11,5 @@ mod write;
 
 pub use deframer::{Deframer, Fed, H4Fault};
 pub use octets::{ArraySink, Failed, Reader, Sink, SliceSource, Source, Writer};
-pub use packet::PacketRef;
+pub use packet::{PacketRef, WholePacket};
 pub use write::{write_acl, write_acl_parts, write_command};
