@@ -89,8 +89,32 @@ fn take(host: &mut Host, octets: &[u8]) -> Result<usize, HostFault>
     taken
 }
 
-/// The same by the parts of a host.
+/// The same by the parts of a host. Most packets lie whole in what is fed, and are heard where they lie.
+#[inline(always)]
 fn take_in(
+    state: &mut HostState,
+    frames: &mut [Reassembler; 8],
+    deframer: &mut Deframer,
+    octets: &[u8],
+) -> Result<usize, HostFault>
+    requires rows { HasRowsOfTheTable state.old }
+    requires drained { is_drained state.old.controller (open_slots state.old) ≡ true }
+    ensures leads { Leads (items_taken octets.now result) []
+        (record { held = state.old; frames = frames.old; stream = deframer.old; fault = None })
+        (record { held = state.new; frames = frames.new; stream = deframer.new; fault = result_err result }) }
+    ensures not_own { IfErr result (λ fault. is_own fault ≡ false) }
+    ensures within { IfOk result (λ used. used ≤ length octets.now) }
+    ensures some { IfOk result (λ used. 0 < length octets.now → 0 < used) }
+{
+    if let Some(whole) = deframer.whole_packet(octets) {
+        packet(state, frames, whole.packet)?;
+        return Ok(whole.used);
+    }
+    gather(state, frames, deframer, octets)
+}
+
+/// The same of a packet that may come in parts, which are gathered.
+fn gather(
     state: &mut HostState,
     frames: &mut [Reassembler; 8],
     deframer: &mut Deframer,

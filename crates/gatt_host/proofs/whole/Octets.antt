@@ -166,3 +166,21 @@ octets_stop old new octets rest packet fault none divides marked leads stops oth
       same = subst (λ (why : Option Fault). SameFault why new.fault) (sym (faults-alike after taken alike)) with_packet.same;
       stream = holds-none after found.why new.stream stands_there;
     })
+
+-- the same of a packet that is heard where it lies: what is marked does not matter to where a host stands
+pub octets_bring_whole : (old new : Whole) (octets : Octets) (packet : Packet) → old.fault ≡ None
+    → ((rest : Octets) → still old.stream (octets ++ rest) ≡ before (packet ∷ []) (still new.stream rest))
+    → still new.stream [] ≡ unfinished → LeadsBy packet old.held old.frames new.held new.frames new.fault → Leads (octet_items octets) [] old new
+octets_bring_whole old new octets packet none divides last leads start input gone is =
+    let marked : Deframing = record new.stream { marked = Some packet } in
+    let there = octets_bring old (record new { stream = marked }) octets packet none divides refl last leads start input gone is in
+    record { stands = there.stands; same = there.same; stream = there.stream }
+
+pub octets_stop_whole : (old new : Whole) (octets rest : Octets) (packet : Packet) (fault : HostFault) → old.fault ≡ None
+    → ((rest : Octets) → still old.stream (octets ++ rest) ≡ before (packet ∷ []) (still new.stream rest))
+    → LeadsBy packet old.held old.frames new.held new.frames new.fault → new.fault ≡ Some fault → is_own fault ≡ false
+    → Leads (octet_items (octets ++ rest)) [] old new
+octets_stop_whole old new octets rest packet fault none divides leads stops other start input gone is =
+    let marked : Deframing = record new.stream { marked = Some packet } in
+    let there = octets_stop old (record new { stream = marked }) octets rest packet fault none divides refl leads stops other start input gone is in
+    record { stands = there.stands; same = there.same; stream = there.stream }
