@@ -10,3 +10,4 @@ pub mod Feeds
 pub mod Opened
 pub mod Driving
 pub mod Serving
+pub mod Owed

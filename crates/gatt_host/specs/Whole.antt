@@ -24,6 +24,10 @@ pub record Whole : Type 0 where
   pub stream : Deframing
   pub fault : Option HostFault
 
+-- one that goes on
+abbrev pub going : Held → Frames → Deframing → Whole
+going held frames stream = record { held = held; frames = frames; stream = stream; fault = None }
+
 -- nothing is to go out, or a fault stands
 abbrev pub all_out : Whole → Bool
 all_out whole = is_some whole.fault || is_drained whole.held.controller (open_slots whole.held)
@@ -85,3 +89,7 @@ pub record IsReached (whole : Whole) : Type 0 where
   pub input : List Item
   pub gone : List Octets
   pub stands : StandsAt (course start input) gone whole
+
+-- some host that goes on holds this
+abbrev pub IsHeldByOne : Held → Type 0
+IsHeldByOne held = (frames : Frames) × (stream : Deframing) × IsReached (going held frames stream)

@@ -6,9 +6,10 @@ ghost use Rattle.gatt_host.specs.Feeding.{comes_of_feeding, items_taken, octet_i
 ghost use Rattle.gatt_host.specs.Answers.{lost_fault};
 ghost use Rattle.gatt_host.specs.GoingOut.{is_drained};
 ghost use Rattle.gatt_host.specs.Held.{open_slots};
-ghost use Rattle.gatt_host.specs.Meaning.{HasRowsOfTheTable};
+ghost use Rattle.gatt_host.specs.Meaning.{Frames, HasRowsOfTheTable};
 ghost use Rattle.gatt_host.specs.Promises.{KeepsConnectionsApart, KeepsThePolicy};
-ghost use Rattle.gatt_host.specs.Whole.{all_out, is_own, outcome_of, Leads};
+ghost use Rattle.gatt_host.specs.Whole.{all_out, going, is_own, outcome_of, IsHeldByOne, Leads};
+ghost use Rattle.le_h4.specs.Deframer.{Deframing};
 ghost use Rattle.octets.specs.Stream.{CountsIf};
 
 use crate::host::Host;
@@ -51,6 +52,7 @@ pub fn feed<W: Sink>(host: &mut Host, octets: &[u8], out: &mut W) -> Result<(), 
 }
 
 /// Writes all that is to go to the controller.
+#[inline(always)]
 pub(crate) fn write_out<W: Sink>(host: &mut Host, out: &mut W) -> Result<(), HostFault>
     requires { host.old.fault ≡ None }
     ensures feeds { Feeds [] host.old host.new (W.contents out.old) (W.contents out.new) host.new.fault }
@@ -59,10 +61,28 @@ pub(crate) fn write_out<W: Sink>(host: &mut Host, out: &mut W) -> Result<(), Hos
     ensures out { IsOk result → all_out host.new ≡ true }
     ensures failures { CountsIf (is_write host.new.fault) (W.failures out.old) (W.failures out.new) }
 {
-    let mut packet = ArrayVec::new();
-    while host.next_out(&mut packet) {
+    let written = write_owed(&mut host.state, &mut host.packet, out);
+    host.fault = written.err();
+    written
+}
+
+/// The same by the parts of a host, each packet by way of `packet`.
+#[inline(always)]
+fn write_owed<W: Sink>(
+    state: &mut HostState,
+    packet: &mut ArrayVec<u8, 260>,
+    out: &mut W,
+) -> Result<(), HostFault>
+    requires { IsHeldByOne state.old }
+    ensures feeds { (frames : Frames) (stream : Deframing) → Feeds [] (going state.old frames stream)
+        (record (going state.new frames stream) { fault = result_err result }) (W.contents out.old) (W.contents out.new) (result_err result) }
+    ensures write { IfErr result (λ fault. fault ≡ HostFault.Write) }
+    ensures out { IsOk result → is_drained state.new.controller (open_slots state.new) ≡ true }
+    ensures failures { CountsIf (is_write (result_err result)) (W.failures out.old) (W.failures out.new) }
+{
+    while state.next_out(packet) {
         if write_all(packet.as_slice(), out).is_err() {
-            return stop(host, HostFault::Write);
+            return Err(HostFault::Write);
         }
     }
     Ok(())

@@ -34,6 +34,8 @@ pub struct Host {
     pub(crate) frames: [Reassembler; 8],
     pub(crate) deframer: Deframer,
     pub(crate) fault: Option<HostFault>,
+    /// Room for a packet on its way out: what it holds between two calls means nothing.
+    pub(crate) packet: ArrayVec<u8, 260>,
 }
 
 impl Model for Host {

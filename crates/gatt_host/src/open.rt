@@ -11,6 +11,7 @@ use crate::config::{Config, OpenFault};
 use crate::controller::Controller;
 use crate::host::Host;
 use crate::host_state::HostState;
+use arrayvec::ArrayVec;
 use att_table::Table;
 use gatt_slots::Slots;
 use gatt_subs::Rows;
@@ -62,6 +63,7 @@ impl Host {
             frames: array::from_fn(|_| Reassembler::new()),
             deframer: Deframer::new(),
             fault: None,
+            packet: ArrayVec::new(),
         })
     }
 }

@@ -1,0 +1,59 @@
+-- What goes out of all that a host holds, in the midst of any frames and any stream.
+use Rattle.std.proofs.Common.{◌≡◌, true, false, List, [], ◌∷◌, Option, Some, None, refl, sym, subst, ◌∙◌}
+use Rattle.std.specs.Prelude.{is_some}
+use Rattle.std.proofs.lemmas.Bool.{not-false}
+use Rattle.gatt_host.proofs.whole.Items.{reached_by}
+use Rattle.gatt_host.proofs.whole.Out.{goes_out, goes_where_not_out}
+use Rattle.gatt_host.specs.declared.host_fault.HostFault.{HostFault}
+use Rattle.gatt_host.specs.declared.host_fault.HostFault.TheVariants as stop
+use Rattle.gatt_host.specs.Feeding.{Feeds}
+use Rattle.gatt_host.specs.GoingOut.{is_drained}
+use Rattle.gatt_host.specs.Held.{Held, after_out, next_of, open_slots}
+use Rattle.gatt_host.specs.Meaning.{Frames}
+use Rattle.gatt_host.specs.Whole.{IsHeldByOne, IsReached, Leads, Whole, going}
+use Rattle.gatt_laws.specs.Input.{Item}
+use Rattle.le_h4.specs.Deframer.{Deframing}
+use Rattle.octets.specs.Number.{Octets}
+
+-- a packet goes out
+module _ (held new : Held) (octets : Octets) (next : next_of held ≡ Some octets) (is_after : new ≡ after_out held) where
+  pub leads_going : (frames : Frames) (stream : Deframing) → Leads [] (octets ∷ []) (going held frames stream) (going new frames stream)
+  leads_going frames stream = goes_out (going held frames stream) (going new frames stream) octets next is_after refl refl refl
+
+  pub held_then : IsHeldByOne held → IsHeldByOne new
+  held_then by =
+      (by.0, by.1, reached_by [] (octets ∷ []) (going held by.0 by.1) (going new by.0 by.1) by.2 (leads_going by.0 by.1))
+
+-- nothing does
+pub drained_then : (held : Held) → IsHeldByOne held → is_some (next_of held) ≡ false → is_drained held.controller (open_slots held) ≡ true
+drained_then held by none =
+    not-false (is_drained held.controller (open_slots held)) (sym (goes_where_not_out (going held by.0 by.1) by.2 refl) ∙ none)
+
+-- a host that goes on, and its parts
+pub is_going : (whole : Whole) → whole.fault ≡ None → going whole.held whole.frames whole.stream ≡ whole
+is_going whole none = λ i. record whole { fault = sym none i }
+
+pub held_by : (whole : Whole) → whole.fault ≡ None → IsReached whole → IsHeldByOne whole.held
+held_by whole none reached = (whole.frames, whole.stream, subst IsReached (sym (is_going whole none)) reached)
+
+pub feeds_from : (old new : Whole) (before after : Option Octets) (fault : Option HostFault) → old.fault ≡ None → new.fault ≡ fault
+    → Feeds [] (going old.held old.frames old.stream) (record (going new.held old.frames old.stream) { fault = fault }) before after fault
+    → new.frames ≡ old.frames → new.stream ≡ old.stream → Feeds [] old new before after new.fault
+feeds_from old new before after fault none same feeds frames stream =
+    let led : Whole = record (going new.held old.frames old.stream) { fault = fault } in
+    subst (λ (why : Option HostFault). Feeds [] old new before after why) (sym same)
+    (subst (λ (whole : Whole). Feeds [] whole new before after fault) (is_going old none)
+    (subst (λ (whole : Whole). Feeds [] (going old.held old.frames old.stream) whole before after fault)
+    (λ i. record led { frames = sym frames i; stream = sym stream i; fault = sym same i }) feeds))
+
+-- wherever octets and calls lead, some start and some input do
+pub reached_fed : (items : List Item) (old new : Whole) (before after : Option Octets) (fault : Option HostFault) → IsReached old
+    → Feeds items old new before after fault → IsReached new
+reached_fed items old new before after None reached feeds = reached_by items feeds.packets old new reached feeds.leads
+reached_fed items old new before after (Some (stop.Desync indicator)) reached feeds = reached_by items feeds.packets old new reached feeds.leads
+reached_fed items old new before after (Some (stop.BadEvent code)) reached feeds = reached_by items feeds.packets old new reached feeds.leads
+reached_fed items old new before after (Some (stop.Init why)) reached feeds = reached_by items feeds.packets old new reached feeds.leads
+reached_fed items old new before after (Some (stop.Hardware code)) reached feeds = reached_by items feeds.packets old new reached feeds.leads
+reached_fed items old new before after (Some stop.Read) reached feeds = reached_by items feeds.packets old new reached feeds.leads
+reached_fed items old new before after (Some stop.Turns) reached feeds = reached_by items feeds.packets old new reached feeds.leads
+reached_fed items old new before after (Some stop.Write) reached feeds = reached_by feeds.taken feeds.packets old new reached feeds.leads
