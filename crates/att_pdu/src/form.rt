@@ -7,6 +7,7 @@ use crate::uuid::Uuid;
 use att_numbers::opcode;
 
 /// The request that parameters spell behind an opcode, however long they are.
+#[inline(always)]
 #[tactic(auto, unfolding(crate::specs::Form::form_of))]
 pub(crate) fn request(opcode: u8, parameters: &[u8]) -> Option<Request<'_>>
     ensures { IsForm opcode parameters.now (form_of opcode parameters.now) result }

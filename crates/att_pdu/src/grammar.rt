@@ -23,6 +23,7 @@ pub enum PduFault {
 
 /// Reads the request that a PDU spells, where the connection's ATT_MTU is `mtu` octets. Handles of
 /// a Read Multiple Request and parts of a value are borrowed from the PDU.
+#[inline(always)]
 pub fn read_request(pdu: &[u8], mtu: u16) -> Result<Request<'_>, PduFault>
     ensures exact { result_map_both asked (λ fault. fault) result ≡ request_of pdu.now mtu }
     ensures spelled { IfOk result (λ request. spelled (asked request) ≡ pdu.now) }

@@ -51,8 +51,16 @@ impl DoorServer {
         ensures answer { option_map sent (answer_from self.old pdu.now) ≡ (if result then Some octets.new.items else None) }
         ensures server { self.new ≡ server_after self.old pdu.now }
     {
-        let answered = answer_into(&mut self.table, &mut self.row, &mut self.conn, pdu, octets);
-        answered.due
+        let mut touched = ArrayVec::new();
+        let served = answer_into(
+            &mut self.table,
+            &mut self.row,
+            &mut self.conn,
+            pdu,
+            octets,
+            &mut touched,
+        );
+        served.due
     }
 }
 

@@ -27,6 +27,15 @@ pub struct Answered {
     pub touched: ArrayVec<u16, 32>,
 }
 
+/// The same, where the handles that were written go into a list of the caller's.
+#[derive(Clone, Copy, Drop)]
+pub struct Served {
+    /// There is an answer.
+    pub due: bool,
+    /// The PDU confirms an indication.
+    pub confirmed: bool,
+}
+
 /// Serves one Attribute PDU of one connection: puts the answer into `out`, and makes the change
 /// that it asks for, where the policy permits it. `row` is what the connection's client has
 /// configured, of this table.
@@ -58,10 +67,51 @@ pub fn answer(
     ensures table { IsRowOf table.new.attributes row.new }
     ensures same_buffer { IsSameBuffer out.old out.new }
 {
+    let mut touched = ArrayVec::new();
+    let served = serve(table, row, conn, pdu, out, &mut touched);
+    Answered {
+        due: served.due,
+        confirmed: served.confirmed,
+        touched,
+    }
+}
+
+/// The same, with the handles that were written in place of what `touched` holds.
+#[tactic(auto, unfolding(att_pdu::specs::Form::form_of))]
+fn serve(
+    table: &mut Table,
+    row: &mut ConfigRow,
+    conn: &mut Conn,
+    pdu: &[u8],
+    out: &mut PduBuf<'_>,
+    touched: &mut ArrayVec<u16, 32>,
+) -> Served
+    requires empty { contents out.old ≡ [] }
+    requires mtu { mtu_of out.old ≡ conn.old.mtu }
+    requires row { IsRowOf table.old.attributes row.old }
+
+    ensures answer { contents out.new ≡ sent_if_any (answer_to table.old row.old conn.old (request_of pdu.now conn.old.mtu)) }
+    ensures due { result.due ≡ is_some (answer_to table.old row.old conn.old (request_of pdu.now conn.old.mtu)) }
+    ensures confirmed { result.confirmed ≡ is_confirmation pdu.now }
+    ensures touched { touched.new.items ≡ handles_by table.old row.old conn.old (request_of pdu.now conn.old.mtu) }
+    ensures values { table.new.values ≡ (stored_by table.old row.old conn.old (request_of pdu.now conn.old.mtu)).values }
+    ensures row { row.new ≡ (stored_by table.old row.old conn.old (request_of pdu.now conn.old.mtu)).row }
+    ensures conn { conn.new ≡ conn_after table.old.attributes conn.old (request_of pdu.now conn.old.mtu) }
+
+    // What stays.
+    ensures attributes { table.new.attributes ≡ table.old.attributes }
+    ensures table { IsRowOf table.new.attributes row.new }
+    ensures same_buffer { IsSameBuffer out.old out.new }
+{
+    touched.clear();
     match read_request(pdu, conn.mtu()) {
         Ok(Request::ExchangeMtu { client_rx_mtu }) => exchange_mtu(conn, client_rx_mtu, out),
-        Ok(Request::Write { handle, value }) => write(table, row, conn, handle, value, out),
-        Ok(Request::WriteCommand { handle, value }) => command(table, row, conn, handle, value),
+        Ok(Request::Write { handle, value }) => write(
+            table, row, conn, handle, value, out, touched,
+        ),
+        Ok(Request::WriteCommand { handle, value }) => command(
+            table, row, conn, handle, value, touched,
+        ),
         Ok(
             Request::PrepareWrite {
                 handle,
@@ -78,7 +128,7 @@ pub fn answer(
             Request::ExecuteWrite {
                 flags: ExecuteFlags::Write,
             },
-        ) => execute(table, row, conn, out),
+        ) => execute(table, row, conn, out, touched),
         Ok(Request::Confirmation) => without_answer(true),
         Ok(
             request @ (Request::FindInformation { .. }
@@ -100,15 +150,18 @@ pub fn answer(
     }
 }
 
-/// The same, with the answer in the place of what `octets` holds: it is empty where none is due.
-#[tactic(auto, using(crate::proofs::Dues::sent_where_due))]
+/// Serves one Attribute PDU, with the answer in place of what `octets` holds, which is empty where none
+/// is due, and the handles that were written in place of what `touched` holds: each once, in the order
+/// of their first writes.
+#[tactic(auto, using(crate::proofs::Dues::answered_where_due, crate::proofs::Dues::sent_where_due))]
 pub fn answer_into(
     table: &mut Table,
     row: &mut ConfigRow,
     conn: &mut Conn,
     pdu: &[u8],
     octets: &mut ArrayVec<u8, 517>,
-) -> Answered
+    touched: &mut ArrayVec<u16, 32>,
+) -> Served
     requires row { IsRowOf table.old.attributes row.old }
 
     ensures answer { option_map sent (answer_to table.old row.old conn.old (request_of pdu.now conn.old.mtu))
@@ -116,7 +169,7 @@ pub fn answer_into(
     ensures due { result.due ≡ is_due (request_of pdu.now conn.old.mtu) }
     ensures fits { length octets.new.items ≤ conn.old.mtu }
     ensures confirmed { result.confirmed ≡ is_confirmation pdu.now }
-    ensures touched { result.touched.items ≡ handles_by table.old row.old conn.old (request_of pdu.now conn.old.mtu) }
+    ensures touched { touched.new.items ≡ handles_by table.old row.old conn.old (request_of pdu.now conn.old.mtu) }
     ensures values { table.new.values ≡ (stored_by table.old row.old conn.old (request_of pdu.now conn.old.mtu)).values }
     ensures row { row.new ≡ (stored_by table.old row.old conn.old (request_of pdu.now conn.old.mtu)).row }
     ensures conn { conn.new ≡ conn_after table.old.attributes conn.old (request_of pdu.now conn.old.mtu) }
@@ -126,39 +179,35 @@ pub fn answer_into(
     ensures table { IsRowOf table.new.attributes row.new }
 {
     let mut out = PduBuf::new(octets, conn.mtu());
-    answer(table, row, conn, pdu, &mut out)
+    serve(table, row, conn, pdu, &mut out, touched)
 }
 
 /// Answers nothing.
-pub(crate) fn without_answer(confirmed: bool) -> Answered
+pub(crate) fn without_answer(confirmed: bool) -> Served
     ensures due { result.due ≡ false }
     ensures confirmed { result.confirmed ≡ confirmed }
-    ensures touched { result.touched.items ≡ [] }
 {
-    Answered {
+    Served {
         due: false,
         confirmed,
-        touched: ArrayVec::new(),
     }
 }
 
-/// An answer was given, and nothing written.
-pub(crate) fn with_answer() -> Answered
+/// An answer was given.
+pub(crate) fn with_answer() -> Served
     ensures due { result.due ≡ true }
     ensures confirmed { result.confirmed ≡ false }
-    ensures touched { result.touched.items ≡ [] }
 {
-    Answered {
+    Served {
         due: true,
         confirmed: false,
-        touched: ArrayVec::new(),
     }
 }
 
 /// Serves an Exchange MTU Request: Core 5.0, Vol 3 Part F, 3.4.2.
-fn exchange_mtu(conn: &mut Conn, client_rx_mtu: u16, out: &mut PduBuf<'_>) -> Answered
+fn exchange_mtu(conn: &mut Conn, client_rx_mtu: u16, out: &mut PduBuf<'_>) -> Served
     requires empty { contents out.old ≡ [] }
-    ensures served { Serves (Some (ExchangeMtuResponse conn.old.rx_mtu)) [] result (contents out.new) }
+    ensures served { Serves (Some (ExchangeMtuResponse conn.old.rx_mtu)) result (contents out.new) }
     ensures confirmed { result.confirmed ≡ false }
     ensures conn { conn.new ≡ after_exchange conn.old client_rx_mtu }
     ensures same_buffer { IsSameBuffer out.old out.new }
@@ -170,8 +219,8 @@ fn exchange_mtu(conn: &mut Conn, client_rx_mtu: u16, out: &mut PduBuf<'_>) -> An
 }
 
 /// Answers a request by an error.
-pub(crate) fn refuse(request_opcode: u8, handle: u16, code: u8, out: &mut PduBuf<'_>) -> Answered
-    ensures served { Serves (Some (ErrorResponse request_opcode handle code)) [] result (contents out.new) }
+pub(crate) fn refuse(request_opcode: u8, handle: u16, code: u8, out: &mut PduBuf<'_>) -> Served
+    ensures served { Serves (Some (ErrorResponse request_opcode handle code)) result (contents out.new) }
     ensures confirmed { result.confirmed ≡ false }
     ensures same_buffer { IsSameBuffer out.old out.new }
 {

@@ -5,5 +5,5 @@ mod answered;
 mod conn;
 mod writing;
 
-pub use answered::{Answered, answer, answer_into};
+pub use answered::{Answered, Served, answer, answer_into};
 pub use conn::Conn;

@@ -10,7 +10,7 @@ ghost use Rattle.att_writes.specs.Queue.{prepare_fault, queue_after};
 ghost use Rattle.gatt_conn.specs.Answer.{entry_at, prepare_response, answer_to, stored_by, handles_by};
 ghost use Rattle.gatt_conn.specs.Served.{Serves};
 
-use crate::answered::{Answered, refuse, with_answer, without_answer};
+use crate::answered::{Served, refuse, with_answer, without_answer};
 use crate::conn::Conn;
 use arrayvec::ArrayVec;
 use att_numbers::opcode;
@@ -26,11 +26,13 @@ pub(crate) fn write(
     handle: u16,
     value: &[u8],
     out: &mut PduBuf<'_>,
-) -> Answered
+    touched: &mut ArrayVec<u16, 32>,
+) -> Served
     requires empty { contents out.old ≡ [] }
+    requires untouched { touched.old.items ≡ [] }
     requires row { IsRowOf table.old.attributes row.old }
-    ensures served { Serves (answer_to table.old row.old conn.now (Ok (WriteRequest handle value.now)))
-        (handles_by table.old row.old conn.now (Ok (WriteRequest handle value.now))) result (contents out.new) }
+    ensures served { Serves (answer_to table.old row.old conn.now (Ok (WriteRequest handle value.now))) result (contents out.new) }
+    ensures touched { touched.new.items ≡ handles_by table.old row.old conn.now (Ok (WriteRequest handle value.now)) }
     ensures left { Leaves (stored_by table.old row.old conn.now (Ok (WriteRequest handle value.now))) table.old table.new row.new }
     ensures confirmed { result.confirmed ≡ false }
     ensures same_buffer { IsSameBuffer out.old out.new }
@@ -39,10 +41,8 @@ pub(crate) fn write(
         Outcome::Denied(opcode, handle, code) => refuse(opcode, handle, code, out),
         Outcome::Written | Outcome::Queued => {
             out.value(&[opcode::WRITE_RESPONSE]);
-            Answered {
-                touched: alone(handle),
-                ..with_answer()
-            }
+            touched.push(handle);
+            with_answer()
         }
     }
 }
@@ -54,19 +54,21 @@ pub(crate) fn command(
     conn: &Conn,
     handle: u16,
     value: &[u8],
-) -> Answered
+    touched: &mut ArrayVec<u16, 32>,
+) -> Served
+    requires untouched { touched.old.items ≡ [] }
     requires row { IsRowOf table.old.attributes row.old }
-    ensures served { Serves (answer_to table.old row.old conn.now (Ok (WriteCommandPdu handle value.now)))
-        (handles_by table.old row.old conn.now (Ok (WriteCommandPdu handle value.now))) result [] }
+    ensures served { Serves (answer_to table.old row.old conn.now (Ok (WriteCommandPdu handle value.now))) result [] }
+    ensures touched { touched.new.items ≡ handles_by table.old row.old conn.now (Ok (WriteCommandPdu handle value.now)) }
     ensures left { Leaves (stored_by table.old row.old conn.now (Ok (WriteCommandPdu handle value.now))) table.old table.new row.new }
     ensures confirmed { result.confirmed ≡ false }
 {
     match att_writes::command(table, row, conn.standing(), handle, value) {
         Outcome::Denied(..) => without_answer(false),
-        Outcome::Written | Outcome::Queued => Answered {
-            touched: alone(handle),
-            ..without_answer(false)
-        },
+        Outcome::Written | Outcome::Queued => {
+            touched.push(handle);
+            without_answer(false)
+        }
     }
 }
 
@@ -78,11 +80,11 @@ pub(crate) fn prepare(
     offset: u16,
     part: &[u8],
     out: &mut PduBuf<'_>,
-) -> Answered
+) -> Served
     requires empty { contents out.old ≡ [] }
     requires fits { 5 + length part.now ≤ mtu_of out.old }
     ensures served { Serves (Some (prepare_response (entry_at handle offset part.now)
-        (prepare_fault table.now.attributes conn.old.standing conn.old.queue (entry_at handle offset part.now)))) [] result (contents out.new) }
+        (prepare_fault table.now.attributes conn.old.standing conn.old.queue (entry_at handle offset part.now)))) result (contents out.new) }
     ensures conn { conn.new ≡ record conn.old {
       queue = queue_after conn.old.queue (entry_at handle offset part.now)
           (prepare_fault table.now.attributes conn.old.standing conn.old.queue (entry_at handle offset part.now));
@@ -102,9 +104,9 @@ pub(crate) fn prepare(
 
 /// Serves an Execute Write Request that drops what is prepared: Core 5.0, Vol 3 Part F, 3.4.6.3.
 #[inline(always)]
-pub(crate) fn cancel(conn: &mut Conn, out: &mut PduBuf<'_>) -> Answered
+pub(crate) fn cancel(conn: &mut Conn, out: &mut PduBuf<'_>) -> Served
     requires empty { contents out.old ≡ [] }
-    ensures served { Serves (Some ExecuteWriteResponse) [] result (contents out.new) }
+    ensures served { Serves (Some ExecuteWriteResponse) result (contents out.new) }
     ensures conn { conn.new ≡ record conn.old { queue = [] } }
     ensures confirmed { result.confirmed ≡ false }
     ensures same_buffer { IsSameBuffer out.old out.new }
@@ -121,31 +123,22 @@ pub(crate) fn execute(
     row: &mut ConfigRow,
     conn: &mut Conn,
     out: &mut PduBuf<'_>,
-) -> Answered
+    touched: &mut ArrayVec<u16, 32>,
+) -> Served
     requires empty { contents out.old ≡ [] }
     requires row { IsRowOf table.old.attributes row.old }
-    ensures served { Serves (answer_to table.old row.old conn.old (Ok (ExecuteWriteRequest ExecuteFlags.Write)))
-        (handles_by table.old row.old conn.old (Ok (ExecuteWriteRequest ExecuteFlags.Write))) result (contents out.new) }
+    ensures served { Serves (answer_to table.old row.old conn.old (Ok (ExecuteWriteRequest ExecuteFlags.Write))) result (contents out.new) }
+    ensures touched { touched.new.items ≡ handles_by table.old row.old conn.old (Ok (ExecuteWriteRequest ExecuteFlags.Write)) }
     ensures left { Leaves (stored_by table.old row.old conn.old (Ok (ExecuteWriteRequest ExecuteFlags.Write))) table.old table.new row.new }
     ensures conn { conn.new ≡ record conn.old { queue = [] } }
     ensures confirmed { result.confirmed ≡ false }
     ensures same_buffer { IsSameBuffer out.old out.new }
 {
-    let mut answered = with_answer();
-    match conn.execute(table, row, &mut answered.touched) {
+    match conn.execute(table, row, touched) {
         Outcome::Denied(opcode, handle, code) => refuse(opcode, handle, code, out),
         Outcome::Written | Outcome::Queued => {
             out.value(&[opcode::EXECUTE_WRITE_RESPONSE]);
-            answered
+            with_answer()
         }
     }
-}
-
-/// One handle that was written.
-fn alone(handle: u16) -> ArrayVec<u16, 32>
-    ensures { result.items ≡ handle ∷ [] }
-{
-    let mut touched = ArrayVec::new();
-    touched.push(handle);
-    touched
 }

@@ -41,6 +41,8 @@ pub(crate) struct HostState {
     pub(crate) controller: Controller,
     /// As many as connections may come to have.
     pub(crate) slots: Slots,
+    /// Room for the handles that a request wrote: what it holds between two events means nothing.
+    pub(crate) written: ArrayVec<u16, 32>,
 }
 
 impl Model for HostState {
@@ -151,20 +153,21 @@ impl HostState {
         requires row { IfSome (kept_at self.old place) (λ kept. IsRowOf self.old.table.attributes (row_in_force (row_at self.old kept) kept)) }
         ensures { IfSome (kept_at self.old place) (λ kept. Serves place pdu.now kept self.old self.new) }
     {
-        let written = self.slots.serve(
+        self.slots.serve(
             place,
             &mut self.table,
             &mut self.rows,
             self.changer,
             self.time,
             pdu,
+            &mut self.written,
         );
         self.slots.hear(
             &self.table,
             &self.rows,
             Some(place),
             &[],
-            written.as_slice(),
+            self.written.as_slice(),
             self.time,
         );
     }

@@ -59,6 +59,7 @@ impl Host {
                 time: 0,
                 controller: Controller::new(config.address, config.advertising),
                 slots,
+                written: ArrayVec::new(),
             },
             frames: array::from_fn(|_| Reassembler::new()),
             deframer: Deframer::new(),

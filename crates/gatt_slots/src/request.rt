@@ -1,6 +1,6 @@
 //! Requests of the Attribute Protocol on the connection of a slot.
 
-ghost use Rattle.std.specs.Prelude.{◌≡◌, ◌<◌, ◌≤◌, ◌==◌, ◌&&◌, true, false, IsSome, is_some, length, map, unwrap_or, if◌then◌else◌, IfSome};
+ghost use Rattle.std.specs.Prelude.{◌≡◌, ◌<◌, ◌≤◌, ◌==◌, ◌&&◌, true, false, IsSome, is_some, length, map, unwrap_or, if◌then◌else◌, None, IfSome};
 ghost use Rattle.std.specs.Bool.{OnFalse};
 ghost use Rattle.std.specs.Option.{option_map, option_map_or, option_to_list};
 ghost use Rattle.att_pdu.specs.Grammar.{request_of, is_due};
@@ -18,7 +18,7 @@ use crate::turn::REMOTE_USER_TERMINATED;
 use arrayvec::ArrayVec;
 use att_pdu::answer_due;
 use att_table::{ConfigRow, Table};
-use gatt_conn::{Answered, Conn, answer_into};
+use gatt_conn::{Conn, Served, answer_into};
 use gatt_subs::{Pending, Rows};
 use le_acl::{MAX_PDUS, Sender};
 use le_hci::Peer;
@@ -26,8 +26,8 @@ use le_l2cap::channel::ATT;
 use le_security::Link;
 
 impl Slot {
-    /// Serves a PDU of the Attribute Protocol, and gives the handles that it wrote. The connection is
-    /// ended where an answer is due and there is no room for it.
+    /// Serves a PDU of the Attribute Protocol, with the handles that it wrote in place of what `written`
+    /// holds. The connection is ended where an answer is due and there is no room for it.
     pub fn serve(
         &mut self,
         table: &mut Table,
@@ -35,23 +35,25 @@ impl Slot {
         changer: Option<u16>,
         now: u64,
         pdu: &[u8],
-    ) -> ArrayVec<u16, 32>
+        written: &mut ArrayVec<u16, 32>,
+    )
         requires there { IsSome self.old }
         requires row { IfSome self.old (λ kept. IsRowOf table.old.attributes (row_in_force (row_of rows.old kept.peer) kept)) }
         ensures after { self.new ≡ option_map (λ kept. kept_served table.old now (row_of rows.old kept.peer) pdu.now kept) self.old }
         ensures table { IfSome self.old (λ kept. table.new ≡ table_after table.old now (row_of rows.old kept.peer) pdu.now kept) }
         ensures bond { IfSome self.old (λ kept. ChangesBond (bond_served table.old now changer (row_of rows.old kept.peer) pdu.now kept) kept.peer rows.old rows.new) }
-        ensures written { IfSome self.old (λ kept. result.items ≡ handles_of table.old now (row_of rows.old kept.peer) pdu.now kept) }
+        ensures written { IfSome self.old (λ kept. written.new.items ≡ handles_of table.old now (row_of rows.old kept.peer) pdu.now kept) }
     {
         if is_full(&self.conn, &self.sender, pdu) {
             self.end(REMOTE_USER_TERMINATED);
-            return ArrayVec::new();
+            written.clear();
+            return;
         }
         let has_key = self.link.facts().is_some();
         let knows_change = knows_change(&self.link, &self.pending, changer);
         let standing = standing(&self.link, self.key_known, self.until, now);
         self.conn.stand(standing);
-        let answered = answer_by_row(
+        let served = answer_by_row(
             table,
             rows,
             &self.peer,
@@ -60,10 +62,10 @@ impl Slot {
             &mut self.conn,
             pdu,
             &mut self.sender,
+            written,
         );
-        owe_unless(answered.confirmed, knows_change, &self.peer, rows);
-        take_confirmation(answered.confirmed, &mut self.pending);
-        answered.touched
+        owe_unless(served.confirmed, knows_change, &self.peer, rows);
+        take_confirmation(served.confirmed, &mut self.pending);
     }
 }
 
@@ -116,13 +118,14 @@ fn answer_by_row(
     conn: &mut Conn,
     pdu: &[u8],
     sender: &mut Sender,
-) -> Answered
+    written: &mut ArrayVec<u16, 32>,
+) -> Served
     requires row { IsRowOf table.old.attributes (if has_key then unwrap_or (row_of rows.old peer.now) own.old else own.old) }
     requires room { is_due (request_of pdu.now conn.old.mtu) ≡ true → length sender.old.outgoing.queue < 16 }
     ensures queued { sender.new.outgoing ≡ with_pdus sender.old.outgoing
         (map att_pdu (option_to_list (answer_to table.old (if has_key then unwrap_or (row_of rows.old peer.now) own.old else own.old) conn.old (request_of pdu.now conn.old.mtu)))) }
     ensures confirmed { result.confirmed ≡ is_confirmation pdu.now }
-    ensures touched { result.touched.items ≡ handles_by table.old (if has_key then unwrap_or (row_of rows.old peer.now) own.old else own.old) conn.old (request_of pdu.now conn.old.mtu) }
+    ensures written { written.new.items ≡ handles_by table.old (if has_key then unwrap_or (row_of rows.old peer.now) own.old else own.old) conn.old (request_of pdu.now conn.old.mtu) }
     ensures table { table.new ≡ record table.old {
       values =
           (stored_by table.old (if has_key then unwrap_or (row_of rows.old peer.now) own.old else own.old) conn.old (request_of pdu.now conn.old.mtu)).values;
@@ -135,37 +138,63 @@ fn answer_by_row(
 {
     if has_key {
         if let Some(row) = rows.of(peer) {
-            return answer(table, row, conn, pdu, sender);
+            return answer(table, row, conn, pdu, sender, written);
         }
     }
-    answer(table, own, conn, pdu, sender)
+    answer(table, own, conn, pdu, sender, written)
 }
 
 /// Serves a PDU, and queues its answer. There is room for one that is due.
+#[inline(always)]
 fn answer(
     table: &mut Table,
     row: &mut ConfigRow,
     conn: &mut Conn,
     pdu: &[u8],
     sender: &mut Sender,
-) -> Answered
+    written: &mut ArrayVec<u16, 32>,
+) -> Served
     requires row { IsRowOf table.old.attributes row.old }
     requires room { is_due (request_of pdu.now conn.old.mtu) ≡ true → length sender.old.outgoing.queue < 16 }
     ensures queued { sender.new.outgoing ≡ with_pdus sender.old.outgoing
         (map att_pdu (option_to_list (answer_to table.old row.old conn.old (request_of pdu.now conn.old.mtu)))) }
     ensures confirmed { result.confirmed ≡ is_confirmation pdu.now }
-    ensures touched { result.touched.items ≡ handles_by table.old row.old conn.old (request_of pdu.now conn.old.mtu) }
+    ensures written { written.new.items ≡ handles_by table.old row.old conn.old (request_of pdu.now conn.old.mtu) }
     ensures table { table.new ≡ record table.old { values = (stored_by table.old row.old conn.old (request_of pdu.now conn.old.mtu)).values } }
     ensures row { row.new ≡ (stored_by table.old row.old conn.old (request_of pdu.now conn.old.mtu)).row }
     ensures conn { conn.new ≡ conn_after table.old.attributes conn.old (request_of pdu.now conn.old.mtu) }
 {
     let Ok(room) = sender.room() else {
-        let mut unsent = ArrayVec::new();
-        return answer_into(table, row, conn, pdu, &mut unsent);
+        return answer_nothing(table, row, conn, pdu, written);
     };
-    let answered = answer_into(table, row, conn, pdu, room);
-    if answered.due {
+    let served = answer_into(table, row, conn, pdu, room, written);
+    if served.due {
         sender.push(ATT);
     }
-    answered
+    served
+}
+
+/// Serves a PDU to which no answer is due. It is not inlined, so that only what comes here pays for
+/// the buffer.
+#[cold]
+#[inline(never)]
+fn answer_nothing(
+    table: &mut Table,
+    row: &mut ConfigRow,
+    conn: &mut Conn,
+    pdu: &[u8],
+    written: &mut ArrayVec<u16, 32>,
+) -> Served
+    requires row { IsRowOf table.old.attributes row.old }
+    requires none_due { is_due (request_of pdu.now conn.old.mtu) ≡ false }
+    ensures due { result.due ≡ false }
+    ensures none { answer_to table.old row.old conn.old (request_of pdu.now conn.old.mtu) ≡ None }
+    ensures confirmed { result.confirmed ≡ is_confirmation pdu.now }
+    ensures written { written.new.items ≡ handles_by table.old row.old conn.old (request_of pdu.now conn.old.mtu) }
+    ensures table { table.new ≡ record table.old { values = (stored_by table.old row.old conn.old (request_of pdu.now conn.old.mtu)).values } }
+    ensures row { row.new ≡ (stored_by table.old row.old conn.old (request_of pdu.now conn.old.mtu)).row }
+    ensures conn { conn.new ≡ conn_after table.old.attributes conn.old (request_of pdu.now conn.old.mtu) }
+{
+    let mut unsent = ArrayVec::new();
+    answer_into(table, row, conn, pdu, &mut unsent, written)
 }

@@ -196,8 +196,9 @@ impl Slots {
         self.marks.change(place);
     }
 
-    /// Serves a PDU of the Attribute Protocol on the connection of a slot, and gives the handles that
-    /// it wrote. The connection is ended where an answer is due and there is no room for it.
+    /// Serves a PDU of the Attribute Protocol on the connection of a slot, with the handles that it wrote
+    /// in place of what `written` holds. The connection is ended where an answer is due and there is no
+    /// room for it.
     pub fn serve(
         &mut self,
         place: usize,
@@ -206,18 +207,18 @@ impl Slots {
         changer: Option<u16>,
         now: u64,
         pdu: &[u8],
-    ) -> ArrayVec<u16, 32>
+        written: &mut ArrayVec<u16, 32>,
+    )
         requires place { place < length self.old }
         requires there { IsSome (kept_at self.old place) }
         requires row { IfSome (kept_at self.old place) (λ kept. IsRowOf table.old.attributes (row_in_force (row_of rows.old kept.peer) kept)) }
         ensures after { self.new ≡ slots_at place (λ kept. kept_served table.old now (row_of rows.old kept.peer) pdu.now kept) self.old }
         ensures table { IfSome (kept_at self.old place) (λ kept. table.new ≡ table_after table.old now (row_of rows.old kept.peer) pdu.now kept) }
         ensures bond { IfSome (kept_at self.old place) (λ kept. ChangesBond (bond_served table.old now changer (row_of rows.old kept.peer) pdu.now kept) kept.peer rows.old rows.new) }
-        ensures written { IfSome (kept_at self.old place) (λ kept. result.items ≡ handles_of table.old now (row_of rows.old kept.peer) pdu.now kept) }
+        ensures written { IfSome (kept_at self.old place) (λ kept. written.new.items ≡ handles_of table.old now (row_of rows.old kept.peer) pdu.now kept) }
     {
-        let written = self.slots[place].serve(table, rows, changer, now, pdu);
+        self.slots[place].serve(table, rows, changer, now, pdu, written);
         self.marks.go_on(place);
-        written
     }
 
     /// Counts packets as completed, each entry at most those that are outstanding. Entries of unknown

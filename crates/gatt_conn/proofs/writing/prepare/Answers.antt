@@ -17,7 +17,6 @@ returns-in-Denied-clause-served c =
     record {
       content = refused.content ∙ ap (λ (answer : Response). sent_if_any (Some answer)) (sym same);
       due = refused.due;
-      touched = refused.touched;
     }
 
 pub returns-in-Written-clause-served : goal.returns-in-Written-clause-served
@@ -28,5 +27,4 @@ returns-in-Written-clause-served c =
     record {
       content = repeated ∙ ap (λ (answer : Response). sent_if_any (Some answer)) (sym same);
       due = c.with_answer.ensures.due;
-      touched = c.with_answer.ensures.touched;
     }

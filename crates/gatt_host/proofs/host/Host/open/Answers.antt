@@ -18,8 +18,9 @@ returns-clause-opened c =
       time = 0;
       controller = c.new-2.result;
       slots = c.in-Ok.slots;
+      written = c.new-3.result;
     }) in
-    let whole : Whole = record { held = held; frames = c.from_fn.result; stream = c.new-3.result; fault = None } in
+    let whole : Whole = record { held = held; frames = c.from_fn.result; stream = c.new-4.result; fault = None } in
     let configured : is_configured c.args.config ≡ true = sym c.is_configured.ensures ∙ c.if-not-is_configured.false in
     let fitted : HasFittedBonds c.args.keys c.args.table c.args.rows c.fit.new.self =
     without_fault c.fit.result (sym c.is_err.ensures.value ∙ c.if-is_err.false) c.fit.ensures.each in
@@ -34,7 +35,7 @@ returns-clause-opened c =
       slots = c.in-Ok.ensures i;
     } in
     stands_when_opened c.args.table c.args.keys c.args.rows c.fit.new.self c.args.config fitted whole configured same
-    c.from_fn.ensures.items.long c.new-3.ensures.at_start (λ i. None)
+    c.from_fn.ensures.items.long c.new-4.ensures.at_start (λ i. None)
 
 pub invariant_of-result-2 : goal.invariant_of-result-2
 invariant_of-result-2 c = reached_when_opened c.args.table c.args.keys c.args.rows c.args.config _ (returns-clause-opened c)

@@ -9,8 +9,8 @@ use Rattle.gatt_host.proofs.host_state.HostState.ask.Goals as goal
 pub returns : goal.returns
 returns c =
     let old : Held = the_view c.self.inside in
-    asked_then_heard old c.args.place c.args.pdu.now c.serve-written.new.table c.serve-written.new.rows c.serve-written.result.items
-    c.serve-written.new.self c.hear.new.self c.serve-written.ensures.after
-    (c.hear.ensures.heard ∙ ap (λ (handles : List Handle). all_heard c.serve-written.new.table old.time c.serve-written.new.rows (Some c.args.place) [] handles
-    c.serve-written.new.self) c.as_slice.ensures.value)
-    c.args.self.now c.self.view_is c.serve-written.ensures.table c.serve-written.ensures.bond c.serve-written.ensures.written
+    asked_then_heard old c.args.place c.args.pdu.now c.serve.new.table c.serve.new.rows c.serve.new.written.items
+    c.serve.new.self c.hear.new.self c.serve.ensures.after
+    (c.hear.ensures.heard ∙ ap (λ (handles : List Handle). all_heard c.serve.new.table old.time c.serve.new.rows (Some c.args.place) [] handles
+    c.serve.new.self) c.as_slice.ensures.value)
+    c.args.self.now c.self.view_is c.serve.ensures.table c.serve.ensures.bond c.serve.ensures.written

@@ -11,8 +11,8 @@ use Rattle.gatt_slots.proofs.Served.{bond_of_served, kept_after_serving, row_of_
 use Rattle.gatt_subs.specs.Rows.{row_of, ChangesBond}
 use Rattle.gatt_slots.proofs.slot.Slot.serve.Goals as goal
 
-pub answer_by_row-answered-requires-clause-row : goal.answer_by_row-answered-requires-clause-row
-answer_by_row-answered-requires-clause-row c =
+pub answer_by_row-served-requires-clause-row : goal.answer_by_row-served-requires-clause-row
+answer_by_row-served-requires-clause-row c =
     let inside = c.self.inside in
     row_of_table c.args.table.now c.args.now c.args.changer c.args.pdu.now c.args.rows.now c.args.rows.now c.args.rows.now
     inside.handle inside.peer inside.key_known inside.until inside.row inside.link inside.conn inside.pending inside.sender inside.reply inside.reason inside.used
@@ -28,13 +28,13 @@ returns-clause-bond c =
     let new = c.owe_unless.new.rows in
     subst (λ (self : Option Kept). IfSome self (λ kept.
     ChangesBond (bond_served c.args.table.now c.args.now c.args.changer (row_of old kept.peer) c.args.pdu.now kept) kept.peer old new)) c.self.view_is
-    (bond_of_served c.args.table.now c.args.now c.args.changer c.args.pdu.now old c.answer_by_row-answered.new.rows new
+    (bond_of_served c.args.table.now c.args.now c.args.changer c.args.pdu.now old c.answer_by_row-served.new.rows new
     inside.handle inside.peer inside.key_known inside.until inside.row inside.link inside.conn inside.pending inside.sender inside.reply inside.reason inside.used
-    c.is_some-has_key.result c.knows_change-knows_change.result c.stand.new.self c.answer_by_row-answered.result.confirmed
+    c.is_some-has_key.result c.knows_change-knows_change.result c.stand.new.self c.answer_by_row-served.result.confirmed
     (sym c.is_full.ensures.full ∙ c.if-is_full.false)
     (c.is_some-has_key.ensures ∙ ap (λ (key : Option KeyFacts). is_some key) c.facts.ensures.key)
     (c.stand.ensures ∙ ap (λ (standing : Standing). record inside.conn { standing = standing }) c.standing-standing.ensures)
-    c.answer_by_row-answered.ensures.confirmed c.knows_change-knows_change.ensures c.answer_by_row-answered.ensures.bond c.owe_unless.ensures)
+    c.answer_by_row-served.ensures.confirmed c.knows_change-knows_change.ensures c.answer_by_row-served.ensures.bond c.owe_unless.ensures)
 
 pub returns-clause-after : goal.returns-clause-after
 returns-clause-after c =
@@ -42,11 +42,11 @@ returns-clause-after c =
     let old = c.args.rows.now in
     kept_after_serving c.args.table.now c.args.now c.args.changer c.args.pdu.now old old old
     inside.handle inside.peer inside.key_known inside.until inside.row inside.link inside.conn inside.pending inside.sender inside.reply inside.reason inside.used
-    c.is_some-has_key.result c.answer_by_row-answered.result.confirmed c.stand.new.self c.answer_by_row-answered.new.own c.answer_by_row-answered.new.conn
-    c.take_confirmation.new.pending c.answer_by_row-answered.new.sender
+    c.is_some-has_key.result c.answer_by_row-served.result.confirmed c.stand.new.self c.answer_by_row-served.new.own c.answer_by_row-served.new.conn
+    c.take_confirmation.new.pending c.answer_by_row-served.new.sender
     (sym c.is_full.ensures.full ∙ c.if-is_full.false)
     (c.is_some-has_key.ensures ∙ ap (λ (key : Option KeyFacts). is_some key) c.facts.ensures.key)
     (c.stand.ensures ∙ ap (λ (standing : Standing). record inside.conn { standing = standing }) c.standing-standing.ensures)
-    c.answer_by_row-answered.ensures.confirmed c.answer_by_row-answered.ensures.own c.answer_by_row-answered.ensures.conn c.take_confirmation.ensures
-    c.answer_by_row-answered.ensures.queued
+    c.answer_by_row-served.ensures.confirmed c.answer_by_row-served.ensures.own c.answer_by_row-served.ensures.conn c.take_confirmation.ensures
+    c.answer_by_row-served.ensures.queued
     ∙ ap (λ (self : Option Kept). option_map (λ kept. kept_served c.args.table.now c.args.now (row_of old kept.peer) c.args.pdu.now kept) self) c.self.view_is

@@ -14,9 +14,9 @@ invariant_of-self c =
     let place = c.args.place in
     let slot = c.index_mut.result.now in
     let within : place < length slots = subst (λ (it : Held). place < length it) (sym c.self.view_is) c.requires.place in
-    c.go_on.ensures slots c.serve-written.new.self within c.self.invariant
-    (subst (λ (it : Option Kept). GoesOn it c.serve-written.new.self) (there_at slots slots (λ i. slots) place slot within c.index_mut.ensures.value)
-    (subst (λ (it : Option Kept). GoesOn slot it) (sym c.serve-written.ensures.after) (served_goes_on c.args.table.now c.args.now c.args.rows.now c.args.pdu.now slot)))
+    c.go_on.ensures slots c.serve.new.self within c.self.invariant
+    (subst (λ (it : Option Kept). GoesOn it c.serve.new.self) (there_at slots slots (λ i. slots) place slot within c.index_mut.ensures.value)
+    (subst (λ (it : Option Kept). GoesOn slot it) (sym c.serve.ensures.after) (served_goes_on c.args.table.now c.args.now c.args.rows.now c.args.pdu.now slot)))
 
 pub returns-clause-after : goal.returns-clause-after
 returns-clause-after c =
@@ -24,15 +24,15 @@ returns-clause-after c =
     let place = c.args.place in
     let within : place < length slots = subst (λ (it : Held). place < length it) (sym c.self.view_is) c.requires.place in
     changed_at slots c.args.self.now c.self.view_is place c.index_mut.result.now within c.index_mut.ensures.value
-    (λ (kept : Kept). kept_served c.args.table.now c.args.now (row_of c.args.rows.now kept.peer) c.args.pdu.now kept) c.serve-written.new.self c.serve-written.ensures.after
+    (λ (kept : Kept). kept_served c.args.table.now c.args.now (row_of c.args.rows.now kept.peer) c.args.pdu.now kept) c.serve.new.self c.serve.ensures.after
 
 pub returns-clause-table : goal.returns-clause-table
 returns-clause-table c =
     let slots = c.self.inside.slots.items in
     let place = c.args.place in
     let within : place < length slots = subst (λ (it : Held). place < length it) (sym c.self.view_is) c.requires.place in
-    subst (λ (it : Option Kept). IfSome it (λ kept. c.serve-written.new.table ≡ table_after c.args.table.now c.args.now (row_of c.args.rows.now kept.peer) c.args.pdu.now kept))
-    (there_at slots c.args.self.now c.self.view_is place c.index_mut.result.now within c.index_mut.ensures.value) c.serve-written.ensures.table
+    subst (λ (it : Option Kept). IfSome it (λ kept. c.serve.new.table ≡ table_after c.args.table.now c.args.now (row_of c.args.rows.now kept.peer) c.args.pdu.now kept))
+    (there_at slots c.args.self.now c.self.view_is place c.index_mut.result.now within c.index_mut.ensures.value) c.serve.ensures.table
 
 pub returns-clause-bond : goal.returns-clause-bond
 returns-clause-bond c =
@@ -40,13 +40,13 @@ returns-clause-bond c =
     let place = c.args.place in
     let within : place < length slots = subst (λ (it : Held). place < length it) (sym c.self.view_is) c.requires.place in
     subst (λ (it : Option Kept). IfSome it (λ kept.
-    ChangesBond (bond_served c.args.table.now c.args.now c.args.changer (row_of c.args.rows.now kept.peer) c.args.pdu.now kept) kept.peer c.args.rows.now c.serve-written.new.rows))
-    (there_at slots c.args.self.now c.self.view_is place c.index_mut.result.now within c.index_mut.ensures.value) c.serve-written.ensures.bond
+    ChangesBond (bond_served c.args.table.now c.args.now c.args.changer (row_of c.args.rows.now kept.peer) c.args.pdu.now kept) kept.peer c.args.rows.now c.serve.new.rows))
+    (there_at slots c.args.self.now c.self.view_is place c.index_mut.result.now within c.index_mut.ensures.value) c.serve.ensures.bond
 
 pub returns-clause-written : goal.returns-clause-written
 returns-clause-written c =
     let slots = c.self.inside.slots.items in
     let place = c.args.place in
     let within : place < length slots = subst (λ (it : Held). place < length it) (sym c.self.view_is) c.requires.place in
-    subst (λ (it : Option Kept). IfSome it (λ kept. c.serve-written.result.items ≡ handles_of c.args.table.now c.args.now (row_of c.args.rows.now kept.peer) c.args.pdu.now kept))
-    (there_at slots c.args.self.now c.self.view_is place c.index_mut.result.now within c.index_mut.ensures.value) c.serve-written.ensures.written
+    subst (λ (it : Option Kept). IfSome it (λ kept. c.serve.new.written.items ≡ handles_of c.args.table.now c.args.now (row_of c.args.rows.now kept.peer) c.args.pdu.now kept))
+    (there_at slots c.args.self.now c.self.view_is place c.index_mut.result.now within c.index_mut.ensures.value) c.serve.ensures.written
