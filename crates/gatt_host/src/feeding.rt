@@ -1,6 +1,6 @@
 //! Octets of the stream from a controller go in, and those of what goes back to it come out.
 
-ghost use Rattle.std.specs.Prelude.{◌≡◌, ◌≤◌, ◌<◌, ◌∷◌, [], take, false, true, length, None, Some, IsSome, IsOk, IfOk, IfErr, Err};
+ghost use Rattle.std.specs.Prelude.{◌≡◌, ◌≤◌, ◌<◌, ◌∷◌, [], take, false, true, length, None, Some, IsSome, IsOk, IfOk, IfErr, IfSome, Err};
 ghost use Rattle.std.specs.Result.{result_err};
 ghost use Rattle.gatt_host.specs.Feeding.{comes_of_feeding, items_taken, octet_items, is_write, Feeds};
 ghost use Rattle.gatt_host.specs.Answers.{lost_fault};
@@ -10,6 +10,7 @@ ghost use Rattle.gatt_host.specs.Meaning.{Frames, HasRowsOfTheTable};
 ghost use Rattle.gatt_host.specs.Promises.{KeepsConnectionsApart, KeepsThePolicy};
 ghost use Rattle.gatt_host.specs.Whole.{all_out, going, is_own, outcome_of, IsHeldByOne, Leads};
 ghost use Rattle.le_h4.specs.Deframer.{Deframing};
+ghost use Rattle.le_h4.specs.Packet.{seen};
 ghost use Rattle.octets.specs.Stream.{CountsIf};
 
 use crate::host::Host;
@@ -18,7 +19,7 @@ use crate::host_state::HostState;
 use crate::packet::packet;
 use arrayvec::ArrayVec;
 use le_acl::Reassembler;
-use le_h4::{Deframer, H4Fault};
+use le_h4::{Deframer, H4Fault, WholePacket};
 use octets::{Sink, write_all};
 
 /// Takes in octets of the stream from the controller, which may begin and end anywhere in its packets,
@@ -126,38 +127,45 @@ fn take_in(
     ensures within { IfOk result (λ used. used ≤ length octets.now) }
     ensures some { IfOk result (λ used. 0 < length octets.now → 0 < used) }
 {
-    if let Some(whole) = deframer.whole_packet(octets) {
-        packet(state, frames, whole.packet)?;
-        return Ok(whole.used);
+    let lent = deframer.whole_packet(octets);
+    let mut used = 0;
+    if lent.is_none() {
+        let fed = match deframer.feed(octets) {
+            Ok(fed) => fed,
+            Err(fault) => return Err(lost_fault(fault)),
+        };
+        if !fed.packet {
+            return Ok(fed.used);
+        }
+        used = fed.used;
     }
-    gather(state, frames, deframer, octets)
+    // One call hears either, so that it stands here inlined.
+    let whole = lent_or_marked(lent, deframer, used);
+    packet(state, frames, whole.packet)?;
+    Ok(whole.used)
 }
 
-/// The same of a packet that may come in parts, which are gathered.
-fn gather(
-    state: &mut HostState,
-    frames: &mut [Reassembler; 8],
-    deframer: &mut Deframer,
-    octets: &[u8],
-) -> Result<usize, HostFault>
-    requires rows { HasRowsOfTheTable state.old }
-    requires drained { is_drained state.old.controller (open_slots state.old) ≡ true }
-    ensures leads { Leads (items_taken octets.now result) []
-        (record { held = state.old; frames = frames.old; stream = deframer.old; fault = None })
-        (record { held = state.new; frames = frames.new; stream = deframer.new; fault = result_err result }) }
-    ensures not_own { IfErr result (λ fault. is_own fault ≡ false) }
-    ensures within { IfOk result (λ used. used ≤ length octets.now) }
-    ensures some { IfOk result (λ used. 0 < length octets.now → 0 < used) }
+/// The packet that is lent, or else the one that the deframer has marked, which ends behind so many
+/// octets.
+#[inline(always)]
+fn lent_or_marked<'a>(
+    lent: Option<WholePacket<'a>>,
+    deframer: &'a Deframer,
+    used: usize,
+) -> WholePacket<'a>
+    requires { lent ≡ None → IsSome deframer.now.marked }
+    ensures lent { IfSome lent.entry (λ whole. seen result.packet ≡ seen whole.packet) }
+    ensures lent_used { IfSome lent.entry (λ whole. result.used ≡ whole.used) }
+    ensures marked { lent.entry ≡ None → deframer.now.marked ≡ Some (seen result.packet) }
+    ensures marked_used { lent.entry ≡ None → result.used ≡ used }
 {
-    let fed = match deframer.feed(octets) {
-        Ok(fed) => fed,
-        Err(fault) => return Err(lost_fault(fault)),
-    };
-    if !fed.packet {
-        return Ok(fed.used);
+    match lent {
+        Some(whole) => whole,
+        None => WholePacket {
+            packet: deframer.packet(),
+            used,
+        },
     }
-    packet(state, frames, deframer.packet())?;
-    Ok(fed.used)
 }
 
 /// Why a host stops whose stream cannot be divided any further.

@@ -1,6 +1,8 @@
 -- What a deframer says of the octets that it took.
-use Rattle.std.proofs.Common.{◌≡◌, ℕ, Bool, true, false, [], Option, Some, None, Result, Err, refl, sym, subst}
-use Rattle.std.specs.Prelude.{IsSome, IsTrue, not, ◌↔◌}
+use Rattle.std.proofs.Common.{◌≡◌, ℕ, Bool, true, false, List, [], ◌∷◌, ◌++◌, take, Option, Some, None, Result, Err, refl, sym, ap, subst, ◌∙◌}
+use Rattle.std.specs.Prelude.{IfSome, IsSome, IsTrue, is_some, not, ◌↔◌}
+use Rattle.std.specs.Option.{option_to_list}
+use Rattle.gatt_host.proofs.Nexts.{clash, is_none_where}
 use Rattle.gatt_host.proofs.whole.Octets.{octets_lost}
 use Rattle.gatt_host.specs.Answers.{lost_fault}
 use Rattle.gatt_host.specs.declared.host_fault.HostFault.TheVariants as stop
@@ -9,8 +11,10 @@ use Rattle.gatt_host.specs.Whole.{Leads, Whole}
 use Rattle.le_h4.specs.declared.deframer.Fed.{Fed}
 use Rattle.le_h4.specs.declared.deframer.H4Fault.{H4Fault}
 use Rattle.le_h4.specs.declared.deframer.H4Fault.TheVariants as lost
-use Rattle.le_h4.specs.Deframer.{Deframing, lost_at, still}
-use Rattle.le_h4.specs.Division.{lost as lost_at_once}
+use Rattle.le_h4.specs.declared.packet.WholePacket.{WholePacket}
+use Rattle.le_h4.specs.Deframer.{Deframing, lost_at, marks, still}
+use Rattle.le_h4.specs.Division.{before, lost as lost_at_once, unfinished}
+use Rattle.le_h4.specs.Packet.{Packet, seen}
 use Rattle.octets.specs.Number.{Octets}
 
 abbrev failing : H4Fault → Result Fed H4Fault
@@ -33,3 +37,38 @@ none_marked packet (Some found) lacks marks = cc (lacks, marks.1 refl)
 pub not_true : (packet : Bool) → not packet ≡ true → packet ≡ false
 not_true true is = sym is
 not_true false is = refl
+
+-- so many octets end this packet, whether it is lent or marked
+pub record EndsPacket (old : Deframing) (octets : Octets) (new : Deframing) (used : ℕ) (packet : Packet) : Type 0 where
+  pub divided : (rest : Octets) → still old (take used octets ++ rest) ≡ before (packet ∷ []) (still new rest)
+  pub last : still new [] ≡ unfinished
+
+module _ (lent : Option WholePacket) (old new : Deframing) (octets : Octets) (result : WholePacket) where
+  pub packet_lent : is_some lent ≡ true → new ≡ old
+      → IfSome lent (λ (whole : WholePacket). (rest : Octets) → still old (take whole.used octets ++ rest) ≡ before (seen whole.packet ∷ []) (still old rest))
+      → IfSome lent (λ (whole : WholePacket). still old [] ≡ unfinished)
+      → IfSome lent (λ (whole : WholePacket). seen result.packet ≡ seen whole.packet) → IfSome lent (λ (whole : WholePacket). result.used ≡ whole.used)
+      → EndsPacket old octets new result.used (seen result.packet)
+  packet_lent there same = by lent there
+    where
+      by : (lent : Option WholePacket) → is_some lent ≡ true
+          → IfSome lent (λ (whole : WholePacket). (rest : Octets) → still old (take whole.used octets ++ rest) ≡ before (seen whole.packet ∷ []) (still old rest))
+          → IfSome lent (λ (whole : WholePacket). still old [] ≡ unfinished)
+          → IfSome lent (λ (whole : WholePacket). seen result.packet ≡ seen whole.packet) → IfSome lent (λ (whole : WholePacket). result.used ≡ whole.used)
+          → EndsPacket old octets new result.used (seen result.packet)
+      by None there divided last is_packet is_used = absurd (clash there)
+      by (Some whole) there divided last is_packet is_used =
+          subst (λ (at : Deframing). EndsPacket old octets at result.used (seen result.packet)) (sym same)
+          (subst (λ (used : ℕ). EndsPacket old octets old used (seen result.packet)) (sym is_used)
+          (subst (λ (packet : Packet). EndsPacket old octets old whole.used packet) (sym is_packet) (record { divided = divided; last = last })))
+
+  pub packet_marked : (at : Deframing) (fed used : ℕ) → is_some lent ≡ false → new ≡ at
+      → ((rest : Octets) → still old (take fed octets ++ rest) ≡ before (marks at) (still at rest)) → still at [] ≡ unfinished
+      → (lent ≡ None → new.marked ≡ Some (seen result.packet)) → (lent ≡ None → result.used ≡ used) → used ≡ fed
+      → EndsPacket old octets new result.used (seen result.packet)
+  packet_marked at fed used lacks same divided last is_packet is_used is_fed =
+      let none : lent ≡ None = is_none_where lent lacks in
+      let found : marks at ≡ seen result.packet ∷ [] = ap (λ (d : Deframing). marks d) (sym same) ∙ ap option_to_list (is_packet none) in
+      subst (λ (count : ℕ). EndsPacket old octets new count (seen result.packet)) (sym (is_used none ∙ is_fed))
+      (subst (λ (d : Deframing). EndsPacket old octets d fed (seen result.packet)) (sym same)
+      (record { divided = λ rest. divided rest ∙ ap (λ (packets : List Packet). before packets (still at rest)) found; last = last }))

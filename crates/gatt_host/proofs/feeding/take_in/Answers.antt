@@ -1,30 +1,71 @@
 use Rattle.std.proofs.Common.{◌∙◌, ℕ, ap, Result, Err, [], None, Some, drop, refl, sym, subst, take, take-append-drop}
 use Rattle.std.proofs.lemmas.Result.{err_from_is_err_and}
+use Rattle.std.specs.Prelude.{not}
 use Rattle.std.specs.Result.{result_err}
-use Rattle.gatt_host.proofs.whole.Octets.{octets_bring_whole, octets_stop_whole}
+use Rattle.gatt_host.proofs.feeding.take_in.Goals.{then-is_none+in-Ok+else-not-fed, else-is_none}
+use Rattle.gatt_host.proofs.whole.Octets.{octets_bring_whole, octets_pass, octets_stop_whole}
+use Rattle.gatt_host.proofs.whole.Taking.{lost_leads, none_marked, not_true, packet_lent, packet_marked, EndsPacket}
 use Rattle.gatt_host.specs.declared.host_fault.HostFault.{HostFault}
 use Rattle.gatt_host.specs.Feeding.{items_taken, octet_items}
 use Rattle.gatt_host.specs.Whole.{Leads, Whole}
+use Rattle.le_h4.specs.declared.packet.WholePacket.{WholePacket}
 use Rattle.le_h4.specs.Packet.{seen}
 use Rattle.octets.specs.Number.{Octets}
 use Rattle.gatt_host.proofs.feeding.take_in.Goals as goal
 
+pub returns-in-Err-clause-leads : goal.returns-in-Err-clause-leads
+returns-in-Err-clause-leads c =
+    let old : Whole = record { held = c.args.state.now; frames = c.args.frames.now; stream = c.args.deframer.now; fault = None } in
+    subst (λ (fault : HostFault). Leads (octet_items c.args.octets.now) [] old (record old { stream = c.feed.new.self; fault = Some fault })) (sym c.lost_fault.ensures)
+    (lost_leads old c.args.octets.now c.feed.new.self c.in-Err.fault refl c.in-Err.ensures.desync c.in-Err.ensures.desynced)
+
+pub returns-then-not-fed-clause-leads : goal.returns-then-not-fed-clause-leads
+returns-then-not-fed-clause-leads c =
+    let old : Whole = record { held = c.args.state.now; frames = c.args.frames.now; stream = c.args.deframer.now; fault = None } in
+    octets_pass old c.feed.new.self (take c.in-Ok.fed.used c.args.octets.now) refl c.in-Ok.ensures.divided
+    (none_marked c.in-Ok.fed.packet c.feed.new.self.marked (not_true c.in-Ok.fed.packet c.if-not-fed.true) c.in-Ok.ensures.marked) c.in-Ok.ensures.unfinished
+
 pub returns-in_err-packet-clause-leads : goal.returns-in_err-packet-clause-leads
 returns-in_err-packet-clause-leads c =
-    let used = c.in-Some.whole.used in
+    let whole : WholePacket = c.lent_or_marked-whole.result in
+    let used : ℕ = whole.used in
     let octets : Octets = c.args.octets.now in
     let fault = c.in_err-packet.field-0.0 in
     let old : Whole = record { held = c.args.state.now; frames = c.args.frames.now; stream = c.args.deframer.now; fault = None } in
-    let new : Whole = record { held = c.packet.new.state; frames = c.packet.new.frames; stream = c.args.deframer.now; fault = Some fault } in
+    let new : Whole = record { held = c.packet.new.state; frames = c.packet.new.frames; stream = c.if-is_none.deframer; fault = Some fault } in
+    let ends : EndsPacket c.args.deframer.now octets c.if-is_none.deframer used (seen whole.packet) =
+    elim c.if-is_none.branch [
+      | then-is_none+in-Ok+else-not-fed w ↦
+          packet_marked c.whole_packet-lent.result c.args.deframer.now c.if-is_none.deframer octets whole w.feed.new.self w.in-Ok.fed.used c.if-is_none.used
+          (c.is_none.ensures ∙ ap not w.if-is_none.true) w.deframer-is w.in-Ok.ensures.divided w.in-Ok.ensures.unfinished
+          c.lent_or_marked-whole.ensures.marked c.lent_or_marked-whole.ensures.marked_used w.used-is
+      | else-is_none w ↦
+          packet_lent c.whole_packet-lent.result c.args.deframer.now c.if-is_none.deframer octets whole
+          (c.is_none.ensures ∙ ap not w.if-is_none.false) w.deframer-is c.whole_packet-lent.ensures.divided c.whole_packet-lent.ensures.unfinished
+          c.lent_or_marked-whole.ensures.lent c.lent_or_marked-whole.ensures.lent_used
+    ] in
     let stopped = err_from_is_err_and c.from_residual.result c.from_residual.ensures.1 in
     subst (λ (result : Result ℕ HostFault). Leads (items_taken octets result) [] old (record new { fault = result_err result })) (sym (stopped.1 ∙ ap (λ (why : HostFault). Err why) stopped.2))
     (subst (λ (all : Octets). Leads (octet_items all) [] old new) (take-append-drop used octets)
-    (octets_stop_whole old new (take used octets) (drop used octets) (seen c.in-Some.whole.packet) fault refl c.in-Some.ensures.divided
+    (octets_stop_whole old new (take used octets) (drop used octets) (seen whole.packet) fault refl ends.divided
     c.in_err-packet.ensures.leads refl c.in_err-packet.ensures.not_own))
 
-pub returns-in-Some-clause-leads : goal.returns-in-Some-clause-leads
-returns-in-Some-clause-leads c =
+pub returns-clause-leads : goal.returns-clause-leads
+returns-clause-leads c =
+    let whole : WholePacket = c.lent_or_marked-whole.result in
+    let used : ℕ = whole.used in
+    let octets : Octets = c.args.octets.now in
     let old : Whole = record { held = c.args.state.now; frames = c.args.frames.now; stream = c.args.deframer.now; fault = None } in
-    let new : Whole = record { held = c.packet.new.state; frames = c.packet.new.frames; stream = c.args.deframer.now; fault = None } in
-    octets_bring_whole old new (take c.in-Some.whole.used c.args.octets.now) (seen c.in-Some.whole.packet) refl c.in-Some.ensures.divided c.in-Some.ensures.unfinished
-    c.in_ok-packet.ensures.leads
+    let new : Whole = record { held = c.packet.new.state; frames = c.packet.new.frames; stream = c.if-is_none.deframer; fault = None } in
+    let ends : EndsPacket c.args.deframer.now octets c.if-is_none.deframer used (seen whole.packet) =
+    elim c.if-is_none.branch [
+      | then-is_none+in-Ok+else-not-fed w ↦
+          packet_marked c.whole_packet-lent.result c.args.deframer.now c.if-is_none.deframer octets whole w.feed.new.self w.in-Ok.fed.used c.if-is_none.used
+          (c.is_none.ensures ∙ ap not w.if-is_none.true) w.deframer-is w.in-Ok.ensures.divided w.in-Ok.ensures.unfinished
+          c.lent_or_marked-whole.ensures.marked c.lent_or_marked-whole.ensures.marked_used w.used-is
+      | else-is_none w ↦
+          packet_lent c.whole_packet-lent.result c.args.deframer.now c.if-is_none.deframer octets whole
+          (c.is_none.ensures ∙ ap not w.if-is_none.false) w.deframer-is c.whole_packet-lent.ensures.divided c.whole_packet-lent.ensures.unfinished
+          c.lent_or_marked-whole.ensures.lent c.lent_or_marked-whole.ensures.lent_used
+    ] in
+    octets_bring_whole old new (take used octets) (seen whole.packet) refl ends.divided ends.last c.in_ok-packet.ensures.leads
