@@ -63,7 +63,9 @@ pub(crate) fn write_out<W: Sink>(host: &mut Host, out: &mut W) -> Result<(), Hos
     ensures failures { CountsIf (is_write host.new.fault) (W.failures out.old) (W.failures out.new) }
 {
     let written = write_owed(&mut host.state, &mut host.packet, out);
-    host.fault = written.err();
+    if written.is_err() {
+        host.fault = written.err();
+    }
     written
 }
 
@@ -106,7 +108,9 @@ fn take(host: &mut Host, octets: &[u8]) -> Result<usize, HostFault>
         &mut host.deframer,
         octets,
     );
-    host.fault = taken.err();
+    if taken.is_err() {
+        host.fault = taken.err();
+    }
     taken
 }
 

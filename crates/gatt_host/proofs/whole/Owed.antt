@@ -1,7 +1,9 @@
 -- What goes out of all that a host holds, in the midst of any frames and any stream.
-use Rattle.std.proofs.Common.{◌≡◌, true, false, List, [], ◌∷◌, Option, Some, None, refl, sym, subst, ◌∙◌}
-use Rattle.std.specs.Prelude.{is_some}
+use Rattle.std.proofs.Common.{◌≡◌, true, false, List, [], ◌∷◌, Option, Some, None, Result, Ok, Err, refl, sym, subst, ◌∙◌}
+use Rattle.std.specs.Prelude.{is_err, is_some}
+use Rattle.std.specs.Result.{result_err}
 use Rattle.std.proofs.lemmas.Bool.{not-false}
+use Rattle.gatt_host.proofs.Nexts.{clash}
 use Rattle.gatt_host.proofs.whole.Items.{reached_by}
 use Rattle.gatt_host.proofs.whole.Out.{goes_out, goes_where_not_out}
 use Rattle.gatt_host.specs.declared.host_fault.HostFault.{HostFault}
@@ -57,3 +59,8 @@ reached_fed items old new before after (Some (stop.Hardware code)) reached feeds
 reached_fed items old new before after (Some stop.Read) reached feeds = reached_by items feeds.packets old new reached feeds.leads
 reached_fed items old new before after (Some stop.Turns) reached feeds = reached_by items feeds.packets old new reached feeds.leads
 reached_fed items old new before after (Some stop.Write) reached feeds = reached_by feeds.taken feeds.packets old new reached feeds.leads
+
+-- a call that went well answers no fault
+pub no_fault_where : {T E : Type 0} (result : Result T E) → is_err result ≡ false → result_err result ≡ None
+no_fault_where (Ok x) went = refl
+no_fault_where (Err e) went = absurd (clash (sym went))
