@@ -62,6 +62,7 @@ impl Controller {
     }
 
     /// The controller is initialised.
+    #[inline(always)]
     pub fn is_ready(&self) -> bool
         ensures { result ≡ laws.is_ready self.now }
     {

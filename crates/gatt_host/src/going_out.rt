@@ -1,13 +1,14 @@
 //! What goes out next: a command that is due, while the controller takes any, and else a packet of the
 //! first slot that may give one.
 
-ghost use Rattle.std.specs.Prelude.{◌≡◌, ◌≢◌, List, ◌&&◌, not, nat_lt, is_some, true, Some, ◌∷◌, []};
+ghost use Rattle.std.specs.Prelude.{◌≡◌, ◌≢◌, ◌<◌, length, List, ◌&&◌, not, nat_lt, is_some, true, Some, ◌∷◌, []};
 ghost use Rattle.std.specs.Bool.{OnTrue, OnFalse};
 ghost use Rattle.std.specs.List.{list_any, position};
 ghost use Rattle.std.specs.Option.{option_map};
 ghost use Rattle.gatt_laws.specs.Controller.{controller_after};
 ghost use Rattle.gatt_laws.specs.State.{State, command_octets};
-ghost use Rattle.gatt_slots.specs.Commands.{gives, without_command, without_packet, has_command};
+ghost use Rattle.gatt_slots.specs.Commands.{command_due, gives, has_command, without_command, without_packet};
+ghost use Rattle.gatt_slots.specs.Slots.{kept_at, slots_at};
 ghost use Rattle.gatt_host.specs.GoingOut.{command_in, command_next, controller_then, has_room, init_command, is_drained, next_out, packet_in, slots_commanded, slots_then, with_first};
 ghost use Rattle.gatt_host.specs.Owing.{IsDone, IsOwing, OwesTheRest, OwesWhatAnEventBrings};
 ghost use Rattle.octets.specs.Number.{Octets};
@@ -20,6 +21,7 @@ use le_hci::{Command, opcode};
 
 impl Controller {
     /// It takes a command now.
+    #[inline(always)]
     fn takes(&self) -> bool
         ensures { result ≡ nat_lt 0 self.now.credit }
     {
@@ -41,6 +43,7 @@ impl Controller {
     }
 
     /// Writes the command of initialisation, once its turn has come, and takes in that it is sent.
+    #[inline(always)]
     fn init_command_out(&mut self, out: &mut ArrayVec<u8, 260>) -> bool
         requires { nat_lt 0 self.old.credit ≡ true }
         ensures goes { result ≡ is_some (init_command self.old) }
@@ -49,23 +52,36 @@ impl Controller {
         ensures unchanged { OnFalse result (self.new ≡ self.old) }
         ensures out_unchanged { OnFalse result (out.new.items ≡ out.old.items) }
     {
-        if self.awaiting {
+        if !self.has_init_command() {
             return false;
         }
+        self.write_init_command(out);
+        true
+    }
+
+    /// The same, where there is one.
+    #[cold]
+    #[inline(never)]
+    fn write_init_command(&mut self, out: &mut ArrayVec<u8, 260>)
+        requires credit { nat_lt 0 self.old.credit ≡ true }
+        requires due { is_some (init_command self.old) ≡ true }
+        ensures octets { option_map command_octets (init_command self.old) ≡ Some out.new.items }
+        ensures after { (command : Commanded) → init_command self.old ≡ Some command → self.new ≡ controller_after self.old (command ∷ []) }
+    {
         let Some(command) = self.init.command() else {
-            return false;
+            unreachable!()
         };
         write_command(&command, out);
         let opcode = command.opcode();
         self.sent(opcode);
-        true
     }
 
     /// The command of initialisation is due.
+    #[inline(always)]
     fn has_init_command(&self) -> bool
         ensures { result ≡ is_some (init_command self.now) }
     {
-        !self.awaiting && self.init.command().is_some()
+        !self.awaiting && !self.is_ready()
     }
 
     /// It is to be told to advertise: a slot is free, it does not, and it has not refused to.
@@ -103,6 +119,7 @@ fn write_command(command: &Command<'_>, out: &mut ArrayVec<u8, 260>)
 }
 
 /// Writes the packet of the first slot that may give one.
+#[inline(always)]
 fn packet_out(slots: &mut Slots, out: &mut ArrayVec<u8, 260>) -> bool
     ensures goes { result ≡ is_some (packet_in slots.old) }
     ensures octets { OnTrue result (packet_in slots.old ≡ Some out.new.items) }
@@ -117,6 +134,7 @@ fn packet_out(slots: &mut Slots, out: &mut ArrayVec<u8, 260>) -> bool
 }
 
 /// Writes the first command that is due for a slot, and takes in that it is sent. Says its opcode.
+#[inline(always)]
 fn slot_command_out(slots: &mut Slots, out: &mut ArrayVec<u8, 260>) -> Option<u16>
     ensures opcode { result ≡ option_map opcode_of (command_in slots.old) }
     ensures octets { (command : Commanded) → command_in slots.old ≡ Some command → out.new.items ≡ command_octets command }
@@ -124,18 +142,33 @@ fn slot_command_out(slots: &mut Slots, out: &mut ArrayVec<u8, 260>) -> Option<u1
     ensures unchanged { OnFalse (is_some result) (slots.new ≡ slots.old) }
     ensures out_unchanged { OnFalse (is_some result) (out.new.items ≡ out.old.items) }
 {
-    let Some(place) = slots.first_with_command() else {
-        return None;
-    };
+    match slots.first_with_command() {
+        Some(place) => Some(command_at_out(slots, place, out)),
+        None => None,
+    }
+}
+
+/// Writes the command that is due for the connection of a slot, and takes in that it is sent. Says its
+/// opcode.
+#[cold]
+#[inline(never)]
+fn command_at_out(slots: &mut Slots, place: usize, out: &mut ArrayVec<u8, 260>) -> u16
+    requires place { place < length slots.old }
+    requires due { has_command (kept_at slots.old place) ≡ true }
+    ensures opcode { Some result ≡ option_map opcode_of (command_due (kept_at slots.old place)) }
+    ensures octets { (command : Commanded) → command_due (kept_at slots.old place) ≡ Some command → out.new.items ≡ command_octets command }
+    ensures after { slots.new ≡ slots_at place without_command slots.old }
+{
     let Some(command) = slots.command(place) else {
         unreachable!()
     };
     write_command(&command, out);
     slots.command_sent(place);
-    Some(command.opcode())
+    command.opcode()
 }
 
 /// Writes the next command that is due, where the controller takes one, and takes in that it is sent.
+#[inline(always)]
 fn command_out(controller: &mut Controller, slots: &mut Slots, out: &mut ArrayVec<u8, 260>) -> bool
     ensures goes { result ≡ is_some (command_next controller.old slots.old) }
     ensures octets { OnTrue result (option_map command_octets (command_next controller.old slots.old) ≡ Some out.new.items) }
@@ -185,6 +218,7 @@ pub fn next_out(controller: &mut Controller, slots: &mut Slots, out: &mut ArrayV
 }
 
 /// Writes the next command, or else the next packet.
+#[inline(always)]
 fn either_out(controller: &mut Controller, slots: &mut Slots, out: &mut ArrayVec<u8, 260>) -> bool
     ensures goes { result ≡ is_some (next_out controller.old slots.old) }
     ensures octets { OnTrue result (next_out controller.old slots.old ≡ Some out.new.items) }

@@ -302,6 +302,7 @@ impl HostState {
 
 impl HostState {
     /// Puts the next packet that is to go out in place of what `out` holds, and takes in that it is out.
+    #[inline(always)]
     pub(crate) fn next_out(&mut self, out: &mut ArrayVec<u8, 260>) -> bool
         ensures goes { result ≡ is_some (next_of self.old) }
         ensures octets { OnTrue result (next_of self.old ≡ Some out.new.items) }

@@ -1,14 +1,17 @@
 -- What happens at one place of the slots.
-use Rattle.std.proofs.Common.{◌≡◌, ℕ, ◌<◌, Bool, true, false, List, length, set, get_or, Option, Some, None, refl, sym, ap, ◌∙◌}
-use Rattle.std.specs.Prelude.{if◌then◌else◌}
+use Rattle.std.proofs.Common.{◌≡◌, ℕ, ◌<◌, Bool, true, false, List, length, set, get_or, Option, Some, None, refl, sym, ap, subst, ◌∙◌}
+use Rattle.std.specs.Prelude.{is_none, if◌then◌else◌}
 use Rattle.std.specs.Option.{option_map, option_map_or}
 use Rattle.std.proofs.lemmas.Option.{slice_get-get_or}
 use Rattle.att_numbers.specs.Types.{Row}
 use Rattle.att_table.specs.Table.{Contents}
 use Rattle.gatt_conn.specs.Answer.{is_confirmation}
-use Rattle.gatt_slots.proofs.Covering.{read_at}
+use Rattle.std.specs.Bool.{OnFalse, OnTrue}
+use Rattle.std.proofs.lemmas.Bool.{OnFalse_at, OnTrue_at}
+use Rattle.gatt_slots.proofs.Covering.{clash, read_at}
+use Rattle.gatt_slots.specs.Commands.{gives, has_command, without_packet}
 use Rattle.gatt_slots.specs.Kept.{Kept}
-use Rattle.gatt_slots.specs.Places.{is_some_handle, GoesOn}
+use Rattle.gatt_slots.specs.Places.{is_some_handle, waits, GoesOn}
 use Rattle.gatt_slots.specs.Request.{is_full, kept_served, pending_after}
 use Rattle.gatt_laws.specs.Turn.{remote_user_terminated}
 use Rattle.gatt_slots.specs.Turn.{after_ending}
@@ -51,6 +54,30 @@ served-waits table now bond pdu kept is = by (is_full pdu kept) _ (confirmed-wai
     by false other same is = ap is_some_handle (sym same) ∙ is
 
 pub served_goes_on : (table : Contents) (now : ℕ) (rows : Subscriptions) (pdu : Octets) (slot : Option Kept)
+    → has_command (option_map (λ kept. kept_served table now (row_of rows kept.peer) pdu kept) slot) ≡ false
     → GoesOn slot (option_map (λ kept. kept_served table now (row_of rows kept.peer) pdu kept) slot)
-served_goes_on table now rows pdu None = record { waiting = λ is. is; free = λ is. is }
-served_goes_on table now rows pdu (Some kept) = record { waiting = served-waits table now (row_of rows kept.peer) pdu kept; free = λ is. is }
+served_goes_on table now rows pdu None none = record { command = λ is. is; waiting = λ is. is; free = λ is. is }
+served_goes_on table now rows pdu (Some kept) none = record {
+  command = λ is. clash is none;
+  waiting = served-waits table now (row_of rows kept.peer) pdu kept;
+  free = λ is. is;
+}
+
+-- and so does one of which a packet is given
+pub given_goes_on : (slot given : Option Kept) (gave : Bool) → gave ≡ gives slot → OnTrue gave (given ≡ option_map without_packet slot) → OnFalse gave (given ≡ slot)
+    → GoesOn slot given × (gives given ≡ true → gives slot ≡ true)
+given_goes_on slot given true is after stays =
+    (subst (λ (it : Option Kept). GoesOn slot it) (sym (OnTrue_at refl after)) (goes slot), λ some. sym is)
+  where
+    goes : (slot : Option Kept) → GoesOn slot (option_map without_packet slot)
+    goes None = record { command = λ is. is; waiting = λ is. is; free = λ is. is }
+    goes (Some kept) = record { command = λ is. is; waiting = λ is. is; free = λ is. is }
+given_goes_on slot given false is after stays =
+    let same : given ≡ slot = OnFalse_at refl stays in (
+      record {
+        command = λ some. ap has_command (sym same) ∙ some;
+        waiting = λ some. ap waits (sym same) ∙ some;
+        free = λ some. ap (λ it. is_none it) (sym same) ∙ some;
+      },
+      λ some. ap gives (sym same) ∙ some,
+    )

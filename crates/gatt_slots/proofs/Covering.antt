@@ -1,6 +1,6 @@
 -- What a set of places covers, as slots change and as places leave it.
-use Rattle.std.proofs.Common.{◌≡◌, ◌≢◌, ℕ, zero, suc, ◌+◌, ◌<◌, ◌≤◌, Bool, true, false, ◌||◌, List, [], ◌∷◌, length, set, get_or, Option, Some, None, refl, sym, ap, ◌∙◌, arith}
-use Rattle.std.specs.Prelude.{cond, is_none}
+use Rattle.std.proofs.Common.{◌≡◌, ◌≢◌, ℕ, zero, suc, ◌+◌, ◌<◌, ◌≤◌, Bool, true, false, ◌||◌, List, [], ◌∷◌, length, set, get_or, Option, Some, None, refl, sym, ap, subst, ◌∙◌, arith}
+use Rattle.std.specs.Prelude.{cond, is_none, if◌then◌else◌}
 use Rattle.std.specs.Int.{bit_at}
 use Rattle.std.specs.List.{list_any, position, position_from}
 use Rattle.std.specs.Option.{option_map_or}
@@ -12,11 +12,17 @@ use Rattle.std.proofs.lemmas.Nat.Bits.{bit_at-zero, bit_at_ones}
 use Rattle.std.proofs.lemmas.Option.{slice_get-get_or}
 use Rattle.std.proofs.Math.Logic.{⊎_elim}
 use Rattle.gatt_slots.proofs.Found.{kept-is}
+use Rattle.att_numbers.specs.Types.{Handle}
+use Rattle.att_table.specs.Table.{Contents}
+use Rattle.gatt_slots.specs.Commands.{gives, has_command}
+use Rattle.gatt_slots.specs.Hearing.{ear_of, told_in_turn, told_of, with_told}
 use Rattle.gatt_slots.specs.Kept.{Kept}
 use Rattle.gatt_slots.specs.Places.{is_due, waits, Covers, GoesOn, IsMarked}
-use Rattle.gatt_slots.specs.Slots.{Held, kept_at}
+use Rattle.gatt_slots.specs.Slots.{Held, all_heard, handles_for, heard_by, heard_from, kept_at}
+use Rattle.gatt_subs.specs.Rows.{Subscriptions, row_of}
 use Rattle.gatt_slots.specs.declared.marks.Marks.{Marks}
 use Rattle.gatt_slots.specs.declared.places.Due.{Due}
+use Rattle.gatt_slots.specs.declared.places.Places.{Places}
 use Rattle.gatt_slots.specs.declared.places.Due.TheVariants.{Command, Packet}
 
 pub clash : {X : Type 0} {test : Bool} → test ≡ true → test ≡ false → X
@@ -64,6 +70,16 @@ pub covered_with : (due : Due) (old new : ℕ) (slots : Held) (place : ℕ) (slo
 covered_with due old new slots place slot covers added others = λ other is. ⊎_elim
     (λ same. ap (bit_at new) same ∙ added)
     (λ apart. others other apart ∙ covers other (ap (is_due due) (sym (at-other slots place other slot apart)) ∙ is))
+    (cases_eq other place)
+
+-- nothing comes to be due at a slot that is changed
+pub covered_still : (due : Due) (places : ℕ) (slots : Held) (place : ℕ) (slot : Option Kept) → Covers due places slots
+    → (is_due due slot ≡ true → is_due due (kept_at slots place) ≡ true) → Covers due places (set slots place slot)
+covered_still due places slots place slot covers still = λ other is. ⊎_elim
+    (λ same. ap (bit_at places) same ∙ covers place (still
+    (ap (is_due due) (sym (at-same slots place slot (omega (arith, there due (set slots place slot) other is, same, length-set slots place slot)))
+    ∙ ap (λ at. kept_at (set slots place slot) at) (sym same)) ∙ is)))
+    (λ apart. covers other (ap (is_due due) (sym (at-other slots place other slot apart)) ∙ is))
     (cases_eq other place)
 
 -- a place leaves it at which nothing is due
@@ -142,11 +158,11 @@ module _ (test : Option Kept → Bool) (slot : Option Kept) where
 
 -- the marks after a change of one slot
 module _ (slots : Held) (place : ℕ) (slot : Option Kept) (old new : Marks) (marked : IsMarked slots old)
-    (commands : bit_at new.commands.bits place ≡ 1) (other_commands : (other : ℕ) → other ≢ place → bit_at new.commands.bits other ≡ bit_at old.commands.bits other)
     (packets : bit_at new.packets.bits place ≡ 1) (other_packets : (other : ℕ) → other ≢ place → bit_at new.packets.bits other ≡ bit_at old.packets.bits other) where
-  pub marked_with : (new.waiting ≡ false → list_any waits (set slots place slot) ≡ false) → (new.free ≡ false → list_any (λ it. is_none it) (set slots place slot) ≡ false)
+  pub marked_with : bit_at new.commands.bits place ≡ 1 → ((other : ℕ) → other ≢ place → bit_at new.commands.bits other ≡ bit_at old.commands.bits other)
+      → (new.waiting ≡ false → list_any waits (set slots place slot) ≡ false) → (new.free ≡ false → list_any (λ it. is_none it) (set slots place slot) ≡ false)
       → IsMarked (set slots place slot) new
-  marked_with waiting free = record {
+  marked_with commands other_commands waiting free = record {
     few = omega (arith, marked.few, length-set slots place slot);
     commands = covered_with Command old.commands.bits new.commands.bits slots place slot marked.commands commands other_commands;
     packets = covered_with Packet old.packets.bits new.packets.bits slots place slot marked.packets packets other_packets;
@@ -154,10 +170,26 @@ module _ (slots : Held) (place : ℕ) (slot : Option Kept) (old new : Marks) (ma
     free = free;
   }
 
-  pub marked_on : new.waiting ≡ old.waiting → new.free ≡ old.free → place < length slots → GoesOn (kept_at slots place) slot → IsMarked (set slots place slot) new
-  marked_on waiting free within goes = marked_with
-      (λ none. none_with waits slot slots place (marked.waiting (sym waiting ∙ none)) goes.waiting)
-      (λ none. none_with (λ it. is_none it) slot slots place (marked.free (sym free ∙ none)) goes.free)
+  pub marked_on : new.commands ≡ old.commands → new.waiting ≡ old.waiting → new.free ≡ old.free → GoesOn (kept_at slots place) slot → IsMarked (set slots place slot) new
+  marked_on commands waiting free goes = record {
+    few = omega (arith, marked.few, length-set slots place slot);
+    commands = subst (λ (it : Places). Covers Command it.bits (set slots place slot)) (sym commands)
+        (covered_still Command old.commands.bits slots place slot marked.commands goes.command);
+    packets = covered_with Packet old.packets.bits new.packets.bits slots place slot marked.packets packets other_packets;
+    waiting = λ none. none_with waits slot slots place (marked.waiting (sym waiting ∙ none)) goes.waiting;
+    free = λ none. none_with (λ it. is_none it) slot slots place (marked.free (sym free ∙ none)) goes.free;
+  }
+
+-- a packet is given by a slot that is marked
+pub marked_given : (slots : Held) (place : ℕ) (slot : Option Kept) (marks : Marks) → IsMarked slots marks → (gives slot ≡ true → gives (kept_at slots place) ≡ true)
+    → GoesOn (kept_at slots place) slot → IsMarked (set slots place slot) marks
+marked_given slots place slot marks marked given goes = record {
+  few = omega (arith, marked.few, length-set slots place slot);
+  commands = covered_still Command marks.commands.bits slots place slot marked.commands goes.command;
+  packets = covered_still Packet marks.packets.bits slots place slot marked.packets given;
+  waiting = λ none. none_with waits slot slots place (marked.waiting none) goes.waiting;
+  free = λ none. none_with (λ it. is_none it) slot slots place (marked.free none) goes.free;
+}
 
 pub all_marked : (slots : Held) → length slots ≤ 8 → IsMarked slots (record { commands = record { bits = 255 }; packets = record { bits = 255 }; waiting = true; free = true })
 all_marked slots few = record {
@@ -191,3 +223,32 @@ idle_outside due places slots place covers outside = by (is_due due (kept_at slo
 pub read_at : (slots : Held) (place : ℕ) (slot : Option Kept) → place < length slots → slot ≡ get_or slots place slot → kept_at slots place ≡ slot
 read_at slots place slot within is =
     ap (λ (found : Option (Option Kept)). option_map_or (λ (it : Option Kept). it) found None) (slice_get-get_or slots place slot within) ∙ sym is
+
+-- what hears at each place
+module _ (hear : ℕ → Option Kept → Option Kept) (nobody : (place : ℕ) → hear place None ≡ None) where
+  heard-at : (start : ℕ) (slots : Held) (place : ℕ) → kept_at (heard_from start hear slots) place ≡ hear (start + place) (kept_at slots place)
+  heard-at start [] place = sym (nobody (start + place))
+  heard-at start (slot ∷ slots) zero = ap (λ (at : ℕ). hear at slot) (omega arith)
+  heard-at start (slot ∷ slots) (suc place) =
+      heard-at (start + 1) slots place ∙ ap (λ (at : ℕ). hear at (kept_at slots place)) (omega arith)
+
+-- no command comes of what is heard
+heard-command : (table : Contents) (now : ℕ) (rows : Subscriptions) (handles : List Handle) (slot : Option Kept)
+    → has_command (heard_by table now rows handles slot) ≡ has_command slot
+heard-command table now rows handles None = refl
+heard-command table now rows handles (Some kept) =
+    elim kept.live as (λ (live : Bool). (let heard : Kept = if live then with_told kept (told_in_turn table (ear_of now (row_of rows kept.peer) kept) now handles (told_of kept)) else kept in has_command (Some heard)) ≡ has_command (Some kept)) [
+      | true ↦ refl
+      | false ↦ refl
+    ]
+
+pub commands_heard : (table : Contents) (now : ℕ) (rows : Subscriptions) (own : Option ℕ) (here handles : List Handle) (places : ℕ) (slots heard : Held)
+    → heard ≡ all_heard table now rows own here handles slots → Covers Command places slots → Covers Command places heard
+commands_heard table now rows own here handles places slots heard is covers = λ place due.
+    let hear : ℕ → Option Kept → Option Kept = λ at slot. heard_by table now rows (handles_for own here handles at) slot in
+    covers place
+    (sym (heard-command table now rows (handles_for own here handles place) (kept_at slots place))
+    ∙ ap has_command (sym (heard-at hear (λ at. refl) 0 slots place ∙ ap (λ (at : ℕ). hear at (kept_at slots place)) (first place))) ∙ ap (λ (it : Held). has_command (kept_at it place)) (sym is) ∙ due)
+  where
+    first : (place : ℕ) → 0 + place ≡ place
+    first place = omega arith

@@ -41,7 +41,8 @@ pub record IsMarked (slots : Held) (marks : Marks) : Type 0 where
   pub waiting : marks.waiting ≡ false → list_any waits slots ≡ false
   pub free : marks.free ≡ false → list_any (λ slot. is_none slot) slots ≡ false
 
--- a connection goes on: its slot is not freed, and nothing waits that did not wait
+-- a connection goes on: its slot is not freed, no command is due that was not, and nothing waits that did not wait
 pub record GoesOn (old new : Option Kept) : Type 0 where
+  pub command : has_command new ≡ true → has_command old ≡ true
   pub waiting : waits new ≡ true → waits old ≡ true
   pub free : is_none new ≡ true → is_none old ≡ true

@@ -1,6 +1,6 @@
 //! Where something may be due in the slots of a host, so that an event looks at no others.
 
-ghost use Rattle.std.specs.Prelude.{◌≡◌, ◌<◌, ◌≤◌, length, set, Option};
+ghost use Rattle.std.specs.Prelude.{◌≡◌, false, ◌<◌, ◌≤◌, length, set, Option};
 ghost use Rattle.gatt_slots.specs.Kept.{Kept};
 ghost use Rattle.gatt_slots.specs.Places.{GoesOn, IsMarked};
 ghost use Rattle.gatt_slots.specs.Slots.{kept_at, Held};
@@ -45,14 +45,27 @@ impl Marks {
         self.free = true;
     }
 
-    /// Takes in that a command or a packet may be due at a slot, whose connection goes on.
+    /// Takes in that a request was served at a slot, and whether a command is due there now.
+    #[inline(always)]
+    pub(crate) fn serve(&mut self, place: usize, commanded: bool)
+        requires { place < 8 }
+        ensures { (slots : Held) (slot : Option Kept) → place < length slots → IsMarked slots self.old → (commanded ≡ false → GoesOn (kept_at slots place) slot)
+            → IsMarked (set slots place slot) self.new }
+    {
+        if commanded {
+            self.change(place);
+        } else {
+            self.go_on(place);
+        }
+    }
+
+    /// Takes in that a packet may be given at a slot, whose connection goes on.
     #[inline(always)]
     pub(crate) fn go_on(&mut self, place: usize)
         requires { place < 8 }
         ensures { (slots : Held) (slot : Option Kept) → place < length slots → IsMarked slots self.old → GoesOn (kept_at slots place) slot
             → IsMarked (set slots place slot) self.new }
     {
-        self.commands.add(place);
         self.packets.add(place);
     }
 }

@@ -24,6 +24,9 @@ pub(crate) struct Places {
 }
 
 impl Places {
+    /// No place.
+    pub(crate) const NONE: Places = Places { bits: 0 };
+
     /// Every place.
     pub(crate) const ALL: Places = Places { bits: 0xFF };
 

@@ -8,7 +8,8 @@ ghost use Rattle.att_table.specs.ConfigRow.{IsRowOf};
 ghost use Rattle.gatt_laws.specs.Turn.{gained_encryption};
 ghost use Rattle.gatt_slots.specs.Commands.{command_due, gives, has_command, packet_of, without_command, without_packet};
 ghost use Rattle.gatt_slots.specs.Hearing.{row_in_force};
-ghost use Rattle.gatt_slots.specs.Places.{waits};
+ghost use Rattle.gatt_slots.specs.Places.{waits, Covers};
+ghost use Rattle.gatt_slots.specs.declared.places.Due.TheVariants.{Packet};
 ghost use Rattle.gatt_slots.specs.Request.{bond_served, handles_of, kept_served, table_after};
 ghost use Rattle.gatt_slots.specs.Slots.{after_entries, all_after_table, all_after_time, all_heard, at_place, kept_at, place_free, place_holding, place_serving, slots_at, IsThere};
 ghost use Rattle.gatt_slots.specs.Turn.{after_authorizing, after_key_asked, after_link_step, after_signal, come};
@@ -22,7 +23,7 @@ use crate::each::{
     complete_all, find_free, find_holding, find_serving, hear_all, replace_all, tick_all,
 };
 use crate::marks::Marks;
-use crate::places::{Due, first_due};
+use crate::places::{Due, Places, first_due};
 use crate::slot::Slot;
 use arrayvec::ArrayVec;
 use att_table::Table;
@@ -218,7 +219,8 @@ impl Slots {
         ensures written { IfSome (kept_at self.old place) (λ kept. written.new.items ≡ handles_of table.old now (row_of rows.old kept.peer) pdu.now kept) }
     {
         self.slots[place].serve(table, rows, changer, now, pdu, written);
-        self.marks.go_on(place);
+        let commanded = self.slots[place].has_command();
+        self.marks.serve(place, commanded);
     }
 
     /// Counts packets as completed, each entry at most those that are outstanding. Entries of unknown
@@ -248,7 +250,7 @@ impl Slots {
     /// Ends an event: the connections hear of the values that it raised for them, in the order of their
     /// slots, that of the slot `own` of those of `here` and the others of `handles`, and of what is then
     /// due.
-    #[tactic(auto, using(crate::proofs::Quiet::nothing_heard_by_all))]
+    #[inline(always)]
     pub fn hear(
         &mut self,
         table: &Table,
@@ -279,6 +281,7 @@ impl Slots {
     }
 
     /// A slot is free.
+    #[inline(always)]
     pub fn has_room(&mut self) -> bool
         ensures room { result ≡ list_any (λ slot. is_none slot) self.old }
         ensures unchanged { self.new ≡ self.old }
@@ -290,6 +293,7 @@ impl Slots {
     }
 
     /// The first slot for which a command is due.
+    #[inline(always)]
     pub fn first_with_command(&mut self) -> Option<usize>
         ensures place { result ≡ position has_command self.old }
         ensures within { IfSome result (λ place. place < length self.old) }
@@ -303,6 +307,7 @@ impl Slots {
     }
 
     /// The first slot that may give a packet.
+    #[inline(always)]
     pub fn first_that_gives(&mut self) -> Option<usize>
         ensures place { result ≡ position gives self.old }
         ensures within { IfSome result (λ place. place < length self.old) }
@@ -326,7 +331,7 @@ impl Slots {
         ensures { self.new ≡ slots_at place without_command self.old }
     {
         self.slots[place].command_sent();
-        self.marks.go_on(place);
+        self.marks.change(place);
     }
 
     /// Writes the next packet of the connection of a slot in place of what `out` holds. There is none,
@@ -339,9 +344,8 @@ impl Slots {
         ensures unchanged { OnFalse result (self.new ≡ self.old) }
         ensures out_unchanged { OnFalse result (out.new.items ≡ out.old.items) }
     {
-        let gives = self.slots[place].next_packet(out);
-        self.marks.go_on(place);
-        gives
+        // What was given was marked.
+        self.slots[place].next_packet(out)
     }
 
     /// A command is due for the connection of a slot.
@@ -364,6 +368,20 @@ impl Slots {
     {
         any_free(self.slots.as_slice())
     }
+}
+
+/// Where a packet may be given.
+fn places_that_give(slots: &[Slot]) -> Places
+    requires { length slots.now ≤ 8 }
+    ensures { Covers Packet result.bits slots.now }
+{
+    let mut places = Places::NONE;
+    for place in 0..slots.len() {
+        if slots[place].gives() {
+            places.add(place);
+        }
+    }
+    places
 }
 
 /// A slot is free.
