@@ -252,3 +252,19 @@ commands_heard table now rows own here handles places slots heard is covers = λ
   where
     first : (place : ℕ) → 0 + place ≡ place
     first place = omega arith
+
+-- nor does a slot come to be free
+heard-free : (hear : ℕ → Option Kept → Option Kept) → ((place : ℕ) (slot : Option Kept) → is_none (hear place slot) ≡ is_none slot)
+    → (start : ℕ) (slots : Held) → list_any (λ it. is_none it) (heard_from start hear slots) ≡ list_any (λ it. is_none it) slots
+heard-free hear stays start [] = refl
+heard-free hear stays start (slot ∷ slots) = λ i. stays start slot i || heard-free hear stays (start + 1) slots i
+
+pub free_heard : (table : Contents) (now : ℕ) (rows : Subscriptions) (own : Option ℕ) (here handles : List Handle) (slots heard : Held)
+    → heard ≡ all_heard table now rows own here handles slots → list_any (λ it. is_none it) slots ≡ false → list_any (λ it. is_none it) heard ≡ false
+free_heard table now rows own here handles slots heard is none =
+    ap (λ (it : Held). list_any (λ slot. is_none slot) it) is
+    ∙ heard-free (λ at slot. heard_by table now rows (handles_for own here handles at) slot) stays 0 slots ∙ none
+  where
+    stays : (place : ℕ) (slot : Option Kept) → is_none (heard_by table now rows (handles_for own here handles place) slot) ≡ is_none slot
+    stays place None = refl
+    stays place (Some kept) = refl

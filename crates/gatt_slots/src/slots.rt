@@ -267,17 +267,29 @@ impl Slots {
         if here.is_empty() && handles.is_empty() && !self.marks.waiting {
             return;
         }
-        hear_all(
-            self.slots.as_mut_slice(),
-            table,
-            rows,
-            own,
-            here,
-            handles,
-            now,
-        );
-        self.marks = Marks::all();
-        self.marks.waiting = any_waits(self.slots.as_slice());
+        self.hear_each(table, rows, own, here, handles, now);
+    }
+
+    /// The same, slot by slot.
+    #[inline(never)]
+    fn hear_each(
+        &mut self,
+        table: &Table,
+        rows: &Rows,
+        own: Option<usize>,
+        here: &[u16],
+        handles: &[u16],
+        now: u64,
+    )
+        ensures heard { self.new ≡ all_heard table.now now rows.now own here.now handles.now self.old }
+        ensures count { length self.new ≡ length self.old }
+    {
+        hear_in(&mut self.slots, table, rows, own, here, handles, now);
+        self.marks = Marks {
+            packets: places_that_give(self.slots.as_slice()),
+            waiting: any_waits(self.slots.as_slice()),
+            ..self.marks
+        };
     }
 
     /// A slot is free.
@@ -368,6 +380,22 @@ impl Slots {
     {
         any_free(self.slots.as_slice())
     }
+}
+
+/// All of them hear.
+fn hear_in(
+    slots: &mut Vec<Slot>,
+    table: &Table,
+    rows: &Rows,
+    own: Option<usize>,
+    here: &[u16],
+    handles: &[u16],
+    now: u64,
+)
+    ensures heard { slots.new.items ≡ all_heard table.now now rows.now own here.now handles.now slots.old.items }
+    ensures count { length slots.new.items ≡ length slots.old.items }
+{
+    hear_all(slots.as_mut_slice(), table, rows, own, here, handles, now);
 }
 
 /// Where a packet may be given.
