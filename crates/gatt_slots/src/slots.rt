@@ -1,12 +1,9 @@
 //! The slots of a host, as one value that knows where something may be due.
 
-ghost use Rattle.std.specs.Prelude.{◌≡◌, ◌<◌, ◌≤◌, ◌^◌, is_none, is_some, length, map, replicate, take, None, Some, IfOk, IfSome, IsSome};
-ghost use Rattle.std.specs.Bool.{OnTrue, OnFalse};
-ghost use Rattle.std.specs.List.{list_any, position};
-ghost use Rattle.std.specs.Option.{option_and_then, option_map};
+ghost use Rattle.std.specs.Prelude.{◌≡◌, ◌<◌, ◌≤◌, ◌^◌, length, map, replicate, take, None, Some, IfOk, IfSome, IsSome};
+ghost use Rattle.std.specs.List.{list_any};
 ghost use Rattle.att_table.specs.ConfigRow.{IsRowOf};
 ghost use Rattle.gatt_laws.specs.Turn.{gained_encryption};
-ghost use Rattle.gatt_slots.specs.Commands.{command_due, gives, has_command, packet_of, without_command, without_packet};
 ghost use Rattle.gatt_slots.specs.Hearing.{row_in_force};
 ghost use Rattle.gatt_slots.specs.Places.{waits, Covers};
 ghost use Rattle.gatt_slots.specs.declared.places.Due.TheVariants.{Packet};
@@ -14,7 +11,6 @@ ghost use Rattle.gatt_slots.specs.Request.{bond_served, handles_of, kept_served,
 ghost use Rattle.gatt_slots.specs.Slots.{after_entries, all_after_table, all_after_time, all_heard, at_place, kept_at, place_free, place_holding, place_serving, slots_at, IsThere};
 ghost use Rattle.gatt_slots.specs.Turn.{after_authorizing, after_key_asked, after_link_step, after_signal, come};
 ghost use Rattle.gatt_subs.specs.Rows.{owes, row_of, ChangesBond};
-ghost use Rattle.le_hci.specs.Command.{command_of};
 ghost use Rattle.le_hci.specs.Event.{completed_packets_of};
 ghost use Rattle.le_security.specs.Keys.{answer_of};
 ghost use Rattle.le_security.specs.Link.{after_step, Encryption, Refresh};
@@ -23,12 +19,12 @@ use crate::each::{
     complete_all, find_free, find_holding, find_serving, hear_all, replace_all, tick_all,
 };
 use crate::marks::Marks;
-use crate::places::{Due, Places, first_due};
+use crate::places::Places;
 use crate::slot::Slot;
 use arrayvec::ArrayVec;
 use att_table::Table;
 use gatt_subs::Rows;
-use le_hci::{Command, Peer};
+use le_hci::Peer;
 use le_security::Keys;
 use std::alloc::{AllocError, Global};
 use std::marker::Model;
@@ -36,8 +32,8 @@ use std::marker::Model;
 /// The slots of a host, in their order: at most 8.
 #[derive(Drop)]
 pub struct Slots {
-    slots: Vec<Slot>,
-    marks: Marks,
+    pub(crate) slots: Vec<Slot>,
+    pub(crate) marks: Marks,
 }
 
 impl Model for Slots {
@@ -291,95 +287,6 @@ impl Slots {
             ..self.marks
         };
     }
-
-    /// A slot is free.
-    #[inline(always)]
-    pub fn has_room(&mut self) -> bool
-        ensures room { result ≡ list_any (λ slot. is_none slot) self.old }
-        ensures unchanged { self.new ≡ self.old }
-    {
-        if self.marks.free {
-            self.marks.free = any_free(self.slots.as_slice());
-        }
-        self.marks.free
-    }
-
-    /// The first slot for which a command is due.
-    #[inline(always)]
-    pub fn first_with_command(&mut self) -> Option<usize>
-        ensures place { result ≡ position has_command self.old }
-        ensures within { IfSome result (λ place. place < length self.old) }
-        ensures unchanged { self.new ≡ self.old }
-    {
-        first_due(
-            self.slots.as_slice(),
-            Due::Command,
-            &mut self.marks.commands,
-        )
-    }
-
-    /// The first slot that may give a packet.
-    #[inline(always)]
-    pub fn first_that_gives(&mut self) -> Option<usize>
-        ensures place { result ≡ position gives self.old }
-        ensures within { IfSome result (λ place. place < length self.old) }
-        ensures unchanged { self.new ≡ self.old }
-    {
-        first_due(self.slots.as_slice(), Due::Packet, &mut self.marks.packets)
-    }
-
-    /// The command that is due for the connection of a slot: to disconnect it, else to reply to the
-    /// request for its key.
-    pub fn command(&self, place: usize) -> Option<Command<'static>>
-        requires { place < length self.now }
-        ensures { option_map command_of result ≡ command_due (kept_at self.now place) }
-    {
-        self.slots[place].command()
-    }
-
-    /// Takes in that the command that was due for the connection of a slot is sent.
-    pub fn command_sent(&mut self, place: usize)
-        requires { place < length self.old }
-        ensures { self.new ≡ slots_at place without_command self.old }
-    {
-        self.slots[place].command_sent();
-        self.marks.change(place);
-    }
-
-    /// Writes the next packet of the connection of a slot in place of what `out` holds. There is none,
-    /// and nothing changes, where all is given that may be.
-    pub fn next_packet(&mut self, place: usize, out: &mut ArrayVec<u8, 260>) -> bool
-        requires { place < length self.old }
-        ensures gives { result ≡ gives (kept_at self.old place) }
-        ensures packet { OnTrue result (option_and_then packet_of (kept_at self.old place) ≡ Some out.new.items) }
-        ensures after { OnTrue result (self.new ≡ slots_at place without_packet self.old) }
-        ensures unchanged { OnFalse result (self.new ≡ self.old) }
-        ensures out_unchanged { OnFalse result (out.new.items ≡ out.old.items) }
-    {
-        // What was given was marked.
-        self.slots[place].next_packet(out)
-    }
-
-    /// A command is due for the connection of a slot.
-    pub fn has_command(&self) -> bool
-        ensures { result ≡ list_any has_command self.now }
-    {
-        self.slots.iter().any(|slot| slot.has_command())
-    }
-
-    /// A slot may give a packet.
-    pub fn gives(&self) -> bool
-        ensures { result ≡ list_any gives self.now }
-    {
-        self.slots.iter().any(|slot| slot.gives())
-    }
-
-    /// A slot is free.
-    pub fn is_free(&self) -> bool
-        ensures { result ≡ list_any (λ slot. is_none slot) self.now }
-    {
-        any_free(self.slots.as_slice())
-    }
 }
 
 /// All of them hear.
@@ -410,13 +317,6 @@ fn places_that_give(slots: &[Slot]) -> Places
         }
     }
     places
-}
-
-/// A slot is free.
-fn any_free(slots: &[Slot]) -> bool
-    ensures { result ≡ list_any (λ slot. is_none slot) slots.now }
-{
-    slots.iter().any(|slot| slot.is_free())
 }
 
 /// A value waits to be indicated to the connection of a slot.
