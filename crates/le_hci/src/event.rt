@@ -84,6 +84,7 @@ pub struct BadEvent(pub u8);
 /// Reads an event packet, from its event code on: Core 5.0, Vol 2 Part E, 5.4.4. The upper four
 /// bits of a handle field are ignored, and so are octets after the fields. What has no fixed size
 /// is borrowed from the packet.
+#[inline(always)]
 pub fn read_event(octets: &[u8]) -> Result<Event<'_>, BadEvent>
     ensures exact { result_map_both report_of (λ bad. bad) result ≡ event_of octets.now }
     ensures sent { IfOk result (λ event. IsRead (report_of event) octets.now) }

@@ -13,6 +13,7 @@ use crate::peer::Peer;
 const HANDLE: u16 = 0x0FFF;
 
 /// The event with this code and these parameters.
+#[inline(always)]
 pub fn read(code: u8, parameters: &[u8]) -> Option<Event<'_>>
     ensures { option_map report_of result ≡ form_of code parameters.now }
 {
@@ -112,6 +113,7 @@ fn read_hardware_error(parameters: &[u8]) -> Option<Event<'_>>
     }
 }
 
+#[inline(always)]
 fn read_number_of_completed_packets(parameters: &[u8]) -> Option<Event<'_>>
     ensures { option_map report_of result ≡ number_of_completed_packets parameters.now }
 {
@@ -123,6 +125,7 @@ fn read_number_of_completed_packets(parameters: &[u8]) -> Option<Event<'_>>
 }
 
 /// As many entries as are counted.
+#[inline(always)]
 fn entries(count: u8, octets: &[u8]) -> Option<&[[u8; 4]]>
     ensures { option_map (λ entries. map completed_packets_of entries.now) result ≡ completed_entries count octets.now }
 {
