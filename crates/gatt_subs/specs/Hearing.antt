@@ -1,5 +1,5 @@
 -- Of which values a connection hears unasked, by what its client has configured: Core 5.0, Vol 3 Part G, 3.3.3.3.
-use Rattle.std.specs.Prelude.{◌+◌, ℕ, Bool, false, ◌==◌, ◌&&◌, not, List}
+use Rattle.std.specs.Prelude.{◌+◌, ℕ, Bool, true, false, ◌==◌, ◌&&◌, not, List}
 use Rattle.std.specs.Int.RustNames.{bit_and}
 use Rattle.std.specs.Option.{option_map_or}
 use Rattle.att_numbers.specs.Types.{Handle, Row}
@@ -9,6 +9,8 @@ use Rattle.att_policy.specs.Policy.{may_hear_of}
 use Rattle.att_table.specs.declared.attr.Attr.{Attr}
 use Rattle.att_table.specs.ConfigRow.{bits_at}
 use Rattle.att_table.specs.Table.{attribute_at, is_value}
+use Rattle.gatt_subs.specs.declared.hearing.Telling.{Telling}
+use Rattle.gatt_subs.specs.declared.hearing.Telling.TheVariants.{Notification, Indication}
 
 -- what a client has configured for a value: its configuration stands behind it
 abbrev pub bits_for : Row → Handle → ℕ
@@ -21,6 +23,10 @@ wants_indications row handle = not (bit_and (bits_for row handle) INDICATION == 
 abbrev pub may_hear_at : List Attr → Row → Standing → Handle → Bool
 may_hear_at attributes row standing handle =
     option_map_or (λ (attr : Attr). is_value attr.role && may_hear_of attr.guard (bits_for row handle) standing) (attribute_at attributes handle) false
+
+abbrev pub is_indication : Telling → Bool
+is_indication Notification = false
+is_indication Indication = true
 
 -- whether it is told by an indication
 abbrev pub is_indicated : List Attr → Row → Standing → Handle → Bool

@@ -6,7 +6,7 @@ ghost use Rattle.gatt_subs.specs.HeardOnly.{RaisesOnlyWhatIsHeard, ReleasesOnlyW
 ghost use Rattle.gatt_subs.specs.Indications.{after_confirmation, after_end, after_raise, after_release, after_replacement, after_tick, first_of, from_due, is_notified, is_told, is_waiting, no_indications, released_handle, rest_of, with_handle, HaveOnePlace};
 ghost use Rattle.gatt_subs.specs.Told.{TellsOnlyWhatIsHeard};
 
-use crate::hearing::{is_indicated, may_hear_at, wants_indications};
+use crate::hearing::{Telling, is_indicated, telling_at};
 use arrayvec::ArrayVec;
 use att_policy::Standing;
 use att_table::{ConfigRow, Table};
@@ -82,14 +82,17 @@ impl Pending {
         ensures room { OnTrue result (backlog < 8) }
         ensures value { OnTrue result (is_value_at table.now.attributes handle ≡ true) }
     {
-        if self.timed_out || !may_hear_at(table, row, standing, handle) {
+        if self.timed_out {
             return false;
         }
-        if !wants_indications(row, handle) {
-            return backlog < MAX_BACKLOG;
+        match telling_at(table, row, standing, handle) {
+            None => false,
+            Some(Telling::Notification) => backlog < MAX_BACKLOG,
+            Some(Telling::Indication) => {
+                wait_once(&mut self.waiting, handle);
+                false
+            }
         }
-        wait_once(&mut self.waiting, handle);
-        false
     }
 
     /// The handle of the value of which an indication is due now, if one is: the first that waits
