@@ -9,7 +9,7 @@ use Rattle.gatt_conn.specs.Answer.{is_confirmation}
 use Rattle.std.specs.Bool.{OnFalse, OnTrue}
 use Rattle.std.proofs.lemmas.Bool.{OnFalse_at, OnTrue_at}
 use Rattle.gatt_slots.proofs.Covering.{clash, read_at}
-use Rattle.gatt_slots.specs.Commands.{gives, has_command, without_packet}
+use Rattle.gatt_slots.specs.Commands.{has_command, without_packet}
 use Rattle.gatt_slots.specs.Kept.{Kept}
 use Rattle.gatt_slots.specs.Places.{is_some_handle, waits, GoesOn}
 use Rattle.gatt_slots.specs.Request.{is_full, kept_served, pending_after}
@@ -64,20 +64,17 @@ served_goes_on table now rows pdu (Some kept) none = record {
 }
 
 -- and so does one of which a packet is given
-pub given_goes_on : (slot given : Option Kept) (gave : Bool) → gave ≡ gives slot → OnTrue gave (given ≡ option_map without_packet slot) → OnFalse gave (given ≡ slot)
-    → GoesOn slot given × (gives given ≡ true → gives slot ≡ true)
-given_goes_on slot given true is after stays =
-    (subst (λ (it : Option Kept). GoesOn slot it) (sym (OnTrue_at refl after)) (goes slot), λ some. sym is)
+pub given_goes_on : (slot given : Option Kept) (gave : Bool) → OnTrue gave (given ≡ option_map without_packet slot) → OnFalse gave (given ≡ slot)
+    → GoesOn slot given
+given_goes_on slot given true after stays = subst (λ (it : Option Kept). GoesOn slot it) (sym (OnTrue_at refl after)) (goes slot)
   where
     goes : (slot : Option Kept) → GoesOn slot (option_map without_packet slot)
     goes None = record { command = λ is. is; waiting = λ is. is; free = λ is. is }
     goes (Some kept) = record { command = λ is. is; waiting = λ is. is; free = λ is. is }
-given_goes_on slot given false is after stays =
-    let same : given ≡ slot = OnFalse_at refl stays in (
-      record {
-        command = λ some. ap has_command (sym same) ∙ some;
-        waiting = λ some. ap waits (sym same) ∙ some;
-        free = λ some. ap (λ it. is_none it) (sym same) ∙ some;
-      },
-      λ some. ap gives (sym same) ∙ some,
-    )
+given_goes_on slot given false after stays =
+    let same : given ≡ slot = OnFalse_at refl stays in
+    record {
+      command = λ some. ap has_command (sym same) ∙ some;
+      waiting = λ some. ap waits (sym same) ∙ some;
+      free = λ some. ap (λ it. is_none it) (sym same) ∙ some;
+    }

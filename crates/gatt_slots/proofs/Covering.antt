@@ -180,16 +180,22 @@ module _ (slots : Held) (place : ℕ) (slot : Option Kept) (old new : Marks) (ma
     free = λ none. none_with (λ it. is_none it) slot slots place (marked.free (sym free ∙ none)) goes.free;
   }
 
--- a packet is given by a slot that is marked
-pub marked_given : (slots : Held) (place : ℕ) (slot : Option Kept) (marks : Marks) → IsMarked slots marks → (gives slot ≡ true → gives (kept_at slots place) ≡ true)
-    → GoesOn (kept_at slots place) slot → IsMarked (set slots place slot) marks
-marked_given slots place slot marks marked given goes = record {
-  few = omega (arith, marked.few, length-set slots place slot);
-  commands = covered_still Command marks.commands.bits slots place slot marked.commands goes.command;
-  packets = covered_still Packet marks.packets.bits slots place slot marked.packets given;
-  waiting = λ none. none_with waits slot slots place (marked.waiting none) goes.waiting;
-  free = λ none. none_with (λ it. is_none it) slot slots place (marked.free none) goes.free;
-}
+-- none may be given at it any more
+pub marked_off : (slots : Held) (place : ℕ) (slot : Option Kept) (old new : Marks) → place < length slots → IsMarked slots old → gives slot ≡ false
+    → ((other : ℕ) → other < 8 → other ≢ place → bit_at new.packets.bits other ≡ bit_at old.packets.bits other)
+    → new.commands ≡ old.commands → new.waiting ≡ old.waiting → new.free ≡ old.free → GoesOn (kept_at slots place) slot → IsMarked (set slots place slot) new
+marked_off slots place slot old new within marked idle others commands waiting free goes =
+    let few : length (set slots place slot) ≤ 8 = omega (arith, marked.few, length-set slots place slot) in
+    record {
+      few = few;
+      commands = subst (λ (it : Places). Covers Command it.bits (set slots place slot)) (sym commands)
+          (covered_still Command old.commands.bits slots place slot marked.commands goes.command);
+      packets = covered_without Packet old.packets.bits new.packets.bits (set slots place slot) place few
+          (covered_still Packet old.packets.bits slots place slot marked.packets (λ is. clash is idle))
+          (ap gives (at-same slots place slot within) ∙ idle) others;
+      waiting = λ none. none_with waits slot slots place (marked.waiting (sym waiting ∙ none)) goes.waiting;
+      free = λ none. none_with (λ it. is_none it) slot slots place (marked.free (sym free ∙ none)) goes.free;
+    }
 
 pub all_marked : (slots : Held) → length slots ≤ 8 → IsMarked slots (record { commands = record { bits = 255 }; packets = record { bits = 255 }; waiting = true; free = true })
 all_marked slots few = record {

@@ -1,11 +1,21 @@
 -- A connection of which nothing was written, and to which nothing waits to be indicated, hears nothing.
-use Rattle.std.proofs.Common.{◌≡◌, ℕ, ◌+◌, Bool, true, false, ◌||◌, nat_lt, ◌==◌, ◌∷◌, if◌then◌else◌, List, [], length, Option, Some, None, refl, sym, ap, ◌∙◌, arith}
+use Rattle.std.proofs.Common.{◌≡◌, ℕ, ◌+◌, Bool, true, false, ◌||◌, nat_lt, ◌==◌, ◌&&◌, not, ◌∷◌, if◌then◌else◌, List, [], length, Option, Some, None, refl, sym, ap, ◌∙◌, arith}
 use Rattle.std.proofs.lemmas.Bool.Decides.{nat_tests}
 use Rattle.att_numbers.specs.Types.{Handle, Row}
 use Rattle.att_table.specs.Table.{Contents}
-use Rattle.gatt_slots.specs.Hearing.{Ear, Told, after_hearing, ear_of, told_of, told_released, with_told}
+use Rattle.att_policy.specs.declared.standing.Standing.{Standing}
+use Rattle.att_policy.specs.Policy.{configuration_bits_of, first_unmet_rule_of, may_hear_of}
+use Rattle.att_table.specs.declared.attr.Attr.{Attr}
+use Rattle.att_table.specs.Table.{attribute_at, is_value}
+use Rattle.gatt_slots.specs.Hearing.{Ear, Told, after_hearing, ear_of, told_in_turn, told_of, told_raised, told_released, with_heard, with_told}
+use Rattle.gatt_subs.specs.Hearing.{may_hear_at, wants_indications}
+use Rattle.gatt_subs.specs.Indications.{with_handle}
+use Rattle.gatt_subs.specs.Told.{notification_of}
+use Rattle.std.specs.Int.Bits.{and_zero_l}
+use Rattle.std.specs.Int.RustNames.{bit_and}
+use Rattle.std.specs.Prelude.{is_none}
 use Rattle.std.specs.List.{list_any}
-use Rattle.std.specs.Option.{option_map_or}
+use Rattle.std.specs.Option.{option_map_or, option_to_list}
 use Rattle.gatt_slots.specs.Kept.{Kept}
 use Rattle.gatt_slots.specs.Places.{is_some_handle, waits}
 use Rattle.gatt_slots.specs.Slots.{Held, all_heard, handles_for, heard_by, heard_from}
@@ -31,19 +41,64 @@ none_released table ear now None false outgoing =
     let pending : Indications = record { waiting = []; unconfirmed = None; timed_out = false } in
     rw (either few nothing, either few pending) refl
 
+idle-released : (table : Contents) (ear : Ear) (now : ℕ) (told : Told) → told.pending.waiting ≡ [] → told_released table ear now told ≡ told
+idle-released table ear now told none =
+    let unconfirmed : Option Unconfirmed = told.pending.unconfirmed in
+    let timed_out : Bool = told.pending.timed_out in
+    ap (λ (waiting : List Handle). told_released table ear now (told_with waiting unconfirmed timed_out told.outgoing)) none
+    ∙ none_released table ear now unconfirmed timed_out told.outgoing
+    ∙ sym (ap (λ (waiting : List Handle). told_with waiting unconfirmed timed_out told.outgoing) none)
+
 pub nothing_heard : (table : Contents) (now : ℕ) (bond : Option Row) (kept : Kept) → kept.pending.waiting ≡ [] → after_hearing table now bond [] kept ≡ kept
 nothing_heard table now bond kept none =
     let ear : Ear = ear_of now bond kept in
-    let unconfirmed : Option Unconfirmed = kept.pending.unconfirmed in
-    let timed_out : Bool = kept.pending.timed_out in
-    let same : told_released table ear now (told_of kept) ≡ told_of kept =
-    ap (λ (waiting : List Handle). told_released table ear now (told_with waiting unconfirmed timed_out kept.outgoing)) none
-    ∙ none_released table ear now unconfirmed timed_out kept.outgoing
-    ∙ sym (ap (λ (waiting : List Handle). told_with waiting unconfirmed timed_out kept.outgoing) none) in
     elim kept.live as (λ live. (if live then with_told kept (told_released table ear now (told_of kept)) else kept) ≡ kept) [
-      | true ↦ ap (with_told kept) same
+      | true ↦ ap (with_told kept) (idle-released table ear now (told_of kept) none)
       | false ↦ refl
     ]
+
+-- nor does one whose client has configured nothing
+none-may-hear : (attributes : List Attr) (standing : Standing) (handle : Handle) → may_hear_at attributes [] standing handle ≡ false
+none-may-hear attributes standing handle =
+    elim (attribute_at attributes handle) as (λ (found : Option Attr). option_map_or (λ (attr : Attr). is_value attr.role && may_hear_of attr.guard 0 standing) found false ≡ false) [
+      | None ↦ refl
+      | Some attr ↦ unset (is_value attr.role) (configuration_bits_of attr.guard.properties) (is_none (first_unmet_rule_of attr.guard.read standing))
+    ]
+  where
+    none : (test : Bool) → (test && false) ≡ false
+    none true = refl
+    none false = refl
+
+    unset : (test : Bool) (bits : ℕ) (met : Bool) → (test && (not (bit_and 0 bits == 0) && met)) ≡ false
+    unset test bits met = ap (λ (both : ℕ). test && (not (both == 0) && met)) (and_zero_l bits) ∙ none test
+
+-- what a value that was raised leaves, by whether it is heard
+abbrev raised-if : Contents → Ear → Handle → Told → Bool → Told
+raised-if table ear handle told heard = with_heard told (record {
+  responses = option_to_list (if heard && not (wants_indications ear.row handle) && nat_lt (length told.outgoing.queue) 8
+      then Some (notification_of table.values handle ear.mtu) else None);
+  pending = if heard && wants_indications ear.row handle
+      then record told.pending { waiting = with_handle told.pending.waiting handle } else told.pending;
+})
+
+none-raised : (table : Contents) (ear : Ear) (handle : Handle) (told : Told) → ear.row ≡ [] → told_raised table ear handle told ≡ told
+none-raised table ear handle told none =
+    ap (raised-if table ear handle told) (unheard (not told.pending.timed_out) _
+    (ap (λ (row : Row). may_hear_at table.attributes row ear.standing handle) none ∙ none-may-hear table.attributes ear.standing handle))
+  where
+    unheard : (on may : Bool) → may ≡ false → (on && may) ≡ false
+    unheard true may none = none
+    unheard false may none = refl
+
+none-in-turn : (table : Contents) (ear : Ear) (now : ℕ) (handles : List Handle) (told : Told) → ear.row ≡ []
+    → told_in_turn table ear now handles told ≡ told_released table ear now told
+none-in-turn table ear now [] told none = refl
+none-in-turn table ear now (handle ∷ handles) told none =
+    ap (told_in_turn table ear now handles) (none-raised table ear handle told none) ∙ none-in-turn table ear now handles told none
+
+pub nothing_asked : (table : Contents) (ear : Ear) (now : ℕ) (handles : List Handle) (told : Told) → ear.row ≡ [] → told.pending.waiting ≡ []
+    → told_in_turn table ear now handles told ≡ told
+nothing_asked table ear now handles told none idle = none-in-turn table ear now handles told none ∙ idle-released table ear now told idle
 
 -- and where nothing waits for any of them, and nothing was written, none hears anything
 none-waits : (waiting : List Handle) → is_some_handle waiting ≡ false → waiting ≡ []
@@ -74,6 +129,6 @@ nothing_heard_by_all table now rows own slots none =
     ∙ quiet-slot table now rows slot idle)
     0 slots none)
 
-pub none_there : (handles : List Handle) → (length handles == 0) ≡ true → handles ≡ []
+pub none_there : {A : Type 0} (items : List A) → (length items == 0) ≡ true → items ≡ []
 none_there [] none = refl
-none_there (handle ∷ handles) none = absurd (grind (arith, nat_tests, none))
+none_there (item ∷ items) none = absurd (grind (arith, nat_tests, none))

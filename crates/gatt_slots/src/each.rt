@@ -42,13 +42,13 @@ impl Slot {
     fn is_serving(&self, handle: u16) -> bool
         ensures { result ≡ is_serving handle self.now }
     {
-        self.used == Use::Live && self.handle == handle
+        self.handle == handle && self.used == Use::Live
     }
 
     fn is_holding(&self, handle: u16) -> bool
         ensures { result ≡ is_holding handle self.now }
     {
-        self.used != Use::Free && self.handle == handle
+        self.handle == handle && self.used != Use::Free
     }
 }
 
@@ -124,6 +124,7 @@ fn complete_entry(slots: &mut [Slot], marks: &mut Marks, entry: &CompletedPacket
 {
     if let Some(place) = find_holding(slots, entry.handle) {
         slots[place].complete(entry.packets);
-        marks.go_on(place);
+        let giving = slots[place].gives();
+        marks.go_on(place, giving);
     }
 }

@@ -58,6 +58,7 @@ impl Slot {
     }
 
     /// A packet may be given.
+    #[inline(always)]
     pub fn gives(&self) -> bool
         ensures { result ≡ gives self.now }
     {
@@ -142,8 +143,10 @@ impl Slots {
         ensures unchanged { OnFalse result (self.new ≡ self.old) }
         ensures out_unchanged { OnFalse result (out.new.items ≡ out.old.items) }
     {
-        // What was given was marked.
-        self.slots[place].next_packet(out)
+        let given = self.slots[place].next_packet(out);
+        let giving = self.slots[place].gives();
+        self.marks.go_on(place, giving);
+        given
     }
 
     /// A command is due for the connection of a slot.

@@ -1,6 +1,7 @@
 //! What a connection hears unasked at the end of an event: Core 5.0, Vol 3 Part F, 3.4.7.
 
 ghost use Rattle.std.specs.Prelude.{◌≡◌, ◌-◌, ◌≤◌, ◌<◌, true, [], ◌∷◌, ◌++◌, length, take, Some, IsSome, is_some, if◌then◌else◌, unwrap_or, IfSome};
+ghost use Rattle.std.specs.Bool.{OnTrue};
 ghost use Rattle.std.specs.Option.{option_map, option_copied};
 ghost use Rattle.att_table.specs.Table.{attribute_at, is_value_at, value_at};
 ghost use Rattle.gatt_laws.specs.Heard.{att_pdu};
@@ -31,6 +32,8 @@ struct Ear<'a> {
 }
 
 /// Tells of values that were written, and of what is then due.
+#[inline(always)]
+#[tactic(auto, using(crate::proofs::Quiet::nothing_asked))]
 fn tell(
     table: &Table,
     row: &ConfigRow,
@@ -47,11 +50,16 @@ fn tell(
         ≡ told_in_turn table.now (record { row = row.now; standing = standing; mtu = mtu }) now handles.now
         (record { pending = pending.old; outgoing = sender.old.outgoing }) }
 {
+    // A client that has configured nothing is told nothing.
+    if is_empty(row) && !pending.waits() {
+        return;
+    }
     let ear = Ear { row, standing, mtu };
     tell_in_turn(table, &ear, now, handles, pending, sender);
 }
 
 /// Raises values in their order, and then releases what is due.
+#[inline(always)]
 fn tell_in_turn(
     table: &Table,
     ear: &Ear<'_>,
@@ -73,6 +81,7 @@ fn tell_in_turn(
 }
 
 /// Tells of a value that was written.
+#[inline(always)]
 fn raise(table: &Table, ear: &Ear<'_>, handle: u16, pending: &mut Pending, sender: &mut Sender)
     requires least { 23 ≤ ear.now.mtu }
     requires most { ear.now.mtu ≤ 517 }
@@ -92,6 +101,7 @@ fn raise(table: &Table, ear: &Ear<'_>, handle: u16, pending: &mut Pending, sende
 }
 
 /// Sends the indication that is due, if one is.
+#[inline(always)]
 fn release(table: &Table, ear: &Ear<'_>, now: u64, pending: &mut Pending, sender: &mut Sender)
     requires least { 23 ≤ ear.now.mtu }
     requires most { ear.now.mtu ≤ 517 }
@@ -138,6 +148,7 @@ fn write_value(opcode: u8, handle: u16, value: &[u8], mtu: u16, out: &mut ArrayV
 }
 
 /// The row of the peer's bond where the link has a key, else the connection's own.
+#[inline(always)]
 fn row_in_force<'a>(link: &Link, peer: &Peer, own: &'a ConfigRow, rows: &'a Rows) -> &'a ConfigRow
     ensures { result.now ≡ (if is_some link.now.key then unwrap_or (row_of rows.now peer.now) own.now else own.now) }
 {
@@ -147,6 +158,14 @@ fn row_in_force<'a>(link: &Link, peer: &Peer, own: &'a ConfigRow, rows: &'a Rows
         }
     }
     own
+}
+
+/// Whether a client has configured nothing.
+#[tactic(auto, using(crate::proofs::Quiet::none_there))]
+fn is_empty(row: &ConfigRow) -> bool
+    ensures { OnTrue result (row.now ≡ []) }
+{
+    row.entries().is_empty()
 }
 
 impl Slot {
@@ -162,9 +181,9 @@ impl Slot {
         if handles.is_empty() && !self.pending.waits() {
             return;
         }
+        let row = row_in_force(&self.link, &self.peer, &self.row, rows);
         let standing = standing(&self.link, self.key_known, self.until, now);
         let mtu = self.conn.mtu();
-        let row = row_in_force(&self.link, &self.peer, &self.row, rows);
         tell(
             table,
             row,
@@ -193,6 +212,7 @@ impl Slot {
 }
 
 /// What the policy sees of a connection.
+#[inline(always)]
 pub(crate) fn standing(link: &Link, key_known: bool, until: u64, now: u64) -> Standing
     ensures { result ≡ record { key = link.now.key; key_known = key_known; until = until; now = now } }
 {

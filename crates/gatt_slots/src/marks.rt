@@ -1,6 +1,7 @@
 //! Where something may be due in the slots of a host, so that an event looks at no others.
 
 ghost use Rattle.std.specs.Prelude.{◌≡◌, false, ◌<◌, ◌≤◌, length, set, Option};
+ghost use Rattle.gatt_slots.specs.Commands.{gives};
 ghost use Rattle.gatt_slots.specs.Kept.{Kept};
 ghost use Rattle.gatt_slots.specs.Places.{GoesOn, IsMarked};
 ghost use Rattle.gatt_slots.specs.Slots.{kept_at, Held};
@@ -55,17 +56,21 @@ impl Marks {
         if commanded {
             self.change(place);
         } else {
-            self.go_on(place);
+            self.go_on(place, true);
         }
     }
 
-    /// Takes in that a packet may be given at a slot, whose connection goes on.
+    /// Takes in whether a packet may be given at a slot, whose connection goes on.
     #[inline(always)]
-    pub(crate) fn go_on(&mut self, place: usize)
+    pub(crate) fn go_on(&mut self, place: usize, giving: bool)
         requires { place < 8 }
         ensures { (slots : Held) (slot : Option Kept) → place < length slots → IsMarked slots self.old → GoesOn (kept_at slots place) slot
-            → IsMarked (set slots place slot) self.new }
+            → (giving ≡ false → gives slot ≡ false) → IsMarked (set slots place slot) self.new }
     {
-        self.packets.add(place);
+        if giving {
+            self.packets.add(place);
+        } else {
+            self.packets.remove(place);
+        }
     }
 }

@@ -42,7 +42,7 @@ impl Places {
 
     /// Takes a place out of the set.
     #[inline(always)]
-    fn remove(&mut self, place: usize)
+    pub(crate) fn remove(&mut self, place: usize)
         requires { place < 8 }
         ensures removed { bit_at self.new.bits place ≡ 0 }
         ensures others { (other : ℕ) → other < 8 → other ≢ place → bit_at self.new.bits other ≡ bit_at self.old.bits other }

@@ -1,7 +1,7 @@
 use Rattle.std.proofs.Common.{◌<◌, Option, length, subst, sym, ap, ◌∙◌}
 use Rattle.std.proofs.lemmas.Bool.{OnTrue_at, OnTrue_from}
+use Rattle.std.proofs.lemmas.List.{get_or-set_same}
 use Rattle.gatt_slots.proofs.AtPlace.{changed_at, given_goes_on, there_at}
-use Rattle.gatt_slots.proofs.Covering.{marked_given}
 use Rattle.gatt_slots.specs.Commands.{gives, without_packet}
 use Rattle.gatt_slots.specs.Kept.{Kept}
 use Rattle.gatt_slots.specs.Places.{GoesOn}
@@ -14,7 +14,7 @@ returns-clause-after c =
     let within : c.args.place < length slots = subst (λ (it : Held). c.args.place < length it) (sym c.self.view_is) c.requires in
     OnTrue_from _ _ (λ gives.
     changed_at slots c.args.self.now c.self.view_is c.args.place c.index_mut.result.now within c.index_mut.ensures.value
-    without_packet c.next_packet.new.self (OnTrue_at gives c.next_packet.ensures.after))
+    without_packet c.next_packet-given.new.self (OnTrue_at gives c.next_packet-given.ensures.after))
 
 pub invariant_of-self : goal.invariant_of-self
 invariant_of-self c =
@@ -23,7 +23,9 @@ invariant_of-self c =
     let slot = c.index_mut.result.now in
     let within : place < length slots = subst (λ (it : Held). place < length it) (sym c.self.view_is) c.requires in
     let there = there_at slots slots (λ i. slots) place slot within c.index_mut.ensures.value in
-    let goes = given_goes_on slot c.next_packet.new.self c.next_packet.result c.next_packet.ensures.gives c.next_packet.ensures.after c.next_packet.ensures.unchanged in
-    marked_given slots place c.next_packet.new.self c.self.inside.marks c.self.invariant
-    (λ given. ap gives (sym there) ∙ goes.1 given)
-    (subst (λ (it : Option Kept). GoesOn it c.next_packet.new.self) there goes.0)
+    let goes = given_goes_on slot c.next_packet-given.new.self c.next_packet-given.result c.next_packet-given.ensures.after c.next_packet-given.ensures.unchanged in
+    c.go_on.ensures slots c.next_packet-given.new.self within c.self.invariant
+    (subst (λ (it : Option Kept). GoesOn it c.next_packet-given.new.self) there goes)
+    (λ none.
+    ap gives (sym (get_or-set_same slots place c.next_packet-given.new.self c.index.result.now within)) ∙ ap gives (sym c.index.ensures)
+    ∙ sym c.gives-giving.ensures ∙ none)
