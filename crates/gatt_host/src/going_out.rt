@@ -91,21 +91,16 @@ impl Controller {
         free && !self.advertising && !self.refused
     }
 
-    /// Writes the command to advertise where it is due, and takes in that it is sent.
-    fn enabling_out(&mut self, free: bool, out: &mut ArrayVec<u8, 260>) -> bool
+    /// Writes the command to advertise, and takes in that it is sent.
+    #[cold]
+    #[inline(never)]
+    fn write_enabling(&mut self, out: &mut ArrayVec<u8, 260>)
         requires { nat_lt 0 self.old.credit ≡ true }
-        ensures goes { result ≡ (free && not self.old.advertising && not self.old.refused) }
-        ensures octets { OnTrue result (out.new.items ≡ command_octets LeSetAdvertiseEnable) }
-        ensures after { OnTrue result (self.new ≡ controller_after self.old (LeSetAdvertiseEnable ∷ [])) }
-        ensures unchanged { OnFalse result (self.new ≡ self.old) }
-        ensures out_unchanged { OnFalse result (out.new.items ≡ out.old.items) }
+        ensures octets { out.new.items ≡ command_octets LeSetAdvertiseEnable }
+        ensures after { self.new ≡ controller_after self.old (LeSetAdvertiseEnable ∷ []) }
     {
-        if !self.is_to_advertise(free) {
-            return false;
-        }
         write_command(&Command::LeSetAdvertiseEnable, out);
         self.sent(opcode::LE_SET_ADVERTISE_ENABLE);
-        true
     }
 }
 
@@ -188,10 +183,11 @@ fn command_out(controller: &mut Controller, slots: &mut Slots, out: &mut ArrayVe
         controller.sent(opcode);
         return true;
     }
-    if controller.advertising || controller.refused {
+    if controller.advertising || controller.refused || !slots.has_room() {
         return false;
     }
-    controller.enabling_out(slots.has_room(), out)
+    controller.write_enabling(out);
+    true
 }
 
 /// Writes what goes out next in place of what `out` holds: a command that is due, while the controller
