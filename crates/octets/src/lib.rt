@@ -1,7 +1,9 @@
-//! Octets: numbers of 16 bits as two of them, and the sources and sinks that streams of them come
-//! from and go to.
+//! Octets: numbers of 16 bits as two of them, the sources and sinks that streams of them come from
+//! and go to, and buffers that are filled again and again.
 #![tactic(auto)]
 
+mod buffer;
 mod stream;
 
+pub use buffer::overwrite;
 pub use stream::{ArraySink, Failed, Reader, Sink, SliceSource, Source, Writer, write_all};

@@ -1,0 +1,54 @@
+//! Buffers that are filled again and again, each time in place of what they held.
+
+ghost use Rattle.std.specs.Prelude.{◌≡◌, ◌+◌, ◌≤◌, ◌++◌, length};
+ghost use Rattle.arrayvec.specs.ArrayVec.{array_vec_len};
+
+use arrayvec::ArrayVec;
+
+/// What makes a buffer longer.
+const ZEROS: [u8; 517] = [0; 517];
+
+/// Puts octets of three places, one behind the other, in place of what a buffer of at most 517 octets
+/// holds. It is not cleared first, so that octets of the same length as before are written once.
+#[inline(always)]
+pub fn overwrite<const N: usize>(
+    buffer: &mut ArrayVec<u8, N>,
+    first: &[u8],
+    second: &[u8],
+    third: &[u8],
+)
+    requires largest { N ≤ 517 }
+    requires fits { length first.now + length second.now + length third.now ≤ N }
+    ensures { buffer.new.items ≡ first.now ++ second.now ++ third.now }
+{
+    set_length(buffer, first.len() + second.len() + third.len());
+    write_parts(buffer.as_mut_slice(), first, second, third);
+}
+
+/// Gives a buffer a length, by as few octets as it takes.
+#[inline(always)]
+fn set_length<const N: usize>(buffer: &mut ArrayVec<u8, N>, length: usize)
+    requires largest { N ≤ 517 }
+    requires fits { length ≤ N }
+    ensures { array_vec_len buffer.new ≡ length }
+{
+    let before = buffer.len();
+    if length < before {
+        buffer.truncate(length);
+    } else if before < length {
+        let _ = buffer.try_extend_from_slice(&ZEROS[..length - before]);
+    }
+}
+
+/// Writes octets of three places one behind the other.
+#[inline(always)]
+fn write_parts(out: &mut [u8], first: &[u8], second: &[u8], third: &[u8])
+    requires { length out.old ≡ length first.now + length second.now + length third.now }
+    ensures { out.new ≡ first.now ++ second.now ++ third.now }
+{
+    let start = first.len();
+    let middle = start + second.len();
+    out[..start].copy_from_slice(first);
+    out[start..middle].copy_from_slice(second);
+    out[middle..].copy_from_slice(third);
+}
