@@ -3,6 +3,7 @@ ghost use Rattle.octets.specs.Number.{two_octets};
 
 use crate::indicator;
 use arrayvec::ArrayVec;
+use octets::overwrite;
 
 /// Writes an ACL packet in place of what `out` holds: a connection handle of 12 bits, the packet
 /// boundary flag, and at most 255 octets of data. Its broadcast flag is 0. (Core 5.0, Vol 2 Part E,
@@ -34,16 +35,12 @@ pub fn write_acl_parts(
 {
     let [low, high] = (handle | u16::from(pb) << 12).to_le_bytes();
     let [size_low, size_high] = ((header.len() + octets.len()) as u16).to_le_bytes();
-    // Octets that are pushed one by one are not read again, as those of an array would be.
-    out.clear();
-    out.push(indicator::ACL);
-    out.push(low);
-    out.push(high);
-    out.push(size_low);
-    out.push(size_high);
-    // There is room, so these are proved to take all of them.
-    let _ = out.try_extend_from_slice(header);
-    let _ = out.try_extend_from_slice(octets);
+    overwrite(
+        out,
+        &[indicator::ACL, low, high, size_low, size_high],
+        header,
+        octets,
+    );
 }
 
 /// Writes a command in place of what `out` holds: its indicator, and its at most 259 octets from the
@@ -52,7 +49,5 @@ pub fn write_command(octets: &[u8], out: &mut ArrayVec<u8, 260>)
     requires { length octets.now ≤ 259 }
     ensures { out.new.items ≡ 0x01 ∷ octets.now }
 {
-    out.clear();
-    out.push(indicator::COMMAND);
-    let _ = out.try_extend_from_slice(octets);
+    overwrite(out, &[indicator::COMMAND], octets, &[]);
 }
