@@ -12,6 +12,7 @@ ghost use Rattle.octets.specs.Number.{Octets, two_octets};
 use crate::pdus::{MAX_PDUS, Pdus};
 use arrayvec::ArrayVec;
 use le_h4::{write_acl, write_acl_parts};
+use octets::overwrite;
 use std::alloc::{AllocError, Global};
 use std::marker::Model;
 
@@ -98,6 +99,17 @@ impl Sender {
         requires { IsSome self.old.room }
         ensures { (payload : Octets) → self.old.room ≡ Some payload → self.new ≡ record { outgoing = with_pdu self.old.outgoing (cid, payload); room = None } }
     {
+        self.pdus.push(cid);
+        self.lent = false;
+    }
+
+    /// Queues the octets of two places, one behind the other, as a PDU on a channel. There is room for it.
+    pub fn queue(&mut self, cid: u16, first: &[u8], rest: &[u8])
+        requires room { length self.old.outgoing.queue < 16 }
+        requires fits { length first.now + length rest.now ≤ 517 }
+        ensures { self.new ≡ record { outgoing = with_pdu self.old.outgoing (cid, first.now ++ rest.now); room = None } }
+    {
+        overwrite(self.pdus.room(), first, rest, &[]);
         self.pdus.push(cid);
         self.lent = false;
     }
