@@ -12,7 +12,6 @@ ghost use Rattle.le_acl.specs.Outgoing.{with_pdu};
 ghost use Rattle.octets.specs.Number.{two_octets};
 
 use crate::slot::{Slot, Use};
-use arrayvec::ArrayVec;
 use att_numbers::opcode::{HANDLE_VALUE_INDICATION, HANDLE_VALUE_NOTIFICATION};
 use att_policy::Standing;
 use att_table::{ConfigRow, Table};
@@ -127,24 +126,9 @@ fn queue_value(opcode: u8, handle: u16, value: &[u8], mtu: u16, sender: &mut Sen
     requires room { length sender.old.outgoing.queue < 16 }
     ensures { sender.new.outgoing ≡ with_pdu sender.old.outgoing (ATT, opcode ∷ two_octets handle ++ take (mtu - 3) value.now) }
 {
-    let Ok(room) = sender.room() else {
-        unreachable!()
-    };
-    write_value(opcode, handle, value, mtu, room);
-    sender.push(ATT);
-}
-
-/// Writes the PDU into an empty buffer.
-fn write_value(opcode: u8, handle: u16, value: &[u8], mtu: u16, out: &mut ArrayVec<u8, 517>)
-    requires least { 23 ≤ mtu }
-    requires most { mtu ≤ 517 }
-    requires empty { out.old.items ≡ [] }
-    ensures { out.new.items ≡ opcode ∷ two_octets handle ++ take (mtu - 3) value.now }
-{
     let [low, high] = handle.to_le_bytes();
     let front = &value[..value.len().min(usize::from(mtu) - 3)];
-    let _ = out.try_extend_from_slice(&[opcode, low, high]);
-    let _ = out.try_extend_from_slice(front);
+    sender.queue(ATT, &[opcode, low, high], front);
 }
 
 /// The row of the peer's bond where the link has a key, else the connection's own.

@@ -2,15 +2,12 @@
 
 ghost use Rattle.std.specs.Prelude.{◌≡◌, ◌<◌, ◌≤◌, ◌^◌, ◌==◌, ◌&&◌, not, is_some, [], ◌++◌, length, if◌then◌else◌, Some, None, IfOk, IfSome};
 ghost use Rattle.std.specs.Option.{option_copied, option_map};
-ghost use Rattle.gatt_laws.specs.Turn.{channel_answer, gained_encryption};
+ghost use Rattle.gatt_laws.specs.Turn.{gained_encryption};
 ghost use Rattle.gatt_slots.specs.Turn.{come, after_authorizing, after_completed, after_ending, after_key_asked, after_link_step, after_loss, after_signal, after_table, after_time, with_answer};
-ghost use Rattle.gatt_subs.specs.Indications.{no_indications};
-ghost use Rattle.le_acl.specs.Outgoing.{with_pdu};
 ghost use Rattle.le_security.specs.Keys.{answer_of};
 ghost use Rattle.le_security.specs.Link.{Encryption, Refresh, after_step};
 
 use crate::slot::{Slot, Use};
-use arrayvec::ArrayVec;
 use att_table::{ConfigRow, Table};
 use gatt_conn::Conn;
 use gatt_subs::Pending;
@@ -169,7 +166,7 @@ impl Slot {
         if self.sender.backlog() == MAX_PDUS {
             self.end(REMOTE_USER_TERMINATED);
         } else {
-            queue_octets(channel, octets, &mut self.sender);
+            self.sender.queue(channel, octets, &[]);
         }
     }
 
@@ -222,26 +219,4 @@ fn long_term_key(found: Option<&Key>) -> Option<[u8; 16]>
         Some(key) => Some(key.ltk),
         None => None,
     }
-}
-
-/// Queues octets as a PDU on a channel.
-fn queue_octets(channel: u16, octets: &[u8], sender: &mut Sender)
-    requires fits { length octets.now ≤ 517 }
-    requires room { length sender.old.outgoing.queue < 16 }
-    ensures { sender.new.outgoing ≡ with_pdu sender.old.outgoing (channel, octets.now) }
-{
-    let Ok(room) = sender.room() else {
-        unreachable!()
-    };
-    write_octets(octets, room);
-    sender.push(channel);
-}
-
-/// Writes octets into an empty buffer.
-fn write_octets(octets: &[u8], out: &mut ArrayVec<u8, 517>)
-    requires fits { length octets.now ≤ 517 }
-    requires empty { out.old.items ≡ [] }
-    ensures { out.new.items ≡ octets.now }
-{
-    let _ = out.try_extend_from_slice(octets);
 }
