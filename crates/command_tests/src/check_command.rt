@@ -29,16 +29,23 @@ fn judges<T: Read, K: Read>(
     answer: Result<(), ShellFault>,
     printed: &str,
 ) {
+    assert!(rt; is_judged(alloc, table, keys, answer, printed), "{printed}");
+}
+
+fn is_judged<T: Read, K: Read>(
+    alloc: Global,
+    table: &mut T,
+    keys: &mut K,
+    answer: Result<(), ShellFault>,
+    printed: &str,
+) -> bool {
     let mut output: Vec<u8> = Vec::new(alloc);
-    let checked = check_files(alloc, table, keys, &mut output);
-    assert!(rt;
-        checked == answer && output.as_slice() == printed.as_bytes(),
-        "{printed}"
-    );
+    check_files(alloc, table, keys, &mut output) == answer
+        && output.as_slice() == printed.as_bytes()
 }
 
 /// Tables and keys, how `check` ends, and what it prints.
-const TEXTS: [(&str, &str, Result<(), ShellFault>, &str); 8] = [
+const TEXTS: &[(&str, &str, Result<(), ShellFault>, &str)] = &[
     (DOOR, KEYS, Ok(()), "attributes 21\nkeys 3\n"),
     (BELL, "", Ok(()), "attributes 9\nkeys 0\n"),
     ("service = []", "key = []", Ok(()), "attributes 0\nkeys 0\n"),
@@ -50,33 +57,65 @@ const TEXTS: [(&str, &str, Result<(), ShellFault>, &str); 8] = [
 ];
 
 /// The same of octets that are no text.
-const OCTETS: [(&[u8], &[u8], Result<(), ShellFault>); 2] = [
+const OCTETS: &[(&[u8], &[u8], Result<(), ShellFault>)] = &[
     (b"service = [] # \xFF", b"", Err(ShellFault::Table(1))),
     (b"service = []", b"# \xFF", Err(ShellFault::Keys(1))),
 ];
 
 #[test]
 fn counts_attributes_and_keys_or_tells_the_fault(rt: HostRuntime) {
-    for (table, keys, answer, printed) in TEXTS {
-        let (mut table, mut keys) = (table.as_bytes(), keys.as_bytes());
-        judges(&rt, rt.alloc(), &mut table, &mut keys, answer, printed);
+    check_texts(&rt, rt.alloc(), TEXTS);
+    check_octets(&rt, rt.alloc(), OCTETS);
+}
+
+fn check_texts(
+    rt: &impl Abort,
+    alloc: Global,
+    cases: &[(&str, &str, Result<(), ShellFault>, &str)],
+) {
+    for (table, keys, answer, printed) in cases {
+        judge(
+            rt,
+            alloc,
+            (table.as_bytes(), keys.as_bytes()),
+            *answer,
+            printed,
+        );
     }
-    for (mut table, mut keys, answer) in OCTETS {
-        judges(&rt, rt.alloc(), &mut table, &mut keys, answer, "");
+}
+
+fn check_octets(rt: &impl Abort, alloc: Global, cases: &[(&[u8], &[u8], Result<(), ShellFault>)]) {
+    for (table, keys, answer) in cases {
+        judge(rt, alloc, (table, keys), *answer, "");
     }
+}
+
+/// Judges the octets of a table and of keys.
+fn judge(
+    rt: &impl Abort,
+    alloc: Global,
+    files: (&[u8], &[u8]),
+    answer: Result<(), ShellFault>,
+    printed: &str,
+) {
+    let (mut table, mut keys) = files;
+    judges(rt, alloc, &mut table, &mut keys, answer, printed);
 }
 
 #[test]
 fn reads_the_keys_behind_the_table(rt: HostRuntime) {
     let unreadable = Err(ShellFault::Unreadable);
-    let mut good = DOOR.as_bytes();
-    judges(&rt, rt.alloc(), &mut good, &mut Unreadable, unreadable, "");
-    let mut bad = b"".as_slice();
-    let refused = Err(ShellFault::Table(2));
-    judges(&rt, rt.alloc(), &mut bad, &mut Unreadable, refused, "");
+    judges_table(&rt, rt.alloc(), DOOR.as_bytes(), unreadable);
+    judges_table(&rt, rt.alloc(), b"", Err(ShellFault::Table(2)));
     let mut keys = b"key".as_slice();
     judges(&rt, rt.alloc(), &mut Unreadable, &mut keys, unreadable, "");
-    assert_eq!(rt; keys, b"key".as_slice());
+    assert!(&rt; keys == b"key".as_slice());
+}
+
+/// Judges a table beside keys that cannot be read.
+fn judges_table(rt: &impl Abort, alloc: Global, table: &[u8], answer: Result<(), ShellFault>) {
+    let mut table = table;
+    judges(rt, alloc, &mut table, &mut Unreadable, answer, "");
 }
 
 /// Judges the files at two paths.
@@ -87,18 +126,22 @@ fn judges_paths(
     answer: Result<(), ShellFault>,
     printed: &str,
 ) {
-    let mut output: Vec<u8> = Vec::new(rt.alloc());
-    let checked = check_paths(
-        rt.alloc(),
-        rt,
-        TablePath(table),
-        KeysPath(keys),
-        &mut output,
-    );
     assert!(rt;
-        checked == answer && output.as_slice() == printed.as_bytes(),
+        are_judged(rt, (TablePath(table), KeysPath(keys)), answer, printed),
         "{printed}"
     );
+}
+
+fn are_judged(
+    rt: &(impl AllocGlobal + Files),
+    paths: (TablePath<'_>, KeysPath<'_>),
+    answer: Result<(), ShellFault>,
+    printed: &str,
+) -> bool {
+    let (table, keys) = paths;
+    let mut output: Vec<u8> = Vec::new(rt.alloc());
+    check_paths(rt.alloc(), rt, table, keys, &mut output) == answer
+        && output.as_slice() == printed.as_bytes()
 }
 
 const TABLE: &str = "check_table.toml";
@@ -107,15 +150,30 @@ const PEERS: &str = "check_keys.toml";
 
 /// The first path is that of the table, and the second that of the keys. One that leads nowhere is
 /// told once it is its turn.
+const PATHS: &[(&str, &str, Result<(), ShellFault>, &str)] = &[
+    (TABLE, PEERS, Ok(()), "attributes 9\nkeys 3\n"),
+    (PEERS, TABLE, Err(ShellFault::Table(11)), ""),
+    (TABLE, TABLE, Err(ShellFault::Keys(9)), ""),
+    (TABLE, "check_nothing.toml", Err(ShellFault::Unreadable), ""),
+];
+
+/// Writes the files.
+fn make_files(rt: &impl Files) -> io::Result<()> {
+    fs::write(rt, TABLE, BELL)?;
+    fs::write(rt, PEERS, KEYS)
+}
+
+/// Removes them.
+fn remove_files(rt: &impl Files) -> io::Result<()> {
+    fs::remove_file(rt, TABLE)?;
+    fs::remove_file(rt, PEERS)
+}
+
 #[test]
 fn takes_the_files_in_their_order(rt: HostRuntime) -> Result<(), Fail> {
-    fs::write(&rt, TABLE, BELL)?;
-    fs::write(&rt, PEERS, KEYS)?;
-    judges_paths(&rt, TABLE, PEERS, Ok(()), "attributes 9\nkeys 3\n");
-    judges_paths(&rt, PEERS, TABLE, Err(ShellFault::Table(11)), "");
-    judges_paths(&rt, TABLE, TABLE, Err(ShellFault::Keys(9)), "");
-    let nowhere = "check_nothing.toml";
-    judges_paths(&rt, TABLE, nowhere, Err(ShellFault::Unreadable), "");
-    fs::remove_file(&rt, TABLE)?;
-    Ok(fs::remove_file(&rt, PEERS)?)
+    make_files(&rt)?;
+    for (table, keys, answer, printed) in PATHS {
+        judges_paths(&rt, table, keys, *answer, printed);
+    }
+    Ok(remove_files(&rt)?)
 }

@@ -2,36 +2,46 @@
 
 use arrayvec::ArrayVec;
 use gatt_commands::{ShellFault, status, text};
+use std::process::Abort;
+
+/// Faults, with the text and the status of each.
+const FAULTS: &[(ShellFault, &str, u8)] = &[
+    (ShellFault::Table(3), "table: fault 3", 1),
+    (ShellFault::Keys(0), "keys: fault 0", 1),
+    (ShellFault::Rows(12), "rows: fault 12", 1),
+    (ShellFault::Next(255), "next: fault 255", 1),
+    (
+        ShellFault::Script(u64::MAX),
+        "script: line 18446744073709551615",
+        1,
+    ),
+    (ShellFault::Host(7), "host: fault 7", 2),
+    (ShellFault::Controller(100), "controller: fault 100", 2),
+    (ShellFault::TooLong, "exchange: too long", 2),
+    (ShellFault::NotHex(1), "line 1: not hex", 2),
+    (
+        ShellFault::NotHex(u64::MAX),
+        "line 18446744073709551615: not hex",
+        2,
+    ),
+    (ShellFault::Unreadable, "file: unreadable", 1),
+    (ShellFault::Unwritten, "file: unwritten", 1),
+    (ShellFault::Listen, "listen: failed", 2),
+    (ShellFault::Memory, "memory: refused", 2),
+];
 
 #[test]
 fn says_each_fault(rt: HostRuntime) {
-    let mut out: ArrayVec<u8, 40> = ArrayVec::new();
-    for (fault, want, code) in [
-        (ShellFault::Table(3), "table: fault 3", 1),
-        (ShellFault::Keys(0), "keys: fault 0", 1),
-        (ShellFault::Rows(12), "rows: fault 12", 1),
-        (ShellFault::Next(255), "next: fault 255", 1),
-        (
-            ShellFault::Script(u64::MAX),
-            "script: line 18446744073709551615",
-            1,
-        ),
-        (ShellFault::Host(7), "host: fault 7", 2),
-        (ShellFault::Controller(100), "controller: fault 100", 2),
-        (ShellFault::TooLong, "exchange: too long", 2),
-        (ShellFault::NotHex(1), "line 1: not hex", 2),
-        (
-            ShellFault::NotHex(u64::MAX),
-            "line 18446744073709551615: not hex",
-            2,
-        ),
-        (ShellFault::Unreadable, "file: unreadable", 1),
-        (ShellFault::Unwritten, "file: unwritten", 1),
-        (ShellFault::Listen, "listen: failed", 2),
-        (ShellFault::Memory, "memory: refused", 2),
-    ] {
-        text(&fault, &mut out);
-        assert_eq!(rt; out.as_slice(), want.as_bytes(), "at {want}");
-        assert_eq!(rt; status(&fault), code, "at {want}");
+    says(&rt, &mut ArrayVec::new(), FAULTS);
+}
+
+/// One text after the other takes the place of the one before.
+fn says(rt: &impl Abort, out: &mut ArrayVec<u8, 40>, cases: &[(ShellFault, &str, u8)]) {
+    for (fault, wanted, code) in cases {
+        text(fault, out);
+        assert!(rt;
+            out.as_slice() == wanted.as_bytes() && status(fault) == *code,
+            "{wanted}"
+        );
     }
 }

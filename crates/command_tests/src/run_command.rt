@@ -18,23 +18,28 @@ struct Run {
 /// Runs scripts, each over a host of its own with no rows, and compares what they print.
 fn prints(rt: &impl Abort, alloc: Global, runs: &[Run]) {
     for run in runs {
-        let mut printed: Vec<u8> = Vec::new(alloc);
-        let ran = run_script(
-            alloc,
-            &mut run.table.as_bytes(),
-            &mut run.next.map(|next| next.as_bytes()),
-            &mut KEYS.as_bytes(),
-            &mut b"".as_slice(),
-            &mut run.script.as_bytes(),
-            &mut Vec::new(alloc),
-            &mut printed,
-        );
-        assert!(rt;
-            ran.is_ok() && printed.as_slice() == run.printed.as_bytes(),
-            "{}",
-            run.script
-        );
+        assert!(rt; is_printed(alloc, run), "{}", run.script);
     }
+}
+
+fn is_printed(alloc: Global, run: &Run) -> bool {
+    let mut printed: Vec<u8> = Vec::new(alloc);
+    is_run(alloc, run, &mut printed) && printed.as_slice() == run.printed.as_bytes()
+}
+
+/// Runs a script, and writes what is printed.
+fn is_run(alloc: Global, run: &Run, printed: &mut Vec<u8>) -> bool {
+    run_script(
+        alloc,
+        &mut run.table.as_bytes(),
+        &mut run.next.map(|next| next.as_bytes()),
+        &mut KEYS.as_bytes(),
+        &mut b"".as_slice(),
+        &mut run.script.as_bytes(),
+        &mut Vec::new(alloc),
+        printed,
+    )
+    .is_ok()
 }
 
 const AT_THE_DOOR: Run = Run {
@@ -76,9 +81,11 @@ U > 0b4c6f636b
     ..AT_THE_DOOR
 };
 
+const BY_CHANNEL: &[Run] = &[AT_THE_DOOR, REQUESTS, SIGNALLING];
+
 #[test]
 fn prints_what_each_phone_hears_by_channel(rt: HostRuntime) {
-    prints(&rt, rt.alloc(), &[AT_THE_DOOR, REQUESTS, SIGNALLING]);
+    prints(&rt, rt.alloc(), BY_CHANNEL);
 }
 
 /// What one phone has prepared, another neither writes nor drops. A third kind of Execute Write is
@@ -268,13 +275,11 @@ Y > 0b4c6f636b
     ..AT_THE_DOOR
 };
 
+const REFUSALS: &[Run] = &[CALLS_REFUSED, REPLACEMENT_REFUSED, ACTS_REFUSED];
+
 #[test]
 fn prints_the_number_of_each_refusal(rt: HostRuntime) {
-    prints(
-        &rt,
-        rt.alloc(),
-        &[CALLS_REFUSED, REPLACEMENT_REFUSED, ACTS_REFUSED],
-    );
+    prints(&rt, rt.alloc(), REFUSALS);
 }
 
 /// A link that had a key goes on without one: authentication failure.
@@ -347,7 +352,9 @@ U > 0b64
     ..AT_THE_DOOR
 };
 
+const ENDS: &[Run] = &[CLEARED, NOT_FETCHED, FETCHED];
+
 #[test]
 fn prints_which_connection_is_ended(rt: HostRuntime) {
-    prints(&rt, rt.alloc(), &[CLEARED, NOT_FETCHED, FETCHED]);
+    prints(&rt, rt.alloc(), ENDS);
 }

@@ -48,17 +48,26 @@ fn run<V: Write, W: Write>(
 /// Runs over inputs, and compares what that prints and writes, and how it ends.
 fn runs(rt: &impl Abort, alloc: Global, cases: &[(Inputs, Outcome)]) {
     for (inputs, outcome) in cases {
-        let mut rows: Vec<u8> = Vec::new(alloc);
-        let mut printed: Vec<u8> = Vec::new(alloc);
-        let ended = run(alloc, inputs, &mut rows, &mut printed);
-        assert!(rt;
-            ended == outcome.ended
-                && printed.as_slice() == outcome.printed.as_bytes()
-                && rows.as_slice() == outcome.rows.as_bytes(),
-            "{}",
-            inputs.script
-        );
+        assert!(rt; leads_to(alloc, inputs, outcome), "{}", inputs.script);
     }
+}
+
+fn leads_to(alloc: Global, inputs: &Inputs, outcome: &Outcome) -> bool {
+    let mut printed: Vec<u8> = Vec::new(alloc);
+    is_written(alloc, inputs, outcome, &mut printed)
+        && printed.as_slice() == outcome.printed.as_bytes()
+}
+
+/// Whether a run ends so and writes these rows. What it prints goes to a writer.
+fn is_written<W: Write>(
+    alloc: Global,
+    inputs: &Inputs,
+    outcome: &Outcome,
+    printed: &mut W,
+) -> bool {
+    let mut rows: Vec<u8> = Vec::new(alloc);
+    run(alloc, inputs, &mut rows, printed) == outcome.ended
+        && rows.as_slice() == outcome.rows.as_bytes()
 }
 
 /// A phone with a key has subscribed to the battery level.
@@ -90,32 +99,47 @@ const BAD: Inputs = Inputs {
     script: "replace\nreplace \n",
 };
 
+const GOOD_TABLE: Inputs = Inputs {
+    table: PORCH,
+    ..BAD
+};
+
+const GOOD_NEXT: Inputs = Inputs {
+    next: Some(PORCH_NEXT),
+    ..GOOD_TABLE
+};
+
+const GOOD_KEYS: Inputs = Inputs {
+    keys: KEYS,
+    ..GOOD_NEXT
+};
+
+const GOOD_ROWS: Inputs = Inputs {
+    rows: SUBSCRIBED,
+    ..GOOD_KEYS
+};
+
+const IN_TURN: &[(Inputs, ShellFault)] = &[
+    (BAD, ShellFault::Table(1)),
+    (GOOD_TABLE, ShellFault::Next(2)),
+    (GOOD_NEXT, ShellFault::Keys(9)),
+    (GOOD_KEYS, ShellFault::Rows(1)),
+    (GOOD_ROWS, ShellFault::Script(2)),
+];
+
 #[test]
 fn judges_table_next_keys_rows_and_script_in_turn(rt: HostRuntime) {
-    let table = Inputs {
-        table: PORCH,
-        ..BAD
-    };
-    let next = Inputs {
-        next: Some(PORCH_NEXT),
-        ..table
-    };
-    let keys = Inputs { keys: KEYS, ..next };
-    let rows = Inputs {
-        rows: SUBSCRIBED,
-        ..keys
-    };
-    runs(
-        &rt,
-        rt.alloc(),
-        &[
-            (BAD, refused(ShellFault::Table(1))),
-            (table, refused(ShellFault::Next(2))),
-            (next, refused(ShellFault::Keys(9))),
-            (keys, refused(ShellFault::Rows(1))),
-            (rows, refused(ShellFault::Script(2))),
-        ],
-    );
+    refuses(&rt, rt.alloc(), IN_TURN);
+}
+
+fn refuses(rt: &impl Abort, alloc: Global, cases: &[(Inputs, ShellFault)]) {
+    for (inputs, fault) in cases {
+        assert!(rt; is_refused(alloc, inputs, *fault), "{}", inputs.script);
+    }
+}
+
+fn is_refused(alloc: Global, inputs: &Inputs, fault: ShellFault) -> bool {
+    leads_to(alloc, inputs, &refused(fault))
 }
 
 /// Lines that are bad, and the number of each: blank lines and comments count.
@@ -132,15 +156,15 @@ const BAD_LINES: &[(&str, u64)] = &[
 
 #[test]
 fn prints_nothing_of_a_script_with_a_bad_line(rt: HostRuntime) {
-    for (script, line) in BAD_LINES {
-        let inputs = Inputs {
-            script: *script,
-            ..GOOD
-        };
-        runs(
-            &rt,
-            rt.alloc(),
-            &[(inputs, refused(ShellFault::Script(*line)))],
+    check_lines(&rt, rt.alloc(), BAD_LINES);
+}
+
+fn check_lines(rt: &impl Abort, alloc: Global, cases: &[(&'static str, u64)]) {
+    for &(script, line) in cases {
+        let inputs = Inputs { script, ..GOOD };
+        assert!(rt;
+            is_refused(alloc, &inputs, ShellFault::Script(line)),
+            "{script}"
         );
     }
 }
@@ -185,17 +209,26 @@ fn writes_the_rows_at_the_end(rt: HostRuntime) {
     runs(&rt, rt.alloc(), WRITTEN);
 }
 
+/// The rows are written, and what is printed is not.
+const UNPRINTED: Outcome = Outcome {
+    printed: "",
+    rows: SUBSCRIBED,
+    ended: Err(ShellFault::Unwritten),
+};
+
 #[test]
 fn writes_the_rows_where_the_output_fails(rt: HostRuntime) {
-    let mut rows: Vec<u8> = Vec::new(rt.alloc());
-    let ended = run(rt.alloc(), &GOOD, &mut rows, &mut Closed);
-    assert!(&rt; ended == Err(ShellFault::Unwritten) && rows.as_slice() == SUBSCRIBED.as_bytes());
+    assert!(&rt; is_written(rt.alloc(), &GOOD, &UNPRINTED, &mut Closed));
 }
 
 #[test]
 fn tells_rows_that_cannot_be_written(rt: HostRuntime) {
-    let mut printed: Vec<u8> = Vec::new(rt.alloc());
-    let ended = run(rt.alloc(), &GOOD, &mut Closed, &mut printed);
-    let wanted = b"U > 0b4c6f636b\n".as_slice();
-    assert!(&rt; ended == Err(ShellFault::Unwritten) && printed.as_slice() == wanted);
+    assert!(&rt; is_unwritten(rt.alloc(), b"U > 0b4c6f636b\n"));
+}
+
+/// Whether the rows are not written, and this is printed.
+fn is_unwritten(alloc: Global, wanted: &[u8]) -> bool {
+    let mut printed: Vec<u8> = Vec::new(alloc);
+    run(alloc, &GOOD, &mut Closed, &mut printed) == Err(ShellFault::Unwritten)
+        && printed.as_slice() == wanted
 }

@@ -105,26 +105,46 @@ fn serves(
     ended: Result<(), ShellFault>,
     rows: &str,
 ) {
-    let mut host = opened(rt, alloc);
+    let is_served = is_served(alloc, listener, &mut opened(rt, alloc), ended, rows);
+    assert!(rt; is_served);
+}
+
+fn is_served(
+    alloc: Global,
+    listener: &TcpListener,
+    host: &mut Host,
+    ended: Result<(), ShellFault>,
+    rows: &str,
+) -> bool {
     let mut written: Vec<u8> = Vec::new(alloc);
-    let served = serve_on(listener, &mut host, &mut written);
-    assert!(rt; served == ended && written.as_slice() == rows.as_bytes());
+    serve_on(listener, host, &mut written) == ended && written.as_slice() == rows.as_bytes()
 }
 
 /// Compares what has come back with these packets, one behind the other.
-fn hears(rt: &impl Abort, mut stream: &TcpStream, packets: &[&[u8]]) {
-    let patience = stream.set_read_timeout(Some(Duration::from_secs(10)));
-    assert!(rt; patience.is_ok());
+fn hears(rt: &impl Abort, stream: &TcpStream, packets: &[&[u8]]) {
+    assert!(rt; is_patient(stream));
     for packet in packets {
-        let mut octets = [0; 64];
-        let part = octets.get_mut(..packet.len()).expect(rt, "room");
-        assert!(rt;
-            stream.read_exact(part).is_ok() && *part == **packet,
-            "{packet:?}"
-        );
+        assert!(rt; gives(stream, packet), "{packet:?}");
     }
-    let rest = stream.read(&mut [0; 1]);
-    assert!(rt; matches!(rest, Ok(0)));
+    assert!(rt; ends(stream));
+}
+
+fn is_patient(stream: &TcpStream) -> bool {
+    stream
+        .set_read_timeout(Some(Duration::from_secs(10)))
+        .is_ok()
+}
+
+fn gives(mut stream: &TcpStream, packet: &[u8]) -> bool {
+    let mut octets = [0; 64];
+    match octets.get_mut(..packet.len()) {
+        Some(part) => stream.read_exact(part).is_ok() && *part == *packet,
+        None => false,
+    }
+}
+
+fn ends(mut stream: &TcpStream) -> bool {
+    matches!(stream.read(&mut [0; 1]), Ok(0))
 }
 
 #[test]

@@ -30,9 +30,15 @@ fn fails(
         rows: RowsPath(Some(ROWS)),
     };
     let served = serve_paths(rt.alloc(), rt, paths, Address(address));
-    assert!(rt; served == Err(fault), "{address}");
-    let rows = fs::read(rt, ROWS).expect(rt, "the rows file");
-    assert!(rt; rows.as_slice() == SUBSCRIBED.as_bytes(), "{address}");
+    assert!(rt; served == Err(fault) && has_rows(rt), "{address}");
+}
+
+/// Whether the rows file is as it was.
+fn has_rows(rt: &(impl AllocGlobal + Files)) -> bool {
+    match fs::read(rt, ROWS) {
+        Ok(rows) => rows.as_slice() == SUBSCRIBED.as_bytes(),
+        Err(_) => false,
+    }
 }
 
 /// Writes the files.
