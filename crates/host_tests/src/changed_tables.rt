@@ -1,10 +1,11 @@
 //! A table that is replaced while peers are connected.
 
-use crate::peers::{PHONE, STRANGER};
-use crate::player::{Case, Setting, Step, play_all};
+use crate::peers::Who::{Phone, Stranger};
+use crate::player::{Setting, Step, play};
 use att_table::examples::{DOOR, PORCH, PORCH_NEXT};
 use gatt_host::{App, AppFault};
-use std::test::Fail;
+use std::alloc::Global;
+use std::process::Abort;
 
 const AT_THE_PORCH: Setting<'static> = Setting {
     table: PORCH,
@@ -20,7 +21,7 @@ const AT_THE_DOOR: Setting<'static> = Setting {
 
 /// What is prepared, and what is configured for a value of another type, goes with the old table.
 const CONNECTED: &[Step] = &[
-    Step::Connects(0x40, STRANGER, "010a200101"),
+    Step::Connects(0x40, Stranger, "010a200101"),
     Step::Asks(0x40, "1204000200", "13"),
     Step::Asks(0x40, "1208000100", "13"),
     Step::Calls(App::Update(7, &[0x01]), &[(0x40, "1b070001")]),
@@ -36,21 +37,21 @@ const CONNECTED: &[Step] = &[
 
 /// A peer that is away is owed the indication until it has confirmed it.
 const AWAY: &[Step] = &[
-    Step::Connects(0x40, PHONE, "010a200101"),
-    Step::Encrypts(0x40, PHONE, &[]),
+    Step::Connects(0x40, Phone, "010a200101"),
+    Step::Encrypts(0x40, Phone, &[]),
     Step::Asks(0x40, "1204000200", "13"),
     Step::Leaves(0x40, ""),
     Step::Replaces(PORCH_NEXT, &[]),
     Step::Rows("1 c0:00:00:00:00:01 4 2\n! 1 c0:00:00:00:00:01\n"),
-    Step::Connects(0x40, PHONE, "010a200101"),
-    Step::Encrypts(0x40, PHONE, &[(0x40, "1d03000100ffff")]),
+    Step::Connects(0x40, Phone, "010a200101"),
+    Step::Encrypts(0x40, Phone, &[(0x40, "1d03000100ffff")]),
     Step::Leaves(0x40, ""),
-    Step::Connects(0x40, PHONE, "010a200101"),
-    Step::Encrypts(0x40, PHONE, &[(0x40, "1d03000100ffff")]),
+    Step::Connects(0x40, Phone, "010a200101"),
+    Step::Encrypts(0x40, Phone, &[(0x40, "1d03000100ffff")]),
     Step::Tells(0x40, "1e", &[]),
     Step::Leaves(0x40, ""),
-    Step::Connects(0x40, PHONE, "010a200101"),
-    Step::Encrypts(0x40, PHONE, &[]),
+    Step::Connects(0x40, Phone, "010a200101"),
+    Step::Encrypts(0x40, Phone, &[]),
     Step::Rows("1 c0:00:00:00:00:01 4 2\n"),
 ];
 
@@ -60,13 +61,13 @@ const WITHOUT_A_CHANGER: &[Step] = &[
     Step::Value(3, "4c6f636b"),
 ];
 
-const CASES: &[Case<'static>] = &[
-    (AT_THE_PORCH, CONNECTED),
-    (AT_THE_PORCH, AWAY),
-    (AT_THE_DOOR, WITHOUT_A_CHANGER),
-];
-
 #[test]
-fn tables_replaced(rt: HostRuntime) -> Result<(), Fail> {
-    play_all(&rt, rt.alloc(), CASES)
+fn tables_replaced(rt: HostRuntime) {
+    play(&rt, rt.alloc(), AT_THE_PORCH, CONNECTED);
+    leave(&rt, rt.alloc());
+    play(&rt, rt.alloc(), AT_THE_DOOR, WITHOUT_A_CHANGER);
+}
+
+fn leave(rt: &impl Abort, alloc: Global) {
+    play(rt, alloc, AT_THE_PORCH, AWAY);
 }

@@ -10,7 +10,6 @@ use std::alloc::Global;
 use std::io;
 use std::io::{ErrorKind, Read, Write};
 use std::process::Abort;
-use std::test::Fail;
 
 const SETTING: Setting<'static> = Setting {
     table: DOOR,
@@ -57,51 +56,57 @@ fn joined(rt: &impl Abort, packets: &[&str]) -> Octets {
     octets
 }
 
-/// Takes in two pieces, and gives what is written.
-fn feed_both(rt: &impl Abort, alloc: Global, pieces: (&[u8], &[u8])) -> Result<Written, Fail> {
-    let mut host = opened(rt, alloc, SETTING)?;
-    let mut written = Written::new();
-    assert!(rt; feed(&mut host, pieces.0, &mut written).is_ok());
-    assert!(rt; feed(&mut host, pieces.1, &mut written).is_ok());
-    Ok(written)
+/// Takes in two pieces.
+fn feed_both(rt: &impl Abort, alloc: Global, pieces: (&[u8], &[u8]), written: &mut Written) {
+    let mut host = opened(rt, alloc, SETTING);
+    assert!(rt; takes_both(&mut host, pieces, written));
+}
+
+fn takes_both(host: &mut Host, pieces: (&[u8], &[u8]), written: &mut Written) -> bool {
+    feed(host, pieces.0, written).is_ok() && feed(host, pieces.1, written).is_ok()
 }
 
 /// Cuts the stream at every place.
-fn cut_everywhere(rt: &impl Abort, alloc: Global, told: &[u8], wanted: &[u8]) -> Result<(), Fail> {
+fn cut_everywhere(rt: &impl Abort, alloc: Global, told: &[u8], wanted: &[u8]) {
     for place in 0..told.len() {
-        let written = feed_both(rt, alloc, told.split_at(place))?;
+        let mut written = Written::new();
+        feed_both(rt, alloc, told.split_at(place), &mut written);
         assert!(rt; written.octets() == wanted, "{place}");
     }
-    Ok(())
 }
 
 /// Ends the stream at every place: what is written is the front of all that is.
-fn end_everywhere(rt: &impl Abort, alloc: Global, told: &[u8], wanted: &[u8]) -> Result<(), Fail> {
+fn end_everywhere(rt: &impl Abort, alloc: Global, told: &[u8], wanted: &[u8]) {
     for place in 0..told.len() {
-        let written = feed_both(rt, alloc, (told.split_at(place).0, &[]))?;
+        let mut written = Written::new();
+        feed_both(rt, alloc, (told.split_at(place).0, &[]), &mut written);
         assert!(rt; wanted.starts_with(written.octets()), "{place}");
     }
-    Ok(())
 }
 
 /// Takes in octet by octet.
-fn feed_each(rt: &impl Abort, alloc: Global, told: &[u8], wanted: &[u8]) -> Result<(), Fail> {
-    let mut host = opened(rt, alloc, SETTING)?;
+fn feed_each(rt: &impl Abort, alloc: Global, told: &[u8], wanted: &[u8]) {
+    let mut host = opened(rt, alloc, SETTING);
+    assert!(rt; takes_each(&mut host, told, wanted));
+}
+
+fn takes_each(host: &mut Host, told: &[u8], wanted: &[u8]) -> bool {
     let mut written = Written::new();
     for octet in told.chunks(1) {
-        assert!(rt; feed(&mut host, octet, &mut written).is_ok());
+        if feed(host, octet, &mut written).is_err() {
+            return false;
+        }
     }
-    assert!(rt; written.octets() == wanted);
-    Ok(())
+    written.octets() == wanted
 }
 
 #[test]
-fn cut_streams(rt: HostRuntime) -> Result<(), Fail> {
+fn cut_streams(rt: HostRuntime) {
     let told = joined(&rt, TOLD);
     let wanted = joined(&rt, WANTED);
-    feed_each(&rt, rt.alloc(), told.as_slice(), wanted.as_slice())?;
-    cut_everywhere(&rt, rt.alloc(), told.as_slice(), wanted.as_slice())?;
-    end_everywhere(&rt, rt.alloc(), told.as_slice(), wanted.as_slice())
+    feed_each(&rt, rt.alloc(), told.as_slice(), wanted.as_slice());
+    cut_everywhere(&rt, rt.alloc(), told.as_slice(), wanted.as_slice());
+    end_everywhere(&rt, rt.alloc(), told.as_slice(), wanted.as_slice());
 }
 
 /// A reader in memory that gives 16 octets at a time, and fails after so many reads.
@@ -163,96 +168,136 @@ fn has_stopped(host: &mut Host, fault: HostFault) -> bool {
 
 /// Serves a reader that fails after so many reads.
 fn serve_failing(
+    host: &mut Host,
+    told: &[u8],
+    reads: usize,
+    written: &mut Written,
+) -> Result<End, HostFault> {
+    let mut reader = Reader::new(Pieces {
+        octets: told,
+        reads,
+    });
+    serve(host, &mut reader, written, 1_000)
+}
+
+/// Whether all is written where reading fails after so many reads, or the front of it is, and the host
+/// stops for that. None where neither is so.
+fn is_whole(host: &mut Host, told: &[u8], wanted: &[u8], reads: usize) -> Option<bool> {
+    let mut written = Written::new();
+    match serve_failing(host, told, reads, &mut written) {
+        Ok(_) => {
+            if wanted.starts_with(written.octets()) {
+                Some(written.octets() == wanted)
+            } else {
+                None
+            }
+        }
+        Err(fault) => {
+            if fault == HostFault::Read
+                && wanted.starts_with(written.octets())
+                && has_stopped(host, fault)
+            {
+                Some(false)
+            } else {
+                None
+            }
+        }
+    }
+}
+
+/// The same of a new host.
+fn is_whole_of_new(
     rt: &impl Abort,
     alloc: Global,
     told: &[u8],
     wanted: &[u8],
     reads: usize,
-) -> Result<bool, Fail> {
-    let mut host = opened(rt, alloc, SETTING)?;
-    let mut written = Written::new();
-    let mut reader = Reader::new(Pieces {
-        octets: told,
-        reads,
-    });
-    let served = serve(&mut host, &mut reader, &mut written, 1_000);
-    assert!(rt; wanted.starts_with(written.octets()));
-    if served.is_ok() {
-        return Ok(written.octets() == wanted);
-    }
-    assert!(rt; served == Err(HostFault::Read));
-    assert!(rt; has_stopped(&mut host, HostFault::Read));
-    Ok(false)
+) -> Option<bool> {
+    let mut host = opened(rt, alloc, SETTING);
+    is_whole(&mut host, told, wanted, reads)
 }
 
 #[test]
-fn readers_that_fail(rt: HostRuntime) -> Result<(), Fail> {
+fn readers_that_fail(rt: HostRuntime) {
     let told = joined(&rt, TOLD);
     let wanted = joined(&rt, WANTED);
+    fail_readers(&rt, rt.alloc(), told.as_slice(), wanted.as_slice());
+}
+
+fn fail_readers(rt: &impl Abort, alloc: Global, told: &[u8], wanted: &[u8]) {
     for reads in 0..32 {
-        let whole = serve_failing(&rt, rt.alloc(), told.as_slice(), wanted.as_slice(), reads)?;
-        assert!(rt; whole == (reads > told.len().div_ceil(16)), "{reads}");
+        let whole = reads > told.len().div_ceil(16);
+        assert!(rt;
+            is_whole_of_new(rt, alloc, told, wanted, reads) == Some(whole),
+            "{reads}"
+        );
     }
-    Ok(())
 }
 
 /// Serves a writer that takes so many octets, and then fails or takes none.
-fn serve_full(
+fn serve_full(host: &mut Host, told: &[u8], taken: &mut Room) -> Result<End, HostFault> {
+    let mut reader = Reader::new(Pieces {
+        octets: told,
+        reads: 1_000,
+    });
+    serve(host, &mut reader, &mut Writer::new(taken), 1_000)
+}
+
+/// Whether a host ends its work, or stops for good where writing fails.
+fn has_ended(
+    host: &mut Host,
+    served: Result<End, HostFault>,
+    told: &[u8],
+    is_all_written: bool,
+) -> bool {
+    if is_all_written {
+        served
+            == Ok(End {
+                turns: told.len().div_ceil(16) as u64 + 1,
+            })
+    } else {
+        served == Err(HostFault::Write) && has_stopped(host, HostFault::Write)
+    }
+}
+
+/// Whether the room is filled with the front of what is to be written, and the host ends or stops.
+fn fills(host: &mut Host, told: &[u8], wanted: &[u8], taken: &mut Room) -> bool {
+    let (front, rest) = wanted.split_at(taken.room.min(wanted.len()));
+    let served = serve_full(host, told, taken);
+    taken.taken.as_slice() == front && has_ended(host, served, told, rest.is_empty())
+}
+
+/// The same of a new host.
+fn fills_by_new(
     rt: &impl Abort,
     alloc: Global,
     told: &[u8],
     wanted: &[u8],
     room: usize,
     fails: bool,
-) -> Result<(), Fail> {
-    let mut host = opened(rt, alloc, SETTING)?;
+) -> bool {
+    let mut host = opened(rt, alloc, SETTING);
     let mut taken = Room {
         taken: ArrayVec::new(),
         room,
         fails,
     };
-    let mut reader = Reader::new(Pieces {
-        octets: told,
-        reads: 1_000,
-    });
-    let served = serve(&mut host, &mut reader, &mut Writer::new(&mut taken), 1_000);
-    let (front, rest) = wanted.split_at(room.min(wanted.len()));
-    assert!(rt; taken.taken.as_slice() == front);
-    if rest.is_empty() {
-        assert!(rt;
-            served
-                == Ok(End {
-                    turns: told.len().div_ceil(16) as u64 + 1
-                })
-        );
-    } else {
-        assert!(rt; served == Err(HostFault::Write));
-        assert!(rt; has_stopped(&mut host, HostFault::Write));
-    }
-    Ok(())
+    fills(&mut host, told, wanted, &mut taken)
 }
 
 #[test]
-fn writers_that_fail(rt: HostRuntime) -> Result<(), Fail> {
+fn writers_that_fail(rt: HostRuntime) {
     let told = joined(&rt, TOLD);
     let wanted = joined(&rt, WANTED);
+    fail_writers(&rt, rt.alloc(), told.as_slice(), wanted.as_slice());
+}
+
+fn fail_writers(rt: &impl Abort, alloc: Global, told: &[u8], wanted: &[u8]) {
     for room in 0..wanted.len() + 1 {
-        serve_full(
-            &rt,
-            rt.alloc(),
-            told.as_slice(),
-            wanted.as_slice(),
-            room,
-            true,
-        )?;
-        serve_full(
-            &rt,
-            rt.alloc(),
-            told.as_slice(),
-            wanted.as_slice(),
-            room,
-            false,
-        )?;
+        assert!(rt;
+            fills_by_new(rt, alloc, told, wanted, room, true)
+                && fills_by_new(rt, alloc, told, wanted, room, false),
+            "{room}"
+        );
     }
-    Ok(())
 }

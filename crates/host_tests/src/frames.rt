@@ -1,9 +1,8 @@
 //! Frames of peers, in fragments and on other channels.
 
-use crate::peers::STRANGER;
-use crate::player::{Case, Setting, Step, play_all};
+use crate::peers::Who::Stranger;
+use crate::player::{Setting, Step, play};
 use att_table::examples::DOOR;
-use std::test::Fail;
 
 const SETTING: Setting<'static> = Setting {
     table: DOOR,
@@ -22,7 +21,7 @@ const THIRD: &str = "02401003000a0300";
 const ANSWER: &str = "0240000900050004000b4c6f636b";
 
 const IN_FRAGMENTS: &[Step] = &[
-    Step::Connects(0x40, STRANGER, "010a200101"),
+    Step::Connects(0x40, Stranger, "010a200101"),
     Step::Octets(FIRST, ""),
     Step::Octets(SECOND, ""),
     Step::Octets(THIRD, ANSWER),
@@ -36,7 +35,7 @@ const IN_FRAGMENTS: &[Step] = &[
 /// A continuation without a beginning, a packet that is too long, and one of another connection are
 /// passed over.
 const PASSED_OVER: &[Step] = &[
-    Step::Connects(0x40, STRANGER, "010a200101"),
+    Step::Connects(0x40, Stranger, "010a200101"),
     Step::Octets("0240100700030004000a0300", ""),
     Step::Octets("0241200700030004000a0300", ""),
     Step::Long("0240200104", 1025, ""),
@@ -47,18 +46,14 @@ const PASSED_OVER: &[Step] = &[
 
 /// Pairing is refused, and a signalling command is not understood.
 const OTHER_CHANNELS: &[Step] = &[
-    Step::Connects(0x40, STRANGER, "010a200101"),
+    Step::Connects(0x40, Stranger, "010a200101"),
     Step::AsksOn(0x40, 6, "01030001100000", "0505"),
     Step::AsksOn(0x40, 5, "120908000000000000000000", "010902000000"),
 ];
 
-const CASES: &[Case<'static>] = &[
-    (SETTING, IN_FRAGMENTS),
-    (SETTING, PASSED_OVER),
-    (SETTING, OTHER_CHANNELS),
-];
-
 #[test]
-fn frames(rt: HostRuntime) -> Result<(), Fail> {
-    play_all(&rt, rt.alloc(), CASES)
+fn frames(rt: HostRuntime) {
+    play(&rt, rt.alloc(), SETTING, IN_FRAGMENTS);
+    play(&rt, rt.alloc(), SETTING, PASSED_OVER);
+    play(&rt, rt.alloc(), SETTING, OTHER_CHANNELS);
 }

@@ -1,9 +1,8 @@
 //! Keys of links, as a controller asks for them.
 
-use crate::peers::{PHONE, STRANGER, TABLET, WATCH};
+use crate::peers::Who::{Phone, Stranger, Tablet, Watch};
 use crate::player::{Setting, Step, play};
 use att_table::examples::DOOR;
-use std::test::Fail;
 
 const SETTING: Setting<'static> = Setting {
     table: DOOR,
@@ -14,7 +13,7 @@ const SETTING: Setting<'static> = Setting {
 
 /// A key is asked for by the number and the diversifier that it has, or there is none.
 const KEYS_GIVEN: &[Step] = &[
-    Step::Connects(0x40, PHONE, "010a200101"),
+    Step::Connects(0x40, Phone, "010a200101"),
     Step::Octets(
         "043e0d05400001010101010101010101",
         "011a2012400000112233445566778899aabbccddeeff",
@@ -23,18 +22,18 @@ const KEYS_GIVEN: &[Step] = &[
     Step::Octets("04080400400001", ""),
     Step::Asks(0x40, "0a0a00", "010a0a000f"),
     Step::Leaves(0x40, ""),
-    Step::Connects(0x40, WATCH, "010a200101"),
+    Step::Connects(0x40, Watch, "010a200101"),
     Step::Octets(
         "043e0d05400000000000000000000000",
         "011a201240000f0e0d0c0b0a09080706050403020100",
     ),
-    Step::Connects(0x41, STRANGER, ""),
-    Step::HasNoKey(0x41, STRANGER),
-    Step::HasNoKey(0x41, TABLET),
-    Step::HasNoKey(0x40, PHONE),
+    Step::Connects(0x41, Stranger, ""),
+    Step::HasNoKey(0x41, Stranger),
+    Step::HasNoKey(0x41, Tablet),
+    Step::HasNoKey(0x40, Phone),
 ];
 
 #[test]
-fn keys_of_links(rt: HostRuntime) -> Result<(), Fail> {
-    play(&rt, rt.alloc(), SETTING, KEYS_GIVEN)
+fn keys_of_links(rt: HostRuntime) {
+    play(&rt, rt.alloc(), SETTING, KEYS_GIVEN);
 }

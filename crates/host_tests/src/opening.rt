@@ -10,7 +10,6 @@ use gatt_subs::Rows;
 use le_security::Keys;
 use std::alloc::Global;
 use std::process::Abort;
-use std::test::Fail;
 
 /// Slots, the largest PDU that is received, and a random address, with the fault of that.
 type Case = (usize, u16, Option<[u8; 6]>, Option<OpenFault>);
@@ -66,26 +65,26 @@ fn configurations(rt: HostRuntime) {
     check(&rt, rt.alloc(), &CASES);
 }
 
-/// Reset goes out at once, and nothing more before the controller answers.
-fn first_out(rt: &impl Abort, host: &mut Host) {
+/// Whether Reset goes out at once, and nothing more before the controller answers.
+fn is_reset_first(host: &mut Host) -> bool {
     let mut written = Written::new();
-    assert!(rt; !host.drained());
-    assert!(rt; feed(host, &[], &mut written).is_ok());
-    assert!(rt; written.octets() == [0x01, 0x03, 0x0C, 0x00].as_slice());
-    assert!(rt; host.drained());
-    assert!(rt; feed(host, &[], &mut written).is_ok());
-    assert!(rt; written.octets().len() == 4);
+    !host.drained()
+        && feed(host, &[], &mut written).is_ok()
+        && written.octets() == [0x01, 0x03, 0x0C, 0x00].as_slice()
+        && host.drained()
+        && feed(host, &[], &mut written).is_ok()
+        && written.octets().len() == 4
 }
 
+const SETTING: Setting<'static> = Setting {
+    table: DOOR,
+    slots: 2,
+    rx_mtu: 247,
+    packets: 4,
+};
+
 #[test]
-fn first_command(rt: HostRuntime) -> Result<(), Fail> {
-    let setting = Setting {
-        table: DOOR,
-        slots: 2,
-        rx_mtu: 247,
-        packets: 4,
-    };
-    let mut host = opened(&rt, rt.alloc(), setting)?;
-    first_out(&rt, &mut host);
-    Ok(())
+fn first_command(rt: HostRuntime) {
+    let mut host = opened(&rt, rt.alloc(), SETTING);
+    assert!(&rt; is_reset_first(&mut host));
 }

@@ -1,47 +1,47 @@
 //! The peers of the example key files.
 
-/// A peer, in hexadecimal digits as on the wire.
 #[derive(Clone, Copy)]
-pub struct Who {
-    /// The kind of its address, and the address.
-    pub address: &'static str,
-    /// What its key is asked for by: a random number and a diversifier.
-    pub request: &'static str,
-    /// The key.
-    pub key: &'static str,
+pub enum Who {
+    /// It has no key.
+    Stranger,
+    /// Its key is not authenticated.
+    Phone,
+    /// It has two authenticated keys. This is the longer one, of 16 octets.
+    Tablet,
+    /// The shorter one, of 7 octets.
+    TabletByItsShortKey,
+    /// Its key is one of LE Secure Connections.
+    Watch,
 }
 
-/// It has no key.
-pub const STRANGER: Who = Who {
-    address: "010a00000000c0",
-    request: "0a0a0a0a0a0a0a0a0000",
-    key: "",
-};
+/// The kind of its address, and the address: hexadecimal digits, as on the wire.
+pub fn address(who: Who) -> &'static str {
+    match who {
+        Who::Stranger => "010a00000000c0",
+        Who::Phone => "010100000000c0",
+        Who::Tablet | Who::TabletByItsShortKey => "00554433221100",
+        Who::Watch => "010200000000c0",
+    }
+}
 
-/// Its key is not authenticated.
-pub const PHONE: Who = Who {
-    address: "010100000000c0",
-    request: "01010101010101010101",
-    key: "00112233445566778899aabbccddeeff",
-};
+/// What its key is asked for by: a random number and a diversifier.
+pub fn request(who: Who) -> &'static str {
+    match who {
+        Who::Stranger => "0a0a0a0a0a0a0a0a0000",
+        Who::Phone => "01010101010101010101",
+        Who::Tablet => "02020202020202020202",
+        Who::TabletByItsShortKey => "03030303030303030303",
+        Who::Watch => "00000000000000000000",
+    }
+}
 
-/// It has two authenticated keys. This is the longer one, of 16 octets.
-pub const TABLET: Who = Who {
-    address: "00554433221100",
-    request: "02020202020202020202",
-    key: "ffeeddccbbaa99887766554433221100",
-};
-
-/// The shorter one, of 7 octets.
-pub const TABLET_BY_ITS_SHORT_KEY: Who = Who {
-    address: "00554433221100",
-    request: "03030303030303030303",
-    key: "a1a2a3a4a5a6a7000000000000000000",
-};
-
-/// Its key is one of LE Secure Connections.
-pub const WATCH: Who = Who {
-    address: "010200000000c0",
-    request: "00000000000000000000",
-    key: "0f0e0d0c0b0a09080706050403020100",
-};
+/// The key, where it has one.
+pub fn key(who: Who) -> &'static str {
+    match who {
+        Who::Stranger => "",
+        Who::Phone => "00112233445566778899aabbccddeeff",
+        Who::Tablet => "ffeeddccbbaa99887766554433221100",
+        Who::TabletByItsShortKey => "a1a2a3a4a5a6a7000000000000000000",
+        Who::Watch => "0f0e0d0c0b0a09080706050403020100",
+    }
+}

@@ -12,7 +12,6 @@ use le_security::Keys;
 use le_security::examples::{KEYS, SECURE_KEY};
 use std::alloc::Global;
 use std::process::Abort;
-use std::test::Fail;
 
 /// PDUs of the Attribute Protocol in hexadecimal digits, each with the handle of its connection.
 pub type Pdus = &'static [(u16, &'static str)];
@@ -70,57 +69,66 @@ pub struct Setting<'a> {
     pub packets: u8,
 }
 
-/// What a host is opened with, and the steps that are then made.
-pub type Case<'a> = (Setting<'a>, &'a [Step]);
-
-/// Makes the steps of a new host for each case.
-pub fn play_all(rt: &impl Abort, alloc: Global, cases: &[Case<'_>]) -> Result<(), Fail> {
-    for (setting, steps) in cases {
-        play(rt, alloc, *setting, steps)?;
-    }
-    Ok(())
+/// Makes the steps of a new host, once its controller is initialised.
+pub fn play(rt: &impl Abort, alloc: Global, setting: Setting<'_>, steps: &[Step]) {
+    let mut host = opened(rt, alloc, setting);
+    play_with(rt, alloc, &mut host, setting.packets, steps);
 }
 
-/// Makes the steps of a new host, once its controller is initialised.
-pub fn play(
-    rt: &impl Abort,
-    alloc: Global,
-    setting: Setting<'_>,
-    steps: &[Step],
-) -> Result<(), Fail> {
-    let mut host = opened(rt, alloc, setting)?;
+fn play_with(rt: &impl Abort, alloc: Global, host: &mut Host, packets: u8, steps: &[Step]) {
     let mut controller = Controller {
-        packets: setting.packets,
+        packets,
         completes: true,
     };
-    initialise(rt, controller, &mut host);
+    initialise(rt, controller, host);
     for (place, &step) in steps.iter().enumerate() {
         if let Step::Hold = step {
             controller.completes = false;
         } else {
-            make(rt, alloc, controller, &mut host, place, step);
+            make(rt, alloc, controller, host, place, step);
         }
     }
-    Ok(())
 }
 
 /// A host with the example keys, and no rows.
-pub fn opened(rt: &impl Abort, alloc: Global, setting: Setting<'_>) -> Result<Host, Fail> {
-    let text = format!(in alloc; "{KEYS}{SECURE_KEY}")?;
-    let table = Table::read(alloc, setting.table).expect(rt, "the table");
-    let keys = Keys::read(alloc, &text).expect(rt, "the keys");
-    let rows = Rows::read(alloc, "").expect(rt, "the rows");
+pub fn opened(rt: &impl Abort, alloc: Global, setting: Setting<'_>) -> Host {
+    Host::open(
+        alloc,
+        read_table(rt, alloc, setting.table),
+        read_keys(rt, alloc),
+        no_rows(rt, alloc),
+        config(setting),
+    )
+    .expect(rt, "the host")
+}
+
+pub fn read_table(rt: &impl Abort, alloc: Global, text: &str) -> Table {
+    Table::read(alloc, text).expect(rt, "the table")
+}
+
+/// The keys of both example files.
+fn read_keys(rt: &impl Abort, alloc: Global) -> Keys {
+    match format!(in alloc; "{KEYS}{SECURE_KEY}") {
+        Ok(text) => Keys::read(alloc, &text).expect(rt, "the keys"),
+        Err(_) => panic!(rt; "memory"),
+    }
+}
+
+fn no_rows(rt: &impl Abort, alloc: Global) -> Rows {
+    Rows::read(alloc, "").expect(rt, "the rows")
+}
+
+fn config(setting: Setting<'_>) -> Config {
     let mut advertising = ArrayVec::new();
     advertising.push(0x02);
     advertising.push(0x01);
     advertising.push(0x06);
-    let config = Config {
+    Config {
         slots: setting.slots,
         rx_mtu: setting.rx_mtu,
         address: None,
         advertising,
-    };
-    Ok(Host::open(alloc, table, keys, rows, config).expect(rt, "the host"))
+    }
 }
 
 /// Lets the host initialise its controller, which it ends by advertising.

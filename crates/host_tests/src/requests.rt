@@ -1,10 +1,11 @@
 //! Requests of peers over their links.
 
-use crate::peers::{PHONE, STRANGER, TABLET, TABLET_BY_ITS_SHORT_KEY, WATCH};
-use crate::player::{Case, Setting, Step, play, play_all};
+use crate::peers::Who::{Phone, Stranger, Tablet, TabletByItsShortKey, Watch};
+use crate::player::{Setting, Step, play};
 use att_table::examples::DOOR;
 use gatt_host::App;
-use std::test::Fail;
+use std::alloc::Global;
+use std::process::Abort;
 
 /// The door, with two slots.
 const AT_THE_DOOR: Setting<'static> = Setting {
@@ -19,28 +20,28 @@ const ADVERTISES: &str = "010a200101";
 
 /// The state of the lock is read over an encrypted link, and written over an authenticated one.
 const STATE_OF_THE_LOCK: &[Step] = &[
-    Step::Connects(0x40, STRANGER, ADVERTISES),
+    Step::Connects(0x40, Stranger, ADVERTISES),
     Step::Asks(0x40, "0a0a00", "010a0a0005"),
     Step::Leaves(0x40, ""),
-    Step::Connects(0x40, PHONE, ADVERTISES),
+    Step::Connects(0x40, Phone, ADVERTISES),
     Step::Asks(0x40, "0a0a00", "010a0a000f"),
-    Step::Encrypts(0x40, PHONE, &[]),
+    Step::Encrypts(0x40, Phone, &[]),
     Step::Asks(0x40, "0a0a00", "0b00"),
     Step::Asks(0x40, "120a0001", "01120a0005"),
     Step::Value(10, "00"),
     Step::Leaves(0x40, ""),
-    Step::Connects(0x40, TABLET, ADVERTISES),
-    Step::Encrypts(0x40, TABLET, &[]),
+    Step::Connects(0x40, Tablet, ADVERTISES),
+    Step::Encrypts(0x40, Tablet, &[]),
     Step::Asks(0x40, "120a0005", "13"),
     Step::Value(10, "05"),
 ];
 
 /// The code of the lock needs a long key, and an authorization.
 const CODE_OF_THE_LOCK: &[Step] = &[
-    Step::Connects(0x40, TABLET, ADVERTISES),
-    Step::Encrypts(0x40, TABLET_BY_ITS_SHORT_KEY, &[]),
+    Step::Connects(0x40, Tablet, ADVERTISES),
+    Step::Encrypts(0x40, TabletByItsShortKey, &[]),
     Step::Asks(0x40, "0a0d00", "010a0d000c"),
-    Step::Encrypts(0x40, TABLET, &[]),
+    Step::Encrypts(0x40, Tablet, &[]),
     Step::Asks(0x40, "0a0d00", "010a0d0008"),
     Step::Calls(App::Authorize(0x40, u64::MAX), &[]),
     Step::Asks(0x40, "0a0d00", "0b31323334"),
@@ -48,21 +49,21 @@ const CODE_OF_THE_LOCK: &[Step] = &[
 
 /// A value that needs encryption is passed over, or ends what is listed.
 const LISTED: &[Step] = &[
-    Step::Connects(0x40, STRANGER, ADVERTISES),
+    Step::Connects(0x40, Stranger, ADVERTISES),
     Step::Asks(0x40, "080100fffff3ff", "09030f0001"),
     Step::Asks(0x40, "081000fffff3ff", "0108110005"),
     Step::Asks(0x40, "060100fffff3ff02", "010601000a"),
     Step::Asks(0x40, "060100ffff00280f18", "0704000700"),
-    Step::Connects(0x41, PHONE, ""),
-    Step::Encrypts(0x41, PHONE, &[]),
+    Step::Connects(0x41, Phone, ""),
+    Step::Encrypts(0x41, Phone, &[]),
     Step::Asks(0x41, "080100fffff3ff", "09030f0001110002130003"),
     Step::Asks(0x41, "060100fffff3ff02", "0711001100"),
 ];
 
 /// What one peer prepares, another one neither writes nor drops.
 const PREPARED: &[Step] = &[
-    Step::Connects(0x40, STRANGER, ADVERTISES),
-    Step::Connects(0x41, PHONE, ""),
+    Step::Connects(0x40, Stranger, ADVERTISES),
+    Step::Connects(0x41, Phone, ""),
     Step::Asks(0x40, "161500000061", "171500000061"),
     Step::Asks(0x41, "161500000062", "171500000062"),
     Step::Asks(0x40, "1801", "19"),
@@ -72,56 +73,63 @@ const PREPARED: &[Step] = &[
     Step::Asks(0x41, "1802", "0118000004"),
 ];
 
-const POLICY: &[Case<'static>] = &[
-    (AT_THE_DOOR, STATE_OF_THE_LOCK),
-    (AT_THE_DOOR, CODE_OF_THE_LOCK),
-    (AT_THE_DOOR, LISTED),
-    (AT_THE_DOOR, PREPARED),
-];
-
 #[test]
-fn policy_over_links(rt: HostRuntime) -> Result<(), Fail> {
-    play_all(&rt, rt.alloc(), POLICY)
+fn policy_over_links(rt: HostRuntime) {
+    open_the_lock(&rt, rt.alloc());
+    play(&rt, rt.alloc(), AT_THE_DOOR, LISTED);
+    play(&rt, rt.alloc(), AT_THE_DOOR, PREPARED);
+}
+
+fn open_the_lock(rt: &impl Abort, alloc: Global) {
+    play(rt, alloc, AT_THE_DOOR, STATE_OF_THE_LOCK);
+    play(rt, alloc, AT_THE_DOOR, CODE_OF_THE_LOCK);
 }
 
 /// The same code, where it also needs a key of LE Secure Connections.
 const SECURE_CODE: &[Step] = &[
-    Step::Connects(0x40, TABLET, ADVERTISES),
-    Step::Encrypts(0x40, TABLET_BY_ITS_SHORT_KEY, &[]),
+    Step::Connects(0x40, Tablet, ADVERTISES),
+    Step::Encrypts(0x40, TabletByItsShortKey, &[]),
     Step::Asks(0x40, "0a0d00", "010a0d000c"),
-    Step::Encrypts(0x40, TABLET, &[]),
+    Step::Encrypts(0x40, Tablet, &[]),
     Step::Asks(0x40, "0a0d00", "010a0d0005"),
-    Step::Connects(0x41, WATCH, ""),
-    Step::Encrypts(0x41, WATCH, &[]),
+    Step::Connects(0x41, Watch, ""),
+    Step::Encrypts(0x41, Watch, &[]),
     Step::Asks(0x41, "0a0d00", "010a0d0008"),
     Step::Calls(App::Authorize(0x41, u64::MAX), &[]),
     Step::Asks(0x41, "0a0d00", "0b31323334"),
 ];
 
 #[test]
-fn reads_of_a_secure_value(rt: HostRuntime) -> Result<(), Fail> {
-    let text = DOOR.replace(
+fn reads_of_a_secure_value(rt: HostRuntime) {
+    match DOOR.replace(
         rt.alloc(),
         "authorized = true",
         "authorized = true, secure = true",
-    )?;
+    ) {
+        Ok(text) => play_at(&rt, rt.alloc(), &text, SECURE_CODE),
+        Err(_) => panic!(&rt; "memory"),
+    }
+}
+
+/// Makes the steps with this table in place of that of the door.
+fn play_at(rt: &impl Abort, alloc: Global, table: &str, steps: &[Step]) {
     let setting = Setting {
-        table: &text,
+        table,
         ..AT_THE_DOOR
     };
-    play(&rt, rt.alloc(), setting, SECURE_CODE)
+    play(rt, alloc, setting, steps);
 }
 
 /// The first exchange of MTUs counts, for its connection alone.
 const MTUS: &[Step] = &[
     Step::Calls(App::Update(21, &[0x61; 512]), &[]),
-    Step::Connects(0x40, STRANGER, ADVERTISES),
+    Step::Connects(0x40, Stranger, ADVERTISES),
     Step::Asks(0x40, "02f700", "03f700"),
     Step::AsksForLong(0x40, "0a1500", "0b", 246),
     Step::Asks(0x40, "020001", "03f700"),
     Step::AsksForLong(0x40, "0a1500", "0b", 246),
     Step::Leaves(0x40, ""),
-    Step::Connects(0x40, STRANGER, ADVERTISES),
+    Step::Connects(0x40, Stranger, ADVERTISES),
     Step::Asks(0x40, "021600", "03f700"),
     Step::AsksForLong(0x40, "0a1500", "0b", 22),
 ];
@@ -129,7 +137,7 @@ const MTUS: &[Step] = &[
 /// A long value is read whole, but for its length in a list.
 const LONG_VALUES: &[Step] = &[
     Step::Calls(App::Update(21, &[0x61; 512]), &[]),
-    Step::Connects(0x40, STRANGER, ADVERTISES),
+    Step::Connects(0x40, Stranger, ADVERTISES),
     Step::Asks(0x40, "020502", "030502"),
     Step::AsksForLong(0x40, "0a1500", "0b", 512),
     Step::AsksForLong(0x40, "080100fffff4ff", "09ff1500", 253),
@@ -140,9 +148,8 @@ const AT_THE_WIDE_DOOR: Setting<'static> = Setting {
     ..AT_THE_DOOR
 };
 
-const LONG: &[Case<'static>] = &[(AT_THE_DOOR, MTUS), (AT_THE_WIDE_DOOR, LONG_VALUES)];
-
 #[test]
-fn long_values(rt: HostRuntime) -> Result<(), Fail> {
-    play_all(&rt, rt.alloc(), LONG)
+fn long_values(rt: HostRuntime) {
+    play(&rt, rt.alloc(), AT_THE_DOOR, MTUS);
+    play(&rt, rt.alloc(), AT_THE_WIDE_DOOR, LONG_VALUES);
 }

@@ -1,11 +1,11 @@
 //! What each step does to a host, and what is to go out then.
 
 use crate::controller::{Controller, answer_all};
-use crate::peers::Who;
-use crate::player::{Pdus, Step};
+use crate::peers::{Who, address, key, request};
+use crate::player::{Pdus, Step, read_table};
 use crate::wire::{Octets, Written, put, put_sent, put_told, spell, spelled};
 use att_table::Table;
-use gatt_host::{App, AppFault, Host, Input, drive, feed};
+use gatt_host::{App, AppFault, Host, HostFault, Input, drive, feed};
 use std::alloc::Global;
 use std::process::Abort;
 
@@ -24,19 +24,24 @@ pub fn act(
             ask(rt, alloc, host, step, written, wanted);
         }
         Step::Rows(text) => assert!(rt; has_rows(host, text)),
-        Step::Value(handle, value) => {
-            let octets = spelled(rt, value, 0);
-            assert!(rt;
-                has_value(host.table(), handle, octets.as_slice()),
-                "{value}"
-            );
+        Step::Value(handle, value) => check_value(rt, host.table(), handle, value),
+        Step::Stops(octets, fault) => stop(rt, host, octets, fault, written),
+        Step::Encrypts(handle, who, pdus) => {
+            encrypt(rt, controller, host, (handle, who), written, wanted);
+            put_pdus(rt, wanted, pdus);
         }
-        Step::Stops(octets, fault) => {
-            let octets = spelled(rt, octets, 0);
-            assert!(rt; feed(host, octets.as_slice(), written) == Err(fault));
-        }
-        _ => tell(rt, controller, host, step, written, wanted),
+        _ => tell(rt, host, step, written, wanted),
     }
+}
+
+fn check_value(rt: &impl Abort, table: &Table, handle: u16, value: &str) {
+    let octets = spelled(rt, value, 0);
+    assert!(rt; has_value(table, handle, octets.as_slice()), "{value}");
+}
+
+fn stop(rt: &impl Abort, host: &mut Host, octets: &str, fault: HostFault, written: &mut Written) {
+    let octets = spelled(rt, octets, 0);
+    assert!(rt; feed(host, octets.as_slice(), written) == Err(fault));
 }
 
 /// Whether an attribute has this value.
@@ -62,17 +67,26 @@ fn ask(
     match step {
         Step::Calls(call, pdus) => {
             put_pdus(rt, wanted, pdus);
-            assert!(rt; drive(host, &[Input::Call(call)], written) == Ok(0));
+            make_call(rt, host, call, written);
         }
         Step::Refuses(call, fault) => assert!(rt; refusal(host, call) == Some(fault)),
         Step::Replaces(table, pdus) => {
             put_pdus(rt, wanted, pdus);
             replace(rt, alloc, host, table, None);
-            assert!(rt; feed(host, &[], written).is_ok());
+            take(rt, host, &[], written);
         }
         Step::Keeps(table, fault) => replace(rt, alloc, host, table, Some(fault)),
         _ => {}
     }
+}
+
+fn make_call(rt: &impl Abort, host: &mut Host, call: App<'_>, written: &mut Written) {
+    assert!(rt; drive(host, &[Input::Call(call)], written) == Ok(0));
+}
+
+/// Takes in octets from the controller.
+fn take(rt: &impl Abort, host: &mut Host, octets: &[u8], written: &mut Written) {
+    assert!(rt; feed(host, octets, written).is_ok());
 }
 
 /// Why a call is refused, if all is out and it is.
@@ -88,9 +102,8 @@ fn refusal(host: &mut Host, call: App<'_>) -> Option<AppFault> {
 fn replace(rt: &impl Abort, alloc: Global, host: &mut Host, text: &str, fault: Option<AppFault>) {
     let old = host.table().len();
     let new = read_table(rt, alloc, text).len();
-    let (back, refused) = replaced(rt, alloc, host, text);
-    assert!(rt; refused == fault);
-    assert!(rt; back == if fault.is_some() { new } else { old });
+    let back = if fault.is_some() { new } else { old };
+    assert!(rt; replaced(rt, alloc, host, text) == (back, fault));
 }
 
 /// How many attributes the table has that comes back, and the fault.
@@ -101,14 +114,14 @@ fn replaced(
     text: &str,
 ) -> (usize, Option<AppFault>) {
     assert!(rt; host.drained());
-    match host.replace(read_table(rt, alloc, text)) {
+    came_back(host.replace(read_table(rt, alloc, text)))
+}
+
+fn came_back(replaced: Result<Table, (AppFault, Table)>) -> (usize, Option<AppFault>) {
+    match replaced {
         Ok(back) => (back.len(), None),
         Err((fault, back)) => (back.len(), Some(fault)),
     }
-}
-
-fn read_table(rt: &impl Abort, alloc: Global, text: &str) -> Table {
-    Table::read(alloc, text).expect(rt, "the table")
 }
 
 /// PDUs that are to go out.
@@ -120,66 +133,71 @@ fn put_pdus(rt: &impl Abort, wanted: &mut Octets, pdus: Pdus) {
 }
 
 /// What the controller tells, and what is to go out then.
-fn tell(
-    rt: &impl Abort,
-    controller: Controller,
-    host: &mut Host,
-    step: Step,
-    written: &mut Written,
-    wanted: &mut Octets,
-) {
+fn tell(rt: &impl Abort, host: &mut Host, step: Step, written: &mut Written, wanted: &mut Octets) {
     let mut told = Octets::new();
+    say(rt, step, &mut told, wanted);
+    take(rt, host, told.as_slice(), written);
+}
+
+/// The octets of that.
+fn say(rt: &impl Abort, step: Step, told: &mut Octets, wanted: &mut Octets) {
     match step {
         Step::Octets(octets, wants) => {
-            spell(rt, &mut told, octets);
+            spell(rt, told, octets);
             spell(rt, wanted, wants);
         }
         Step::Long(octets, more, wants) => {
-            put(rt, &mut told, spelled(rt, octets, more).as_slice());
+            put(rt, told, spelled(rt, octets, more).as_slice());
             spell(rt, wanted, wants);
         }
         Step::Connects(handle, who, wants) => {
-            spell(rt, &mut told, "043e130100");
-            put(rt, &mut told, &handle.to_le_bytes());
-            spell(rt, &mut told, "01");
-            spell(rt, &mut told, who.address);
-            spell(rt, &mut told, "18000000480000");
+            connect(rt, told, handle, who);
             spell(rt, wanted, wants);
         }
         Step::Leaves(handle, wants) => {
-            spell(rt, &mut told, "04050400");
-            put(rt, &mut told, &handle.to_le_bytes());
-            spell(rt, &mut told, "13");
+            put_event(rt, told, "04050400", handle, "13");
             spell(rt, wanted, wants);
         }
-        Step::Encrypts(handle, who, pdus) => {
-            request_key(rt, &mut told, handle, who);
-            spell(rt, wanted, "011a2012");
-            put(rt, wanted, &handle.to_le_bytes());
-            spell(rt, wanted, who.key);
-            put_pdus(rt, wanted, pdus);
-            assert!(rt; feed(host, told.as_slice(), written).is_ok());
-            answer_all(rt, controller, host, written);
-            told = Octets::new();
-            spell(rt, &mut told, "04080400");
-            put(rt, &mut told, &handle.to_le_bytes());
-            spell(rt, &mut told, "01");
-        }
         Step::HasNoKey(handle, who) => {
-            request_key(rt, &mut told, handle, who);
-            spell(rt, wanted, "011b2002");
-            put(rt, wanted, &handle.to_le_bytes());
+            put_event(rt, told, "043e0d05", handle, request(who));
+            put_event(rt, wanted, "011b2002", handle, "");
         }
-        _ => send(rt, step, &mut told, wanted),
+        _ => send(rt, step, told, wanted),
     }
-    assert!(rt; feed(host, told.as_slice(), written).is_ok());
 }
 
-/// A key is asked for.
-fn request_key(rt: &impl Abort, told: &mut Octets, handle: u16, who: Who) {
-    spell(rt, told, "043e0d05");
-    put(rt, told, &handle.to_le_bytes());
-    spell(rt, told, who.request);
+/// A peer connects.
+fn connect(rt: &impl Abort, told: &mut Octets, handle: u16, who: Who) {
+    put_event(rt, told, "043e130100", handle, "01");
+    spell(rt, told, address(who));
+    spell(rt, told, "18000000480000");
+}
+
+/// A packet about a connection: the octets before its handle, and those behind it.
+fn put_event(rt: &impl Abort, octets: &mut Octets, before: &str, handle: u16, behind: &str) {
+    spell(rt, octets, before);
+    put(rt, octets, &handle.to_le_bytes());
+    spell(rt, octets, behind);
+}
+
+/// The key of a link is asked for and given, and then the link is encrypted by it.
+fn encrypt(
+    rt: &impl Abort,
+    controller: Controller,
+    host: &mut Host,
+    link: (u16, Who),
+    written: &mut Written,
+    wanted: &mut Octets,
+) {
+    let (handle, who) = link;
+    let mut told = Octets::new();
+    put_event(rt, &mut told, "043e0d05", handle, request(who));
+    put_event(rt, wanted, "011a2012", handle, key(who));
+    take(rt, host, told.as_slice(), written);
+    answer_all(rt, controller, host, written);
+    told.clear();
+    put_event(rt, &mut told, "04080400", handle, "01");
+    take(rt, host, told.as_slice(), written);
 }
 
 /// What a peer sends, and what is to go out then.
@@ -190,9 +208,7 @@ fn send(rt: &impl Abort, step: Step, told: &mut Octets, wanted: &mut Octets) {
             send_once(rt, told, wanted, handle, pdu, answer, more);
         }
         Step::Times(count, handle, pdu, answer) => {
-            for _ in 0..count {
-                send_once(rt, told, wanted, handle, pdu, answer, 0);
-            }
+            send_often(rt, told, wanted, count, handle, pdu, answer);
         }
         Step::Tells(handle, pdu, pdus) => {
             send_once(rt, told, wanted, handle, pdu, "", 0);
@@ -215,6 +231,21 @@ fn send(rt: &impl Abort, step: Step, told: &mut Octets, wanted: &mut Octets) {
             );
         }
         _ => {}
+    }
+}
+
+/// A PDU of a connection several times.
+fn send_often(
+    rt: &impl Abort,
+    told: &mut Octets,
+    wanted: &mut Octets,
+    count: usize,
+    handle: u16,
+    pdu: &str,
+    answer: &str,
+) {
+    for _ in 0..count {
+        send_once(rt, told, wanted, handle, pdu, answer, 0);
     }
 }
 

@@ -1,10 +1,11 @@
 //! What connections are told unasked.
 
-use crate::peers::{PHONE, STRANGER, TABLET};
-use crate::player::{Case, Setting, Step, play_all};
+use crate::peers::Who::{Phone, Stranger, Tablet};
+use crate::player::{Setting, Step, play};
 use att_table::examples::{BELL, DOOR, POST};
 use gatt_host::App;
-use std::test::Fail;
+use std::alloc::Global;
+use std::process::Abort;
 
 const AT_THE_DOOR: Setting<'static> = Setting {
     table: DOOR,
@@ -25,25 +26,25 @@ const AT_THE_LETTER_BOX: Setting<'static> = Setting {
 
 /// What a peer with a key has configured outlasts its connections, for its encrypted links alone.
 const KEPT_BY_A_BOND: &[Step] = &[
-    Step::Connects(0x40, TABLET, "010a200101"),
+    Step::Connects(0x40, Tablet, "010a200101"),
     Step::Asks(0x40, "120b000100", "01120b000f"),
-    Step::Encrypts(0x40, TABLET, &[]),
+    Step::Encrypts(0x40, Tablet, &[]),
     Step::Asks(0x40, "120b000100", "13"),
     Step::Calls(App::Update(10, &[0x01]), &[(0x40, "1b0a0001")]),
     Step::Rows("0 00:11:22:33:44:55 11 1\n"),
     Step::Leaves(0x40, ""),
-    Step::Connects(0x40, TABLET, "010a200101"),
+    Step::Connects(0x40, Tablet, "010a200101"),
     Step::Calls(App::Update(10, &[0x02]), &[]),
-    Step::Encrypts(0x40, TABLET, &[]),
+    Step::Encrypts(0x40, Tablet, &[]),
     Step::Calls(App::Update(10, &[0x03]), &[(0x40, "1b0a0003")]),
 ];
 
 /// What a link without a key has configured is not what it has with one.
 const OF_AN_UNENCRYPTED_LINK: &[Step] = &[
-    Step::Connects(0x40, PHONE, "010a200101"),
+    Step::Connects(0x40, Phone, "010a200101"),
     Step::Asks(0x40, "1207000100", "13"),
     Step::Calls(App::Update(6, &[0x41]), &[(0x40, "1b060041")]),
-    Step::Encrypts(0x40, PHONE, &[]),
+    Step::Encrypts(0x40, Phone, &[]),
     Step::Calls(App::Update(6, &[0x42]), &[]),
     Step::Asks(0x40, "0a0700", "0b0000"),
 ];
@@ -51,7 +52,7 @@ const OF_AN_UNENCRYPTED_LINK: &[Step] = &[
 /// One indication is unconfirmed at a time, a value waits once, and who does not confirm in time is
 /// told nothing more.
 const INDICATED: &[Step] = &[
-    Step::Connects(0x40, STRANGER, "010a200101"),
+    Step::Connects(0x40, Stranger, "010a200101"),
     Step::Asks(0x40, "1204000300", "13"),
     Step::Calls(App::Update(3, &[0x01]), &[(0x40, "1d030001")]),
     Step::Calls(App::Update(3, &[0x02]), &[]),
@@ -65,7 +66,7 @@ const INDICATED: &[Step] = &[
 
 /// A connection is told while it is authorized.
 const AUTHORIZED: &[Step] = &[
-    Step::Connects(0x40, STRANGER, "010a200101"),
+    Step::Connects(0x40, Stranger, "010a200101"),
     Step::Calls(App::Authorize(0x40, u64::MAX), &[]),
     Step::Asks(0x40, "1204000100", "13"),
     Step::Calls(App::Update(3, &[0x01]), &[(0x40, "1b030001")]),
@@ -77,7 +78,7 @@ const AUTHORIZED: &[Step] = &[
 
 /// An authorization ends at its moment.
 const READ_IN_TIME: &[Step] = &[
-    Step::Connects(0x40, STRANGER, "010a200101"),
+    Step::Connects(0x40, Stranger, "010a200101"),
     Step::Calls(App::Authorize(0x40, 1000), &[]),
     Step::Asks(0x40, "0a0300", "0b00"),
     Step::Calls(App::Tick(999), &[]),
@@ -90,7 +91,7 @@ const READ_IN_TIME: &[Step] = &[
 
 /// What waits when the authorization ends is passed over.
 const TOLD_IN_TIME: &[Step] = &[
-    Step::Connects(0x40, STRANGER, "010a200101"),
+    Step::Connects(0x40, Stranger, "010a200101"),
     Step::Calls(App::Authorize(0x40, 1000), &[]),
     Step::Asks(0x40, "1204000200", "13"),
     Step::Calls(App::Update(3, &[0x01]), &[(0x40, "1d030001")]),
@@ -101,16 +102,20 @@ const TOLD_IN_TIME: &[Step] = &[
     Step::Calls(App::Update(3, &[0x03]), &[(0x40, "1d030003")]),
 ];
 
-const CASES: &[Case<'static>] = &[
-    (AT_THE_DOOR, KEPT_BY_A_BOND),
-    (AT_THE_DOOR, OF_AN_UNENCRYPTED_LINK),
-    (AT_THE_BELL, INDICATED),
-    (AT_THE_LETTER_BOX, AUTHORIZED),
-    (AT_THE_LETTER_BOX, READ_IN_TIME),
-    (AT_THE_LETTER_BOX, TOLD_IN_TIME),
-];
-
 #[test]
-fn told_unasked(rt: HostRuntime) -> Result<(), Fail> {
-    play_all(&rt, rt.alloc(), CASES)
+fn told_unasked(rt: HostRuntime) {
+    keep_configurations(&rt, rt.alloc());
+    keep_to_authorizations(&rt, rt.alloc());
+    play(&rt, rt.alloc(), AT_THE_BELL, INDICATED);
+}
+
+fn keep_configurations(rt: &impl Abort, alloc: Global) {
+    play(rt, alloc, AT_THE_DOOR, KEPT_BY_A_BOND);
+    play(rt, alloc, AT_THE_DOOR, OF_AN_UNENCRYPTED_LINK);
+}
+
+fn keep_to_authorizations(rt: &impl Abort, alloc: Global) {
+    play(rt, alloc, AT_THE_LETTER_BOX, AUTHORIZED);
+    play(rt, alloc, AT_THE_LETTER_BOX, READ_IN_TIME);
+    play(rt, alloc, AT_THE_LETTER_BOX, TOLD_IN_TIME);
 }
