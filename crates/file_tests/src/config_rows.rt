@@ -14,7 +14,7 @@ struct Replacement {
     entries: &'static [(u16, u8, bool)],
 }
 
-const REPLACEMENTS: [Replacement; 9] = [
+const REPLACEMENTS: &[Replacement] = &[
     Replacement {
         old: PORCH,
         new: PORCH_NEXT,
@@ -105,12 +105,12 @@ fn full_row_at(handle: u16) -> (u8, bool) {
 
 #[test]
 fn keeps_what_has_its_meaning(rt: HostRuntime) {
-    check_replacements(&rt, rt.alloc(), &REPLACEMENTS);
+    check_replacements(&rt, rt.alloc(), REPLACEMENTS);
 }
 
 fn check_replacements(rt: &impl Abort, alloc: Global, cases: &[Replacement]) {
     for (place, case) in cases.iter().enumerate() {
-        assert_eq!(rt; is_kept(alloc, case), Some(true), "{place}");
+        assert!(rt; is_kept(alloc, case) == Some(true), "{place}");
     }
 }
 

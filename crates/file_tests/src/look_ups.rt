@@ -11,30 +11,36 @@ const DOCUMENT: &str =
 #[test]
 fn each_type_once(rt: HostRuntime) {
     match toml::table_from_str(rt.alloc(), DOCUMENT) {
-        Ok(document) => {
-            check_look_ups(&rt, &document);
-            check_missing(&rt, &document);
-        }
+        Ok(document) => check_look_ups(&rt, &document),
         Err(_) => assert!(&rt; false, "the document"),
     }
 }
 
 fn check_look_ups(rt: &impl Abort, document: &Table) {
-    assert!(rt; toml_tables::text(document, "name") == Some("ada"));
-    assert!(rt; toml_tables::boolean(document, "old") == Some(true));
-    assert!(rt; toml_tables::integer(document, "age") == Some(36));
-    assert!(rt; toml_tables::flag(document, "old"));
-    assert!(rt; toml_tables::items(document, "sizes").len() == 2);
-    assert!(rt; toml_tables::array(document, "sizes").map(|sizes| sizes.len()) == Some(2));
-    assert!(rt; street_of(document) == Some("a"));
+    assert!(rt; has_values(document));
+    assert!(rt; has_lists(document));
+    assert!(rt; lacks_others(document));
 }
 
-fn check_missing(rt: &impl Abort, document: &Table) {
-    assert!(rt; toml_tables::text(document, "age").is_none());
-    assert!(rt; toml_tables::boolean(document, "young").is_none());
-    assert!(rt; !toml_tables::flag(document, "young"));
-    assert!(rt; toml_tables::items(document, "name").is_empty());
-    assert!(rt; toml_tables::table(document, "sizes").is_none());
+fn has_values(document: &Table) -> bool {
+    toml_tables::text(document, "name") == Some("ada")
+        && toml_tables::boolean(document, "old") == Some(true)
+        && toml_tables::integer(document, "age") == Some(36)
+        && toml_tables::flag(document, "old")
+}
+
+fn has_lists(document: &Table) -> bool {
+    toml_tables::items(document, "sizes").len() == 2
+        && toml_tables::array(document, "sizes").is_some_and(|sizes| sizes.len() == 2)
+        && street_of(document) == Some("a")
+}
+
+fn lacks_others(document: &Table) -> bool {
+    toml_tables::text(document, "age").is_none()
+        && toml_tables::boolean(document, "young").is_none()
+        && !toml_tables::flag(document, "young")
+        && toml_tables::items(document, "name").is_empty()
+        && toml_tables::table(document, "sizes").is_none()
 }
 
 fn street_of(document: &Table) -> Option<&str> {

@@ -29,57 +29,59 @@ const BATTERY: &str = "1 c0:00:00:00:00:01 7 1\n";
 
 const CHANGES: &str = "1 c0:00:00:00:00:01 4 2\n! 1 c0:00:00:00:00:01\n";
 
-/// Texts, and what is written of what is read, or the fault.
-const TEXTS: [(&str, Result<&str, RowsFault>); 28] = [
-    ("", Ok("")),
-    (BATTERY, Ok(BATTERY)),
-    ("1 c0:00:00:00:00:01 7 1", Ok(BATTERY)),
-    ("\n1 c0:00:00:00:00:01 7 1\n\n", Ok(BATTERY)),
+/// Texts, and what is written of what is read.
+const READ: &[(&str, &str)] = &[
+    ("", ""),
+    (BATTERY, BATTERY),
+    ("1 c0:00:00:00:00:01 7 1", BATTERY),
+    ("\n1 c0:00:00:00:00:01 7 1\n\n", BATTERY),
     (
         "1 C0:00:00:00:00:0A 65535 3",
-        Ok("1 c0:00:00:00:00:0a 65535 3\n"),
+        "1 c0:00:00:00:00:0a 65535 3\n",
     ),
     (
         "! 1 c0:00:00:00:00:02\n1 c0:00:00:00:00:01 10 1\n1 c0:00:00:00:00:01 9 2\n! 0 c0:00:00:00:00:03\n0 01:00:00:00:00:00 8 1\n0 00:00:00:00:00:02 8 3\n",
-        Ok(
-            "0 00:00:00:00:00:02 8 3\n0 01:00:00:00:00:00 8 1\n1 c0:00:00:00:00:01 9 2\n1 c0:00:00:00:00:01 10 1\n! 0 c0:00:00:00:00:03\n! 1 c0:00:00:00:00:02\n",
-        ),
+        "0 00:00:00:00:00:02 8 3\n0 01:00:00:00:00:00 8 1\n1 c0:00:00:00:00:01 9 2\n1 c0:00:00:00:00:01 10 1\n! 0 c0:00:00:00:00:03\n! 1 c0:00:00:00:00:02\n",
     ),
+];
+
+/// Texts that are refused, each with its fault.
+const FAULTS: &[(&str, RowsFault)] = &[
     (
         "1 c0:00:00:00:00:01 7 1\n1 c0:00:00:00:00:01 7 1\n",
-        Err(RowsFault::Twice(2)),
+        RowsFault::Twice(2),
     ),
     (
         "\n1 c0:00:00:00:00:0a 7 1\n1 C0:00:00:00:00:0A 7 2\nbad",
-        Err(RowsFault::Twice(3)),
+        RowsFault::Twice(3),
     ),
     (
         "! 1 c0:00:00:00:00:01\n! 1 c0:00:00:00:00:01\n",
-        Err(RowsFault::Twice(2)),
+        RowsFault::Twice(2),
     ),
-    ("\n\nbad\n! \n", Err(RowsFault::BadLine(3))),
-    ("1 c0:00:00:00:00:01 07 1\n", Err(RowsFault::BadLine(1))),
-    ("1 c0:00:00:00:00:01 +7 1\n", Err(RowsFault::BadLine(1))),
-    ("1 c0:00:00:00:00:01 0 1\n", Err(RowsFault::BadLine(1))),
-    ("1 c0:00:00:00:00:01 65536 1\n", Err(RowsFault::BadLine(1))),
-    ("1 c0:00:00:00:00:01 7 0\n", Err(RowsFault::BadLine(1))),
-    ("1 c0:00:00:00:00:01 7 4\n", Err(RowsFault::BadLine(1))),
-    ("1 c0:00:00:00:00:01 7 01\n", Err(RowsFault::BadLine(1))),
-    ("1 c0:00:00:00:00:01 7 1\r\n", Err(RowsFault::BadLine(1))),
-    ("1 c0:00:00:00:00:01 7 1 \n", Err(RowsFault::BadLine(1))),
-    ("1 c0:00:00:00:00:01  7 1\n", Err(RowsFault::BadLine(1))),
-    (" 1 c0:00:00:00:00:01 7 1\n", Err(RowsFault::BadLine(1))),
-    ("1 c0:00:00:00:00:01 7\n", Err(RowsFault::BadLine(1))),
-    ("2 c0:00:00:00:00:01 7 1\n", Err(RowsFault::BadLine(1))),
-    ("1 c0:00:00:00:00:1 7 1\n", Err(RowsFault::BadLine(1))),
-    ("! 2 c0:00:00:00:00:01\n", Err(RowsFault::BadLine(1))),
-    ("! 1 c0:00:00:00:00:01 7\n", Err(RowsFault::BadLine(1))),
-    ("!1 c0:00:00:00:00:01\n", Err(RowsFault::BadLine(1))),
-    (" \n", Err(RowsFault::BadLine(1))),
+    ("\n\nbad\n! \n", RowsFault::BadLine(3)),
+    ("1 c0:00:00:00:00:01 07 1\n", RowsFault::BadLine(1)),
+    ("1 c0:00:00:00:00:01 +7 1\n", RowsFault::BadLine(1)),
+    ("1 c0:00:00:00:00:01 0 1\n", RowsFault::BadLine(1)),
+    ("1 c0:00:00:00:00:01 65536 1\n", RowsFault::BadLine(1)),
+    ("1 c0:00:00:00:00:01 7 0\n", RowsFault::BadLine(1)),
+    ("1 c0:00:00:00:00:01 7 4\n", RowsFault::BadLine(1)),
+    ("1 c0:00:00:00:00:01 7 01\n", RowsFault::BadLine(1)),
+    ("1 c0:00:00:00:00:01 7 1\r\n", RowsFault::BadLine(1)),
+    ("1 c0:00:00:00:00:01 7 1 \n", RowsFault::BadLine(1)),
+    ("1 c0:00:00:00:00:01  7 1\n", RowsFault::BadLine(1)),
+    (" 1 c0:00:00:00:00:01 7 1\n", RowsFault::BadLine(1)),
+    ("1 c0:00:00:00:00:01 7\n", RowsFault::BadLine(1)),
+    ("2 c0:00:00:00:00:01 7 1\n", RowsFault::BadLine(1)),
+    ("1 c0:00:00:00:00:1 7 1\n", RowsFault::BadLine(1)),
+    ("! 2 c0:00:00:00:00:01\n", RowsFault::BadLine(1)),
+    ("! 1 c0:00:00:00:00:01 7\n", RowsFault::BadLine(1)),
+    ("!1 c0:00:00:00:00:01\n", RowsFault::BadLine(1)),
+    (" \n", RowsFault::BadLine(1)),
 ];
 
 /// Texts, tables, and what is written once the rows are fitted to the keys of the door and the table.
-const FITTED: [(&str, &str, &str); 12] = [
+const FITTED: &[(&str, &str, &str)] = &[
     (BATTERY, DOOR, BATTERY),
     ("1 c0:00:00:00:00:01 8 1\n", DOOR, ""),
     ("1 c0:00:00:00:00:01 7 2\n", DOOR, ""),
@@ -110,63 +112,102 @@ fn is_written(rows: &Rows, text: &str) -> bool {
 
 #[test]
 fn texts(rt: HostRuntime) {
-    check_texts(&rt, rt.alloc(), &TEXTS);
+    check_texts(&rt, rt.alloc(), READ);
+    check_faults(&rt, rt.alloc(), FAULTS);
 }
 
-fn check_texts(rt: &impl Abort, alloc: Global, cases: &[(&str, Result<&str, RowsFault>)]) {
-    for &(text, answer) in cases {
-        assert!(rt; reads_as(alloc, text, answer), "{text}");
+fn check_texts(rt: &impl Abort, alloc: Global, cases: &[(&str, &str)]) {
+    for &(text, written) in cases {
+        assert!(rt; reads_as(alloc, text, written), "{text}");
     }
 }
 
-fn reads_as(alloc: Global, text: &str, answer: Result<&str, RowsFault>) -> bool {
+fn reads_as(alloc: Global, text: &str, written: &str) -> bool {
     match Rows::read(alloc, text) {
-        Ok(rows) => answer.is_ok_and(|written| is_written(&rows, written)),
-        Err(fault) => answer == Err(fault),
+        Ok(rows) => is_written(&rows, written),
+        Err(_) => false,
+    }
+}
+
+fn check_faults(rt: &impl Abort, alloc: Global, cases: &[(&str, RowsFault)]) {
+    for &(text, fault) in cases {
+        assert!(rt; Rows::read(alloc, text).err() == Some(fault), "{text}");
     }
 }
 
 #[test]
 fn fitted(rt: HostRuntime) {
-    check_fitted(&rt, rt.alloc(), &FITTED);
+    check_fitted(&rt, rt.alloc(), FITTED);
 }
 
 fn check_fitted(rt: &impl Abort, alloc: Global, cases: &[(&str, &str, &str)]) {
     for &(text, table, written) in cases {
-        match fit(alloc, text, table) {
-            Some(rows) => assert!(rt; is_written(&rows, written), "{text}"),
-            None => assert!(rt; false, "{text}"),
-        }
+        assert!(rt; fits_as(alloc, text, table, written), "{text}");
     }
 }
 
-/// Rows of a text, fitted to the keys of the door and a table.
-fn fit(alloc: Global, text: &str, table: &str) -> Option<Rows> {
-    let keys = Keys::read(alloc, KEYS).ok()?;
-    let table = Table::read(alloc, table).ok()?;
-    let mut rows = Rows::read(alloc, text).ok()?;
-    rows.fit(alloc, &keys, &table).ok()?;
-    Some(rows)
+/// Whether rows of a text, fitted to the keys of the door and a table, are written so.
+fn fits_as(alloc: Global, text: &str, table: &str, written: &str) -> bool {
+    match Rows::read(alloc, text) {
+        Ok(mut rows) => is_fitted(alloc, &mut rows, table) && is_written(&rows, written),
+        Err(_) => false,
+    }
+}
+
+/// Fits rows to the keys of the door and a table.
+fn is_fitted(alloc: Global, rows: &mut Rows, table: &str) -> bool {
+    match Table::read(alloc, table) {
+        Ok(table) => is_fitted_to(alloc, rows, &table),
+        Err(_) => false,
+    }
+}
+
+fn is_fitted_to(alloc: Global, rows: &mut Rows, table: &Table) -> bool {
+    match Keys::read(alloc, KEYS) {
+        Ok(keys) => rows.fit(alloc, &keys, table).is_ok(),
+        Err(_) => false,
+    }
 }
 
 /// Before rows are fitted nothing is set, and afterwards only for a peer that has a key.
 #[test]
 fn set(rt: HostRuntime) {
-    match Rows::read(rt.alloc(), CHANGES) {
-        Ok(mut rows) => check_set(&rt, &mut rows, CHANGES, CHANGES),
-        Err(_) => assert!(&rt; false),
-    }
-    match fit(rt.alloc(), CHANGES, PORCH) {
-        Some(mut rows) => check_set(&rt, &mut rows, CHANGES, "1 c0:00:00:00:00:01 8 1\n"),
-        None => assert!(&rt; false),
+    assert!(&rt; is_set(rt.alloc(), false, CHANGES));
+    assert!(&rt; is_set(rt.alloc(), true, "1 c0:00:00:00:00:01 8 1\n"));
+}
+
+/// Whether the rows of the changes, fitted or not, have this text once they are set.
+fn is_set(alloc: Global, fitted: bool, after: &str) -> bool {
+    match Rows::read(alloc, CHANGES) {
+        Ok(mut rows) => {
+            (!fitted || is_fitted(alloc, &mut rows, PORCH)) && is_set_in(&mut rows, after)
+        }
+        Err(_) => false,
     }
 }
 
-fn check_set(rt: &impl Abort, rows: &mut Rows, before: &str, after: &str) {
-    assert!(rt; is_written(rows, before));
-    assert!(rt; rows.get(&PHONE, 4) == 2 && rows.get(&PHONE, 8) == 0);
-    assert!(rt; rows.get(&TABLET, 4) == 0 && rows.get(&STRANGER, 4) == 0);
-    assert!(rt; rows.owed(&PHONE) && !rows.owed(&TABLET));
+fn is_set_in(rows: &mut Rows, after: &str) -> bool {
+    if !is_written(rows, CHANGES) || !are_changes(rows) {
+        return false;
+    }
+    set_all(rows);
+    rows.owe(&PHONE, false);
+    rows.owe(&STRANGER, true);
+    rows.of(&STRANGER).is_none() && is_written(rows, after)
+}
+
+/// Whether the rows are read as those of the changes.
+fn are_changes(rows: &Rows) -> bool {
+    rows.get(&PHONE, 4) == 2
+        && rows.get(&PHONE, 8) == 0
+        && rows.get(&TABLET, 4) == 0
+        && rows.get(&STRANGER, 4) == 0
+        && rows.owed(&PHONE)
+        && !rows.owed(&TABLET)
+}
+
+/// Sets what can be set.
+fn set_all(rows: &mut Rows) {
     if let Some(row) = rows.of(&PHONE) {
         if row.can_set(4) {
             row.set(4, 0);
@@ -175,10 +216,6 @@ fn check_set(rt: &impl Abort, rows: &mut Rows, before: &str, after: &str) {
             row.set(8, 1);
         }
     }
-    rows.owe(&PHONE, false);
-    rows.owe(&STRANGER, true);
-    assert!(rt; rows.of(&STRANGER).is_none());
-    assert!(rt; is_written(rows, after));
 }
 
 #[test]
@@ -202,31 +239,39 @@ fn is_refused(alloc: Global, handles: u16, peers: u16, answer: Option<RowsFault>
 /// A file of one peer with so many configurations, and of so many peers that are owed.
 fn many(alloc: Global, handles: u16, peers: u16) -> Result<String, AllocError> {
     let mut text = String::new(alloc);
+    push_many(&mut text, handles, peers)?;
+    Ok(text)
+}
+
+fn push_many(text: &mut String, handles: u16, peers: u16) -> Result<(), AllocError> {
     for handle in 1..=handles {
-        text.push_str(&format!(in alloc; "0 00:00:00:00:00:00 {handle} 1\n")?)?;
+        write!(text, "0 00:00:00:00:00:00 {handle} 1\n")?;
     }
     for peer in 0..peers {
-        text.push_str(&format!(in alloc; "! 0 00:00:00:00:00:{peer:02x}\n")?)?;
+        write!(text, "! 0 00:00:00:00:00:{peer:02x}\n")?;
     }
-    Ok(text)
+    Ok(())
 }
 
 /// A sink that is full takes the front of the text.
 #[test]
 fn full_sinks(rt: HostRuntime) {
     match Rows::read(rt.alloc(), CHANGES) {
-        Ok(rows) => check_full(&rt, &rows),
+        Ok(rows) => assert!(&rt; fills_each(&rows)),
         Err(_) => assert!(&rt; false),
     }
 }
 
-fn check_full(rt: &impl Abort, rows: &Rows) {
+fn fills_each(rows: &Rows) -> bool {
     let mut no_room = ArraySink::<0>::new();
     let mut one_line = ArraySink::<24>::new();
     let mut one_less = ArraySink::<45>::new();
-    assert!(rt; rows.text(&mut no_room).is_err() && is_front(no_room.octets(), 0));
-    assert!(rt; rows.text(&mut one_line).is_err() && is_front(one_line.octets(), 24));
-    assert!(rt; rows.text(&mut one_less).is_err() && is_front(one_less.octets(), 45));
+    rows.text(&mut no_room).is_err()
+        && is_front(no_room.octets(), 0)
+        && rows.text(&mut one_line).is_err()
+        && is_front(one_line.octets(), 24)
+        && rows.text(&mut one_less).is_err()
+        && is_front(one_less.octets(), 45)
 }
 
 /// Whether octets are so much of the front of the text.

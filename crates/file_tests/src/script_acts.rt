@@ -269,18 +269,27 @@ fn is_phone_act(phone: u8, act: &PhoneAct<'_>, wanted: &Wanted<'_>) -> bool {
         PhoneAct::Encrypt {
             random_number,
             diversifier,
-        } => {
-            matches!(wanted, Wanted::Encrypt(of, number, chosen) if *of == phone && number == random_number && chosen == diversifier)
-        }
+        } => is_encryption(phone, random_number, *diversifier, wanted),
         PhoneAct::Clear => matches!(wanted, Wanted::Clear(of) if *of == phone),
-        PhoneAct::Send { channel, payload } => {
-            matches!(wanted, Wanted::Send(of, on, octets) if *of == phone && on == channel && writes(payload, octets))
-        }
+        PhoneAct::Send { channel, payload } => is_sent(phone, *channel, payload, wanted),
         PhoneAct::Hold => matches!(wanted, Wanted::Hold(of) if *of == phone),
         PhoneAct::Done { packets } => {
             matches!(wanted, Wanted::Done(of, count) if *of == phone && count == packets)
         }
     }
+}
+
+fn is_encryption(
+    phone: u8,
+    random_number: &[u8; 8],
+    diversifier: u16,
+    wanted: &Wanted<'_>,
+) -> bool {
+    matches!(wanted, Wanted::Encrypt(of, number, chosen) if *of == phone && number == random_number && *chosen == diversifier)
+}
+
+fn is_sent(phone: u8, channel: u16, payload: &Payload<'_>, wanted: &Wanted<'_>) -> bool {
+    matches!(wanted, Wanted::Send(of, on, octets) if *of == phone && *on == channel && writes(payload, octets))
 }
 
 fn writes(payload: &Payload<'_>, wanted: &[u8]) -> bool {
@@ -322,9 +331,13 @@ fn names(rt: HostRuntime) {
 
 fn check_names(rt: &impl Abort, alloc: Global) {
     assert!(rt; Script::read(alloc, NINE, true).err() == Some(ScriptFault::BadLine(11)));
-    match Script::read(alloc, EIGHT, true) {
-        Ok(script) => assert!(rt; are_names(script.names(), "ABCDEFGH")),
-        Err(_) => assert!(rt; false),
+    assert!(rt; has_names(alloc, EIGHT, "ABCDEFGH"));
+}
+
+fn has_names(alloc: Global, text: &str, wanted: &str) -> bool {
+    match Script::read(alloc, text, true) {
+        Ok(script) => are_names(script.names(), wanted),
+        Err(_) => false,
     }
 }
 
@@ -337,10 +350,13 @@ fn are_names(names: &[Name<'_>], wanted: &str) -> bool {
 /// A line writes at most 517 octets.
 #[test]
 fn long_payloads(rt: HostRuntime) {
-    assert!(&rt; is_read(rt.alloc(), "U < ", 517) == Some(true));
-    assert!(&rt; is_read(rt.alloc(), "U < ", 518) == Some(false));
-    assert!(&rt; is_read(rt.alloc(), "update 1 ", 517) == Some(true));
-    assert!(&rt; is_read(rt.alloc(), "update 1 ", 518) == Some(false));
+    assert!(&rt; has_room_for_517(rt.alloc(), "U < "));
+    assert!(&rt; has_room_for_517(rt.alloc(), "update 1 "));
+}
+
+/// Whether a line is read with 517 octets, and with one more not.
+fn has_room_for_517(alloc: Global, front: &str) -> bool {
+    is_read(alloc, front, 517) == Some(true) && is_read(alloc, front, 518) == Some(false)
 }
 
 /// Whether a line with so many octets is read, where there is memory for it.

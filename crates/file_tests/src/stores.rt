@@ -1,8 +1,8 @@
 //! The two stores of values do the same.
 
 use att_values::{Change, FlatStore, PlainStore, ValueStore, run};
+use std::alloc::AllocError;
 use std::process::Abort;
-use std::test::Fail;
 
 /// The rooms of three values, and the values.
 const VALUES: [(u16, &[u8]); 3] = [(3, b"one"), (6, b"two"), (512, b"three")];
@@ -19,23 +19,37 @@ const PATCHES: [(usize, &[u8], bool, &[u8]); 7] = [
 ];
 
 #[test]
-fn patches_of_the_flat_store(rt: HostRuntime) -> Result<(), Fail> {
-    let mut store = FlatStore::new(rt.alloc());
+fn patches_of_the_flat_store(rt: HostRuntime) {
+    check_flat(&rt, &mut FlatStore::new(rt.alloc()));
+}
+
+fn check_flat(rt: &impl Abort, store: &mut FlatStore) {
+    assert!(rt; push_flat(store).is_ok());
+    assert!(rt; store.len() == 3 && store.octets() == 521);
+    check_patches(rt, store, &PATCHES);
+}
+
+fn push_flat(store: &mut FlatStore) -> Result<(), AllocError> {
     for (room, value) in VALUES {
         store.push(room, value)?;
     }
-    assert_eq!(rt; (store.len(), store.octets()), (3, 521));
-    check_patches(&rt, &mut store, &PATCHES);
     Ok(())
 }
 
 #[test]
-fn patches_of_the_plain_store(rt: HostRuntime) -> Result<(), Fail> {
-    let mut store = PlainStore::new(rt.alloc());
+fn patches_of_the_plain_store(rt: HostRuntime) {
+    check_plain(&rt, &mut PlainStore::new(rt.alloc()));
+}
+
+fn check_plain(rt: &impl Abort, store: &mut PlainStore) {
+    assert!(rt; push_plain(store).is_ok());
+    check_patches(rt, store, &PATCHES);
+}
+
+fn push_plain(store: &mut PlainStore) -> Result<(), AllocError> {
     for (room, value) in VALUES {
         store.push(room, value)?;
     }
-    check_patches(&rt, &mut store, &PATCHES);
     Ok(())
 }
 
@@ -45,11 +59,16 @@ fn check_patches<S: ValueStore>(
     cases: &[(usize, &[u8], bool, &[u8])],
 ) {
     for &(offset, part, keep, wanted) in cases {
-        assert!(rt; patch(store, offset, part, keep), "{part:?} at {offset}");
-        assert!(rt; has_values(store, wanted), "{part:?} at {offset}");
+        assert!(rt;
+            patch(store, offset, part, keep) && has_values(store, wanted),
+            "{offset}"
+        );
     }
-    assert!(rt; run_two(store) && has_values(store, b"abXYZ"));
-    assert!(rt; !store.contains(0) && !store.contains(4) && store.room(4) == 0);
+    assert!(rt; run_two(store) && has_values(store, b"abXYZ") && has_no_others(store));
+}
+
+fn has_no_others<S: ValueStore>(store: &S) -> bool {
+    !store.contains(0) && !store.contains(4) && store.room(4) == 0
 }
 
 /// Patches the second value, if the part fits.

@@ -197,9 +197,12 @@ fn changes_of_the_door(rt: HostRuntime) {
 
 fn check_changes(rt: &impl Abort, alloc: Global, cases: &[(&str, &str, Result<usize, u8>)]) {
     for &(old, new, answer) in cases {
-        let told = read_made(alloc, DOOR.replacen(alloc, old, new, 1));
-        assert!(rt; told == answer, "{new}");
+        assert!(rt; read_changed(alloc, old, new) == answer, "{new}");
     }
+}
+
+fn read_changed(alloc: Global, old: &str, new: &str) -> Result<usize, u8> {
+    read_made(alloc, DOOR.replacen(alloc, old, new, 1))
 }
 
 #[test]
@@ -213,8 +216,10 @@ fn check_repeated(
     cases: &[(&str, &str, usize, &str, Result<usize, u8>)],
 ) {
     for &(first, part, count, last, answer) in cases {
-        let told = read_made(alloc, with_repeated(alloc, first, part, count, last));
-        assert!(rt; told == answer, "{count} of {part}");
+        assert!(rt;
+            read_made(alloc, with_repeated(alloc, first, part, count, last)) == answer,
+            "{count}"
+        );
     }
 }
 

@@ -38,10 +38,14 @@ fn check_texts(rt: &impl Abort, alloc: Global, cases: &[(&str, Option<&[u8]>)]) 
 
 /// Whether a service of this type has these octets as its value, or is refused where there are none.
 fn is_value_of_service(alloc: Global, uuid: &str, octets: Option<&[u8]>) -> bool {
-    let Ok(text) = format!(in alloc; "[[service]]\nuuid = \"{uuid}\"\n") else {
-        return false;
-    };
-    match Table::read(alloc, &text) {
+    match format!(in alloc; "[[service]]\nuuid = \"{uuid}\"\n") {
+        Ok(text) => is_first_value(alloc, &text, octets),
+        Err(_) => false,
+    }
+}
+
+fn is_first_value(alloc: Global, text: &str, octets: Option<&[u8]>) -> bool {
+    match Table::read(alloc, text) {
         Ok(table) => table.get(1).is_some() && octets == Some(table.value(1)),
         Err(fault) => fault.number() == 3 && octets.is_none(),
     }
@@ -49,15 +53,15 @@ fn is_value_of_service(alloc: Global, uuid: &str, octets: Option<&[u8]>) -> bool
 
 #[test]
 fn octets(rt: HostRuntime) {
-    for (kind, is_short, octets) in [
-        (from_16_bits(0x180F), true, b"\x0f\x18".as_slice()),
-        (PRIMARY_SERVICE, true, b"\x00\x28"),
-        (BASE_UUID, true, b"\x00\x00"),
-        (CUSTOM, false, &CUSTOM_OCTETS),
-    ] {
-        assert!(rt; is_of_16_bits(kind) == is_short, "{kind:x}");
-        assert!(rt; type_octets(kind).as_slice() == octets, "{kind:x}");
-    }
+    assert!(&rt; is_type(from_16_bits(0x180F), true, b"\x0f\x18"));
+    assert!(&rt; is_type(PRIMARY_SERVICE, true, b"\x00\x28"));
+    assert!(&rt; is_type(BASE_UUID, true, b"\x00\x00"));
+    assert!(&rt; is_type(CUSTOM, false, &CUSTOM_OCTETS));
+}
+
+/// Whether a type is one of 16 bits or is not, and has these octets.
+fn is_type(kind: u128, is_short: bool, octets: &[u8]) -> bool {
+    is_of_16_bits(kind) == is_short && type_octets(kind).as_slice() == octets
 }
 
 #[test]
