@@ -77,20 +77,21 @@ fn changers(rt: HostRuntime) {
 
 fn check_changers(rt: &impl Abort, alloc: Global, cases: &[(&str, &str, &str, Option<u16>)]) {
     for &(text, old, new, wanted) in cases {
-        assert!(rt; changer_in(alloc, text, old, new) == Some(wanted), "{new}");
+        assert!(rt; is_changer(alloc, (text, old, new), wanted), "{new}");
     }
 }
 
-fn changer_in(alloc: Global, text: &str, old: &str, new: &str) -> Option<Option<u16>> {
+fn is_changer(alloc: Global, change: (&str, &str, &str), wanted: Option<u16>) -> bool {
+    let (text, old, new) = change;
     match text.replacen(alloc, old, new, 1) {
-        Ok(text) => changer_of(alloc, &text),
-        Err(_) => None,
+        Ok(text) => is_changer_of(alloc, &text, wanted),
+        Err(_) => false,
     }
 }
 
-fn changer_of(alloc: Global, text: &str) -> Option<Option<u16>> {
+fn is_changer_of(alloc: Global, text: &str, wanted: Option<u16>) -> bool {
     match Table::read(alloc, text) {
-        Ok(table) => Some(table.changer()),
-        Err(_) => None,
+        Ok(table) => table.changer() == wanted,
+        Err(_) => false,
     }
 }

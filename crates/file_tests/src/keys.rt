@@ -282,9 +282,13 @@ fn is_answer(keys: &Keys, request: &Request, key: Option<&Key>) -> bool {
 #[test]
 fn peers(rt: HostRuntime) {
     match Keys::read(rt.alloc(), KEYS) {
-        Ok(keys) => assert!(&rt; has_peers(&keys) && knows_peers(&keys)),
+        Ok(keys) => check_peers(&rt, &keys),
         Err(fault) => assert_eq!(&rt; fault.number(), 0),
     }
+}
+
+fn check_peers(rt: &impl Abort, keys: &Keys) {
+    assert!(rt; has_peers(keys) && knows_peers(keys));
 }
 
 fn has_peers(keys: &Keys) -> bool {

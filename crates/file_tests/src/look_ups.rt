@@ -31,8 +31,15 @@ fn has_values(document: &Table) -> bool {
 
 fn has_lists(document: &Table) -> bool {
     toml_tables::items(document, "sizes").len() == 2
-        && toml_tables::array(document, "sizes").is_some_and(|sizes| sizes.len() == 2)
+        && has_two_sizes(document)
         && street_of(document) == Some("a")
+}
+
+fn has_two_sizes(document: &Table) -> bool {
+    match toml_tables::array(document, "sizes") {
+        Some(sizes) => sizes.len() == 2,
+        None => false,
+    }
 }
 
 fn lacks_others(document: &Table) -> bool {

@@ -257,9 +257,13 @@ fn push_many(text: &mut String, handles: u16, peers: u16) -> Result<(), AllocErr
 #[test]
 fn full_sinks(rt: HostRuntime) {
     match Rows::read(rt.alloc(), CHANGES) {
-        Ok(rows) => assert!(&rt; fills_each(&rows)),
+        Ok(rows) => check_full(&rt, &rows),
         Err(_) => assert!(&rt; false),
     }
+}
+
+fn check_full(rt: &impl Abort, rows: &Rows) {
+    assert!(rt; fills_each(rows));
 }
 
 fn fills_each(rows: &Rows) -> bool {

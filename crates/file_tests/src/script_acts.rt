@@ -262,9 +262,7 @@ fn is_act(act: &Act<'_>, wanted: &Wanted<'_>) -> bool {
 
 fn is_phone_act(phone: u8, act: &PhoneAct<'_>, wanted: &Wanted<'_>) -> bool {
     match act {
-        PhoneAct::Connect { peer } => {
-            matches!(wanted, Wanted::Connect(of, other) if *of == phone && other == peer)
-        }
+        PhoneAct::Connect { peer } => is_connection(phone, peer, wanted),
         PhoneAct::Drop => matches!(wanted, Wanted::Drop(of) if *of == phone),
         PhoneAct::Encrypt {
             random_number,
@@ -277,6 +275,10 @@ fn is_phone_act(phone: u8, act: &PhoneAct<'_>, wanted: &Wanted<'_>) -> bool {
             matches!(wanted, Wanted::Done(of, count) if *of == phone && count == packets)
         }
     }
+}
+
+fn is_connection(phone: u8, peer: &Peer, wanted: &Wanted<'_>) -> bool {
+    matches!(wanted, Wanted::Connect(of, other) if *of == phone && other == peer)
 }
 
 fn is_encryption(
@@ -305,10 +307,15 @@ fn faults(rt: HostRuntime) {
 
 fn check_faults(rt: &impl Abort, alloc: Global, cases: &[(&str, u64)]) {
     for &(text, line) in cases {
-        assert!(rt;
-            Script::read(alloc, text, true).err() == Some(ScriptFault::BadLine(line)),
-            "{text}"
-        );
+        assert!(rt; is_bad_at(alloc, text, true, line), "{text}");
+    }
+}
+
+/// Whether a script is refused for this line.
+fn is_bad_at(alloc: Global, text: &str, has_next: bool, line: u64) -> bool {
+    match Script::read(alloc, text, has_next) {
+        Ok(_) => false,
+        Err(fault) => fault == ScriptFault::BadLine(line),
     }
 }
 
@@ -319,8 +326,7 @@ fn no_next(rt: HostRuntime) {
 }
 
 fn check_no_next(rt: &impl Abort, alloc: Global, text: &str) {
-    assert!(rt; Script::read(alloc, text, false).err() == Some(ScriptFault::BadLine(2)));
-    assert!(rt; Script::read(alloc, text, true).err() == Some(ScriptFault::BadLine(3)));
+    assert!(rt; is_bad_at(alloc, text, false, 2) && is_bad_at(alloc, text, true, 3));
 }
 
 /// A ninth name is a fault of its line.
@@ -330,8 +336,7 @@ fn names(rt: HostRuntime) {
 }
 
 fn check_names(rt: &impl Abort, alloc: Global) {
-    assert!(rt; Script::read(alloc, NINE, true).err() == Some(ScriptFault::BadLine(11)));
-    assert!(rt; has_names(alloc, EIGHT, "ABCDEFGH"));
+    assert!(rt; is_bad_at(alloc, NINE, true, 11) && has_names(alloc, EIGHT, "ABCDEFGH"));
 }
 
 fn has_names(alloc: Global, text: &str, wanted: &str) -> bool {

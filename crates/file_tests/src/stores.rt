@@ -59,16 +59,22 @@ fn check_patches<S: ValueStore>(
     cases: &[(usize, &[u8], bool, &[u8])],
 ) {
     for &(offset, part, keep, wanted) in cases {
-        assert!(rt;
-            patch(store, offset, part, keep) && has_values(store, wanted),
-            "{offset}"
-        );
+        assert!(rt; is_patched(store, (offset, part, keep), wanted), "{offset}");
     }
-    assert!(rt; run_two(store) && has_values(store, b"abXYZ") && has_no_others(store));
+    assert!(rt; is_run(store));
+}
+
+fn is_run<S: ValueStore>(store: &mut S) -> bool {
+    run_two(store) && has_values(store, b"abXYZ") && has_no_others(store)
 }
 
 fn has_no_others<S: ValueStore>(store: &S) -> bool {
     !store.contains(0) && !store.contains(4) && store.room(4) == 0
+}
+
+fn is_patched<S: ValueStore>(store: &mut S, by: (usize, &[u8], bool), wanted: &[u8]) -> bool {
+    let (offset, part, keep) = by;
+    patch(store, offset, part, keep) && has_values(store, wanted)
 }
 
 /// Patches the second value, if the part fits.

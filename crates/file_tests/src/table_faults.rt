@@ -139,8 +139,18 @@ const NAMES: [(&str, (u16, u8, Option<u8>)); 14] = [
     ),
 ];
 
+/// A text, a part that is repeated behind it, how often, the text behind all of them, and how many
+/// attributes that gives, or the number of its fault.
+type Repeated = (
+    &'static str,
+    &'static str,
+    usize,
+    &'static str,
+    Result<usize, u8>,
+);
+
 /// Parts of a file that are repeated, how often, and what the whole gives.
-const REPEATED: [(&str, &str, usize, &str, Result<usize, u8>); 9] = [
+const REPEATED: [Repeated; 9] = [
     ("", "[[service]]\nuuid = \"1800\"\n", 1024, "", Ok(1024)),
     ("", "[[service]]\nuuid = \"1800\"\n", 1025, "", Err(8)),
     (SERVICE, NOTIFYING, 64, "", Ok(193)),
@@ -210,17 +220,15 @@ fn repeated_parts(rt: HostRuntime) {
     check_repeated(&rt, rt.alloc(), &REPEATED);
 }
 
-fn check_repeated(
-    rt: &impl Abort,
-    alloc: Global,
-    cases: &[(&str, &str, usize, &str, Result<usize, u8>)],
-) {
-    for &(first, part, count, last, answer) in cases {
-        assert!(rt;
-            read_made(alloc, with_repeated(alloc, first, part, count, last)) == answer,
-            "{count}"
-        );
+fn check_repeated(rt: &impl Abort, alloc: Global, cases: &[Repeated]) {
+    for (place, case) in cases.iter().enumerate() {
+        assert!(rt; is_told(alloc, case), "{place}");
     }
+}
+
+fn is_told(alloc: Global, case: &Repeated) -> bool {
+    let (first, part, count, last, answer) = *case;
+    read_made(alloc, with_repeated(alloc, first, part, count, last)) == answer
 }
 
 fn with_repeated(

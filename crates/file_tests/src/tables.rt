@@ -131,10 +131,12 @@ fn groups(rt: HostRuntime) {
 }
 
 fn check_file(rt: &impl Abort, alloc: Global, text: &str, wanted: &Wanted) {
-    match Table::read(alloc, text) {
-        Ok(table) => check_table(rt, &table, wanted),
-        Err(_) => panic!(rt; "the table"),
-    }
+    let table = read_table(rt, alloc, text);
+    check_table(rt, &table, wanted);
+}
+
+fn read_table(rt: &impl Abort, alloc: Global, text: &str) -> Table {
+    Table::read(alloc, text).expect(rt, "the table")
 }
 
 fn check_table(rt: &impl Abort, table: &Table, wanted: &Wanted) {
@@ -211,10 +213,12 @@ fn group_end_of(table: &Table, handle: u16) -> u16 {
 
 #[test]
 fn code_of_the_door(rt: HostRuntime) {
-    match Table::read(rt.alloc(), DOOR) {
-        Ok(table) => assert!(&rt; has_code(&table)),
-        Err(fault) => assert_eq!(&rt; fault.number(), 0),
-    }
+    let table = read_table(&rt, rt.alloc(), DOOR);
+    check_code(&rt, &table);
+}
+
+fn check_code(rt: &impl Abort, table: &Table) {
+    assert!(rt; has_code(table));
 }
 
 fn has_code(table: &Table) -> bool {
