@@ -59,11 +59,11 @@ fn joined(rt: &impl Abort, packets: &[&str]) -> Octets {
 /// Takes in two pieces.
 fn feed_both(rt: &impl Abort, alloc: Global, pieces: (&[u8], &[u8]), written: &mut Written) {
     let mut host = opened(rt, alloc, SETTING);
-    assert!(rt; takes_both(&mut host, pieces, written));
+    take_both(rt, &mut host, pieces, written);
 }
 
-fn takes_both(host: &mut Host, pieces: (&[u8], &[u8]), written: &mut Written) -> bool {
-    feed(host, pieces.0, written).is_ok() && feed(host, pieces.1, written).is_ok()
+fn take_both(rt: &impl Abort, host: &mut Host, pieces: (&[u8], &[u8]), written: &mut Written) {
+    assert!(rt; feed(host, pieces.0, written).is_ok() && feed(host, pieces.1, written).is_ok());
 }
 
 /// Cuts the stream at every place.
@@ -87,17 +87,15 @@ fn end_everywhere(rt: &impl Abort, alloc: Global, told: &[u8], wanted: &[u8]) {
 /// Takes in octet by octet.
 fn feed_each(rt: &impl Abort, alloc: Global, told: &[u8], wanted: &[u8]) {
     let mut host = opened(rt, alloc, SETTING);
-    assert!(rt; takes_each(&mut host, told, wanted));
+    take_each(rt, &mut host, told, wanted);
 }
 
-fn takes_each(host: &mut Host, told: &[u8], wanted: &[u8]) -> bool {
+fn take_each(rt: &impl Abort, host: &mut Host, told: &[u8], wanted: &[u8]) {
     let mut written = Written::new();
     for octet in told.chunks(1) {
-        if feed(host, octet, &mut written).is_err() {
-            return false;
-        }
+        assert!(rt; feed(host, octet, &mut written).is_ok());
     }
-    written.octets() == wanted
+    assert!(rt; written.octets() == wanted);
 }
 
 #[test]

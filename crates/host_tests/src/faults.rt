@@ -4,6 +4,8 @@ use crate::peers::Who::Stranger;
 use crate::player::{Setting, Step, play};
 use att_table::examples::DOOR;
 use gatt_host::{App, AppFault, HostFault};
+use std::alloc::Global;
+use std::process::Abort;
 
 const SETTING: Setting<'static> = Setting {
     table: DOOR,
@@ -49,9 +51,13 @@ const ERROR: &[Step] = &[
 fn faults(rt: HostRuntime) {
     play(&rt, rt.alloc(), SETTING, REFUSED);
     play(&rt, rt.alloc(), SETTING, LOST);
-    play(&rt, rt.alloc(), SETTING, SHORT);
-    play(&rt, rt.alloc(), SETTING, WITHOUT_SUBEVENT);
-    play(&rt, rt.alloc(), SETTING, ERROR);
+    stop(&rt, rt.alloc());
+}
+
+fn stop(rt: &impl Abort, alloc: Global) {
+    play(rt, alloc, SETTING, SHORT);
+    play(rt, alloc, SETTING, WITHOUT_SUBEVENT);
+    play(rt, alloc, SETTING, ERROR);
 }
 
 #[test]

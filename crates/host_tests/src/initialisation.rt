@@ -131,11 +131,25 @@ const WITHOUT_A_FAULT: &[(usize, &str, &str)] = &[
     (1, "0240200700030004000a0300", ""),
 ];
 
-/// A host after so many exchanges.
-fn after(rt: &impl Abort, alloc: Global, count: usize) -> Host {
+/// What comes after so many exchanges: octets that have a fault, or a further exchange.
+#[derive(Clone, Copy)]
+enum Last<'a> {
+    Fault(&'a str, HostFault),
+    Exchange(&'a str, &'a str),
+}
+
+/// Makes so many exchanges with a new host, and then the last one.
+fn exchange_with_new(rt: &impl Abort, alloc: Global, count: usize, last: Last<'_>) {
     let mut host = opened(rt, alloc, SETTING);
-    exchange_first(rt, &mut host, 64, count, &EXCHANGES);
-    host
+    exchange_up_to(rt, &mut host, count, last);
+}
+
+fn exchange_up_to(rt: &impl Abort, host: &mut Host, count: usize, last: Last<'_>) {
+    exchange_first(rt, host, 64, count, &EXCHANGES);
+    match last {
+        Last::Fault(octets, fault) => stop(rt, host, octets, fault),
+        Last::Exchange(octets, wanted) => exchange(rt, host, 64, octets, wanted),
+    }
 }
 
 /// Takes in octets that have a fault, before anything goes out.
@@ -150,15 +164,13 @@ fn stop(rt: &impl Abort, host: &mut Host, octets: &str, fault: HostFault) {
 
 fn check_faults(rt: &impl Abort, alloc: Global, cases: &[(usize, &str, HostFault)]) {
     for (count, octets, fault) in cases {
-        let mut host = after(rt, alloc, *count);
-        stop(rt, &mut host, octets, *fault);
+        exchange_with_new(rt, alloc, *count, Last::Fault(octets, *fault));
     }
 }
 
 fn check_others(rt: &impl Abort, alloc: Global, cases: &[(usize, &str, &str)]) {
     for (count, octets, wanted) in cases {
-        let mut host = after(rt, alloc, *count);
-        exchange(rt, &mut host, 64, octets, wanted);
+        exchange_with_new(rt, alloc, *count, Last::Exchange(octets, wanted));
     }
 }
 

@@ -143,6 +143,7 @@ const ONE_FULL_QUEUE: &[Step] = &[
 fn nothing_crosses(rt: HostRuntime) {
     ask_both(&rt, rt.alloc(), ASKED_OF_A_HIDDEN_VALUE);
     hold_nothing_up(&rt, rt.alloc());
+    play(&rt, rt.alloc(), ONE_EACH, ONE_FULL_QUEUE);
 }
 
 /// Makes the same steps at both tables.
@@ -154,5 +155,4 @@ fn ask_both(rt: &impl Abort, alloc: Global, steps: &[Step]) {
 fn hold_nothing_up(rt: &impl Abort, alloc: Global) {
     play(rt, alloc, ONE_EACH, COMPLETED_FOR_ANOTHER);
     play(rt, alloc, ONE_EACH, AFTER_A_DISCONNECTION);
-    play(rt, alloc, ONE_EACH, ONE_FULL_QUEUE);
 }

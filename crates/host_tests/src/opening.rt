@@ -46,18 +46,20 @@ fn fault_of(rt: &impl Abort, alloc: Global, config: Config) -> Option<OpenFault>
 }
 
 fn check(rt: &impl Abort, alloc: Global, cases: &[Case]) {
-    for &(slots, rx_mtu, address, fault) in cases {
-        let config = Config {
-            slots,
-            rx_mtu,
-            address,
-            advertising: ArrayVec::new(),
-        };
-        assert!(rt;
-            fault_of(rt, alloc, config) == fault,
-            "{slots} {rx_mtu} {address:?}"
-        );
+    for (place, case) in cases.iter().enumerate() {
+        assert!(rt; is_fault(rt, alloc, case), "{place}");
     }
+}
+
+fn is_fault(rt: &impl Abort, alloc: Global, case: &Case) -> bool {
+    let (slots, rx_mtu, address, fault) = *case;
+    let config = Config {
+        slots,
+        rx_mtu,
+        address,
+        advertising: ArrayVec::new(),
+    };
+    fault_of(rt, alloc, config) == fault
 }
 
 #[test]
@@ -65,7 +67,11 @@ fn configurations(rt: HostRuntime) {
     check(&rt, rt.alloc(), &CASES);
 }
 
-/// Whether Reset goes out at once, and nothing more before the controller answers.
+/// Reset goes out at once, and nothing more before the controller answers.
+fn check_first(rt: &impl Abort, host: &mut Host) {
+    assert!(rt; is_reset_first(host));
+}
+
 fn is_reset_first(host: &mut Host) -> bool {
     let mut written = Written::new();
     !host.drained()
@@ -86,5 +92,5 @@ const SETTING: Setting<'static> = Setting {
 #[test]
 fn first_command(rt: HostRuntime) {
     let mut host = opened(&rt, rt.alloc(), SETTING);
-    assert!(&rt; is_reset_first(&mut host));
+    check_first(&rt, &mut host);
 }

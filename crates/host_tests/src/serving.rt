@@ -31,9 +31,14 @@ const CASES: &[(u64, Result<End, HostFault>)] = &[
 
 fn serve_each(rt: &impl Abort, alloc: Global, cases: &[(u64, Result<End, HostFault>)]) {
     for (turns, outcome) in cases {
-        let mut host = opened(rt, alloc, SETTING);
-        assert!(rt; is_outcome(&mut host, *turns, *outcome), "{turns}");
+        assert!(rt; leads_to(rt, alloc, *turns, *outcome), "{turns}");
     }
+}
+
+/// The same of a new host.
+fn leads_to(rt: &impl Abort, alloc: Global, turns: u64, outcome: Result<End, HostFault>) -> bool {
+    let mut host = opened(rt, alloc, SETTING);
+    is_outcome(&mut host, turns, outcome)
 }
 
 #[test]

@@ -100,12 +100,12 @@ const ENCRYPTION_LOST: &[Step] = &[
 
 #[test]
 fn shares(rt: HostRuntime) {
-    fill_shares(&rt, rt.alloc());
+    fill_shares(&rt, rt.alloc(), COMPLETED);
+    fill_shares(&rt, rt.alloc(), NEVER_COMPLETED);
     play(&rt, rt.alloc(), ONE_ALONE, TOO_MANY_READS);
     play(&rt, rt.alloc(), ONE_EACH, ENCRYPTION_LOST);
 }
 
-fn fill_shares(rt: &impl Abort, alloc: Global) {
-    play(rt, alloc, TWO_EACH, COMPLETED);
-    play(rt, alloc, TWO_EACH, NEVER_COMPLETED);
+fn fill_shares(rt: &impl Abort, alloc: Global, steps: &[Step]) {
+    play(rt, alloc, TWO_EACH, steps);
 }
