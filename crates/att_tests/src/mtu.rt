@@ -1,7 +1,6 @@
 use crate::session::Step::{Long, Mtu, Pdu};
 use crate::session::{Step, play, play_limited};
 use att_table::examples::DOOR;
-use std::test::Fail;
 
 const OF_247: [Step; 7] = [
     Mtu(23),
@@ -25,11 +24,11 @@ const OF_THE_LEAST: [Step; 2] = [Pdu("02f700", "031700"), Mtu(23)];
 const OF_THE_LARGEST: [Step; 2] = [Pdu("02ffff", "030502"), Mtu(517)];
 
 #[test]
-fn exchanges_of_the_mtu(rt: HostRuntime) -> Result<(), Fail> {
-    play(&rt, rt.alloc(), DOOR, &OF_247)?;
-    play(&rt, rt.alloc(), DOOR, &BELOW_THE_LEAST)?;
-    play_limited(&rt, rt.alloc(), DOOR, 23, &OF_THE_LEAST)?;
-    play_limited(&rt, rt.alloc(), DOOR, 517, &OF_THE_LARGEST)
+fn exchanges_of_the_mtu(rt: HostRuntime) {
+    play(&rt, rt.alloc(), DOOR, &OF_247);
+    play(&rt, rt.alloc(), DOOR, &BELOW_THE_LEAST);
+    play_limited(&rt, rt.alloc(), DOOR, 23, &OF_THE_LEAST);
+    play_limited(&rt, rt.alloc(), DOOR, 517, &OF_THE_LARGEST);
 }
 
 /// A value of 512 octets is written and read whole at the largest ATT_MTU, and its first 253 octets
@@ -44,6 +43,6 @@ const THE_LARGEST_VALUE: [Step; 6] = [
 ];
 
 #[test]
-fn the_largest_value(rt: HostRuntime) -> Result<(), Fail> {
-    play_limited(&rt, rt.alloc(), DOOR, 517, &THE_LARGEST_VALUE)
+fn the_largest_value(rt: HostRuntime) {
+    play_limited(&rt, rt.alloc(), DOOR, 517, &THE_LARGEST_VALUE);
 }

@@ -6,7 +6,6 @@ use le_security::examples::{KEYS, SECURE_KEY};
 use le_security::{Keys, Link, LinkChange};
 use std::alloc::Global;
 use std::process::Abort;
-use std::test::Fail;
 
 /// Who a client is.
 #[derive(Clone, Copy)]
@@ -45,17 +44,16 @@ fn peer(kind: u8, address: [u8; 6]) -> Peer {
 
 /// What the policy sees of a client over a link that is not encrypted, or is by the key that it was
 /// asked for, until it is authorized no more.
-pub fn standing(
-    rt: &impl Abort,
-    alloc: Global,
-    who: Who,
-    encrypted: bool,
-    until: u64,
-) -> Result<Standing, Fail> {
-    let text = format!(in alloc; "{KEYS}{SECURE_KEY}")?;
-    match Keys::read(alloc, &text) {
-        Ok(keys) => Ok(standing_by(rt, &keys, who, encrypted, until)),
-        Err(_) => panic!(rt; "the keys"),
+pub fn standing(rt: &impl Abort, alloc: Global, who: Who, encrypted: bool, until: u64) -> Standing {
+    let keys = read_keys(rt, alloc);
+    standing_by(rt, &keys, who, encrypted, until)
+}
+
+/// The keys of both example files.
+fn read_keys(rt: &impl Abort, alloc: Global) -> Keys {
+    match format!(in alloc; "{KEYS}{SECURE_KEY}") {
+        Ok(text) => Keys::read(alloc, &text).expect(rt, "the keys"),
+        Err(_) => panic!(rt; "memory"),
     }
 }
 

@@ -4,7 +4,6 @@ use crate::session::Step::{
 };
 use crate::session::{Step, play, play_limited};
 use att_table::examples::DOOR;
-use std::test::Fail;
 
 /// Unknown flags leave what is prepared.
 const TWO_CLIENTS: [Step; 16] = [
@@ -27,8 +26,8 @@ const TWO_CLIENTS: [Step; 16] = [
 ];
 
 #[test]
-fn two_clients(rt: HostRuntime) -> Result<(), Fail> {
-    play(&rt, rt.alloc(), DOOR, &TWO_CLIENTS)
+fn two_clients(rt: HostRuntime) {
+    play(&rt, rt.alloc(), DOOR, &TWO_CLIENTS);
 }
 
 /// All is written or nothing, and nothing is left prepared in both cases. Each part is judged by what
@@ -52,8 +51,8 @@ const EXECUTIONS: [Step; 15] = [
 ];
 
 #[test]
-fn executions(rt: HostRuntime) -> Result<(), Fail> {
-    play(&rt, rt.alloc(), DOOR, &EXECUTIONS)
+fn executions(rt: HostRuntime) {
+    play(&rt, rt.alloc(), DOOR, &EXECUTIONS);
 }
 
 /// The offset of the third is 0x0300, and its part is empty.
@@ -75,8 +74,8 @@ const OF_CONFIGURATIONS: [Step; 14] = [
 ];
 
 #[test]
-fn configurations(rt: HostRuntime) -> Result<(), Fail> {
-    play(&rt, rt.alloc(), DOOR, &OF_CONFIGURATIONS)
+fn configurations(rt: HostRuntime) {
+    play(&rt, rt.alloc(), DOOR, &OF_CONFIGURATIONS);
 }
 
 /// The most prepared writes, all of one value.
@@ -88,8 +87,8 @@ const THIRTY_TWO: [Step; 4] = [
 ];
 
 #[test]
-fn thirty_two(rt: HostRuntime) -> Result<(), Fail> {
-    play(&rt, rt.alloc(), DOOR, &THIRTY_TWO)
+fn thirty_two(rt: HostRuntime) {
+    play(&rt, rt.alloc(), DOOR, &THIRTY_TWO);
 }
 
 /// The most octets of parts, in two parts of the largest value.
@@ -104,8 +103,8 @@ const LARGEST: [Step; 7] = [
 ];
 
 #[test]
-fn a_thousand_and_twenty_four_octets(rt: HostRuntime) -> Result<(), Fail> {
-    play_limited(&rt, rt.alloc(), DOOR, 517, &LARGEST)
+fn a_thousand_and_twenty_four_octets(rt: HostRuntime) {
+    play_limited(&rt, rt.alloc(), DOOR, 517, &LARGEST);
 }
 
 /// The policy is that of the execution, whatever it was when the parts were prepared.
@@ -143,8 +142,8 @@ const POLICY_OF_THE_EXECUTION: [Step; 30] = [
 ];
 
 #[test]
-fn policy_of_the_execution(rt: HostRuntime) -> Result<(), Fail> {
-    play(&rt, rt.alloc(), DOOR, &POLICY_OF_THE_EXECUTION)
+fn policy_of_the_execution(rt: HostRuntime) {
+    play(&rt, rt.alloc(), DOOR, &POLICY_OF_THE_EXECUTION);
 }
 
 const OFFSETS_AND_LENGTHS: [Step; 11] = [
@@ -162,8 +161,8 @@ const OFFSETS_AND_LENGTHS: [Step; 11] = [
 ];
 
 #[test]
-fn offsets_and_lengths(rt: HostRuntime) -> Result<(), Fail> {
-    play(&rt, rt.alloc(), DOOR, &OFFSETS_AND_LENGTHS)
+fn offsets_and_lengths(rt: HostRuntime) {
+    play(&rt, rt.alloc(), DOOR, &OFFSETS_AND_LENGTHS);
 }
 
 const CANCELLED: [Step; 4] = [
@@ -174,6 +173,6 @@ const CANCELLED: [Step; 4] = [
 ];
 
 #[test]
-fn cancelled_by_the_server(rt: HostRuntime) -> Result<(), Fail> {
-    play(&rt, rt.alloc(), DOOR, &CANCELLED)
+fn cancelled_by_the_server(rt: HostRuntime) {
+    play(&rt, rt.alloc(), DOOR, &CANCELLED);
 }

@@ -2,7 +2,8 @@ use crate::peers::Who::{Phone, Tablet, TabletByItsShortKey, Watch};
 use crate::session::Step::{Authorized, Encrypted, Pdu, Plain};
 use crate::session::{Step, play};
 use att_table::examples::{BELL, DOOR};
-use std::test::Fail;
+use std::alloc::Global;
+use std::process::Abort;
 
 /// PDUs of a stranger to the door.
 const OF_THE_DOOR: [Step; 35] = [
@@ -47,8 +48,8 @@ const OF_THE_DOOR: [Step; 35] = [
 ];
 
 #[test]
-fn answers_of_the_door(rt: HostRuntime) -> Result<(), Fail> {
-    play(&rt, rt.alloc(), DOOR, &OF_THE_DOOR)
+fn answers_of_the_door(rt: HostRuntime) {
+    play(&rt, rt.alloc(), DOOR, &OF_THE_DOOR);
 }
 
 const OF_THE_PHONE: [Step; 8] = [
@@ -63,8 +64,8 @@ const OF_THE_PHONE: [Step; 8] = [
 ];
 
 #[test]
-fn reads_of_the_phone(rt: HostRuntime) -> Result<(), Fail> {
-    play(&rt, rt.alloc(), DOOR, &OF_THE_PHONE)
+fn reads_of_the_phone(rt: HostRuntime) {
+    play(&rt, rt.alloc(), DOOR, &OF_THE_PHONE);
 }
 
 /// A value that needs an authenticated key of 16 octets, and an authorization.
@@ -82,8 +83,8 @@ const OF_THE_TABLET: [Step; 10] = [
 ];
 
 #[test]
-fn reads_of_the_tablet(rt: HostRuntime) -> Result<(), Fail> {
-    play(&rt, rt.alloc(), DOOR, &OF_THE_TABLET)
+fn reads_of_the_tablet(rt: HostRuntime) {
+    play(&rt, rt.alloc(), DOOR, &OF_THE_TABLET);
 }
 
 /// The same value, where it also needs a key of LE Secure Connections.
@@ -99,13 +100,15 @@ const OF_THE_WATCH: [Step; 8] = [
 ];
 
 #[test]
-fn reads_of_a_secure_value(rt: HostRuntime) -> Result<(), Fail> {
-    let text = DOOR.replace(
+fn reads_of_a_secure_value(rt: HostRuntime) {
+    match DOOR.replace(
         rt.alloc(),
         "authorized = true",
         "authorized = true, secure = true",
-    )?;
-    play(&rt, rt.alloc(), &text, &OF_THE_WATCH)
+    ) {
+        Ok(text) => play(&rt, rt.alloc(), &text, &OF_THE_WATCH),
+        Err(_) => panic!(&rt; "memory"),
+    }
 }
 
 /// Requests that read, of a stranger.
@@ -135,10 +138,17 @@ const OF_A_STRANGER: [Step; 18] = [
 
 /// Another value where the client may not read changes no answer.
 #[test]
-fn reads_of_a_stranger(rt: HostRuntime) -> Result<(), Fail> {
-    play(&rt, rt.alloc(), DOOR, &OF_A_STRANGER)?;
-    let other = DOOR.replace(rt.alloc(), "value = \"02\"", "value = \"09\"")?;
-    play(&rt, rt.alloc(), &other, &OF_A_STRANGER)
+fn reads_of_a_stranger(rt: HostRuntime) {
+    match DOOR.replace(rt.alloc(), "value = \"02\"", "value = \"09\"") {
+        Ok(other) => play_both(&rt, rt.alloc(), &other, &OF_A_STRANGER),
+        Err(_) => panic!(&rt; "memory"),
+    }
+}
+
+/// Makes the steps with the table of the door, and with another one.
+fn play_both(rt: &impl Abort, alloc: Global, other: &str, steps: &[Step]) {
+    play(rt, alloc, DOOR, steps);
+    play(rt, alloc, other, steps);
 }
 
 const OF_THE_BELL: [Step; 5] = [
@@ -150,6 +160,6 @@ const OF_THE_BELL: [Step; 5] = [
 ];
 
 #[test]
-fn answers_of_the_bell(rt: HostRuntime) -> Result<(), Fail> {
-    play(&rt, rt.alloc(), BELL, &OF_THE_BELL)
+fn answers_of_the_bell(rt: HostRuntime) {
+    play(&rt, rt.alloc(), BELL, &OF_THE_BELL);
 }

@@ -1,6 +1,6 @@
 //! Sessions of two clients with one table, step by step.
 
-ghost use Rattle.std.specs.Prelude.{◌≡◌, ◌≤◌, [], IfOk};
+ghost use Rattle.std.specs.Prelude.{◌≡◌, ◌≤◌, []};
 ghost use Rattle.att_table.specs.ConfigRow.{IsRowOf};
 
 use crate::peers::{Who, standing};
@@ -10,7 +10,6 @@ use att_table::{ConfigRow, Table};
 use gatt_conn::{Conn, answer};
 use std::alloc::Global;
 use std::process::Abort;
-use std::test::Fail;
 
 /// One step of a session. PDUs are hexadecimal, and an answer is empty where none is due.
 #[derive(Clone, Copy)]
@@ -48,57 +47,59 @@ struct Client {
 }
 
 /// Makes the steps of a session with a new table, whose server receives PDUs of at most 247 octets.
-pub fn play(rt: &impl Abort, alloc: Global, text: &str, steps: &[Step]) -> Result<(), Fail> {
-    play_limited(rt, alloc, text, 247, steps)
+pub fn play(rt: &impl Abort, alloc: Global, text: &str, steps: &[Step]) {
+    play_limited(rt, alloc, text, 247, steps);
 }
 
 /// The same of a server that receives PDUs of at most `rx_mtu` octets.
-pub fn play_limited(
-    rt: &impl Abort,
-    alloc: Global,
-    text: &str,
-    rx_mtu: u16,
-    steps: &[Step],
-) -> Result<(), Fail>
+pub fn play_limited(rt: &impl Abort, alloc: Global, text: &str, rx_mtu: u16, steps: &[Step])
     requires least { 23 ≤ rx_mtu }
     requires most { rx_mtu ≤ 517 }
 {
     let mut table = Table::read(alloc, text).expect(rt, "the table");
-    let mut first = new_client(alloc, rx_mtu)?;
-    let mut second = new_client(alloc, rx_mtu)?;
+    let mut first = new_client(rt, alloc, rx_mtu);
+    let mut second = new_client(rt, alloc, rx_mtu);
+    make_all(rt, alloc, &mut table, &mut first, &mut second, steps);
+}
+
+fn new_client(rt: &impl Abort, alloc: Global, rx_mtu: u16) -> Client
+    requires least { 23 ≤ rx_mtu }
+    requires most { rx_mtu ≤ 517 }
+    ensures { result.row ≡ [] }
+{
+    let mut conn = Conn::new(alloc).expect(rt, "memory");
+    conn.limit(rx_mtu);
+    Client {
+        row: ConfigRow::new(),
+        conn,
+    }
+}
+
+/// Makes the steps, each of the client that speaks then.
+fn make_all(
+    rt: &impl Abort,
+    alloc: Global,
+    table: &mut Table,
+    first: &mut Client,
+    second: &mut Client,
+    steps: &[Step],
+)
+    requires first { IsRowOf table.old.attributes first.old.row }
+    requires second { IsRowOf table.old.attributes second.old.row }
+{
     let mut second_speaks = false;
     for &step in steps {
         match step {
             Step::Second => second_speaks = true,
             Step::First => second_speaks = false,
-            _ if second_speaks => make(rt, alloc, &mut table, &mut second, step)?,
-            _ => make(rt, alloc, &mut table, &mut first, step)?,
+            _ if second_speaks => make(rt, alloc, table, second, step),
+            _ => make(rt, alloc, table, first, step),
         }
     }
-    Ok(())
-}
-
-fn new_client(alloc: Global, rx_mtu: u16) -> Result<Client, Fail>
-    requires least { 23 ≤ rx_mtu }
-    requires most { rx_mtu ≤ 517 }
-    ensures { IfOk result (λ client. client.row ≡ []) }
-{
-    let mut conn = Conn::new(alloc)?;
-    conn.limit(rx_mtu);
-    Ok(Client {
-        row: ConfigRow::new(),
-        conn,
-    })
 }
 
 /// Makes one step of a client.
-fn make(
-    rt: &impl Abort,
-    alloc: Global,
-    table: &mut Table,
-    client: &mut Client,
-    step: Step,
-) -> Result<(), Fail>
+fn make(rt: &impl Abort, alloc: Global, table: &mut Table, client: &mut Client, step: Step)
     requires row { IsRowOf table.old.attributes client.old.row }
     ensures attributes { table.new.attributes ≡ table.old.attributes }
     ensures row { IsRowOf table.new.attributes client.new.row }
@@ -117,14 +118,13 @@ fn make(
                 exchange(rt, table, client, pdu, 0, wanted, 0, None);
             }
         }
-        Step::Plain(who) => client.conn.stand(standing(rt, alloc, who, false, 0)?),
-        Step::Encrypted(who) => client.conn.stand(standing(rt, alloc, who, true, 0)?),
-        Step::Authorized(who) => client.conn.stand(standing(rt, alloc, who, true, u64::MAX)?),
-        Step::Mtu(mtu) => assert_eq!(rt; client.conn.mtu(), mtu),
+        Step::Plain(who) => client.conn.stand(standing(rt, alloc, who, false, 0)),
+        Step::Encrypted(who) => client.conn.stand(standing(rt, alloc, who, true, 0)),
+        Step::Authorized(who) => client.conn.stand(standing(rt, alloc, who, true, u64::MAX)),
+        Step::Mtu(mtu) => assert!(rt; client.conn.mtu() == mtu, "{mtu}"),
         Step::Cancel => client.conn.cancel(),
         Step::NewRow => client.row = ConfigRow::new(),
     }
-    Ok(())
 }
 
 /// Serves a PDU, and compares its answer and the handles that it wrote.

@@ -1,5 +1,5 @@
 use Rattle.att_table.specs.ConfigRow.{IsRowOf}
-use Rattle.att_tests.proofs.session.play_limited.Given as goal
+use Rattle.att_tests.proofs.session.make_all.Given as goal
 
 -- the rows of both clients stay rows of the table
 abbrev pub invariant-loop-step : goal.invariant-loop-step
