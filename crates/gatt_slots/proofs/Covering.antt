@@ -156,6 +156,17 @@ module _ (test : Option Kept → Bool) (slot : Option Kept) where
       let parts = no-first (test first) (list_any test slots) none in
       neither (test first) (list_any test (set slots place slot)) parts.0 (none_with slots place parts.1 keeps)
 
+-- where nothing waits at any place, nothing waits
+pub none_waits : (slots : Held) (waiting : Bool) → ((place : ℕ) → place < length slots → waits (kept_at slots place) ≡ true → waiting ≡ true) → waiting ≡ false
+    → list_any waits slots ≡ false
+none_waits [] waiting so none = refl
+none_waits (slot ∷ slots) waiting so none =
+    λ i. idle (waits slot) (so zero (omega arith)) i || none_waits slots waiting (λ place within. so (suc place) (omega (arith, within))) none i
+  where
+    idle : (test : Bool) → (test ≡ true → waiting ≡ true) → test ≡ false
+    idle true is = clash (is refl) none
+    idle false is = refl
+
 -- the marks after a change of one slot
 module _ (slots : Held) (place : ℕ) (slot : Option Kept) (old new : Marks) (marked : IsMarked slots old)
     (packets : bit_at new.packets.bits place ≡ 1) (other_packets : (other : ℕ) → other ≢ place → bit_at new.packets.bits other ≡ bit_at old.packets.bits other) where

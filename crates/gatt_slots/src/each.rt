@@ -67,12 +67,13 @@ pub(crate) fn hear_all(
     ensures { slots.new ≡ all_heard table.now now rows.now own here.now handles.now slots.old }
 {
     for place in 0..slots.len() {
-        slots[place].hear(table, rows, raised_for(place, own, here, handles), now);
+        slots[place].hear(table, rows, place, own, here, handles, now);
     }
 }
 
 /// The values that are raised for the connection of a slot.
-fn raised_for<'a>(
+#[inline(always)]
+pub(crate) fn raised_for<'a>(
     place: usize,
     own: Option<usize>,
     here: &'a [u16],

@@ -7,10 +7,12 @@ ghost use Rattle.att_table.specs.Table.{attribute_at, is_value_at, value_at};
 ghost use Rattle.gatt_laws.specs.Heard.{att_pdu};
 ghost use Rattle.gatt_slots.specs.Hearing.{after_hearing, row_in_force, told_in_turn, told_raised, told_released, with_told};
 ghost use Rattle.gatt_slots.specs.Places.{waits};
+ghost use Rattle.gatt_slots.specs.Slots.{handles_for, heard_by};
 ghost use Rattle.gatt_subs.specs.Rows.{owes, row_of};
 ghost use Rattle.le_acl.specs.Outgoing.{with_pdu};
 ghost use Rattle.octets.specs.Number.{two_octets};
 
+use crate::each::raised_for;
 use crate::slot::{Slot, Use};
 use att_numbers::opcode::{HANDLE_VALUE_INDICATION, HANDLE_VALUE_NOTIFICATION};
 use att_policy::Standing;
@@ -153,14 +155,25 @@ fn is_empty(row: &ConfigRow) -> bool
 }
 
 impl Slot {
-    /// Tells the connection of values that were written, and then what is due.
+    /// Tells the connection of the values that were raised for it, and then what is due: the slot is at
+    /// this place, and of `here` the connection of the slot `own` hears, of `handles` each other.
     #[tactic(auto, using(crate::proofs::Quiet::nothing_heard))]
-    pub fn hear(&mut self, table: &Table, rows: &Rows, handles: &[u16], now: u64)
-        ensures { self.new ≡ option_map (λ kept. after_hearing table.now now (row_of rows.now kept.peer) handles.now kept) self.old }
+    pub(crate) fn hear(
+        &mut self,
+        table: &Table,
+        rows: &Rows,
+        place: usize,
+        own: Option<usize>,
+        here: &[u16],
+        handles: &[u16],
+        now: u64,
+    )
+        ensures { self.new ≡ heard_by table.now now rows.now (handles_for own here.now handles.now place) self.old }
     {
         if self.used != Use::Live {
             return;
         }
+        let handles = raised_for(place, own, here, handles);
         // Most events tell a connection nothing.
         if handles.is_empty() && !self.pending.waits() {
             return;

@@ -1,6 +1,6 @@
 //! The slots of a host, as one value that knows where something may be due.
 
-ghost use Rattle.std.specs.Prelude.{◌≡◌, ◌<◌, ◌≤◌, ◌^◌, length, map, replicate, take, None, Some, IfOk, IfSome, IsSome};
+ghost use Rattle.std.specs.Prelude.{◌≡◌, false, ◌<◌, ◌≤◌, ◌^◌, length, map, replicate, take, None, Some, IfOk, IfSome, IsSome};
 ghost use Rattle.std.specs.List.{list_any};
 ghost use Rattle.att_table.specs.ConfigRow.{IsRowOf};
 ghost use Rattle.gatt_laws.specs.Turn.{gained_encryption};
@@ -280,12 +280,9 @@ impl Slots {
         ensures heard { self.new ≡ all_heard table.now now rows.now own here.now handles.now self.old }
         ensures count { length self.new ≡ length self.old }
     {
+        let before = self.marks;
         hear_in(&mut self.slots, table, rows, own, here, handles, now);
-        self.marks = Marks {
-            packets: places_that_give(self.slots.as_slice()),
-            waiting: any_waits(self.slots.as_slice()),
-            ..self.marks
-        };
+        self.marks = heard_marks(self.slots.as_slice(), before);
     }
 }
 
@@ -305,25 +302,30 @@ fn hear_in(
     hear_all(slots.as_mut_slice(), table, rows, own, here, handles, now);
 }
 
-/// Where a packet may be given.
-fn places_that_give(slots: &[Slot]) -> Places
+/// The marks once all have heard: where a packet may be given, and whether a value waits.
+#[tactic(auto, using(crate::proofs::Covering::none_waits))]
+fn heard_marks(slots: &[Slot], before: Marks) -> Marks
     requires { length slots.now ≤ 8 }
-    ensures { Covers Packet result.bits slots.now }
+    ensures packets { Covers Packet result.packets.bits slots.now }
+    ensures waiting { result.waiting ≡ false → list_any waits slots.now ≡ false }
+    ensures commands { result.commands ≡ before.commands }
+    ensures free { result.free ≡ before.free }
 {
-    let mut places = Places::NONE;
+    let mut packets = Places::NONE;
+    let mut waiting = false;
     for place in 0..slots.len() {
         if slots[place].gives() {
-            places.add(place);
+            packets.add(place);
+        }
+        if slots[place].waits() {
+            waiting = true;
         }
     }
-    places
-}
-
-/// A value waits to be indicated to the connection of a slot.
-fn any_waits(slots: &[Slot]) -> bool
-    ensures { result ≡ list_any waits slots.now }
-{
-    slots.iter().any(|slot| slot.waits())
+    Marks {
+        packets,
+        waiting,
+        ..before
+    }
 }
 
 /// Free slots, as many.

@@ -1,5 +1,4 @@
-use Rattle.std.proofs.Common.{◌<◌, ℕ, List, Option, length, set, ap, sym, ◌∙◌, arith}
-use Rattle.att_numbers.specs.Types.{Handle}
+use Rattle.std.proofs.Common.{◌<◌, ℕ, Option, length, set, ap, sym, ◌∙◌, arith}
 use Rattle.gatt_slots.specs.Kept.{Kept}
 use Rattle.gatt_slots.specs.Slots.{heard_by, handles_for}
 use Rattle.gatt_slots.proofs.EachSlot.{heard_more}
@@ -13,6 +12,5 @@ loop-place-preserved c =
     let hear : ℕ → Option Kept → Option Kept =
     λ at slot. heard_by a.table.now a.now a.rows.now (handles_for a.own a.here.now a.handles.now at) slot in
     ap (λ (slot : Option Kept). set c.loop-place.slots place slot)
-    (c.hear.ensures ∙ ap (λ (slot : Option Kept). heard_by a.table.now a.now a.rows.now c.raised_for.result.now slot) (sym c.index-slots-place.is)
-    ∙ ap (λ (handles : List Handle). heard_by a.table.now a.now a.rows.now handles c.index-slots-place.result) c.raised_for.ensures)
+    (c.hear.ensures ∙ ap (λ (slot : Option Kept). hear place slot) (sym c.index-slots-place.is))
     ∙ heard_more hear a.slots.now c.loop-place.slots place c.index-slots-place.result within c.loop-place.invariant c.index-slots-place.is

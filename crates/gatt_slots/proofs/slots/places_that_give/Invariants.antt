@@ -1,8 +1,0 @@
-use Rattle.std.proofs.Common.{◌≡◌, ℕ, ◌<◌, true}
-use Rattle.std.specs.Int.{bit_at}
-use Rattle.gatt_slots.specs.Commands.{gives}
-use Rattle.gatt_slots.specs.Slots.{kept_at}
-use Rattle.gatt_slots.proofs.slots.places_that_give.Given as goal
-
-abbrev pub invariant-loop-place : goal.invariant-loop-place
-invariant-loop-place l = (place : ℕ) → place < l.place → gives (kept_at l.slots place) ≡ true → bit_at l.places.bits place ≡ 1
