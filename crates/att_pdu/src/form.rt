@@ -79,6 +79,7 @@ fn find_by_type_value(parameters: &[u8]) -> Option<Request<'_>>
 }
 
 /// Core 5.0, Vol 3 Part F, 3.4.4.1.
+#[inline(always)]
 fn read_by_type(parameters: &[u8]) -> Option<Request<'_>>
     ensures { IsForm READ_BY_TYPE_REQUEST parameters.now (read_by_type_form parameters.now) result }
 {
@@ -129,6 +130,7 @@ fn read_multiple(parameters: &[u8]) -> Option<Request<'_>>
 }
 
 /// Core 5.0, Vol 3 Part F, 3.4.4.9.
+#[inline(always)]
 fn read_by_group_type(parameters: &[u8]) -> Option<Request<'_>>
     ensures { IsForm READ_BY_GROUP_TYPE_REQUEST parameters.now (read_by_group_type_form parameters.now) result }
 {

@@ -20,6 +20,7 @@ use att_table::{ConfigRow, Table, Uncounted, is_service};
 /// Blob, Read Multiple or Read By Group Type (Core 5.0, Vol 3 Part F, 3.4.3 and 3.4.4). `row` is
 /// what the client has configured, `standing` what the policy sees of it, and `mtu` the ATT_MTU of
 /// `out`, which is empty. Any other request leaves it so.
+#[inline(always)]
 #[tactic(auto, using(crate::proofs::Alike::alike))]
 pub fn answer_read(
     table: &Table,
@@ -47,6 +48,7 @@ pub fn answer_read(
 }
 
 /// Answers a request of a client that reads.
+#[inline(always)]
 fn answer_to(reader: Reader<'_>, request: &Request<'_>, out: &mut PduBuf<'_>)
     requires { contents out.old ≡ [] }
     ensures answer { contents out.new ≡ sent_if_any (read_answer reader.entry.table.now reader.entry.row.now reader.entry.standing.now (mtu_of out.old) (asked request.now)) }

@@ -14,6 +14,7 @@ use att_numbers::{error_code, opcode};
 use att_pdu::PduBuf;
 
 /// Answers a Read Request.
+#[inline(always)]
 #[tactic(auto, unfolding(crate::specs::Answer::value_answer))]
 pub fn read(reader: Reader<'_>, handle: u16, out: &mut PduBuf<'_>)
     requires { contents out.old ≡ [] }
@@ -30,6 +31,7 @@ pub fn read(reader: Reader<'_>, handle: u16, out: &mut PduBuf<'_>)
 }
 
 /// Answers a Read Blob Request.
+#[inline(always)]
 #[tactic(auto, unfolding(crate::specs::Answer::part_answer))]
 pub fn read_blob(reader: Reader<'_>, handle: u16, offset: u16, out: &mut PduBuf<'_>)
     requires { contents out.old ≡ [] }

@@ -116,6 +116,7 @@ impl Sender {
 
     /// Writes the first packet not yet given in place of what `out` holds. There is none, and nothing
     /// changes, where no PDU is queued or as many packets are outstanding as may be.
+    #[inline(always)]
     pub fn next(&mut self, handle: u16, out: &mut ArrayVec<u8, 260>) -> bool
         requires { handle < 2 ^ 12 }
         ensures gives { result ≡ may_give self.old.outgoing }
