@@ -77,7 +77,6 @@ pub fn answer(
 }
 
 /// The same, with the handles that were written in place of what `touched` holds.
-#[tactic(auto, unfolding(att_pdu::specs::Form::form_of))]
 fn serve(
     table: &mut Table,
     row: &mut ConfigRow,
@@ -104,6 +103,54 @@ fn serve(
     ensures same_buffer { IsSameBuffer out.old out.new }
 {
     touched.clear();
+    // Each arm is a copy for one form, the frequent ones, in which the others are never asked for.
+    match pdu.first() {
+        Some(&opcode::READ_REQUEST) => serve_form(table, row, conn, pdu, out, touched),
+        Some(&opcode::READ_BLOB_REQUEST) => serve_form(table, row, conn, pdu, out, touched),
+        Some(&opcode::READ_BY_TYPE_REQUEST) => serve_form(table, row, conn, pdu, out, touched),
+        Some(&opcode::READ_BY_GROUP_TYPE_REQUEST) => serve_form(
+            table, row, conn, pdu, out, touched,
+        ),
+        Some(&opcode::FIND_INFORMATION_REQUEST) => serve_form(table, row, conn, pdu, out, touched),
+        Some(&opcode::FIND_BY_TYPE_VALUE_REQUEST) => serve_form(
+            table, row, conn, pdu, out, touched,
+        ),
+        Some(&opcode::WRITE_REQUEST) => serve_form(table, row, conn, pdu, out, touched),
+        Some(&opcode::WRITE_COMMAND) => serve_form(table, row, conn, pdu, out, touched),
+        Some(&opcode::PREPARE_WRITE_REQUEST) => serve_form(table, row, conn, pdu, out, touched),
+        _ => serve_form(table, row, conn, pdu, out, touched),
+    }
+}
+
+/// The same, where `touched` holds nothing yet.
+#[inline(always)]
+#[tactic(auto, unfolding(att_pdu::specs::Form::form_of))]
+fn serve_form(
+    table: &mut Table,
+    row: &mut ConfigRow,
+    conn: &mut Conn,
+    pdu: &[u8],
+    out: &mut PduBuf<'_>,
+    touched: &mut ArrayVec<u16, 32>,
+) -> Served
+    requires empty { contents out.old ≡ [] }
+    requires untouched { touched.old.items ≡ [] }
+    requires mtu { mtu_of out.old ≡ conn.old.mtu }
+    requires row { IsRowOf table.old.attributes row.old }
+
+    ensures answer { contents out.new ≡ sent_if_any (answer_to table.old row.old conn.old (request_of pdu.now conn.old.mtu)) }
+    ensures due { result.due ≡ is_some (answer_to table.old row.old conn.old (request_of pdu.now conn.old.mtu)) }
+    ensures confirmed { result.confirmed ≡ is_confirmation pdu.now }
+    ensures touched { touched.new.items ≡ handles_by table.old row.old conn.old (request_of pdu.now conn.old.mtu) }
+    ensures values { table.new.values ≡ (stored_by table.old row.old conn.old (request_of pdu.now conn.old.mtu)).values }
+    ensures row { row.new ≡ (stored_by table.old row.old conn.old (request_of pdu.now conn.old.mtu)).row }
+    ensures conn { conn.new ≡ conn_after table.old.attributes conn.old (request_of pdu.now conn.old.mtu) }
+
+    // What stays.
+    ensures attributes { table.new.attributes ≡ table.old.attributes }
+    ensures table { IsRowOf table.new.attributes row.new }
+    ensures same_buffer { IsSameBuffer out.old out.new }
+{
     match read_request(pdu, conn.mtu()) {
         Ok(Request::ExchangeMtu { client_rx_mtu }) => exchange_mtu(conn, client_rx_mtu, out),
         Ok(Request::Write { handle, value }) => write(
