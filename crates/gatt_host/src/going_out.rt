@@ -193,6 +193,7 @@ fn command_out(controller: &mut Controller, slots: &mut Slots, out: &mut ArrayVe
 /// Writes what goes out next in place of what `out` holds: a command that is due, while the controller
 /// takes any, and else a packet of the first slot that may give one. There is nothing, and nothing
 /// changes, once all is out.
+#[inline(always)]
 #[tactic(auto, using(crate::proofs::Entering::owes_what_an_event_brings))]
 pub fn next_out(controller: &mut Controller, slots: &mut Slots, out: &mut ArrayVec<u8, 260>) -> bool
     ensures goes { result ≡ is_some (next_out controller.old slots.old) }

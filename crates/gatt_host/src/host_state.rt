@@ -147,6 +147,7 @@ impl HostState {
     }
 
     /// A PDU of the Attribute Protocol comes from the connection of a slot.
+    #[inline(always)]
     pub(crate) fn ask(&mut self, place: usize, pdu: &[u8])
         requires place { place < length self.old.slots }
         requires there { IsSome (kept_at self.old place) }

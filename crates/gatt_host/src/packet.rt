@@ -22,6 +22,7 @@ use crate::host_fault::HostFault;
 use crate::host_state::HostState;
 use le_acl::{Piece, Reassembler, is_frame};
 use le_h4::PacketRef;
+use le_hci::event_code::NUMBER_OF_COMPLETED_PACKETS;
 use le_hci::{BadEvent, Event, read_event};
 use le_l2cap::channel::{ATT, LE_SIGNALLING, SECURITY_MANAGER};
 use le_l2cap::read_frame;
@@ -41,6 +42,38 @@ impl HostState {
         frames: &mut [Reassembler; 8],
         octets: &[u8],
     ) -> Result<(), HostFault>
+        ensures taken { IsOk result → TakesEvent (event_of octets.now) self.old self.new }
+        ensures frames { frames.new ≡ frames_after_event self.old (event_of octets.now) frames.old }
+        ensures stops { IfErr result (λ fault. event_stop (event_of octets.now) self.old ≡ Some fault) }
+        ensures unchanged { OnErr result (self.new ≡ self.old) }
+        ensures frames_unchanged { OnErr result (frames.new ≡ frames.old) }
+    {
+        // The event that follows each packet has a copy of its own, in which no other is asked for.
+        match octets.first() {
+            Some(&NUMBER_OF_COMPLETED_PACKETS) => self.take_event(frames, octets),
+            _ => self.take_other_event(frames, octets),
+        }
+    }
+
+    /// The same of the events that are rare.
+    #[inline(never)]
+    fn take_other_event(
+        &mut self,
+        frames: &mut [Reassembler; 8],
+        octets: &[u8],
+    ) -> Result<(), HostFault>
+        ensures taken { IsOk result → TakesEvent (event_of octets.now) self.old self.new }
+        ensures frames { frames.new ≡ frames_after_event self.old (event_of octets.now) frames.old }
+        ensures stops { IfErr result (λ fault. event_stop (event_of octets.now) self.old ≡ Some fault) }
+        ensures unchanged { OnErr result (self.new ≡ self.old) }
+        ensures frames_unchanged { OnErr result (frames.new ≡ frames.old) }
+    {
+        self.take_event(frames, octets)
+    }
+
+    /// The same of any event.
+    #[inline(always)]
+    fn take_event(&mut self, frames: &mut [Reassembler; 8], octets: &[u8]) -> Result<(), HostFault>
         ensures taken { IsOk result → TakesEvent (event_of octets.now) self.old self.new }
         ensures frames { frames.new ≡ frames_after_event self.old (event_of octets.now) frames.old }
         ensures stops { IfErr result (λ fault. event_stop (event_of octets.now) self.old ≡ Some fault) }
@@ -71,7 +104,18 @@ impl HostState {
         }
     }
 
+    /// Hears a frame that was put together from fragments, of the connection of a slot.
+    #[inline(never)]
+    fn joined_frame(&mut self, place: usize, octets: &[u8])
+        requires there { IsThere self.old.slots place }
+        requires rows { HasRowsOfTheTable self.old }
+        ensures { IsAfter (frame_happening place (of_frame (frame_of octets.now))) self.old self.new }
+    {
+        self.frame(place, octets);
+    }
+
     /// Hears a frame that is whole, of the connection of a slot.
+    #[inline(always)]
     fn frame(&mut self, place: usize, octets: &[u8])
         requires there { IsThere self.old.slots place }
         requires rows { HasRowsOfTheTable self.old }
@@ -130,7 +174,7 @@ fn fragment(
     }
     match join(frame, pb, bc, octets) {
         Piece::Frame => {
-            state.frame(place, frame.frame());
+            state.joined_frame(place, frame.frame());
             frame.clear();
         }
         Piece::Nothing => state.nothing(),

@@ -20,6 +20,7 @@ const LAST_CONNECTION_HANDLE: u16 = 0x0EFF;
 impl HostState {
     /// Takes in what is reported of connections. Until the controller is initialised nothing of it
     /// counts.
+    #[inline(always)]
     pub(crate) fn reported(&mut self, frames: &mut [Reassembler; 8], event: &Event<'_>)
         ensures after { IsAfter (reported_happening self.old (report_of event.now)) self.old self.new }
         ensures frames { frames.new ≡ frames_after (reported_happening self.old (report_of event.now)) frames.old }
@@ -32,6 +33,7 @@ impl HostState {
     }
 
     /// The same of a controller that is initialised.
+    #[inline(always)]
     fn connection_reported(&mut self, frames: &mut [Reassembler; 8], event: &Event<'_>)
         requires { laws.is_ready self.old.controller ≡ true }
         ensures after { IsAfter (connection_happening self.old (report_of event.now)) self.old self.new }

@@ -67,6 +67,7 @@ impl Slot {
 
     /// Writes the next packet in place of what `out` holds. There is none, and nothing changes, where
     /// all is given that may be.
+    #[inline(always)]
     pub fn next_packet(&mut self, out: &mut ArrayVec<u8, 260>) -> bool
         ensures gives { result ≡ gives self.old }
         ensures packet { OnTrue result (option_and_then packet_of self.old ≡ Some out.new.items) }
@@ -135,6 +136,7 @@ impl Slots {
 
     /// Writes the next packet of the connection of a slot in place of what `out` holds. There is none,
     /// and nothing changes, where all is given that may be.
+    #[inline(always)]
     pub fn next_packet(&mut self, place: usize, out: &mut ArrayVec<u8, 260>) -> bool
         requires { place < length self.old }
         ensures gives { result ≡ gives (kept_at self.old place) }

@@ -28,6 +28,7 @@ use le_security::Link;
 impl Slot {
     /// Serves a PDU of the Attribute Protocol, with the handles that it wrote in place of what `written`
     /// holds. The connection is ended where an answer is due and there is no room for it.
+    #[inline(always)]
     pub fn serve(
         &mut self,
         table: &mut Table,
@@ -109,6 +110,7 @@ fn owe_unless(confirmed: bool, knows_change: bool, peer: &Peer, rows: &mut Rows)
 
 /// Serves a PDU by the row in force: that of the peer's bond where the link has a key, else the
 /// connection's own.
+#[inline(always)]
 fn answer_by_row(
     table: &mut Table,
     rows: &mut Rows,

@@ -196,6 +196,7 @@ impl Slots {
     /// Serves a PDU of the Attribute Protocol on the connection of a slot, with the handles that it wrote
     /// in place of what `written` holds. The connection is ended where an answer is due and there is no
     /// room for it.
+    #[inline(always)]
     pub fn serve(
         &mut self,
         place: usize,
