@@ -1,5 +1,6 @@
 //! The octets of commands.
 
+use super::cases::assert_case;
 use arrayvec::ArrayVec;
 use le_hci::{Command, write_command};
 use std::process::Abort;
@@ -41,8 +42,12 @@ fn commands_of_a_connection(rt: HostRuntime) {
 
 fn assert_commands(rt: &impl Abort, cases: &[(Command<'static>, &[u8])]) {
     for (command, expected) in cases {
-        let mut octets = ArrayVec::new();
-        write_command(command, &mut octets);
-        assert!(rt; octets.as_slice() == *expected, "{expected:?}");
+        assert_case(rt, is_written(command, expected), expected);
     }
+}
+
+fn is_written(command: &Command<'_>, expected: &[u8]) -> bool {
+    let mut octets = ArrayVec::new();
+    write_command(command, &mut octets);
+    octets.as_slice() == expected
 }

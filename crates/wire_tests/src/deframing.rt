@@ -2,6 +2,7 @@
 
 ghost use Rattle.std.specs.Prelude.{◌<◌};
 
+use super::cases::assert_case;
 use arrayvec::ArrayVec;
 use le_h4::{Deframer, Fed, H4Fault, PacketRef};
 use std::process::Abort;
@@ -129,25 +130,25 @@ const READ_NOTED: [u8; 12] = [
 ];
 
 /// 1,025 octets of data are passed over.
-const TOO_LONG: [&[u8]; 3] = [&[0x02, 0x40, 0x20, 0x01, 0x04], &[0x02; 1_025], &READ];
+const TOO_LONG: &[&[u8]] = &[&[0x02, 0x40, 0x20, 0x01, 0x04], &[0x02; 1_025], &READ];
 
 #[test]
 fn long_acl_packet(rt: HostRuntime) {
-    assert!(rt; makes(&TOO_LONG, usize::MAX, &READ_NOTED));
+    assert!(rt; makes(TOO_LONG, usize::MAX, &READ_NOTED));
 }
 
 /// 1,024 are kept.
-const LONGEST: [&[u8]; 2] = [&[0x02, 0x40, 0x20, 0x00, 0x04], &[0x55; 1_024]];
+const LONGEST: &[&[u8]] = &[&[0x02, 0x40, 0x20, 0x00, 0x04], &[0x55; 1_024]];
 
 #[test]
 fn longest_acl_packet(rt: HostRuntime) {
     let mut noted = [0x55; 1_029];
     noted[..5].copy_from_slice(&[2, 0x40, 0x00, 2, 0]);
-    assert!(rt; makes(&LONGEST, usize::MAX, &noted));
+    assert!(rt; makes(LONGEST, usize::MAX, &noted));
 }
 
 /// What `feed` answers to pieces of a stream, one after another.
-const DESYNC: [(&[u8], Result<Fed, H4Fault>); 5] = [
+const DESYNC: &[(&[u8], Result<Fed, H4Fault>)] = &[
     (
         &[],
         Ok(Fed {
@@ -169,11 +170,11 @@ const DESYNC: [(&[u8], Result<Fed, H4Fault>); 5] = [
 
 #[test]
 fn desync_for_ever(rt: HostRuntime) {
-    assert_fed(&rt, &mut Deframer::new(), &DESYNC);
+    assert_fed(&rt, &mut Deframer::new(), DESYNC);
 }
 
 fn assert_fed(rt: &impl Abort, deframer: &mut Deframer, cases: &[(&[u8], Result<Fed, H4Fault>)]) {
     for &(piece, answer) in cases {
-        assert!(rt; deframer.feed(piece) == answer, "{piece:?}");
+        assert_case(rt, deframer.feed(piece) == answer, piece);
     }
 }

@@ -1,10 +1,11 @@
 //! Events, and octets that are none.
 
+use super::cases::assert_case;
 use le_hci::{BadEvent, CompletedPackets, Event, Peer, RANDOM_ADDRESS, read_event};
 use std::process::Abort;
 
 /// Octets that are no event, and the code that is told.
-const BAD_EVENTS: [(&[u8], u8); 8] = [
+const BAD_EVENTS: &[(&[u8], u8)] = &[
     (&[], 0x00),
     (&[0x3E], 0x3E),
     (&[0x3E, 0x00], 0x3E),
@@ -16,7 +17,7 @@ const BAD_EVENTS: [(&[u8], u8); 8] = [
 ];
 
 /// Octets, and the event that they are.
-const EVENTS: [(&[u8], Event<'static>); 9] = [
+const EVENTS: &[(&[u8], Event<'static>)] = &[
     (&[0xFF, 0x01, 0x00], Event::Other),
     (&[0x3E, 0x01, 0x02], Event::Other),
     (
@@ -85,23 +86,27 @@ const EVENTS: [(&[u8], Event<'static>); 9] = [
 
 #[test]
 fn events(rt: HostRuntime) {
-    assert_events(&rt, &EVENTS);
+    assert_events(&rt, EVENTS);
 }
 
 fn assert_events(rt: &impl Abort, cases: &[(&[u8], Event<'static>)]) {
     for &(packet, event) in cases {
-        assert!(rt; read_event(packet) == Ok(event), "{packet:?}");
+        assert_case(rt, is_event(packet, event), packet);
     }
+}
+
+fn is_event(packet: &[u8], event: Event<'static>) -> bool {
+    read_event(packet) == Ok(event)
 }
 
 #[test]
 fn bad_events(rt: HostRuntime) {
-    assert_bad_events(&rt, &BAD_EVENTS);
+    assert_bad_events(&rt, BAD_EVENTS);
 }
 
 fn assert_bad_events(rt: &impl Abort, cases: &[(&[u8], u8)]) {
     for &(packet, code) in cases {
-        assert!(rt; read_event(packet) == Err(BadEvent(code)), "{packet:?}");
+        assert_case(rt, read_event(packet) == Err(BadEvent(code)), packet);
     }
 }
 
@@ -111,7 +116,7 @@ const TWO_ENTRIES: [u8; 12] = [
 ];
 
 /// The entries that it has.
-const ENTRIES: [CompletedPackets; 2] = [
+const ENTRIES: &[CompletedPackets] = &[
     CompletedPackets {
         handle: 0x0040,
         packets: 259,
@@ -124,7 +129,7 @@ const ENTRIES: [CompletedPackets; 2] = [
 
 #[test]
 fn completed_packets(rt: HostRuntime) {
-    assert_completed(&rt, &TWO_ENTRIES, &ENTRIES);
+    assert_completed(&rt, &TWO_ENTRIES, ENTRIES);
     assert_completed(&rt, &[0x13, 0x01, 0x00], &[]);
 }
 

@@ -1,10 +1,11 @@
 //! Frames, and octets that are none.
 
+use super::cases::assert_case;
 use le_l2cap::{Frame, Skip, channel, read_frame};
 use std::process::Abort;
 
 /// Octets, and the frame that they are.
-const FRAMES: [(&[u8], Result<Frame<'static>, Skip>); 6] = [
+const FRAMES: &[(&[u8], Result<Frame<'static>, Skip>)] = &[
     (
         &[0x03, 0x00, 0x04, 0x00, 0x0A, 0x03, 0x00],
         Ok(Frame {
@@ -27,11 +28,15 @@ const FRAMES: [(&[u8], Result<Frame<'static>, Skip>); 6] = [
 
 #[test]
 fn frames_and_skips(rt: HostRuntime) {
-    assert_frames(&rt, &FRAMES);
+    assert_frames(&rt, FRAMES);
 }
 
 fn assert_frames(rt: &impl Abort, cases: &[(&[u8], Result<Frame<'static>, Skip>)]) {
     for &(octets, frame) in cases {
-        assert!(rt; read_frame(octets) == frame, "{octets:?}");
+        assert_case(rt, is_frame(octets, frame), octets);
     }
+}
+
+fn is_frame(octets: &[u8], frame: Result<Frame<'static>, Skip>) -> bool {
+    read_frame(octets) == frame
 }

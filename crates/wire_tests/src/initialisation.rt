@@ -65,7 +65,7 @@ fn assert_next(rt: &impl Abort, init: &Init, expected: &[u8]) {
 }
 
 /// The packets up to LE Read Buffer Size, and the commands that they lead to.
-const UP_TO_SIZING: [Exchange; 3] = [
+const UP_TO_SIZING: &[Exchange] = &[
     (
         &[0x0E, 0x04, 0x01, 0x03, 0x0C, 0x00],
         None,
@@ -88,14 +88,14 @@ const UP_TO_SIZING: [Exchange; 3] = [
 ];
 
 /// Reset is refused.
-const REFUSED: [Exchange; 1] = [(
+const REFUSED: &[Exchange] = &[(
     &[0x0E, 0x04, 0x01, 0x03, 0x0C, 0x01],
     Some(InitFault::Refused(0x0C03, 0x01)),
     &[0x03, 0x0C, 0x00],
 )];
 
 /// Buffers that do not serve, and return parameters that lack octets.
-const BAD_BUFFERS: [Exchange; 4] = [
+const BAD_BUFFERS: &[Exchange] = &[
     (
         &[0x0E, 0x07, 0x01, 0x02, 0x20, 0x00, 0x1A, 0x00, 0x04],
         Some(InitFault::BadBuffers),
@@ -119,7 +119,7 @@ const BAD_BUFFERS: [Exchange; 4] = [
 ];
 
 /// From LE Read Buffer Size on, with a public address.
-const WITH_A_PUBLIC_ADDRESS: [Exchange; 4] = [
+const WITH_A_PUBLIC_ADDRESS: &[Exchange] = &[
     (
         &[0x0E, 0x07, 0x01, 0x02, 0x20, 0x00, 0x1B, 0x00, 0x04],
         None,
@@ -146,7 +146,7 @@ const WITH_A_PUBLIC_ADDRESS: [Exchange; 4] = [
 ];
 
 /// From there on with buffers that are shared, and a random address.
-const WITH_A_RANDOM_ADDRESS: [Exchange; 3] = [
+const WITH_A_RANDOM_ADDRESS: &[Exchange] = &[
     (
         &[0x0E, 0x07, 0x01, 0x02, 0x20, 0x00, 0x00, 0x00, 0x00],
         None,
@@ -173,8 +173,8 @@ const WITH_A_RANDOM_ADDRESS: [Exchange; 3] = [
 fn initialises_with_a_public_address(rt: HostRuntime) {
     let init = Init::new(None, advertising());
     assert_next(&rt, &init, &[0x03, 0x0C, 0x00]);
-    let init = run(&rt, init, &UP_TO_SIZING);
-    let init = run(&rt, init, &WITH_A_PUBLIC_ADDRESS);
+    let init = run(&rt, init, UP_TO_SIZING);
+    let init = run(&rt, init, WITH_A_PUBLIC_ADDRESS);
     assert!(rt;
         matches!(
             init,
@@ -188,8 +188,8 @@ fn initialises_with_a_public_address(rt: HostRuntime) {
 
 #[test]
 fn initialises_with_shared_buffers_and_a_random_address(rt: HostRuntime) {
-    let init = run(&rt, Init::new(Some(RANDOM), advertising()), &UP_TO_SIZING);
-    let init = run(&rt, init, &WITH_A_RANDOM_ADDRESS);
+    let init = run(&rt, Init::new(Some(RANDOM), advertising()), UP_TO_SIZING);
+    let init = run(&rt, init, WITH_A_RANDOM_ADDRESS);
     assert!(rt;
         matches!(
             init,
@@ -206,7 +206,7 @@ fn initialises_with_shared_buffers_and_a_random_address(rt: HostRuntime) {
 
 #[test]
 fn hands_back_what_it_cannot_complete(rt: HostRuntime) {
-    let init = run(&rt, Init::new(None, advertising()), &REFUSED);
-    let init = run(&rt, init, &UP_TO_SIZING);
-    run(&rt, init, &BAD_BUFFERS);
+    let init = run(&rt, Init::new(None, advertising()), REFUSED);
+    let init = run(&rt, init, UP_TO_SIZING);
+    run(&rt, init, BAD_BUFFERS);
 }

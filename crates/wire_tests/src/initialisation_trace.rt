@@ -4,7 +4,7 @@ ghost use Rattle.std.specs.Prelude.{◌<◌};
 
 use arrayvec::ArrayVec;
 use le_h4::{Deframer, PacketRef};
-use le_hci::{Command, Event, Init, RANDOM_ADDRESS, read_event};
+use le_hci::{Command, Event, Init, Peer, RANDOM_ADDRESS, read_event};
 use std::process::Abort;
 
 /// What the host writes at first: Reset.
@@ -12,7 +12,7 @@ const RESET: [u8; 4] = [0x01, 0x03, 0x0C, 0x00];
 
 /// What the controller sends, and what the host then writes. The controller tells 4 packets of 27
 /// octets. The last packet is a connection, beside which the host advertises for another one.
-const EXCHANGES: [(&[u8], &[u8]); 8] = [
+const EXCHANGES: &[(&[u8], &[u8])] = &[
     (
         &[0x04, 0x0E, 0x04, 0x01, 0x03, 0x0C, 0x00],
         &[
@@ -112,12 +112,20 @@ fn follow(
             write_next(&next, written);
             next
         }
-        Some(Event::ConnectionComplete { handle, peer, .. }) => {
-            assert!(rt; handle == 0x0040 && peer.kind == RANDOM_ADDRESS);
+        Some(
+            Event::ConnectionComplete {
+                handle: 0x0040,
+                peer: Peer {
+                    kind: RANDOM_ADDRESS,
+                    ..
+                },
+                ..
+            },
+        ) => {
             write(&Command::LeSetAdvertiseEnable, written);
             init
         }
-        _ => panic!(rt; "neither a completion nor a connection"),
+        _ => panic!(rt; "neither a completion nor the connection"),
     }
 }
 
@@ -200,6 +208,6 @@ fn initialise(rt: &impl Abort, size: usize, exchanges: &[(&[u8], &[u8])])
 
 #[test]
 fn initialisation_and_a_connection(rt: HostRuntime) {
-    initialise(&rt, 64, &EXCHANGES);
-    initialise(&rt, 1, &EXCHANGES);
+    initialise(&rt, 64, EXCHANGES);
+    initialise(&rt, 1, EXCHANGES);
 }

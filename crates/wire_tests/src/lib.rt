@@ -3,6 +3,8 @@
 #![tactic(auto)]
 
 #[cfg(test)]
+mod cases;
+#[cfg(test)]
 mod commands;
 #[cfg(test)]
 mod deframing;
@@ -24,5 +26,9 @@ mod sending;
 mod signalling;
 #[cfg(test)]
 mod simulation;
+#[cfg(test)]
+mod simulation_faults;
+#[cfg(test)]
+mod simulation_packets;
 #[cfg(test)]
 mod streams;

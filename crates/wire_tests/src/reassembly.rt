@@ -1,5 +1,6 @@
 //! Frames from fragments.
 
+use super::cases::assert_case;
 use le_acl::{Piece, Reassembler};
 use le_h4::{Deframer, Fed, PacketRef};
 use std::process::Abort;
@@ -8,12 +9,15 @@ use std::process::Abort;
 type Case<'a> = (&'a [u8], bool, Option<&'a [u8]>);
 
 fn assert_frames(rt: &impl Abort, reassembler: &mut Reassembler, cases: &[Case<'_>]) {
-    for &(octets, begins, expected) in cases {
-        assert!(rt;
-            frame_of(reassembler, octets, begins) == expected,
-            "{octets:?}"
-        );
+    for &case in cases {
+        assert_frame(rt, reassembler, case);
     }
+}
+
+fn assert_frame(rt: &impl Abort, reassembler: &mut Reassembler, case: Case<'_>) {
+    let (octets, begins, expected) = case;
+    let frame = frame_of(reassembler, octets, begins);
+    assert_case(rt, frame == expected, octets);
 }
 
 /// The frame that a fragment makes whole.
@@ -32,7 +36,7 @@ fn frame_of<'a>(reassembler: &'a mut Reassembler, octets: &[u8], begins: bool) -
 /// A Read Request of handle 3 in a frame.
 const READ: [u8; 7] = [0x03, 0x00, 0x04, 0x00, 0x0A, 0x03, 0x00];
 
-const THREE_FRAGMENTS: [Case<'static>; 5] = [
+const THREE_FRAGMENTS: &[Case<'static>] = &[
     (&[0x00], false, None),
     (&[0x03], true, None),
     (&[0x00, 0x04, 0x00], false, None),
@@ -41,7 +45,7 @@ const THREE_FRAGMENTS: [Case<'static>; 5] = [
 ];
 
 /// A frame that is begun, and begun again.
-const TWO_BEGINNINGS: [Case<'static>; 5] = [
+const TWO_BEGINNINGS: &[Case<'static>] = &[
     (&[0x03], true, None),
     (&[0x00, 0x04, 0x00], false, None),
     (&[0x03], true, None),
@@ -51,12 +55,12 @@ const TWO_BEGINNINGS: [Case<'static>; 5] = [
 
 #[test]
 fn a_read_in_three_fragments(rt: HostRuntime) {
-    assert_frames(&rt, &mut Reassembler::new(), &THREE_FRAGMENTS);
+    assert_frames(&rt, &mut Reassembler::new(), THREE_FRAGMENTS);
 }
 
 #[test]
 fn a_new_beginning(rt: HostRuntime) {
-    assert_frames(&rt, &mut Reassembler::new(), &TWO_BEGINNINGS);
+    assert_frames(&rt, &mut Reassembler::new(), TWO_BEGINNINGS);
 }
 
 #[test]
@@ -81,14 +85,20 @@ fn assert_packet(
     expected: Option<&[u8]>,
 ) {
     let mut deframer = Deframer::new();
+    let (octets, begins) = acl_data(rt, &mut deframer, packet);
+    assert_frame(rt, reassembler, (octets, begins, expected));
+}
+
+/// The ACL data of a packet, and whether they begin a frame.
+fn acl_data<'a>(rt: &impl Abort, deframer: &'a mut Deframer, packet: &[u8]) -> (&'a [u8], bool) {
     let fed = deframer.feed(packet);
     let Ok(Fed { packet: true, .. }) = fed else {
         panic!(rt; "{fed:?}");
     };
-    let PacketRef::Acl { pb, octets, .. } = deframer.packet() else {
-        panic!(rt; "no ACL data");
-    };
-    assert_frames(rt, reassembler, &[(octets, pb == 0b10, expected)]);
+    match deframer.packet() {
+        PacketRef::Acl { pb, octets, .. } => (octets, pb == 0b10),
+        _ => panic!(rt; "no ACL data"),
+    }
 }
 
 /// A whole frame in a packet that continues one, and in a packet that begins one.

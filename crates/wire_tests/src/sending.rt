@@ -1,5 +1,6 @@
 //! The packets of PDUs that go out.
 
+use super::cases::assert_case;
 use arrayvec::ArrayVec;
 use le_acl::{MAX_PDUS, Sender};
 use std::process::Abort;
@@ -17,7 +18,7 @@ fn queue(sender: &mut Sender, payload: &[u8]) -> bool {
 /// The next packets, each of which has to have so many octets and begin with these.
 fn assert_packets(rt: &impl Abort, sender: &mut Sender, expected: &[(usize, &[u8])]) {
     for &(size, front) in expected {
-        assert!(rt; is_next(sender, size, front), "{front:?}");
+        assert_case(rt, is_next(sender, size, front), front);
     }
     assert!(rt; !sender.next(0x0040, &mut ArrayVec::new()));
 }
@@ -28,7 +29,7 @@ fn is_next(sender: &mut Sender, size: usize, front: &[u8]) -> bool {
 }
 
 /// A first fragment and a continuation of 27 octets each, of the frame of 50 octets 55.
-const FIFTY_OCTETS: [(usize, &[u8]); 2] = [
+const FIFTY_OCTETS: &[(usize, &[u8])] = &[
     (
         5 + 27,
         &[0x02, 0x40, 0x00, 0x1B, 0x00, 0x32, 0x00, 0x04, 0x00, 0x55],
@@ -41,7 +42,7 @@ fn two_packets_of_27_octets(rt: HostRuntime) -> Result<(), Fail> {
     let mut sender = Sender::new(rt.alloc(), 2, 27)?;
     assert_packets(&rt, &mut sender, &[]);
     assert!(rt; queue(&mut sender, &[0x55; 50]) && sender.backlog() == 1);
-    assert_packets(&rt, &mut sender, &FIFTY_OCTETS);
+    assert_packets(&rt, &mut sender, FIFTY_OCTETS);
     assert!(rt; sender.backlog() == 0);
     Ok(())
 }

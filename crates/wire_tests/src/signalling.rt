@@ -1,5 +1,6 @@
 //! The answers of the channels of LE signalling and of the Security Manager.
 
+use super::cases::assert_case;
 use le_l2cap::{Reject, security, signalling};
 use std::process::Abort;
 
@@ -15,7 +16,7 @@ fn rejects_an_update_request(rt: HostRuntime) {
 }
 
 /// Payloads of the channel, and what is rejected of each.
-const PAYLOADS: [(&[u8], Option<Reject>); 12] = [
+const PAYLOADS: &[(&[u8], Option<Reject>)] = &[
     (&[0x06, 0x01, 0x00, 0x00], Some(Reject { id: 1 })),
     (&[0x0D, 0xFF, 0x01, 0x00, 0x07], Some(Reject { id: 0xFF })),
     (&[0x01, 0x01, 0x00, 0x00], None),
@@ -32,17 +33,17 @@ const PAYLOADS: [(&[u8], Option<Reject>); 12] = [
 
 #[test]
 fn rejects_and_ignores(rt: HostRuntime) {
-    assert_answers(&rt, &PAYLOADS);
+    assert_answers(&rt, PAYLOADS);
 }
 
 fn assert_answers(rt: &impl Abort, cases: &[(&[u8], Option<Reject>)]) {
     for &(payload, answer) in cases {
-        assert!(rt; signalling(payload) == answer, "{payload:?}");
+        assert_case(rt, signalling(payload) == answer, payload);
     }
 }
 
 /// PDUs of the Security Manager, and the answer to each.
-const PAIRING: [(&[u8], Option<[u8; 2]>); 4] = [
+const PAIRING: &[(&[u8], Option<[u8; 2]>)] = &[
     (
         &[0x01, 0x03, 0x00, 0x01, 0x10, 0x00, 0x00],
         Some([0x05, 0x05]),
@@ -54,11 +55,11 @@ const PAIRING: [(&[u8], Option<[u8; 2]>); 4] = [
 
 #[test]
 fn pairing_is_not_supported(rt: HostRuntime) {
-    assert_pairing(&rt, &PAIRING);
+    assert_pairing(&rt, PAIRING);
 }
 
 fn assert_pairing(rt: &impl Abort, cases: &[(&[u8], Option<[u8; 2]>)]) {
     for &(pdu, answer) in cases {
-        assert!(rt; security(pdu) == answer, "{pdu:?}");
+        assert_case(rt, security(pdu) == answer, pdu);
     }
 }

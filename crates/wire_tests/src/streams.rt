@@ -1,15 +1,16 @@
 //! Octets from readers and slices, and to writers and buffers.
 
+use super::cases::assert_case;
 use octets::{ArraySink, Failed, Reader, Sink, SliceSource, Source, Writer};
 use std::process::Abort;
 
 /// What is read of `abc`, two octets at a time.
-const READ: [&[u8]; 3] = [b"ab", b"c", b""];
+const READ: &[&[u8]] = &[b"ab", b"c", b""];
 
 /// Reads of at most two octets, each of which has to give these.
 fn assert_reads<S: Source>(rt: &impl Abort, source: &mut S, expected: &[&[u8]]) {
     for octets in expected {
-        assert!(rt; gives(source, octets), "{octets:?}");
+        assert_case(rt, gives(source, octets), octets);
     }
 }
 
@@ -19,7 +20,7 @@ fn gives<S: Source>(source: &mut S, octets: &[u8]) -> bool {
 }
 
 /// What is written, and what the buffer of four octets answers.
-const WRITTEN: [(&[u8], Result<usize, Failed>); 4] = [
+const WRITTEN: &[(&[u8], Result<usize, Failed>)] = &[
     (b"abc", Ok(3)),
     (b"def", Ok(1)),
     (b"ef", Err(Failed)),
@@ -28,13 +29,13 @@ const WRITTEN: [(&[u8], Result<usize, Failed>); 4] = [
 
 fn assert_writes<S: Sink>(rt: &impl Abort, sink: &mut S, cases: &[(&[u8], Result<usize, Failed>)]) {
     for (octets, answer) in cases {
-        assert!(rt; sink.write(octets) == *answer, "{octets:?}");
+        assert_case(rt, sink.write(octets) == *answer, octets);
     }
 }
 
 #[test]
 fn std_reader(rt: HostRuntime) {
-    assert_reads(&rt, &mut Reader::new(b"abc".as_slice()), &READ);
+    assert_reads(&rt, &mut Reader::new(b"abc".as_slice()), READ);
 }
 
 #[test]
@@ -45,12 +46,12 @@ fn std_writer(rt: HostRuntime) {
 
 #[test]
 fn slice(rt: HostRuntime) {
-    assert_reads(&rt, &mut SliceSource::new(b"abc"), &READ);
+    assert_reads(&rt, &mut SliceSource::new(b"abc"), READ);
 }
 
 #[test]
 fn buffer(rt: HostRuntime) {
     let mut sink = ArraySink::<4>::new();
-    assert_writes(&rt, &mut sink, &WRITTEN);
+    assert_writes(&rt, &mut sink, WRITTEN);
     assert!(rt; sink.octets() == b"abcd".as_slice());
 }
