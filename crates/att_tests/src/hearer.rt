@@ -37,8 +37,12 @@ pub const PLAIN: Standing = Standing {
 /// Makes the steps of a new connection over each table.
 pub fn check(rt: &impl Abort, alloc: Global, cases: &[(&str, &[Step])]) {
     for (place, &(text, steps)) in cases.iter().enumerate() {
-        assert_eq!(rt; first_wrong(alloc, text, steps), Some(None), "case {place}");
+        assert_steps(rt, first_wrong(alloc, text, steps), place);
     }
+}
+
+fn assert_steps(rt: &impl Abort, wrong: Option<Option<usize>>, place: usize) {
+    assert_eq!(rt; wrong, Some(None), "case {place}");
 }
 
 /// The place of the first step that does something else, if one does.

@@ -241,7 +241,7 @@ const LETTERS_INDICATED: &[Step] = &[
 ];
 
 /// Tables, each with what happens to a new connection.
-const CASES: [(&str, &[Step]); 11] = [
+const CASES: &[(&str, &[Step])] = &[
     (BELL, ONE_AT_A_TIME),
     (BELL, NOT_CONFIRMED),
     (BELL, IN_ORDER),
@@ -257,5 +257,5 @@ const CASES: [(&str, &[Step]); 11] = [
 
 #[test]
 fn told_unasked(rt: HostRuntime) {
-    check(&rt, rt.alloc(), &CASES);
+    check(&rt, rt.alloc(), CASES);
 }

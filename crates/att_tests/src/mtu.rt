@@ -2,7 +2,7 @@ use crate::session::Step::{Long, Mtu, Pdu};
 use crate::session::{Step, play, play_limited};
 use att_table::examples::DOOR;
 
-const OF_247: [Step; 7] = [
+const OF_247: &[Step] = &[
     Mtu(23),
     Pdu("02f700", "03f700"),
     Mtu(247),
@@ -12,28 +12,28 @@ const OF_247: [Step; 7] = [
     Mtu(247),
 ];
 
-const BELOW_THE_LEAST: [Step; 4] = [
+const BELOW_THE_LEAST: &[Step] = &[
     Pdu("021600", "03f700"),
     Mtu(23),
     Pdu("02f700", "03f700"),
     Mtu(23),
 ];
 
-const OF_THE_LEAST: [Step; 2] = [Pdu("02f700", "031700"), Mtu(23)];
+const OF_THE_LEAST: &[Step] = &[Pdu("02f700", "031700"), Mtu(23)];
 
-const OF_THE_LARGEST: [Step; 2] = [Pdu("02ffff", "030502"), Mtu(517)];
+const OF_THE_LARGEST: &[Step] = &[Pdu("02ffff", "030502"), Mtu(517)];
 
 #[test]
 fn exchanges_of_the_mtu(rt: HostRuntime) {
-    play(&rt, rt.alloc(), DOOR, &OF_247);
-    play(&rt, rt.alloc(), DOOR, &BELOW_THE_LEAST);
-    play_limited(&rt, rt.alloc(), DOOR, 23, &OF_THE_LEAST);
-    play_limited(&rt, rt.alloc(), DOOR, 517, &OF_THE_LARGEST);
+    play(&rt, rt.alloc(), DOOR, OF_247);
+    play(&rt, rt.alloc(), DOOR, BELOW_THE_LEAST);
+    play_limited(&rt, rt.alloc(), DOOR, 23, OF_THE_LEAST);
+    play_limited(&rt, rt.alloc(), DOOR, 517, OF_THE_LARGEST);
 }
 
 /// A value of 512 octets is written and read whole at the largest ATT_MTU, and its first 253 octets
 /// are read by type. One more octet is refused.
-const THE_LARGEST_VALUE: [Step; 6] = [
+const THE_LARGEST_VALUE: &[Step] = &[
     Pdu("020502", "030502"),
     Long("121500", 513, "011215000d", 0),
     Pdu("0a1500", "0b"),
@@ -44,5 +44,5 @@ const THE_LARGEST_VALUE: [Step; 6] = [
 
 #[test]
 fn the_largest_value(rt: HostRuntime) {
-    play_limited(&rt, rt.alloc(), DOOR, 517, &THE_LARGEST_VALUE);
+    play_limited(&rt, rt.alloc(), DOOR, 517, THE_LARGEST_VALUE);
 }

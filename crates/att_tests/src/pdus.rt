@@ -17,11 +17,18 @@ enum Part {
 /// Puts a PDU of 23 octets at most together, of parts that fit or do not, and compares its octets.
 fn put(rt: &impl Abort, parts: &[(Part, bool)], wanted: &[u8]) {
     let mut octets = ArrayVec::new();
-    let mut pdu = PduBuf::new(&mut octets, 23);
+    append_all(rt, &mut PduBuf::new(&mut octets, 23), parts);
+    assert_octets(rt, octets.as_slice(), wanted);
+}
+
+fn assert_octets(rt: &impl Abort, octets: &[u8], wanted: &[u8]) {
+    assert_eq!(rt; octets, wanted);
+}
+
+fn append_all(rt: &impl Abort, pdu: &mut PduBuf<'_>, parts: &[(Part, bool)]) {
     for &(part, fits) in parts {
-        assert_eq!(rt; append(&mut pdu, part), fits);
+        assert_eq!(rt; append(pdu, part), fits);
     }
-    assert_eq!(rt; octets.as_slice(), wanted);
 }
 
 /// Appends a part, and tells whether it fits.
@@ -38,7 +45,7 @@ fn append(pdu: &mut PduBuf<'_>, part: Part) -> bool {
     }
 }
 
-const TO_THE_MTU: [(Part, bool); 4] = [
+const TO_THE_MTU: &[(Part, bool)] = &[
     (Part::Value(&[0x0B]), true),
     (Part::Value(&[0x41; 22]), true),
     (Part::Value(&[0x42]), false),
@@ -47,11 +54,11 @@ const TO_THE_MTU: [(Part, bool); 4] = [
 
 #[test]
 fn fills_to_the_mtu(rt: HostRuntime) {
-    put(&rt, &TO_THE_MTU, &[0x01, 0x0A, 0x02, 0x01, 0x05]);
+    put(&rt, TO_THE_MTU, &[0x01, 0x0A, 0x02, 0x01, 0x05]);
 }
 
 /// Behind the first four 17 octets stand, and 6 are left.
-const ELEMENTS: [(Part, bool); 9] = [
+const ELEMENTS: &[(Part, bool)] = &[
     (Part::Value(&[0x11, 0x06]), true),
     (Part::Group(1, 0x0203, &[0x00, 0x18]), true),
     (Part::Pair(0x0405, &[0x41]), true),
@@ -67,7 +74,7 @@ const ELEMENTS: [(Part, bool); 9] = [
 fn appends_whole_elements(rt: HostRuntime) {
     put(
         &rt,
-        &ELEMENTS,
+        ELEMENTS,
         b"\x11\x06\x01\x00\x03\x02\x00\x18\x05\x04\x41\x15\x00\x00\x01ab\x16\x00cdef",
     );
 }

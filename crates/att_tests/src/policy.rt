@@ -111,7 +111,7 @@ const BY_A_SECURE_KEY: Standing = Standing {
 /// What is asked of a guard, or of an attribute that does not exist, and the rule that is broken.
 type Case = (Access, Option<&'static Guard>, Standing, Option<(Rule, u8)>);
 
-const OF_LOCK_STATE: [Case; 7] = [
+const OF_LOCK_STATE: &[Case] = &[
     (
         Access::Read,
         Some(&LOCK_STATE),
@@ -148,10 +148,10 @@ const OF_LOCK_STATE: [Case; 7] = [
 
 #[test]
 fn lock_state(rt: HostRuntime) {
-    assert_broken(&rt, &OF_LOCK_STATE);
+    assert_broken(&rt, OF_LOCK_STATE);
 }
 
-const OF_LOCK_CODE: [Case; 9] = [
+const OF_LOCK_CODE: &[Case] = &[
     (
         Access::Read,
         Some(&LOCK_CODE),
@@ -224,7 +224,7 @@ const OF_LOCK_CODE: [Case; 9] = [
 
 #[test]
 fn lock_code(rt: HostRuntime) {
-    assert_broken(&rt, &OF_LOCK_CODE);
+    assert_broken(&rt, OF_LOCK_CODE);
 }
 
 fn assert_broken(rt: &impl Abort, cases: &[Case]) {

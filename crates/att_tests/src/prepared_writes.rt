@@ -6,7 +6,7 @@ use crate::session::{Step, play, play_limited};
 use att_table::examples::DOOR;
 
 /// Unknown flags leave what is prepared.
-const TWO_CLIENTS: [Step; 16] = [
+const TWO_CLIENTS: &[Step] = &[
     Pdu("161500000061", "171500000061"),
     Second,
     Pdu("161500000062", "171500000062"),
@@ -27,12 +27,12 @@ const TWO_CLIENTS: [Step; 16] = [
 
 #[test]
 fn two_clients(rt: HostRuntime) {
-    play(&rt, rt.alloc(), DOOR, &TWO_CLIENTS);
+    play(&rt, rt.alloc(), DOOR, TWO_CLIENTS);
 }
 
 /// All is written or nothing, and nothing is left prepared in both cases. Each part is judged by what
 /// the parts before it have written.
-const EXECUTIONS: [Step; 15] = [
+const EXECUTIONS: &[Step] = &[
     Pdu("16150000006161", "17150000006161"),
     Pdu("161500050062", "171500050062"),
     Pdu("1801", "0118150007"),
@@ -52,11 +52,11 @@ const EXECUTIONS: [Step; 15] = [
 
 #[test]
 fn executions(rt: HostRuntime) {
-    play(&rt, rt.alloc(), DOOR, &EXECUTIONS);
+    play(&rt, rt.alloc(), DOOR, EXECUTIONS);
 }
 
 /// The offset of the third is 0x0300, and its part is empty.
-const OF_CONFIGURATIONS: [Step; 14] = [
+const OF_CONFIGURATIONS: &[Step] = &[
     Pdu("16070001000100", "17070001000100"),
     Pdu("1801", "0118070007"),
     Pdu("160700000300", "170700000300"),
@@ -75,11 +75,11 @@ const OF_CONFIGURATIONS: [Step; 14] = [
 
 #[test]
 fn configurations(rt: HostRuntime) {
-    play(&rt, rt.alloc(), DOOR, &OF_CONFIGURATIONS);
+    play(&rt, rt.alloc(), DOOR, OF_CONFIGURATIONS);
 }
 
 /// The most prepared writes, all of one value.
-const THIRTY_TWO: [Step; 4] = [
+const THIRTY_TWO: &[Step] = &[
     Times(32, "161500000061", "171500000061"),
     Pdu("161500000061", "0116150009"),
     Writes("1801", "19", &[21]),
@@ -88,11 +88,11 @@ const THIRTY_TWO: [Step; 4] = [
 
 #[test]
 fn thirty_two(rt: HostRuntime) {
-    play(&rt, rt.alloc(), DOOR, &THIRTY_TWO);
+    play(&rt, rt.alloc(), DOOR, THIRTY_TWO);
 }
 
 /// The most octets of parts, in two parts of the largest value.
-const LARGEST: [Step; 7] = [
+const LARGEST: &[Step] = &[
     Pdu("020502", "030502"),
     Mtu(517),
     Long("1615000000", 512, "1715000000", 512),
@@ -104,11 +104,11 @@ const LARGEST: [Step; 7] = [
 
 #[test]
 fn a_thousand_and_twenty_four_octets(rt: HostRuntime) {
-    play_limited(&rt, rt.alloc(), DOOR, 517, &LARGEST);
+    play_limited(&rt, rt.alloc(), DOOR, 517, LARGEST);
 }
 
 /// The policy is that of the execution, whatever it was when the parts were prepared.
-const POLICY_OF_THE_EXECUTION: [Step; 30] = [
+const POLICY_OF_THE_EXECUTION: &[Step] = &[
     NewRow,
     Authorized(Tablet),
     Pdu("0a0d00", "0b31323334"),
@@ -143,10 +143,10 @@ const POLICY_OF_THE_EXECUTION: [Step; 30] = [
 
 #[test]
 fn policy_of_the_execution(rt: HostRuntime) {
-    play(&rt, rt.alloc(), DOOR, &POLICY_OF_THE_EXECUTION);
+    play(&rt, rt.alloc(), DOOR, POLICY_OF_THE_EXECUTION);
 }
 
-const OFFSETS_AND_LENGTHS: [Step; 11] = [
+const OFFSETS_AND_LENGTHS: &[Step] = &[
     Authorized(Tablet),
     Pdu("160a00020005", "170a00020005"),
     Pdu("1801", "01180a0007"),
@@ -162,10 +162,10 @@ const OFFSETS_AND_LENGTHS: [Step; 11] = [
 
 #[test]
 fn offsets_and_lengths(rt: HostRuntime) {
-    play(&rt, rt.alloc(), DOOR, &OFFSETS_AND_LENGTHS);
+    play(&rt, rt.alloc(), DOOR, OFFSETS_AND_LENGTHS);
 }
 
-const CANCELLED: [Step; 4] = [
+const CANCELLED: &[Step] = &[
     Pdu("161500000061", "171500000061"),
     Cancel,
     Writes("1801", "19", &[]),
@@ -174,5 +174,5 @@ const CANCELLED: [Step; 4] = [
 
 #[test]
 fn cancelled_by_the_server(rt: HostRuntime) {
-    play(&rt, rt.alloc(), DOOR, &CANCELLED);
+    play(&rt, rt.alloc(), DOOR, CANCELLED);
 }

@@ -6,7 +6,7 @@ use std::alloc::Global;
 use std::process::Abort;
 
 /// PDUs of a stranger to the door.
-const OF_THE_DOOR: [Step; 35] = [
+const OF_THE_DOOR: &[Step] = &[
     Pdu("0a0300", "0b4c6f636b"),
     Pdu("0a0000", "010a000001"),
     Pdu("12030041", "0112030003"),
@@ -49,10 +49,10 @@ const OF_THE_DOOR: [Step; 35] = [
 
 #[test]
 fn answers_of_the_door(rt: HostRuntime) {
-    play(&rt, rt.alloc(), DOOR, &OF_THE_DOOR);
+    play(&rt, rt.alloc(), DOOR, OF_THE_DOOR);
 }
 
-const OF_THE_PHONE: [Step; 8] = [
+const OF_THE_PHONE: &[Step] = &[
     Plain(Phone),
     Pdu("0a0a00", "010a0a000f"),
     Pdu("080100fffff3ff", "09030f0001"),
@@ -65,11 +65,11 @@ const OF_THE_PHONE: [Step; 8] = [
 
 #[test]
 fn reads_of_the_phone(rt: HostRuntime) {
-    play(&rt, rt.alloc(), DOOR, &OF_THE_PHONE);
+    play(&rt, rt.alloc(), DOOR, OF_THE_PHONE);
 }
 
 /// A value that needs an authenticated key of 16 octets, and an authorization.
-const OF_THE_TABLET: [Step; 10] = [
+const OF_THE_TABLET: &[Step] = &[
     Plain(Tablet),
     Pdu("0a0d00", "010a0d000f"),
     Encrypted(TabletByItsShortKey),
@@ -84,11 +84,11 @@ const OF_THE_TABLET: [Step; 10] = [
 
 #[test]
 fn reads_of_the_tablet(rt: HostRuntime) {
-    play(&rt, rt.alloc(), DOOR, &OF_THE_TABLET);
+    play(&rt, rt.alloc(), DOOR, OF_THE_TABLET);
 }
 
 /// The same value, where it also needs a key of LE Secure Connections.
-const OF_THE_WATCH: [Step; 8] = [
+const OF_THE_WATCH: &[Step] = &[
     Encrypted(TabletByItsShortKey),
     Pdu("0a0d00", "010a0d000c"),
     Encrypted(Tablet),
@@ -101,18 +101,25 @@ const OF_THE_WATCH: [Step; 8] = [
 
 #[test]
 fn reads_of_a_secure_value(rt: HostRuntime) {
-    match DOOR.replace(
+    let secure = door_with(
+        &rt,
         rt.alloc(),
         "authorized = true",
         "authorized = true, secure = true",
-    ) {
-        Ok(text) => play(&rt, rt.alloc(), &text, &OF_THE_WATCH),
-        Err(_) => panic!(&rt; "memory"),
+    );
+    play(&rt, rt.alloc(), &secure, OF_THE_WATCH);
+}
+
+/// The table of the door, with other text in place of some.
+fn door_with(rt: &impl Abort, alloc: Global, from: &str, to: &str) -> String {
+    match DOOR.replace(alloc, from, to) {
+        Ok(text) => text,
+        Err(_) => panic!(rt; "memory"),
     }
 }
 
 /// Requests that read, of a stranger.
-const OF_A_STRANGER: [Step; 18] = [
+const OF_A_STRANGER: &[Step] = &[
     Pdu("100100ffff0028", "1106010003000018040007000f1808001500f0ff"),
     Pdu("100100ffff0328", "0110010010"),
     Pdu("100000ffff0328", "0110000001"),
@@ -139,19 +146,12 @@ const OF_A_STRANGER: [Step; 18] = [
 /// Another value where the client may not read changes no answer.
 #[test]
 fn reads_of_a_stranger(rt: HostRuntime) {
-    match DOOR.replace(rt.alloc(), "value = \"02\"", "value = \"09\"") {
-        Ok(other) => play_both(&rt, rt.alloc(), &other, &OF_A_STRANGER),
-        Err(_) => panic!(&rt; "memory"),
-    }
+    play(&rt, rt.alloc(), DOOR, OF_A_STRANGER);
+    let other = door_with(&rt, rt.alloc(), "value = \"02\"", "value = \"09\"");
+    play(&rt, rt.alloc(), &other, OF_A_STRANGER);
 }
 
-/// Makes the steps with the table of the door, and with another one.
-fn play_both(rt: &impl Abort, alloc: Global, other: &str, steps: &[Step]) {
-    play(rt, alloc, DOOR, steps);
-    play(rt, alloc, other, steps);
-}
-
-const OF_THE_BELL: [Step; 5] = [
+const OF_THE_BELL: &[Step] = &[
     Pdu("0a0600", "010a060002"),
     Pdu("0a0900", "0b01000700f8ff"),
     Pdu("0a0500", "0b200600efcdab8967452301f0debc9a78563412"),
@@ -161,5 +161,5 @@ const OF_THE_BELL: [Step; 5] = [
 
 #[test]
 fn answers_of_the_bell(rt: HostRuntime) {
-    play(&rt, rt.alloc(), BELL, &OF_THE_BELL);
+    play(&rt, rt.alloc(), BELL, OF_THE_BELL);
 }

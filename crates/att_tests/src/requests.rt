@@ -10,7 +10,7 @@ const LONG: [u8; 21] = [
 ];
 
 /// PDUs, and the request that each is.
-const REQUESTS: [(&[u8], Request<'static>); 18] = [
+const REQUESTS: &[(&[u8], Request<'static>)] = &[
     (b"\x02\xF7\x00", Request::ExchangeMtu { client_rx_mtu: 247 }),
     (b"\x02\x00\x01", Request::ExchangeMtu { client_rx_mtu: 256 }),
     (
@@ -126,7 +126,7 @@ const REQUESTS: [(&[u8], Request<'static>); 18] = [
 
 #[test]
 fn requests(rt: HostRuntime) {
-    assert_requests(&rt, &REQUESTS);
+    assert_requests(&rt, REQUESTS);
 }
 
 fn assert_requests(rt: &impl Abort, cases: &[(&[u8], Request<'static>)]) {
@@ -141,7 +141,7 @@ fn is_read(pdu: &[u8], request: Result<Request<'static>, PduFault>, due: bool) -
 }
 
 /// PDUs that have no answer.
-const UNANSWERED: [(&[u8], Result<Request<'static>, PduFault>); 9] = [
+const UNANSWERED: &[(&[u8], Result<Request<'static>, PduFault>)] = &[
     (b"\x1E", Ok(Request::Confirmation)),
     (b"\x1E\x00", Err(PduFault::Ignored)),
     (
@@ -167,7 +167,7 @@ const UNANSWERED: [(&[u8], Result<Request<'static>, PduFault>); 9] = [
 
 #[test]
 fn confirmations_and_commands(rt: HostRuntime) {
-    assert_unanswered(&rt, &UNANSWERED);
+    assert_unanswered(&rt, UNANSWERED);
 }
 
 fn assert_unanswered(rt: &impl Abort, cases: &[(&[u8], Result<Request<'static>, PduFault>)]) {
@@ -198,7 +198,7 @@ fn is_refused(opcode: u8, fault: PduFault, due: bool) -> bool {
 }
 
 /// PDUs that are not of the form of their opcode, or too long.
-const INVALID: [&[u8]; 26] = [
+const INVALID: &[&[u8]] = &[
     b"\x02\xF7",
     b"\x02\xF7\x00\x00",
     b"\x04\x01\x00\xFF",
@@ -229,7 +229,7 @@ const INVALID: [&[u8]; 26] = [
 
 #[test]
 fn invalid(rt: HostRuntime) {
-    assert_invalid(&rt, &INVALID);
+    assert_invalid(&rt, INVALID);
 }
 
 fn assert_invalid(rt: &impl Abort, pdus: &[&[u8]]) {

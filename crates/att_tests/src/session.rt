@@ -104,44 +104,76 @@ fn make(rt: &impl Abort, alloc: Global, table: &mut Table, client: &mut Client, 
     ensures attributes { table.new.attributes ≡ table.old.attributes }
     ensures row { IsRowOf table.new.attributes client.new.row }
 {
-    match step {
-        Step::First | Step::Second => {}
-        Step::Pdu(pdu, wanted) => exchange(rt, table, client, pdu, 0, wanted, 0, None),
-        Step::Writes(pdu, wanted, handles) => {
-            exchange(rt, table, client, pdu, 0, wanted, 0, Some(handles));
-        }
-        Step::Long(pdu, more, wanted, more_wanted) => {
-            exchange(rt, table, client, pdu, more, wanted, more_wanted, None);
-        }
-        Step::Times(count, pdu, wanted) => {
-            for _ in 0..count {
-                exchange(rt, table, client, pdu, 0, wanted, 0, None);
-            }
-        }
-        Step::Plain(who) => client.conn.stand(standing(rt, alloc, who, false, 0)),
-        Step::Encrypted(who) => client.conn.stand(standing(rt, alloc, who, true, 0)),
-        Step::Authorized(who) => client.conn.stand(standing(rt, alloc, who, true, u64::MAX)),
-        Step::Mtu(mtu) => assert!(rt; client.conn.mtu() == mtu, "{mtu}"),
-        Step::Cancel => client.conn.cancel(),
-        Step::NewRow => client.row = ConfigRow::new(),
+    if let Some(exchange) = exchange_of(step) {
+        serve_times(rt, table, client, exchange);
+    } else if let Step::NewRow = step {
+        client.row = ConfigRow::new();
+    } else {
+        change(rt, alloc, &mut client.conn, step);
     }
 }
 
-/// Serves a PDU, and compares its answer and the handles that it wrote.
-fn exchange(
-    rt: &impl Abort,
-    table: &mut Table,
-    client: &mut Client,
-    pdu: &str,
-    more: usize,
-    wanted: &str,
-    more_wanted: usize,
-    handles: Option<&[u16]>,
-)
+/// PDUs that are sent, and what comes of each.
+#[derive(Clone, Copy)]
+struct Exchange {
+    times: usize,
+    /// Hexadecimal, and the number of octets `61` behind it.
+    pdu: (&'static str, usize),
+    answer: (&'static str, usize),
+    /// The handles that are written, where the step names them.
+    handles: Option<&'static [u16]>,
+}
+
+/// The PDUs that a step sends, if it is of this kind.
+fn exchange_of(step: Step) -> Option<Exchange> {
+    let (times, pdu, answer, handles) = match step {
+        Step::Pdu(pdu, answer) => (1, (pdu, 0), (answer, 0), None),
+        Step::Writes(pdu, answer, handles) => (1, (pdu, 0), (answer, 0), Some(handles)),
+        Step::Long(pdu, more, answer, more_answered) => {
+            (1, (pdu, more), (answer, more_answered), None)
+        }
+        Step::Times(times, pdu, answer) => (times, (pdu, 0), (answer, 0), None),
+        _ => return None,
+    };
+    Some(Exchange {
+        times,
+        pdu,
+        answer,
+        handles,
+    })
+}
+
+/// Makes a step that exchanges no PDUs.
+fn change(rt: &impl Abort, alloc: Global, conn: &mut Conn, step: Step) {
+    match step {
+        Step::Plain(who) => conn.stand(standing(rt, alloc, who, false, 0)),
+        Step::Encrypted(who) => conn.stand(standing(rt, alloc, who, true, 0)),
+        Step::Authorized(who) => conn.stand(standing(rt, alloc, who, true, u64::MAX)),
+        Step::Mtu(mtu) => assert!(rt; conn.mtu() == mtu, "{mtu}"),
+        Step::Cancel => conn.cancel(),
+        _ => panic!(rt; "no step of a connection"),
+    }
+}
+
+/// Serves the PDUs of an exchange.
+fn serve_times(rt: &impl Abort, table: &mut Table, client: &mut Client, exchange: Exchange)
     requires row { IsRowOf table.old.attributes client.old.row }
     ensures attributes { table.new.attributes ≡ table.old.attributes }
     ensures row { IsRowOf table.new.attributes client.new.row }
 {
+    for _ in 0..exchange.times {
+        serve(rt, table, client, exchange);
+    }
+}
+
+/// Serves a PDU, and compares its answer and the handles that it wrote.
+fn serve(rt: &impl Abort, table: &mut Table, client: &mut Client, exchange: Exchange)
+    requires row { IsRowOf table.old.attributes client.old.row }
+    ensures attributes { table.new.attributes ≡ table.old.attributes }
+    ensures row { IsRowOf table.new.attributes client.new.row }
+{
+    let (pdu, more) = exchange.pdu;
+    let (wanted, more_wanted) = exchange.answer;
     let pdu_octets = octets(rt, pdu, more);
     let wanted_octets = octets(rt, wanted, more_wanted);
     let served = serves(
@@ -149,7 +181,7 @@ fn exchange(
         client,
         pdu_octets.as_slice(),
         wanted_octets.as_slice(),
-        handles,
+        exchange.handles,
     );
     assert!(rt; served, "{pdu}");
 }

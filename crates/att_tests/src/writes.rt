@@ -3,7 +3,7 @@ use crate::session::Step::{Authorized, Encrypted, Pdu, Plain, Second, Writes};
 use crate::session::{Step, play};
 use att_table::examples::DOOR;
 
-const OF_A_GUARDED_VALUE: [Step; 15] = [
+const OF_A_GUARDED_VALUE: &[Step] = &[
     Encrypted(Phone),
     Pdu("120a0001", "01120a0005"),
     Pdu("0a0a00", "0b00"),
@@ -23,11 +23,11 @@ const OF_A_GUARDED_VALUE: [Step; 15] = [
 
 #[test]
 fn writes_of_a_guarded_value(rt: HostRuntime) {
-    play(&rt, rt.alloc(), DOOR, &OF_A_GUARDED_VALUE);
+    play(&rt, rt.alloc(), DOOR, OF_A_GUARDED_VALUE);
 }
 
 /// Another client has configurations of its own.
-const OF_CONFIGURATIONS: [Step; 17] = [
+const OF_CONFIGURATIONS: &[Step] = &[
     Pdu("1207000100", "13"),
     Pdu("1207000200", "01120700ff"),
     Pdu("1207000101", "01120700ff"),
@@ -49,10 +49,10 @@ const OF_CONFIGURATIONS: [Step; 17] = [
 
 #[test]
 fn configurations(rt: HostRuntime) {
-    play(&rt, rt.alloc(), DOOR, &OF_CONFIGURATIONS);
+    play(&rt, rt.alloc(), DOOR, OF_CONFIGURATIONS);
 }
 
-const COMMANDS: [Step; 6] = [
+const COMMANDS: &[Step] = &[
     Writes("52150041", "", &[21]),
     Writes("52030041", "", &[]),
     Pdu("0a1500", "0b41"),
@@ -63,7 +63,7 @@ const COMMANDS: [Step; 6] = [
 
 #[test]
 fn commands(rt: HostRuntime) {
-    play(&rt, rt.alloc(), DOOR, &COMMANDS);
+    play(&rt, rt.alloc(), DOOR, COMMANDS);
 }
 
 /// A fixed value of three octets at handle 3, which anyone may write.
@@ -77,7 +77,7 @@ fixed = true
 properties = ["read", "write", "command"]
 "#;
 
-const OF_A_FIXED_VALUE: [Step; 14] = [
+const OF_A_FIXED_VALUE: &[Step] = &[
     Pdu("12030078", "13"),
     Pdu("0a0300", "0b786263"),
     Pdu("120300", "13"),
@@ -96,5 +96,5 @@ const OF_A_FIXED_VALUE: [Step; 14] = [
 
 #[test]
 fn a_fixed_value_keeps_its_other_octets(rt: HostRuntime) {
-    play(&rt, rt.alloc(), FIXED, &OF_A_FIXED_VALUE);
+    play(&rt, rt.alloc(), FIXED, OF_A_FIXED_VALUE);
 }
