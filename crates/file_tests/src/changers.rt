@@ -1,5 +1,6 @@
 //! The value of a table by which clients are told that it was replaced.
 
+use super::cases::assert_case;
 use att_table::Table;
 use att_table::examples::{BELL, DOOR, PORCH};
 use std::alloc::Global;
@@ -77,7 +78,7 @@ fn changers(rt: HostRuntime) {
 
 fn check_changers(rt: &impl Abort, alloc: Global, cases: &[(&str, &str, &str, Option<u16>)]) {
     for &(text, old, new, wanted) in cases {
-        assert!(rt; is_changer(alloc, (text, old, new), wanted), "{new}");
+        assert_case(rt, is_changer(alloc, (text, old, new), wanted), new);
     }
 }
 

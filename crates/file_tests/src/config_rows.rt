@@ -1,5 +1,6 @@
 //! What one client has configured, and what of it stays when its table is replaced.
 
+use super::cases::assert_at;
 use att_table::examples::{BELL, DOOR, PORCH, PORCH_NEXT};
 use att_table::{ConfigRow, Table};
 use std::alloc::Global;
@@ -110,7 +111,7 @@ fn keeps_what_has_its_meaning(rt: HostRuntime) {
 
 fn check_replacements(rt: &impl Abort, alloc: Global, cases: &[Replacement]) {
     for (place, case) in cases.iter().enumerate() {
-        assert!(rt; is_kept(alloc, case) == Some(true), "{place}");
+        assert_at(rt, is_kept(alloc, case) == Some(true), place);
     }
 }
 

@@ -1,5 +1,6 @@
 //! Key files, and what keys answer.
 
+use super::cases::assert_case;
 use att_policy::KeyFacts;
 use le_hci::{PUBLIC_ADDRESS, Peer, RANDOM_ADDRESS};
 use le_security::examples::{KEYS, SECURE_KEY};
@@ -28,7 +29,7 @@ const WATCH: Peer = Peer {
 };
 
 /// Texts of addresses.
-const ADDRESSES: [(&[u8], Option<[u8; 6]>); 7] = [
+const ADDRESSES: &[(&[u8], Option<[u8; 6]>)] = &[
     (b"00:11:22:33:44:5F", Some(*b"\x5f\x44\x33\x22\x11\x00")),
     (b"c0:00:00:00:00:0a", Some(*b"\x0a\x00\x00\x00\x00\xc0")),
     (b"", None),
@@ -39,7 +40,7 @@ const ADDRESSES: [(&[u8], Option<[u8; 6]>); 7] = [
 ];
 
 /// Whole files: how many keys each has, or the number of its fault.
-const FILES: [(&str, Result<usize, u8>); 8] = [
+const FILES: &[(&str, Result<usize, u8>)] = &[
     (KEYS, Ok(3)),
     ("", Ok(0)),
     ("key = []", Ok(0)),
@@ -51,7 +52,7 @@ const FILES: [(&str, Result<usize, u8>); 8] = [
 ];
 
 /// The lines of the first of the keys.
-const LINES: [&str; 8] = [
+const LINES: &[&str] = &[
     "[[key]]\n",
     "address = \"c0:00:00:00:00:01\"\n",
     "kind = \"random\"\n",
@@ -63,7 +64,7 @@ const LINES: [&str; 8] = [
 ];
 
 /// Files of one key, one of whose lines is another.
-const LINE_CHANGES: [(usize, &str, Result<usize, u8>); 25] = [
+const LINE_CHANGES: &[(usize, &str, Result<usize, u8>)] = &[
     (1, "", Err(2)),
     (1, "address = \"c0:00:00:00:01\"\n", Err(3)),
     (1, "address = \"c0-00-00-00-00-01\"\n", Err(3)),
@@ -92,7 +93,7 @@ const LINE_CHANGES: [(usize, &str, Result<usize, u8>); 25] = [
 ];
 
 /// The same key behind those of the door, which have it already.
-const REPEATED: [(usize, &str, Result<usize, u8>); 5] = [
+const REPEATED: &[(usize, &str, Result<usize, u8>)] = &[
     (0, "[[key]]\n", Err(6)),
     (4, "ediv = 65536\n", Err(9)),
     (6, "size = 6\n", Err(5)),
@@ -101,7 +102,7 @@ const REPEATED: [(usize, &str, Result<usize, u8>); 5] = [
 ];
 
 /// Changes of the secure key.
-const SECURE_CHANGES: [(&str, &str, Result<usize, u8>); 3] = [
+const SECURE_CHANGES: &[(&str, &str, Result<usize, u8>)] = &[
     ("", "", Ok(1)),
     ("ediv = 0", "ediv = 1", Err(10)),
     ("\"0000000000000000\"", "\"0000000000000001\"", Err(10)),
@@ -109,7 +110,7 @@ const SECURE_CHANGES: [(&str, &str, Result<usize, u8>); 3] = [
 
 #[test]
 fn addresses(rt: HostRuntime) {
-    check_addresses(&rt, &ADDRESSES);
+    check_addresses(&rt, ADDRESSES);
 }
 
 fn check_addresses(rt: &impl Abort, cases: &[(&[u8], Option<[u8; 6]>)]) {
@@ -135,23 +136,23 @@ fn read_made(alloc: Global, text: Result<String, AllocError>) -> Result<usize, u
 
 #[test]
 fn files(rt: HostRuntime) {
-    check_files(&rt, rt.alloc(), &FILES);
+    check_files(&rt, rt.alloc(), FILES);
 }
 
 fn check_files(rt: &impl Abort, alloc: Global, cases: &[(&str, Result<usize, u8>)]) {
     for &(text, answer) in cases {
-        assert!(rt; read(alloc, text) == answer, "{text}");
+        assert_case(rt, read(alloc, text) == answer, text);
     }
 }
 
 #[test]
 fn lines(rt: HostRuntime) {
-    check_lines(&rt, rt.alloc(), "", &LINE_CHANGES);
+    check_lines(&rt, rt.alloc(), "", LINE_CHANGES);
 }
 
 #[test]
 fn faults_of_a_repeated_entry(rt: HostRuntime) {
-    check_lines(&rt, rt.alloc(), KEYS, &REPEATED);
+    check_lines(&rt, rt.alloc(), KEYS, REPEATED);
 }
 
 fn check_lines(
@@ -162,7 +163,7 @@ fn check_lines(
 ) {
     for &(place, line, answer) in cases {
         let told = read_made(alloc, with_line(alloc, before, place, line));
-        assert!(rt; told == answer, "{line}");
+        assert_case(rt, told == answer, line);
     }
 }
 
@@ -177,13 +178,13 @@ fn with_line(alloc: Global, before: &str, place: usize, line: &str) -> Result<St
 
 #[test]
 fn secure_keys(rt: HostRuntime) {
-    check_secure(&rt, rt.alloc(), &SECURE_CHANGES);
+    check_secure(&rt, rt.alloc(), SECURE_CHANGES);
 }
 
 fn check_secure(rt: &impl Abort, alloc: Global, cases: &[(&str, &str, Result<usize, u8>)]) {
     for &(old, new, answer) in cases {
         let told = read_made(alloc, SECURE_KEY.replacen(alloc, old, new, 1));
-        assert!(rt; told == answer, "{new}");
+        assert_case(rt, told == answer, new);
     }
 }
 
@@ -212,7 +213,7 @@ fn many_keys(alloc: Global, more: &str) -> Result<String, AllocError> {
 type Request = (Peer, [u8; 8], u16);
 
 /// The answers of the keys of the door, with the secure key behind them.
-const ANSWERS: [(Request, Option<Key>); 7] = [
+const ANSWERS: &[(Request, Option<Key>)] = &[
     (
         (PHONE, [0x01; 8], 257),
         Some(Key {
@@ -255,15 +256,23 @@ const ANSWERS: [(Request, Option<Key>); 7] = [
 #[test]
 fn answers(rt: HostRuntime) {
     match KEYS.replacen(rt.alloc(), "", SECURE_KEY, 1) {
-        Ok(text) => check_answers(&rt, rt.alloc(), &text, &ANSWERS),
+        Ok(text) => check_answers(&rt, rt.alloc(), &text, ANSWERS),
         Err(_) => assert!(&rt; false, "memory"),
     }
 }
 
 fn check_answers(rt: &impl Abort, alloc: Global, text: &str, cases: &[(Request, Option<Key>)]) {
+    let keys = read_keys(rt, alloc, text);
+    check_each_answer(rt, &keys, cases);
+}
+
+fn read_keys(rt: &impl Abort, alloc: Global, text: &str) -> Keys {
     match Keys::read(alloc, text) {
-        Ok(keys) => check_each_answer(rt, &keys, cases),
-        Err(fault) => assert_eq!(rt; fault.number(), 0),
+        Ok(keys) => keys,
+        Err(fault) => {
+            let number = fault.number();
+            panic!(rt; "fault {number}")
+        }
     }
 }
 
@@ -281,10 +290,8 @@ fn is_answer(keys: &Keys, request: &Request, key: Option<&Key>) -> bool {
 
 #[test]
 fn peers(rt: HostRuntime) {
-    match Keys::read(rt.alloc(), KEYS) {
-        Ok(keys) => check_peers(&rt, &keys),
-        Err(fault) => assert_eq!(&rt; fault.number(), 0),
-    }
+    let keys = read_keys(&rt, rt.alloc(), KEYS);
+    check_peers(&rt, &keys);
 }
 
 fn check_peers(rt: &impl Abort, keys: &Keys) {

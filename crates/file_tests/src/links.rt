@@ -33,12 +33,12 @@ enum Event {
 /// An event, the change that it makes, and the link's key afterwards.
 type Step = (Event, Option<LinkChange>, Option<KeyFacts>);
 
-const NO_KEY: [Step; 2] = [
+const NO_KEY: &[Step] = &[
     (Event::Request(None), None, None),
     (Event::Encryption(0x00, 0x01), Some(LinkChange::Same), None),
 ];
 
-const LOST: [Step; 4] = [
+const LOST: &[Step] = &[
     (Event::Request(Some(&KEY)), None, None),
     (
         Event::Encryption(0x00, 0x01),
@@ -49,7 +49,7 @@ const LOST: [Step; 4] = [
     (Event::Encryption(0x00, 0x00), Some(LinkChange::Same), None),
 ];
 
-const REFRESHED: [Step; 5] = [
+const REFRESHED: &[Step] = &[
     (Event::Request(Some(&KEY)), None, None),
     (
         Event::Encryption(0x00, 0x02),
@@ -67,17 +67,17 @@ const REFRESHED: [Step; 5] = [
 
 #[test]
 fn asked_for_a_key_that_is_not_there(rt: HostRuntime) {
-    check_trace(&rt, &NO_KEY);
+    check_trace(&rt, NO_KEY);
 }
 
 #[test]
 fn encrypted_and_lost(rt: HostRuntime) {
-    check_trace(&rt, &LOST);
+    check_trace(&rt, LOST);
 }
 
 #[test]
 fn refreshed(rt: HostRuntime) {
-    check_trace(&rt, &REFRESHED);
+    check_trace(&rt, REFRESHED);
 }
 
 fn check_trace(rt: &impl Abort, trace: &[Step]) {

@@ -1,5 +1,6 @@
 //! Typed look-ups in TOML tables, and the shapes of tables.
 
+use super::cases::assert_case;
 use std::alloc::Global;
 use std::process::Abort;
 use toml::Table;
@@ -54,7 +55,7 @@ fn street_of(document: &Table) -> Option<&str> {
     toml_tables::text(toml_tables::table(document, "home")?, "street")
 }
 
-const KEYS: [Key; 7] = [
+const KEYS: &[Key] = &[
     Key {
         name: "text",
         shape: Shape::Text,
@@ -86,7 +87,7 @@ const KEYS: [Key; 7] = [
 ];
 
 /// Documents, and whether they have those keys alone, with values of their types.
-const SHAPES: [(&str, bool); 10] = [
+const SHAPES: &[(&str, bool)] = &[
     ("", true),
     (
         "text = \"a\"\nboolean = true\ninteger = 1\ntable = { other = 1 }",
@@ -107,16 +108,16 @@ const SHAPES: [(&str, bool); 10] = [
 
 #[test]
 fn keys_and_types(rt: HostRuntime) {
-    check_shapes(&rt, rt.alloc(), &SHAPES);
+    check_shapes(&rt, rt.alloc(), SHAPES);
 }
 
 fn check_shapes(rt: &impl Abort, alloc: Global, cases: &[(&str, bool)]) {
     for &(document, shaped) in cases {
-        assert!(rt; is_shaped(alloc, document) == Some(shaped), "{document}");
+        assert_case(rt, is_shaped(alloc, document) == Some(shaped), document);
     }
 }
 
 fn is_shaped(alloc: Global, document: &str) -> Option<bool> {
     let table = toml::table_from_str(alloc, document).ok()?;
-    Some(toml_tables::is_shaped(&table, &KEYS))
+    Some(toml_tables::is_shaped(&table, KEYS))
 }

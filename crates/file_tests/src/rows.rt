@@ -1,5 +1,6 @@
 //! Rows files, and rows that are fitted to keys and a table.
 
+use super::cases::assert_case;
 use att_table::Table;
 use att_table::examples::{DOOR, PORCH};
 use gatt_subs::{Rows, RowsFault};
@@ -118,7 +119,7 @@ fn texts(rt: HostRuntime) {
 
 fn check_texts(rt: &impl Abort, alloc: Global, cases: &[(&str, &str)]) {
     for &(text, written) in cases {
-        assert!(rt; reads_as(alloc, text, written), "{text}");
+        assert_case(rt, reads_as(alloc, text, written), text);
     }
 }
 
@@ -131,7 +132,7 @@ fn reads_as(alloc: Global, text: &str, written: &str) -> bool {
 
 fn check_faults(rt: &impl Abort, alloc: Global, cases: &[(&str, RowsFault)]) {
     for &(text, fault) in cases {
-        assert!(rt; Rows::read(alloc, text).err() == Some(fault), "{text}");
+        assert_case(rt, Rows::read(alloc, text).err() == Some(fault), text);
     }
 }
 
@@ -142,7 +143,7 @@ fn fitted(rt: HostRuntime) {
 
 fn check_fitted(rt: &impl Abort, alloc: Global, cases: &[(&str, &str, &str)]) {
     for &(text, table, written) in cases {
-        assert!(rt; fits_as(alloc, text, table, written), "{text}");
+        assert_case(rt, fits_as(alloc, text, table, written), text);
     }
 }
 

@@ -1,5 +1,6 @@
 //! Scripts: each line, each fault, and who is named.
 
+use super::cases::assert_case;
 use arrayvec::ArrayVec;
 use le_hci::{PUBLIC_ADDRESS, Peer, RANDOM_ADDRESS};
 use le_l2cap::channel;
@@ -32,25 +33,8 @@ const TABLET: Peer = Peer {
     address: [0x55, 0x44, 0x33, 0x22, 0x11, 0x00],
 };
 
-/// Texts, and what is done by them.
-const TEXTS: [(&str, &[Wanted<'static>]); 34] = [
-    ("", &[]),
-    ("\n\n", &[]),
-    ("#", &[]),
-    ("# U < 0\n#\tdrop\n#\r\n", &[]),
-    (
-        "connect U 1 c0:00:00:00:00:0a\nU < 0a0300\nU < 0a0a00\nU <6 01030001100000\n",
-        &[
-            Wanted::Connect(0, STRANGER),
-            Wanted::Send(0, channel::ATT, b"\x0a\x03\x00"),
-            Wanted::Send(0, channel::ATT, b"\x0a\x0a\x00"),
-            Wanted::Send(
-                0,
-                channel::SECURITY_MANAGER,
-                b"\x01\x03\x00\x01\x10\x00\x00",
-            ),
-        ],
-    ),
+/// Lines, and what is done by each.
+const LINES: &[(&str, &[Wanted<'static>])] = &[
     (
         "connect Q 0 00:11:22:33:44:55",
         &[Wanted::Connect(0, TABLET)],
@@ -96,6 +80,27 @@ const TEXTS: [(&str, &[Wanted<'static>]); 34] = [
     ("tick 0", &[Wanted::Tick(0)]),
     ("tick 18446744073709551615", &[Wanted::Tick(u64::MAX)]),
     ("replace", &[Wanted::Replace]),
+];
+
+/// Texts of several lines or of none, and names, with what is done by them.
+const TEXTS: &[(&str, &[Wanted<'static>])] = &[
+    ("", &[]),
+    ("\n\n", &[]),
+    ("#", &[]),
+    ("# U < 0\n#\tdrop\n#\r\n", &[]),
+    (
+        "connect U 1 c0:00:00:00:00:0a\nU < 0a0300\nU < 0a0a00\nU <6 01030001100000\n",
+        &[
+            Wanted::Connect(0, STRANGER),
+            Wanted::Send(0, channel::ATT, b"\x0a\x03\x00"),
+            Wanted::Send(0, channel::ATT, b"\x0a\x0a\x00"),
+            Wanted::Send(
+                0,
+                channel::SECURITY_MANAGER,
+                b"\x01\x03\x00\x01\x10\x00\x00",
+            ),
+        ],
+    ),
     (
         "\n# two phones\n\ndrop B\nhold A\nreplace\nA < 02\nB < 1e",
         &[
@@ -122,7 +127,7 @@ const TEXTS: [(&str, &[Wanted<'static>]); 34] = [
 ];
 
 /// Texts, and the numbers of their first lines with faults.
-const FAULTS: [(&str, u64); 88] = [
+const FAULTS: &[(&str, u64)] = &[
     ("bad", 1),
     ("\n# here\nU < 0a0300\nbad\nbad", 4),
     (" ", 1),
@@ -221,13 +226,18 @@ const EIGHT: &str =
     "drop A\nhold B\nC < 1e\nclear D\nallow E\ndeny F\ndone G 0\nconnect H 0 00:11:22:33:44:55\n# I\ndrop A\n";
 
 #[test]
+fn lines(rt: HostRuntime) {
+    check_texts(&rt, rt.alloc(), LINES);
+}
+
+#[test]
 fn texts(rt: HostRuntime) {
-    check_texts(&rt, rt.alloc(), &TEXTS);
+    check_texts(&rt, rt.alloc(), TEXTS);
 }
 
 fn check_texts(rt: &impl Abort, alloc: Global, cases: &[(&str, &[Wanted<'_>])]) {
     for &(text, wanted) in cases {
-        assert!(rt; reads_as(alloc, text, wanted), "{text}");
+        assert_case(rt, reads_as(alloc, text, wanted), text);
     }
 }
 
@@ -302,12 +312,12 @@ fn writes(payload: &Payload<'_>, wanted: &[u8]) -> bool {
 
 #[test]
 fn faults(rt: HostRuntime) {
-    check_faults(&rt, rt.alloc(), &FAULTS);
+    check_faults(&rt, rt.alloc(), FAULTS);
 }
 
 fn check_faults(rt: &impl Abort, alloc: Global, cases: &[(&str, u64)]) {
     for &(text, line) in cases {
-        assert!(rt; is_bad_at(alloc, text, true, line), "{text}");
+        assert_case(rt, is_bad_at(alloc, text, true, line), text);
     }
 }
 

@@ -1,14 +1,15 @@
 //! The two stores of values do the same.
 
+use super::cases::assert_at;
 use att_values::{Change, FlatStore, PlainStore, ValueStore, run};
 use std::alloc::AllocError;
 use std::process::Abort;
 
 /// The rooms of three values, and the values.
-const VALUES: [(u16, &[u8]); 3] = [(3, b"one"), (6, b"two"), (512, b"three")];
+const VALUES: &[(u16, &[u8])] = &[(3, b"one"), (6, b"two"), (512, b"three")];
 
 /// Patches of the second of them, and the value after each.
-const PATCHES: [(usize, &[u8], bool, &[u8]); 7] = [
+const PATCHES: &[(usize, &[u8], bool, &[u8])] = &[
     (0, b"abcd", false, b"abcd"),
     (1, b"X", true, b"aXcd"),
     (3, b"YZ", true, b"aXcYZ"),
@@ -26,11 +27,11 @@ fn patches_of_the_flat_store(rt: HostRuntime) {
 fn check_flat(rt: &impl Abort, store: &mut FlatStore) {
     assert!(rt; push_flat(store).is_ok());
     assert!(rt; store.len() == 3 && store.octets() == 521);
-    check_patches(rt, store, &PATCHES);
+    check_patches(rt, store, PATCHES);
 }
 
 fn push_flat(store: &mut FlatStore) -> Result<(), AllocError> {
-    for (room, value) in VALUES {
+    for &(room, value) in VALUES {
         store.push(room, value)?;
     }
     Ok(())
@@ -43,11 +44,11 @@ fn patches_of_the_plain_store(rt: HostRuntime) {
 
 fn check_plain(rt: &impl Abort, store: &mut PlainStore) {
     assert!(rt; push_plain(store).is_ok());
-    check_patches(rt, store, &PATCHES);
+    check_patches(rt, store, PATCHES);
 }
 
 fn push_plain(store: &mut PlainStore) -> Result<(), AllocError> {
-    for (room, value) in VALUES {
+    for &(room, value) in VALUES {
         store.push(room, value)?;
     }
     Ok(())
@@ -59,7 +60,7 @@ fn check_patches<S: ValueStore>(
     cases: &[(usize, &[u8], bool, &[u8])],
 ) {
     for &(offset, part, keep, wanted) in cases {
-        assert!(rt; is_patched(store, (offset, part, keep), wanted), "{offset}");
+        assert_at(rt, is_patched(store, (offset, part, keep), wanted), offset);
     }
     assert!(rt; is_run(store));
 }

@@ -1,12 +1,13 @@
 //! Table files, and how many attributes each gives or the number of its fault.
 
+use super::cases::{assert_at, assert_case};
 use att_table::Table;
 use att_table::examples::DOOR;
 use std::alloc::{AllocError, Global};
 use std::process::Abort;
 
 /// Whole files.
-const FILES: [(&str, Result<usize, u8>); 11] = [
+const FILES: &[(&str, Result<usize, u8>)] = &[
     ("service = []", Ok(0)),
     ("", Err(2)),
     ("service", Err(1)),
@@ -24,7 +25,7 @@ const FILES: [(&str, Result<usize, u8>); 11] = [
 const NAME: &str = "value = \"4c6f636b\"\nproperties = [\"read\"]\n";
 
 /// Changes of the door's file.
-const CHANGES: [(&str, &str, Result<usize, u8>); 37] = [
+const CHANGES: &[(&str, &str, Result<usize, u8>)] = &[
     ("", "", Ok(21)),
     ("\"1800\"", "1", Err(11)),
     ("\"1800\"", "\"1800\"\ninclude = [5]", Err(9)),
@@ -110,7 +111,7 @@ const CHANGES: [(&str, &str, Result<usize, u8>); 37] = [
 
 /// What the name of the door is, where its lines are these: its largest length, its properties and
 /// the key size that reading it needs.
-const NAMES: [(&str, (u16, u8, Option<u8>)); 14] = [
+const NAMES: &[(&str, (u16, u8, Option<u8>))] = &[
     ("properties = [\"read\"]", (4, 0x02, None)),
     ("properties = [\"command\"]", (4, 0x04, None)),
     ("properties = [\"write\"]", (4, 0x08, None)),
@@ -150,7 +151,7 @@ type Repeated = (
 );
 
 /// Parts of a file that are repeated, how often, and what the whole gives.
-const REPEATED: [Repeated; 9] = [
+const REPEATED: &[Repeated] = &[
     ("", "[[service]]\nuuid = \"1800\"\n", 1024, "", Ok(1024)),
     ("", "[[service]]\nuuid = \"1800\"\n", 1025, "", Err(8)),
     (SERVICE, NOTIFYING, 64, "", Ok(193)),
@@ -191,23 +192,23 @@ fn read_made(alloc: Global, text: Result<String, AllocError>) -> Result<usize, u
 
 #[test]
 fn files(rt: HostRuntime) {
-    check_files(&rt, rt.alloc(), &FILES);
+    check_files(&rt, rt.alloc(), FILES);
 }
 
 fn check_files(rt: &impl Abort, alloc: Global, cases: &[(&str, Result<usize, u8>)]) {
     for &(text, answer) in cases {
-        assert!(rt; read(alloc, text) == answer, "{text}");
+        assert_case(rt, read(alloc, text) == answer, text);
     }
 }
 
 #[test]
 fn changes_of_the_door(rt: HostRuntime) {
-    check_changes(&rt, rt.alloc(), &CHANGES);
+    check_changes(&rt, rt.alloc(), CHANGES);
 }
 
 fn check_changes(rt: &impl Abort, alloc: Global, cases: &[(&str, &str, Result<usize, u8>)]) {
     for &(old, new, answer) in cases {
-        assert!(rt; read_changed(alloc, old, new) == answer, "{new}");
+        assert_case(rt, read_changed(alloc, old, new) == answer, new);
     }
 }
 
@@ -217,12 +218,12 @@ fn read_changed(alloc: Global, old: &str, new: &str) -> Result<usize, u8> {
 
 #[test]
 fn repeated_parts(rt: HostRuntime) {
-    check_repeated(&rt, rt.alloc(), &REPEATED);
+    check_repeated(&rt, rt.alloc(), REPEATED);
 }
 
 fn check_repeated(rt: &impl Abort, alloc: Global, cases: &[Repeated]) {
     for (place, case) in cases.iter().enumerate() {
-        assert!(rt; is_told(alloc, case), "{place}");
+        assert_at(rt, is_told(alloc, case), place);
     }
 }
 
@@ -248,12 +249,12 @@ fn with_repeated(
 
 #[test]
 fn names_of_the_door(rt: HostRuntime) {
-    check_names(&rt, rt.alloc(), &NAMES);
+    check_names(&rt, rt.alloc(), NAMES);
 }
 
 fn check_names(rt: &impl Abort, alloc: Global, cases: &[(&str, (u16, u8, Option<u8>))]) {
     for &(lines, wanted) in cases {
-        assert!(rt; name_told(alloc, lines) == Some(wanted), "{lines}");
+        assert_case(rt, name_told(alloc, lines) == Some(wanted), lines);
     }
 }
 

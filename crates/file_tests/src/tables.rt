@@ -1,5 +1,6 @@
 //! The tables of the example files, and tables of shapes that those have not.
 
+use super::cases::assert_at;
 use att_numbers::attribute_type;
 use att_numbers::attribute_type::{
     CHARACTERISTIC, CLIENT_CHARACTERISTIC_CONFIGURATION, INCLUDE, PRIMARY_SERVICE,
@@ -149,21 +150,23 @@ fn check_table(rt: &impl Abort, table: &Table, wanted: &Wanted) {
 
 fn check_values(rt: &impl Abort, table: &Table, cases: &[(u16, &[u8])]) {
     for &(handle, value) in cases {
-        assert!(rt; value_of(table, handle) == value, "{handle}");
+        assert_at(rt, value_of(table, handle) == value, usize::from(handle));
     }
 }
 
 fn check_group_ends(rt: &impl Abort, table: &Table, cases: &[(u16, u16)]) {
     for &(handle, last) in cases {
-        assert!(rt; group_end_of(table, handle) == last, "{handle}");
+        assert_at(rt, group_end_of(table, handle) == last, usize::from(handle));
     }
 }
 
 fn check_configurations(rt: &impl Abort, table: &Table, handles: &[u16]) {
     for handle in 1..=21 {
-        assert!(rt;
-            is_configuration(table, handle) == handles.contains(&handle),
-            "{handle}"
+        let wanted = handles.contains(&handle);
+        assert_at(
+            rt,
+            is_configuration(table, handle) == wanted,
+            usize::from(handle),
         );
     }
 }

@@ -1,5 +1,6 @@
 //! Attribute types as texts and as octets.
 
+use super::cases::assert_case;
 use att_numbers::attribute_type::{BASE_UUID, PRIMARY_SERVICE, from_16_bits};
 use att_table::{Table, is_of_16_bits, is_service, type_octets};
 use std::alloc::Global;
@@ -11,7 +12,7 @@ const CUSTOM_OCTETS: [u8; 16] =
     *b"\xef\xcd\xab\x89\x67\x45\x23\x01\xf0\xde\xbc\x9a\x78\x56\x34\x12";
 
 /// The octets of the types that texts name, none where they name none.
-const TEXTS: [(&str, Option<&[u8]>); 11] = [
+const TEXTS: &[(&str, Option<&[u8]>)] = &[
     ("180f", Some(b"\x0f\x18")),
     ("180F", Some(b"\x0f\x18")),
     ("0000180f-0000-1000-8000-00805f9b34fb", Some(b"\x0f\x18")),
@@ -27,12 +28,12 @@ const TEXTS: [(&str, Option<&[u8]>); 11] = [
 
 #[test]
 fn texts(rt: HostRuntime) {
-    check_texts(&rt, rt.alloc(), &TEXTS);
+    check_texts(&rt, rt.alloc(), TEXTS);
 }
 
 fn check_texts(rt: &impl Abort, alloc: Global, cases: &[(&str, Option<&[u8]>)]) {
     for &(uuid, octets) in cases {
-        assert!(rt; is_value_of_service(alloc, uuid, octets), "{uuid}");
+        assert_case(rt, is_value_of_service(alloc, uuid, octets), uuid);
     }
 }
 
