@@ -1,5 +1,6 @@
 //! The octets of a whole initialisation, and of what goes wrong in one.
 
+use super::cases::assert_case;
 use arrayvec::ArrayVec;
 use le_hci::{Buffers, Event, Init, InitFault, read_event, write_command};
 use std::process::Abort;
@@ -48,7 +49,7 @@ fn run(rt: &impl Abort, first: Init, exchanges: &[Exchange]) -> Init {
     let mut init = first;
     for &(packet, expected, command) in exchanges {
         let (fault, next) = complete(rt, init, packet);
-        assert!(rt; fault == expected, "{packet:?}");
+        assert_case(rt, fault == expected, packet);
         assert_next(rt, &next, command);
         init = next;
     }
@@ -61,7 +62,7 @@ fn assert_next(rt: &impl Abort, init: &Init, expected: &[u8]) {
     if let Some(command) = init.command() {
         write_command(&command, &mut octets);
     }
-    assert!(rt; octets.as_slice() == expected, "{expected:?}");
+    assert_case(rt, octets.as_slice() == expected, expected);
 }
 
 /// The packets up to LE Read Buffer Size, and the commands that they lead to.

@@ -2,6 +2,7 @@
 
 ghost use Rattle.std.specs.Prelude.{◌<◌};
 
+use super::cases::assert_case;
 use arrayvec::ArrayVec;
 use le_h4::{Deframer, PacketRef};
 use le_hci::{Command, Event, Init, Peer, RANDOM_ADDRESS, read_event};
@@ -172,7 +173,7 @@ fn exchange(
     for piece in packet.chunks(size) {
         init = take(rt, deframer, init, piece, &mut written);
     }
-    assert!(rt; written.as_slice() == wanted, "{packet:?}");
+    assert_case(rt, written.as_slice() == wanted, packet);
     init
 }
 

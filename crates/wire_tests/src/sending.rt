@@ -1,10 +1,81 @@
 //! The packets of PDUs that go out.
 
-use super::cases::assert_case;
+ghost use Rattle.std.specs.Prelude.{◌<◌};
+
 use arrayvec::ArrayVec;
 use le_acl::{MAX_PDUS, Sender};
+use std::alloc::Global;
 use std::process::Abort;
-use std::test::Fail;
+
+/// What is done with a sender of packets of at most 27 octets of data, and what has to come of it.
+#[derive(Clone, Copy, Debug)]
+enum Step {
+    /// So many PDUs with this payload are queued.
+    Queue(usize, &'static [u8]),
+    /// A Read Response with 512 octets 55 is queued.
+    QueueLargest,
+    /// A PDU more has no room.
+    Full,
+    /// The next packets are so many of so many octets, and begin with these.
+    Packets(usize, usize, &'static [u8]),
+    /// No packet goes out.
+    Nothing,
+    /// So many packets are completed.
+    Completed(u16),
+    /// So many PDUs wait.
+    Backlog(usize),
+    Flush,
+    /// From here on one packet may be outstanding, of at most 251 octets of data.
+    Reset,
+}
+
+/// Makes the steps with a new sender, of which so many packets may be outstanding.
+fn assert_sends(rt: &impl Abort, alloc: Global, share: u16, steps: &[Step])
+    requires { 0 < share }
+{
+    match Sender::new(alloc, share, 27) {
+        Ok(mut sender) => assert_steps(rt, &mut sender, steps),
+        Err(_) => panic!(rt; "memory"),
+    }
+}
+
+fn assert_steps(rt: &impl Abort, sender: &mut Sender, steps: &[Step]) {
+    for &step in steps {
+        assert!(rt; is_as_expected(sender, step), "{step:?}");
+    }
+}
+
+fn is_as_expected(sender: &mut Sender, step: Step) -> bool {
+    match step {
+        Step::Queue(count, payload) => queue_all(sender, count, payload),
+        Step::QueueLargest => queue_largest(sender),
+        Step::Full => !queue(sender, b"\x1b"),
+        Step::Packets(count, size, front) => are_next(sender, count, size, front),
+        Step::Nothing => !sender.next(0x0040, &mut ArrayVec::new()),
+        Step::Completed(count) => {
+            sender.completed(count);
+            true
+        }
+        Step::Backlog(count) => sender.backlog() == count,
+        Step::Flush => {
+            sender.flush();
+            true
+        }
+        Step::Reset => {
+            sender.reset(1, 251);
+            true
+        }
+    }
+}
+
+fn queue_all(sender: &mut Sender, count: usize, payload: &[u8]) -> bool {
+    for _ in 0..count {
+        if !queue(sender, payload) {
+            return false;
+        }
+    }
+    true
+}
 
 fn queue(sender: &mut Sender, payload: &[u8]) -> bool {
     let Ok(room) = sender.room() else {
@@ -15,12 +86,19 @@ fn queue(sender: &mut Sender, payload: &[u8]) -> bool {
     true
 }
 
-/// The next packets, each of which has to have so many octets and begin with these.
-fn assert_packets(rt: &impl Abort, sender: &mut Sender, expected: &[(usize, &[u8])]) {
-    for &(size, front) in expected {
-        assert_case(rt, is_next(sender, size, front), front);
+fn queue_largest(sender: &mut Sender) -> bool {
+    let mut response = [0x55; 513];
+    response[0] = 0x0B;
+    queue(sender, &response)
+}
+
+fn are_next(sender: &mut Sender, count: usize, size: usize, front: &[u8]) -> bool {
+    for _ in 0..count {
+        if !is_next(sender, size, front) {
+            return false;
+        }
     }
-    assert!(rt; !sender.next(0x0040, &mut ArrayVec::new()));
+    true
 }
 
 fn is_next(sender: &mut Sender, size: usize, front: &[u8]) -> bool {
@@ -29,107 +107,100 @@ fn is_next(sender: &mut Sender, size: usize, front: &[u8]) -> bool {
 }
 
 /// A first fragment and a continuation of 27 octets each, of the frame of 50 octets 55.
-const FIFTY_OCTETS: &[(usize, &[u8])] = &[
-    (
+const FIFTY_OCTETS: &[Step] = &[
+    Step::Nothing,
+    Step::Queue(1, &[0x55; 50]),
+    Step::Backlog(1),
+    Step::Packets(
+        1,
         5 + 27,
         &[0x02, 0x40, 0x00, 0x1B, 0x00, 0x32, 0x00, 0x04, 0x00, 0x55],
     ),
-    (5 + 27, &[0x02, 0x40, 0x10, 0x1B, 0x00, 0x55]),
+    Step::Packets(1, 5 + 27, &[0x02, 0x40, 0x10, 0x1B, 0x00, 0x55]),
+    Step::Nothing,
+    Step::Backlog(0),
 ];
 
 #[test]
-fn two_packets_of_27_octets(rt: HostRuntime) -> Result<(), Fail> {
-    let mut sender = Sender::new(rt.alloc(), 2, 27)?;
-    assert_packets(&rt, &mut sender, &[]);
-    assert!(rt; queue(&mut sender, &[0x55; 50]) && sender.backlog() == 1);
-    assert_packets(&rt, &mut sender, FIFTY_OCTETS);
-    assert!(rt; sender.backlog() == 0);
-    Ok(())
+fn two_packets_of_27_octets(rt: HostRuntime) {
+    assert_sends(&rt, rt.alloc(), 2, FIFTY_OCTETS);
 }
 
 /// The first packet of the frame of 517 octets, those that are full, and the last one.
-const BEGINNING: (usize, &[u8]) = (
-    5 + 27,
-    &[
-        0x02, 0x40, 0x00, 0x1B, 0x00, 0x01, 0x02, 0x04, 0x00, 0x0B, 0x55,
-    ],
-);
-
-const CONTINUATION: (usize, &[u8]) = (5 + 27, &[0x02, 0x40, 0x10, 0x1B, 0x00, 0x55]);
-
-const END: (usize, &[u8]) = (
-    5 + 4,
-    &[0x02, 0x40, 0x10, 0x04, 0x00, 0x55, 0x55, 0x55, 0x55],
-);
+const FRAME_OF_517_OCTETS: &[Step] = &[
+    Step::QueueLargest,
+    Step::Packets(
+        1,
+        5 + 27,
+        &[
+            0x02, 0x40, 0x00, 0x1B, 0x00, 0x01, 0x02, 0x04, 0x00, 0x0B, 0x55,
+        ],
+    ),
+    Step::Packets(18, 5 + 27, &[0x02, 0x40, 0x10, 0x1B, 0x00, 0x55]),
+    Step::Packets(
+        1,
+        5 + 4,
+        &[0x02, 0x40, 0x10, 0x04, 0x00, 0x55, 0x55, 0x55, 0x55],
+    ),
+    Step::Nothing,
+];
 
 #[test]
-fn twenty_packets(rt: HostRuntime) -> Result<(), Fail> {
-    let mut sender = Sender::new(rt.alloc(), 20, 27)?;
-    let mut value = [0x55; 513];
-    value[0] = 0x0B;
-    assert!(rt; queue(&mut sender, &value));
-    let mut expected = [CONTINUATION; 20];
-    expected[0] = BEGINNING;
-    expected[19] = END;
-    assert_packets(&rt, &mut sender, &expected);
-    Ok(())
+fn twenty_packets(rt: HostRuntime) {
+    assert_sends(&rt, rt.alloc(), 20, FRAME_OF_517_OCTETS);
 }
 
 /// A packet with a frame of one octet.
-const ONE_OCTET: (usize, &[u8]) = (
-    10,
-    &[0x02, 0x40, 0x00, 0x05, 0x00, 0x01, 0x00, 0x04, 0x00, 0x1B],
-);
+const ONE_OCTET: [u8; 10] = [0x02, 0x40, 0x00, 0x05, 0x00, 0x01, 0x00, 0x04, 0x00, 0x1B];
 
-/// Queues as many PDUs as there is room for.
-fn fill(sender: &mut Sender) -> bool {
-    for _pdu in 0..MAX_PDUS {
-        if !queue(sender, b"\x1b") {
-            return false;
-        }
-    }
-    true
-}
-
-#[test]
-fn completions(rt: HostRuntime) -> Result<(), Fail> {
-    let mut sender = Sender::new(rt.alloc(), 2, 27)?;
-    assert!(rt; fill(&mut sender) && !queue(&mut sender, b"\x1b"));
-    assert_packets(&rt, &mut sender, &[ONE_OCTET; 2]);
+const COMPLETIONS: &[Step] = &[
+    Step::Queue(MAX_PDUS, b"\x1b"),
+    Step::Full,
+    Step::Packets(2, 10, &ONE_OCTET),
+    Step::Nothing,
     // Nine completed packets count as the two that are outstanding.
-    sender.completed(9);
-    assert_packets(&rt, &mut sender, &[ONE_OCTET; 2]);
-    assert!(rt; sender.backlog() == 12);
-    Ok(())
-}
-
-/// Queues two PDUs, of which one goes out.
-fn send_one_of_two(rt: &impl Abort, sender: &mut Sender) {
-    assert!(rt; queue(sender, b"\x1b") && queue(sender, b"\x1b"));
-    assert_packets(rt, sender, &[ONE_OCTET]);
-}
+    Step::Completed(9),
+    Step::Packets(2, 10, &ONE_OCTET),
+    Step::Nothing,
+    Step::Backlog(12),
+];
 
 #[test]
-fn flushes(rt: HostRuntime) -> Result<(), Fail> {
-    let mut sender = Sender::new(rt.alloc(), 1, 27)?;
-    send_one_of_two(&rt, &mut sender);
-    sender.flush();
-    assert!(rt; sender.backlog() == 0 && queue(&mut sender, b"\x1b"));
-    assert_packets(&rt, &mut sender, &[]);
-    Ok(())
+fn completions(rt: HostRuntime) {
+    assert_sends(&rt, rt.alloc(), 2, COMPLETIONS);
 }
 
-/// A packet of the largest size.
-const LARGEST: (usize, &[u8]) = (5 + 251, &[0x02, 0x40, 0x00, 0xFB, 0x00]);
+/// Of two PDUs one goes out.
+const FLUSHES: &[Step] = &[
+    Step::Queue(2, b"\x1b"),
+    Step::Packets(1, 10, &ONE_OCTET),
+    Step::Nothing,
+    Step::Flush,
+    Step::Backlog(0),
+    Step::Queue(1, b"\x1b"),
+    Step::Nothing,
+];
 
-/// A packet is outstanding, and a PDU queued, until the sender is reset.
 #[test]
-fn resets(rt: HostRuntime) -> Result<(), Fail> {
-    let mut sender = Sender::new(rt.alloc(), 1, 27)?;
-    send_one_of_two(&rt, &mut sender);
-    sender.reset(1, 251);
-    assert!(rt; sender.backlog() == 0 && queue(&mut sender, &[0x1B; 247]));
-    assert_packets(&rt, &mut sender, &[LARGEST]);
-    assert!(rt; sender.backlog() == 0);
-    Ok(())
+fn flushes(rt: HostRuntime) {
+    assert_sends(&rt, rt.alloc(), 1, FLUSHES);
+}
+
+/// A packet is outstanding, and a PDU queued, until the sender is reset. Then a packet of the largest
+/// size goes out.
+const RESETS: &[Step] = &[
+    Step::Queue(2, b"\x1b"),
+    Step::Packets(1, 10, &ONE_OCTET),
+    Step::Nothing,
+    Step::Reset,
+    Step::Backlog(0),
+    Step::Queue(1, &[0x1B; 247]),
+    Step::Packets(1, 5 + 251, &[0x02, 0x40, 0x00, 0xFB, 0x00]),
+    Step::Nothing,
+    Step::Backlog(0),
+];
+
+#[test]
+fn resets(rt: HostRuntime) {
+    assert_sends(&rt, rt.alloc(), 1, RESETS);
 }
