@@ -82,6 +82,7 @@ fn fault(opcode: u8) -> PduFault
 }
 
 /// Whether a PDU is answered, where the connection's ATT_MTU is `mtu` octets.
+#[inline(never)]
 pub fn answer_due(pdu: &[u8], mtu: u16) -> bool
     ensures { result ≡ is_due (request_of pdu.now mtu) }
 {

@@ -60,6 +60,7 @@ impl<'a> PduBuf<'a> {
 
     /// Appends octets, an opcode and the octets of a format too, or answers `false` with nothing
     /// changed where they do not fit.
+    #[inline(always)]
     pub fn value(&mut self, octets: &[u8]) -> bool
         ensures { AppendsWhereFits self.old self.new octets.now result }
     {
@@ -72,6 +73,7 @@ impl<'a> PduBuf<'a> {
 
     /// Appends as much of a value, from its front, as fits: a value that is read is cut to the
     /// ATT_MTU (Core 5.0, Vol 3 Part F, 3.4.4.4).
+    #[inline(always)]
     pub fn front(&mut self, octets: &[u8])
         ensures appended { contents self.new ≡ contents self.old ++ take (mtu_of self.old - length (contents self.old)) octets.now }
         ensures same_buffer { IsSameBuffer self.old self.new }
@@ -82,7 +84,8 @@ impl<'a> PduBuf<'a> {
 
     /// Appends a handle and octets, an attribute's type or its value, or answers `false` with
     /// nothing changed where they do not fit: an element of the responses of Core 5.0, Vol 3 Part F,
-    /// 3.4.3.2 and 3.4.4.2, or with the last handle of a group that of 3.4.3.4.
+    /// 3.4.3.2 and 3.4.4.2.
+    #[inline(always)]
     pub fn pair(&mut self, handle: u16, octets: &[u8]) -> bool
         ensures { AppendsWhereFits self.old self.new (element_octets (OfAttribute handle octets.now)) result }
     {
@@ -94,9 +97,26 @@ impl<'a> PduBuf<'a> {
         true
     }
 
+    /// Appends two numbers of 16 bits, or answers `false` with nothing changed where they do not fit:
+    /// an attribute's handle and its type, or the first and the last handle of a group (Core 5.0, Vol
+    /// 3 Part F, 3.4.3.2 and 3.4.3.4).
+    #[inline(always)]
+    pub fn numbers(&mut self, first: u16, second: u16) -> bool
+        ensures { AppendsWhereFits self.old self.new (two_octets first ++ two_octets second) result }
+    {
+        if !self.has_room(4) {
+            return false;
+        }
+        let [first_low, first_high] = first.to_le_bytes();
+        let [second_low, second_high] = second.to_le_bytes();
+        self.append(&[first_low, first_high, second_low, second_high]);
+        true
+    }
+
     /// Appends the first and the last handle of a group and its value, or answers `false` with
     /// nothing changed where they do not fit: an element of the response of Core 5.0, Vol 3 Part F,
     /// 3.4.4.10.
+    #[inline(always)]
     pub fn group(&mut self, first: u16, last: u16, octets: &[u8]) -> bool
         ensures { AppendsWhereFits self.old self.new (element_octets (OfGroup first last octets.now)) result }
     {
@@ -127,6 +147,7 @@ impl<'a> PduBuf<'a> {
     }
 
     /// Appends octets for which there is room, so the `unwrap` is proved and tests nothing.
+    #[inline(always)]
     fn append(&mut self, octets: &[u8])
         requires { length (contents self.old) + length octets.now ≤ mtu_of self.old }
         ensures appended { contents self.new ≡ contents self.old ++ octets.now }

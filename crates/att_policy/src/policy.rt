@@ -72,6 +72,7 @@ pub enum Rule {
 
 /// The first rule that an access breaks, with its ATT error code, or `None` where the access is
 /// permitted. `guard` is that of the attribute, `None` where the handle has none.
+#[inline(always)]
 pub fn first_broken(
     access: Access,
     guard: Option<&Guard>,

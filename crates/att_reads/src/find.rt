@@ -65,7 +65,7 @@ fn append_next(attr: &Attr, size: usize, out: &mut PduBuf<'_>) -> bool
     ensures { AppendsNext out.old out.new size (information_of attr.now) result }
 {
     if is_of_16_bits(attr.kind) {
-        size == 4 && out.pair(attr.handle, &((attr.kind >> 96) as u16).to_le_bytes())
+        size == 4 && out.numbers(attr.handle, (attr.kind >> 96) as u16)
     } else {
         size == 18 && out.pair(attr.handle, &attr.kind.to_le_bytes())
     }
@@ -121,7 +121,7 @@ fn append_group(table: &Table, handle: u16, out: &mut PduBuf<'_>) -> bool
     requires { IsSome (attribute_at table.now.attributes handle) }
     ensures { AppendsWhereFits out.old out.new (element_octets (group_of table.now handle)) result }
 {
-    out.pair(handle, &table.group_end(handle).to_le_bytes())
+    out.numbers(handle, table.group_end(handle))
 }
 
 /// Whether the client may read the attribute at a handle, and its whole value is this one.
