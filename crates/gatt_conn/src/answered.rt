@@ -200,6 +200,7 @@ fn serve_form(
 /// Serves one Attribute PDU, with the answer in place of what `octets` holds, which is empty where none
 /// is due, and the handles that were written in place of what `touched` holds: each once, in the order
 /// of their first writes.
+#[inline(always)]
 #[tactic(auto, using(crate::proofs::Dues::answered_where_due, crate::proofs::Dues::sent_where_due))]
 pub fn answer_into(
     table: &mut Table,

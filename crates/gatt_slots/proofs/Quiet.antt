@@ -41,8 +41,8 @@ none_released table ear now None false outgoing =
     let pending : Indications = record { waiting = []; unconfirmed = None; timed_out = false } in
     rw (either few nothing, either few pending) refl
 
-idle-released : (table : Contents) (ear : Ear) (now : ℕ) (told : Told) → told.pending.waiting ≡ [] → told_released table ear now told ≡ told
-idle-released table ear now told none =
+pub idle_released : (table : Contents) (ear : Ear) (now : ℕ) (told : Told) → told.pending.waiting ≡ [] → told_released table ear now told ≡ told
+idle_released table ear now told none =
     let unconfirmed : Option Unconfirmed = told.pending.unconfirmed in
     let timed_out : Bool = told.pending.timed_out in
     ap (λ (waiting : List Handle). told_released table ear now (told_with waiting unconfirmed timed_out told.outgoing)) none
@@ -53,7 +53,7 @@ pub nothing_heard : (table : Contents) (now : ℕ) (bond : Option Row) (kept : K
 nothing_heard table now bond kept none =
     let ear : Ear = ear_of now bond kept in
     elim kept.live as (λ live. (if live then with_told kept (told_released table ear now (told_of kept)) else kept) ≡ kept) [
-      | true ↦ ap (with_told kept) (idle-released table ear now (told_of kept) none)
+      | true ↦ ap (with_told kept) (idle_released table ear now (told_of kept) none)
       | false ↦ refl
     ]
 
@@ -98,7 +98,7 @@ none-in-turn table ear now (handle ∷ handles) told none =
 
 pub nothing_asked : (table : Contents) (ear : Ear) (now : ℕ) (handles : List Handle) (told : Told) → ear.row ≡ [] → told.pending.waiting ≡ []
     → told_in_turn table ear now handles told ≡ told
-nothing_asked table ear now handles told none idle = none-in-turn table ear now handles told none ∙ idle-released table ear now told idle
+nothing_asked table ear now handles told none idle = none-in-turn table ear now handles told none ∙ idle_released table ear now told idle
 
 -- and where nothing waits for any of them, and nothing was written, none hears anything
 none-waits : (waiting : List Handle) → is_some_handle waiting ≡ false → waiting ≡ []

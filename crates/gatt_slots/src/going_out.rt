@@ -1,6 +1,6 @@
 //! What goes out for the connections of slots: the commands that are due for them, and their packets.
 
-ghost use Rattle.std.specs.Prelude.{◌≡◌, ◌<◌, is_none, is_some, length, Some, IfSome};
+ghost use Rattle.std.specs.Prelude.{◌≡◌, ◌<◌, false, is_none, is_some, length, Some, IfSome};
 ghost use Rattle.std.specs.Bool.{OnTrue, OnFalse};
 ghost use Rattle.std.specs.List.{list_any, position};
 ghost use Rattle.std.specs.Option.{option_and_then, option_map};
@@ -89,6 +89,14 @@ impl Slots {
         if self.marks.free {
             self.marks.free = any_free(self.slots.as_slice());
         }
+        self.marks.free
+    }
+
+    /// A slot may be free: where it is not so, none is.
+    #[inline(always)]
+    pub fn may_have_room(&self) -> bool
+        ensures { OnFalse result (list_any (λ slot. is_none slot) self.now ≡ false) }
+    {
         self.marks.free
     }
 

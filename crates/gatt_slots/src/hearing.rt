@@ -61,6 +61,7 @@ fn tell(
 
 /// Raises values in their order, and then releases what is due.
 #[inline(always)]
+#[tactic(auto, using(crate::proofs::Quiet::idle_released))]
 fn tell_in_turn(
     table: &Table,
     ear: &Ear<'_>,
@@ -78,7 +79,10 @@ fn tell_in_turn(
     for handle in handles {
         raise(table, ear, *handle, pending, sender);
     }
-    release(table, ear, now, pending, sender);
+    // Most connections wait for nothing.
+    if pending.waits() {
+        release(table, *ear, now, pending, sender);
+    }
 }
 
 /// Tells of a value that was written.
@@ -101,13 +105,14 @@ fn raise(table: &Table, ear: &Ear<'_>, handle: u16, pending: &mut Pending, sende
     }
 }
 
-/// Sends the indication that is due, if one is.
-#[inline(always)]
-fn release(table: &Table, ear: &Ear<'_>, now: u64, pending: &mut Pending, sender: &mut Sender)
-    requires least { 23 ≤ ear.now.mtu }
-    requires most { ear.now.mtu ≤ 517 }
+/// Sends the indication that is due, if one is. It is not inlined, since what most connections hear
+/// needs the registers.
+#[inline(never)]
+fn release(table: &Table, ear: Ear<'_>, now: u64, pending: &mut Pending, sender: &mut Sender)
+    requires least { 23 ≤ ear.mtu }
+    requires most { ear.mtu ≤ 517 }
     ensures { record { pending = pending.new; outgoing = sender.new.outgoing }
-        ≡ told_released table.now (record { row = ear.now.row.now; standing = ear.now.standing; mtu = ear.now.mtu }) now
+        ≡ told_released table.now (record { row = ear.entry.row.now; standing = ear.entry.standing; mtu = ear.entry.mtu }) now
         (record { pending = pending.old; outgoing = sender.old.outgoing }) }
 {
     if let Some(handle) = pending.release(table, ear.row, &ear.standing, sender.backlog(), now) {

@@ -71,6 +71,7 @@ impl Slot {
 }
 
 /// Whether an answer is due and there is no room for it.
+#[inline(always)]
 fn is_full(conn: &Conn, sender: &Sender, pdu: &[u8]) -> bool
     ensures full { result ≡ (is_due (request_of pdu.now conn.now.mtu) && (length sender.now.outgoing.queue == 16)) }
     ensures room { OnFalse result (is_due (request_of pdu.now conn.now.mtu) ≡ true → length sender.now.outgoing.queue < 16) }

@@ -183,6 +183,7 @@ impl Pending {
 }
 
 /// Puts a handle at the end, if it does not wait yet.
+#[inline(never)]
 #[tactic(auto, using(crate::proofs::Places::places))]
 fn wait_once(waiting: &mut ArrayVec<u16, 1024>, handle: u16)
     requires places { HaveOnePlace waiting.old.items }

@@ -80,6 +80,7 @@ impl Sender {
     }
 
     /// Lends an empty buffer for the payload of the next PDU.
+    #[inline(always)]
     pub fn room(&mut self) -> Result<&mut ArrayVec<u8, 517>, Full>
         ensures* writes_back { sem 𝓛 (LendsRoom self.entry result) }
         ensures full { IsOk result ↔ (length self.old.outgoing.queue < 16) }
