@@ -183,7 +183,11 @@ fn command_out(controller: &mut Controller, slots: &mut Slots, out: &mut ArrayVe
         controller.sent(opcode);
         return true;
     }
-    if controller.advertising || controller.refused || !slots.has_room() {
+    // Most hosts either have no room, or advertise.
+    if !slots.may_have_room() || controller.advertising || controller.refused {
+        return false;
+    }
+    if !slots.has_room() {
         return false;
     }
     controller.write_enabling(out);

@@ -104,16 +104,6 @@ impl HostState {
         }
     }
 
-    /// Hears a frame that was put together from fragments, of the connection of a slot.
-    #[inline(never)]
-    fn joined_frame(&mut self, place: usize, octets: &[u8])
-        requires there { IsThere self.old.slots place }
-        requires rows { HasRowsOfTheTable self.old }
-        ensures { IsAfter (frame_happening place (of_frame (frame_of octets.now))) self.old self.new }
-    {
-        self.frame(place, octets);
-    }
-
     /// Hears a frame that is whole, of the connection of a slot.
     #[inline(always)]
     fn frame(&mut self, place: usize, octets: &[u8])
@@ -172,9 +162,27 @@ fn fragment(
         frame.clear();
         return state.frame(place, octets);
     }
+    join_fragment(state, frame, place, pb, bc, octets);
+}
+
+/// The same, where the fragment has to be put to those before it.
+#[inline(never)]
+fn join_fragment(
+    state: &mut HostState,
+    frame: &mut Reassembler,
+    place: usize,
+    pb: u8,
+    bc: u8,
+    octets: &[u8],
+)
+    requires there { IsThere state.old.slots place }
+    requires rows { HasRowsOfTheTable state.old }
+    ensures after { IsAfter (fragment_happening place (fragment_of pb bc octets.now) frame.old) state.old state.new }
+    ensures left { frame.new ≡ fragment_left (fragment_of pb bc octets.now) frame.old }
+{
     match join(frame, pb, bc, octets) {
         Piece::Frame => {
-            state.joined_frame(place, frame.frame());
+            state.frame(place, frame.frame());
             frame.clear();
         }
         Piece::Nothing => state.nothing(),
