@@ -134,10 +134,18 @@ fn completed_packets(rt: HostRuntime) {
 }
 
 fn assert_completed(rt: &impl Abort, packet: &[u8], expected: &[CompletedPackets]) {
-    assert!(rt; entries_of(packet).map(|entries| entries.len()) == Some(expected.len()));
-    for (place, entry) in expected.iter().enumerate() {
-        assert!(rt; completed_at(packet, place) == Some(*entry), "{place}");
+    assert!(rt; count_of(packet) == Some(expected.len()));
+    for (place, &entry) in expected.iter().enumerate() {
+        assert_entry(rt, packet, place, entry);
     }
+}
+
+fn assert_entry(rt: &impl Abort, packet: &[u8], place: usize, entry: CompletedPackets) {
+    assert!(rt; completed_at(packet, place) == Some(entry), "{place}");
+}
+
+fn count_of(packet: &[u8]) -> Option<usize> {
+    Some(entries_of(packet)?.len())
 }
 
 /// The entries of Number Of Completed Packets.
