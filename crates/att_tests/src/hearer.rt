@@ -37,12 +37,16 @@ pub const PLAIN: Standing = Standing {
 /// Makes the steps of a new connection over each table.
 pub fn check(rt: &impl Abort, alloc: Global, cases: &[(&str, &[Step])]) {
     for (place, &(text, steps)) in cases.iter().enumerate() {
-        assert_steps(rt, first_wrong(alloc, text, steps), place);
+        assert_none_wrong(rt, first_wrong(alloc, text, steps), place);
     }
 }
 
-fn assert_steps(rt: &impl Abort, wrong: Option<Option<usize>>, place: usize) {
-    assert_eq!(rt; wrong, Some(None), "case {place}");
+fn assert_none_wrong(rt: &impl Abort, wrong: Option<Option<usize>>, place: usize) {
+    match wrong {
+        Some(None) => {}
+        Some(Some(step)) => panic!(rt; "step {step} of case {place}"),
+        None => panic!(rt; "the table of case {place}"),
+    }
 }
 
 /// The place of the first step that does something else, if one does.

@@ -26,8 +26,8 @@ fn assert_octets(rt: &impl Abort, octets: &[u8], wanted: &[u8]) {
 }
 
 fn append_all(rt: &impl Abort, pdu: &mut PduBuf<'_>, parts: &[(Part, bool)]) {
-    for &(part, fits) in parts {
-        assert_eq!(rt; append(pdu, part), fits);
+    for (place, &(part, fits)) in parts.iter().enumerate() {
+        assert!(rt; append(pdu, part) == fits, "part {place}");
     }
 }
 
