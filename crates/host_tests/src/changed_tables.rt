@@ -7,16 +7,18 @@ use gatt_host::{App, AppFault};
 use std::alloc::Global;
 use std::process::Abort;
 
-const AT_THE_PORCH: Setting<'static> = Setting {
+const AT_THE_PORCH: &Setting<'static> = &Setting {
     table: PORCH,
     slots: 2,
     rx_mtu: 247,
     packets: 4,
 };
 
-const AT_THE_DOOR: Setting<'static> = Setting {
+const AT_THE_DOOR: &Setting<'static> = &Setting {
     table: DOOR,
-    ..AT_THE_PORCH
+    slots: 2,
+    rx_mtu: 247,
+    packets: 4,
 };
 
 /// What is prepared, and what is configured for a value of another type, goes with the old table.
@@ -63,11 +65,11 @@ const WITHOUT_A_CHANGER: &[Step] = &[
 
 #[test]
 fn tables_replaced(rt: HostRuntime) {
-    play(&rt, rt.alloc(), AT_THE_PORCH, CONNECTED);
-    leave(&rt, rt.alloc());
-    play(&rt, rt.alloc(), AT_THE_DOOR, WITHOUT_A_CHANGER);
+    replace_tables(&rt, rt.alloc());
 }
 
-fn leave(rt: &impl Abort, alloc: Global) {
+fn replace_tables(rt: &impl Abort, alloc: Global) {
+    play(rt, alloc, AT_THE_PORCH, CONNECTED);
     play(rt, alloc, AT_THE_PORCH, AWAY);
+    play(rt, alloc, AT_THE_DOOR, WITHOUT_A_CHANGER);
 }

@@ -55,14 +55,38 @@ fn answer_command(rt: &impl Abort, controller: Controller, low: u8, high: u8, an
 pub fn answer_all(rt: &impl Abort, controller: Controller, host: &mut Host, written: &mut Written) {
     let mut answered = 0;
     for _ in 0..256 {
-        let mut octets = Octets::new();
-        let rest = written.octets().get(answered..).expect(rt, "whole packets");
-        if rest.is_empty() {
+        if answered == written.octets().len() {
             return;
         }
-        let length = answer(rt, controller, rest, &mut octets);
-        answered = answered.checked_add(length).expect(rt, "a length");
-        assert!(rt; feed(host, octets.as_slice(), written).is_ok());
+        answered = answer_next(rt, controller, host, written, answered);
     }
     panic!(rt; "the host does not come to rest");
+}
+
+/// Answers the packet behind so many octets that are answered, and says how many are then.
+fn answer_next(
+    rt: &impl Abort,
+    controller: Controller,
+    host: &mut Host,
+    written: &mut Written,
+    answered: usize,
+) -> usize {
+    let mut octets = Octets::new();
+    let rest = behind(rt, written.octets(), answered);
+    let length = answer(rt, controller, rest, &mut octets);
+    take(rt, host, octets.as_slice(), written);
+    sum(rt, answered, length)
+}
+
+fn behind<'a>(rt: &impl Abort, written: &'a [u8], answered: usize) -> &'a [u8] {
+    written.get(answered..).expect(rt, "whole packets")
+}
+
+fn sum(rt: &impl Abort, answered: usize, length: usize) -> usize {
+    answered.checked_add(length).expect(rt, "a length")
+}
+
+/// Takes in octets from the controller.
+pub fn take(rt: &impl Abort, host: &mut Host, octets: &[u8], written: &mut Written) {
+    assert!(rt; feed(host, octets, written).is_ok());
 }

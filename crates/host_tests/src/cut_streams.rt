@@ -1,17 +1,13 @@
-//! A stream that is cut, a reader that fails, and a writer that does.
+//! A stream that is cut at each place, and one that ends there.
 
-use crate::player::{Setting, opened};
+use crate::player::{Setting, feed_pieces, opened};
 use crate::wire::{Octets, Written, spell};
-use arrayvec::ArrayVec;
 use att_table::examples::DOOR;
-use gatt_host::{End, Host, HostFault, feed, serve};
-use octets::{Reader, Writer};
+use gatt_host::{Host, feed};
 use std::alloc::Global;
-use std::io;
-use std::io::{ErrorKind, Read, Write};
 use std::process::Abort;
 
-const SETTING: Setting<'static> = Setting {
+pub const SETTING: &Setting<'static> = &Setting {
     table: DOOR,
     slots: 2,
     rx_mtu: 247,
@@ -20,7 +16,7 @@ const SETTING: Setting<'static> = Setting {
 
 /// What a controller sends: its answers to the commands of initialisation, a connection, and a Read in
 /// three fragments.
-const TOLD: &[&str] = &[
+pub const TOLD: &[&str] = &[
     "040e0401030c00",
     "040e0401010c00",
     "040e0401012000",
@@ -35,7 +31,7 @@ const TOLD: &[&str] = &[
 ];
 
 /// What the host writes.
-const WANTED: &[&str] = &[
+pub const WANTED: &[&str] = &[
     "01030c00",
     "01010c08ffffffffff9f0020",
     "010120081f00000000000000",
@@ -48,7 +44,7 @@ const WANTED: &[&str] = &[
 ];
 
 /// The octets of packets.
-fn joined(rt: &impl Abort, packets: &[&str]) -> Octets {
+pub fn joined(rt: &impl Abort, packets: &[&str]) -> Octets {
     let mut octets = Octets::new();
     for packet in packets {
         spell(rt, &mut octets, packet);
@@ -60,6 +56,7 @@ fn joined(rt: &impl Abort, packets: &[&str]) -> Octets {
 fn feed_both(rt: &impl Abort, alloc: Global, pieces: (&[u8], &[u8]), written: &mut Written) {
     let mut host = opened(rt, alloc, SETTING);
     take_both(rt, &mut host, pieces, written);
+    drop(host);
 }
 
 fn take_both(rt: &impl Abort, host: &mut Host, pieces: (&[u8], &[u8]), written: &mut Written) {
@@ -88,14 +85,12 @@ fn end_everywhere(rt: &impl Abort, alloc: Global, told: &[u8], wanted: &[u8]) {
 fn feed_each(rt: &impl Abort, alloc: Global, told: &[u8], wanted: &[u8]) {
     let mut host = opened(rt, alloc, SETTING);
     take_each(rt, &mut host, told, wanted);
+    drop(host);
 }
 
 fn take_each(rt: &impl Abort, host: &mut Host, told: &[u8], wanted: &[u8]) {
     let mut written = Written::new();
-    for octet in told.chunks(1) {
-        assert!(rt; feed(host, octet, &mut written).is_ok());
-    }
-    assert!(rt; written.octets() == wanted);
+    assert!(rt; feed_pieces(host, 1, told, &mut written) && written.octets() == wanted);
 }
 
 #[test]
@@ -105,197 +100,4 @@ fn cut_streams(rt: HostRuntime) {
     feed_each(&rt, rt.alloc(), told.as_slice(), wanted.as_slice());
     cut_everywhere(&rt, rt.alloc(), told.as_slice(), wanted.as_slice());
     end_everywhere(&rt, rt.alloc(), told.as_slice(), wanted.as_slice());
-}
-
-/// A reader in memory that gives 16 octets at a time, and fails after so many reads.
-#[derive(Drop)]
-struct Pieces<'a> {
-    octets: &'a [u8],
-    reads: usize,
-}
-
-impl Read for Pieces<'_> {
-    fn read(&mut self, buf: &mut [u8]) -> io::Result<usize> {
-        if self.reads == 0 {
-            return Err(io::Error::from(ErrorKind::Other));
-        }
-        self.reads -= 1;
-        let count = self.octets.len().min(buf.len()).min(16);
-        let (now, later) = self.octets.split_at(count);
-        buf[..count].copy_from_slice(now);
-        self.octets = later;
-        Ok(count)
-    }
-}
-
-/// A writer in memory that takes so many octets, and then fails or takes none.
-#[derive(Drop)]
-struct Room {
-    taken: ArrayVec<u8, 256>,
-    room: usize,
-    fails: bool,
-}
-
-impl Write for Room {
-    fn write(&mut self, buf: &[u8]) -> io::Result<usize> {
-        let count = buf
-            .len()
-            .min(self.room)
-            .min(self.taken.remaining_capacity());
-        if count == 0 && self.fails {
-            return Err(io::Error::from(ErrorKind::BrokenPipe));
-        }
-        self.room -= count;
-        self.taken.try_extend_from_slice(&buf[..count]).unwrap();
-        Ok(count)
-    }
-
-    fn flush(&mut self) -> io::Result<()> {
-        Ok(())
-    }
-}
-
-/// Whether a host has stopped for good, for this fault.
-fn has_stopped(host: &mut Host, fault: HostFault) -> bool {
-    let mut written = Written::new();
-    if feed(host, &[0x04], &mut written) != Err(fault) {
-        return false;
-    }
-    host.drained() && written.octets().is_empty() && !host.next_out(&mut ArrayVec::new())
-}
-
-/// Serves a reader that fails after so many reads.
-fn serve_failing(
-    host: &mut Host,
-    told: &[u8],
-    reads: usize,
-    written: &mut Written,
-) -> Result<End, HostFault> {
-    let mut reader = Reader::new(Pieces {
-        octets: told,
-        reads,
-    });
-    serve(host, &mut reader, written, 1_000)
-}
-
-/// Whether all is written where reading fails after so many reads, or the front of it is, and the host
-/// stops for that. None where neither is so.
-fn is_whole(host: &mut Host, told: &[u8], wanted: &[u8], reads: usize) -> Option<bool> {
-    let mut written = Written::new();
-    match serve_failing(host, told, reads, &mut written) {
-        Ok(_) => {
-            if wanted.starts_with(written.octets()) {
-                Some(written.octets() == wanted)
-            } else {
-                None
-            }
-        }
-        Err(fault) => {
-            if fault == HostFault::Read
-                && wanted.starts_with(written.octets())
-                && has_stopped(host, fault)
-            {
-                Some(false)
-            } else {
-                None
-            }
-        }
-    }
-}
-
-/// The same of a new host.
-fn is_whole_of_new(
-    rt: &impl Abort,
-    alloc: Global,
-    told: &[u8],
-    wanted: &[u8],
-    reads: usize,
-) -> Option<bool> {
-    let mut host = opened(rt, alloc, SETTING);
-    is_whole(&mut host, told, wanted, reads)
-}
-
-#[test]
-fn readers_that_fail(rt: HostRuntime) {
-    let told = joined(&rt, TOLD);
-    let wanted = joined(&rt, WANTED);
-    fail_readers(&rt, rt.alloc(), told.as_slice(), wanted.as_slice());
-}
-
-fn fail_readers(rt: &impl Abort, alloc: Global, told: &[u8], wanted: &[u8]) {
-    for reads in 0..32 {
-        let whole = reads > told.len().div_ceil(16);
-        assert!(rt;
-            is_whole_of_new(rt, alloc, told, wanted, reads) == Some(whole),
-            "{reads}"
-        );
-    }
-}
-
-/// Serves a writer that takes so many octets, and then fails or takes none.
-fn serve_full(host: &mut Host, told: &[u8], taken: &mut Room) -> Result<End, HostFault> {
-    let mut reader = Reader::new(Pieces {
-        octets: told,
-        reads: 1_000,
-    });
-    serve(host, &mut reader, &mut Writer::new(taken), 1_000)
-}
-
-/// Whether a host ends its work, or stops for good where writing fails.
-fn has_ended(
-    host: &mut Host,
-    served: Result<End, HostFault>,
-    told: &[u8],
-    is_all_written: bool,
-) -> bool {
-    if is_all_written {
-        served
-            == Ok(End {
-                turns: told.len().div_ceil(16) as u64 + 1,
-            })
-    } else {
-        served == Err(HostFault::Write) && has_stopped(host, HostFault::Write)
-    }
-}
-
-/// Whether the room is filled with the front of what is to be written, and the host ends or stops.
-fn fills(host: &mut Host, told: &[u8], wanted: &[u8], taken: &mut Room) -> bool {
-    let (front, rest) = wanted.split_at(taken.room.min(wanted.len()));
-    let served = serve_full(host, told, taken);
-    taken.taken.as_slice() == front && has_ended(host, served, told, rest.is_empty())
-}
-
-/// The same of a new host.
-fn fills_by_new(
-    rt: &impl Abort,
-    alloc: Global,
-    told: &[u8],
-    wanted: &[u8],
-    room: usize,
-    fails: bool,
-) -> bool {
-    let mut host = opened(rt, alloc, SETTING);
-    let mut taken = Room {
-        taken: ArrayVec::new(),
-        room,
-        fails,
-    };
-    fills(&mut host, told, wanted, &mut taken)
-}
-
-#[test]
-fn writers_that_fail(rt: HostRuntime) {
-    let told = joined(&rt, TOLD);
-    let wanted = joined(&rt, WANTED);
-    fail_writers(&rt, rt.alloc(), told.as_slice(), wanted.as_slice());
-}
-
-fn fail_writers(rt: &impl Abort, alloc: Global, told: &[u8], wanted: &[u8]) {
-    for room in 0..wanted.len() + 1 {
-        assert!(rt;
-            fills_by_new(rt, alloc, told, wanted, room, true)
-                && fills_by_new(rt, alloc, told, wanted, room, false),
-            "{room}"
-        );
-    }
 }

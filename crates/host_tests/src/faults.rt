@@ -7,7 +7,7 @@ use gatt_host::{App, AppFault, HostFault};
 use std::alloc::Global;
 use std::process::Abort;
 
-const SETTING: Setting<'static> = Setting {
+const SETTING: &Setting<'static> = &Setting {
     table: DOOR,
     slots: 2,
     rx_mtu: 247,

@@ -2,7 +2,7 @@
 
 ghost use Rattle.std.specs.Prelude.{◌<◌};
 
-use crate::player::{Setting, opened};
+use crate::player::{Setting, feed_pieces, opened};
 use crate::wire::{Written, spelled};
 use att_table::examples::DOOR;
 use gatt_host::{Host, HostFault, feed};
@@ -10,7 +10,7 @@ use le_hci::InitFault;
 use std::alloc::Global;
 use std::process::Abort;
 
-const SETTING: Setting<'static> = Setting {
+const SETTING: &Setting<'static> = &Setting {
     table: DOOR,
     slots: 2,
     rx_mtu: 247,
@@ -19,7 +19,7 @@ const SETTING: Setting<'static> = Setting {
 
 /// What the controller sends, and what the host then writes, at first unasked. The controller tells 4
 /// packets of 27 octets. The last packet is a connection, beside which the host advertises for another.
-const EXCHANGES: [(&str, &str); 9] = [
+const EXCHANGES: &[(&str, &str)] = &[
     ("", "01030c00"),
     ("040e0401030c00", "01010c08ffffffffff9f0020"),
     ("040e0401010c00", "010120081f00000000000000"),
@@ -41,15 +41,7 @@ const EXCHANGES: [(&str, &str); 9] = [
 fn takes(host: &mut Host, size: usize, octets: &[u8], written: &mut Written) -> bool
     requires { 0 < size }
 {
-    if feed(host, &[], written).is_err() {
-        return false;
-    }
-    for piece in octets.chunks(size) {
-        if feed(host, piece, written).is_err() {
-            return false;
-        }
-    }
-    true
+    feed(host, &[], written).is_ok() && feed_pieces(host, size, octets, written)
 }
 
 /// Takes in what the controller sends, in pieces of at most `size` octets.
@@ -66,19 +58,18 @@ fn compare(rt: &impl Abort, octets: &str, written: &[u8], wanted: &str) {
     assert!(rt; written == spelled(rt, wanted, 0).as_slice(), "{octets}");
 }
 
-/// Takes in the first of these, one behind the other.
-fn exchange_first(
-    rt: &impl Abort,
-    host: &mut Host,
-    size: usize,
-    count: usize,
-    exchanges: &[(&str, &str)],
-)
+/// Makes these exchanges, one behind the other.
+fn exchange_all(rt: &impl Abort, host: &mut Host, size: usize, exchanges: &[(&str, &str)])
     requires { 0 < size }
 {
-    for (octets, wanted) in exchanges.iter().take(count) {
+    for (octets, wanted) in exchanges {
         exchange(rt, host, size, octets, wanted);
     }
+}
+
+/// The first exchanges.
+fn first(rt: &impl Abort, count: usize) -> &'static [(&'static str, &'static str)] {
+    EXCHANGES.get(..count).expect(rt, "exchanges")
 }
 
 /// The whole initialisation, where packets come in pieces of at most `size` octets.
@@ -86,7 +77,8 @@ fn initialise(rt: &impl Abort, alloc: Global, size: usize)
     requires { 0 < size }
 {
     let mut host = opened(rt, alloc, SETTING);
-    exchange_first(rt, &mut host, size, EXCHANGES.len(), &EXCHANGES);
+    exchange_all(rt, &mut host, size, EXCHANGES);
+    drop(host);
 }
 
 #[test]
@@ -142,10 +134,11 @@ enum Last<'a> {
 fn exchange_with_new(rt: &impl Abort, alloc: Global, count: usize, last: Last<'_>) {
     let mut host = opened(rt, alloc, SETTING);
     exchange_up_to(rt, &mut host, count, last);
+    drop(host);
 }
 
 fn exchange_up_to(rt: &impl Abort, host: &mut Host, count: usize, last: Last<'_>) {
-    exchange_first(rt, host, 64, count, &EXCHANGES);
+    exchange_all(rt, host, 64, first(rt, count));
     match last {
         Last::Fault(octets, fault) => stop(rt, host, octets, fault),
         Last::Exchange(octets, wanted) => exchange(rt, host, 64, octets, wanted),

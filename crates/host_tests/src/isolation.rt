@@ -62,21 +62,25 @@ max = 512
 properties = ["read", "write", "command"]
 "#;
 
-const TWO_EACH: Setting<'static> = Setting {
+const TWO_EACH: &Setting<'static> = &Setting {
     table: DOOR,
     slots: 2,
     rx_mtu: 247,
     packets: 4,
 };
 
-const OTHER_TABLE: Setting<'static> = Setting {
+const OTHER_TABLE: &Setting<'static> = &Setting {
     table: OTHER_DOOR,
-    ..TWO_EACH
+    slots: 2,
+    rx_mtu: 247,
+    packets: 4,
 };
 
-const ONE_EACH: Setting<'static> = Setting {
+const ONE_EACH: &Setting<'static> = &Setting {
+    table: DOOR,
+    slots: 2,
+    rx_mtu: 247,
     packets: 2,
-    ..TWO_EACH
 };
 
 /// What a stranger asks about the value at 17, and a phone whose link is not encrypted: the answers

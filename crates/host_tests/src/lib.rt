@@ -3,11 +3,15 @@
 #![tactic(auto)]
 
 #[cfg(test)]
+mod calls;
+#[cfg(test)]
 mod changed_tables;
 #[cfg(test)]
 mod controller;
 #[cfg(test)]
 mod cut_streams;
+#[cfg(test)]
+mod failing_streams;
 #[cfg(test)]
 mod faults;
 #[cfg(test)]
@@ -34,5 +38,7 @@ mod shares;
 mod steps;
 #[cfg(test)]
 mod subscriptions;
+#[cfg(test)]
+mod told;
 #[cfg(test)]
 mod wire;

@@ -4,7 +4,7 @@ use crate::peers::Who::{Phone, Stranger, Tablet, Watch};
 use crate::player::{Setting, Step, play};
 use att_table::examples::DOOR;
 
-const SETTING: Setting<'static> = Setting {
+const SETTING: &Setting<'static> = &Setting {
     table: DOOR,
     slots: 2,
     rx_mtu: 247,

@@ -14,7 +14,7 @@ use std::process::Abort;
 /// Slots, the largest PDU that is received, and a random address, with the fault of that.
 type Case = (usize, u16, Option<[u8; 6]>, Option<OpenFault>);
 
-const CASES: [Case; 10] = [
+const CASES: &[Case] = &[
     (2, 247, None, None),
     (1, 23, None, None),
     (8, 517, Some([0x00, 0x00, 0x00, 0x00, 0x00, 0xC0]), None),
@@ -64,7 +64,7 @@ fn is_fault(rt: &impl Abort, alloc: Global, case: &Case) -> bool {
 
 #[test]
 fn configurations(rt: HostRuntime) {
-    check(&rt, rt.alloc(), &CASES);
+    check(&rt, rt.alloc(), CASES);
 }
 
 /// Reset goes out at once, and nothing more before the controller answers.
@@ -82,7 +82,7 @@ fn is_reset_first(host: &mut Host) -> bool {
         && written.octets().len() == 4
 }
 
-const SETTING: Setting<'static> = Setting {
+const SETTING: &Setting<'static> = &Setting {
     table: DOOR,
     slots: 2,
     rx_mtu: 247,
@@ -93,4 +93,5 @@ const SETTING: Setting<'static> = Setting {
 fn first_command(rt: HostRuntime) {
     let mut host = opened(&rt, rt.alloc(), SETTING);
     check_first(&rt, &mut host);
+    drop(host);
 }

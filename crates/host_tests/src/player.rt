@@ -1,5 +1,7 @@
 //! What happens to a host, step by step, and what it writes then.
 
+ghost use Rattle.std.specs.Prelude.{◌<◌};
+
 use crate::controller::{Controller, answer_all};
 use crate::peers::Who;
 use crate::steps::act;
@@ -70,9 +72,10 @@ pub struct Setting<'a> {
 }
 
 /// Makes the steps of a new host, once its controller is initialised.
-pub fn play(rt: &impl Abort, alloc: Global, setting: Setting<'_>, steps: &[Step]) {
+pub fn play(rt: &impl Abort, alloc: Global, setting: &Setting<'_>, steps: &[Step]) {
     let mut host = opened(rt, alloc, setting);
     play_with(rt, alloc, &mut host, setting.packets, steps);
+    drop(host);
 }
 
 fn play_with(rt: &impl Abort, alloc: Global, host: &mut Host, packets: u8, steps: &[Step]) {
@@ -90,8 +93,21 @@ fn play_with(rt: &impl Abort, alloc: Global, host: &mut Host, packets: u8, steps
     }
 }
 
-/// A host with the example keys, and no rows.
-pub fn opened(rt: &impl Abort, alloc: Global, setting: Setting<'_>) -> Host {
+/// Takes in octets in pieces of at most `size`, and says whether that has no fault.
+pub fn feed_pieces(host: &mut Host, size: usize, octets: &[u8], written: &mut Written) -> bool
+    requires { 0 < size }
+{
+    for piece in octets.chunks(size) {
+        if feed(host, piece, written).is_err() {
+            return false;
+        }
+    }
+    true
+}
+
+/// A host with the example keys, and no rows. Who owns it ends it by `drop`, which costs the proof less
+/// than the end of its scope.
+pub fn opened(rt: &impl Abort, alloc: Global, setting: &Setting<'_>) -> Host {
     Host::open(
         alloc,
         read_table(rt, alloc, setting.table),
@@ -109,16 +125,20 @@ pub fn read_table(rt: &impl Abort, alloc: Global, text: &str) -> Table {
 /// The keys of both example files.
 fn read_keys(rt: &impl Abort, alloc: Global) -> Keys {
     match format!(in alloc; "{KEYS}{SECURE_KEY}") {
-        Ok(text) => Keys::read(alloc, &text).expect(rt, "the keys"),
+        Ok(text) => keys_of(rt, alloc, &text),
         Err(_) => panic!(rt; "memory"),
     }
+}
+
+fn keys_of(rt: &impl Abort, alloc: Global, text: &str) -> Keys {
+    Keys::read(alloc, text).expect(rt, "the keys")
 }
 
 fn no_rows(rt: &impl Abort, alloc: Global) -> Rows {
     Rows::read(alloc, "").expect(rt, "the rows")
 }
 
-fn config(setting: Setting<'_>) -> Config {
+fn config(setting: &Setting<'_>) -> Config {
     let mut advertising = ArrayVec::new();
     advertising.push(0x02);
     advertising.push(0x01);

@@ -8,7 +8,7 @@ use std::alloc::Global;
 use std::process::Abort;
 
 /// The door, with two slots.
-const AT_THE_DOOR: Setting<'static> = Setting {
+const AT_THE_DOOR: &Setting<'static> = &Setting {
     table: DOOR,
     slots: 2,
     rx_mtu: 247,
@@ -115,9 +115,9 @@ fn reads_of_a_secure_value(rt: HostRuntime) {
 fn play_at(rt: &impl Abort, alloc: Global, table: &str, steps: &[Step]) {
     let setting = Setting {
         table,
-        ..AT_THE_DOOR
+        ..*AT_THE_DOOR
     };
-    play(rt, alloc, setting, steps);
+    play(rt, alloc, &setting, steps);
 }
 
 /// The first exchange of MTUs counts, for its connection alone.
@@ -143,9 +143,11 @@ const LONG_VALUES: &[Step] = &[
     Step::AsksForLong(0x40, "080100fffff4ff", "09ff1500", 253),
 ];
 
-const AT_THE_WIDE_DOOR: Setting<'static> = Setting {
+const AT_THE_WIDE_DOOR: &Setting<'static> = &Setting {
+    table: DOOR,
+    slots: 2,
     rx_mtu: 517,
-    ..AT_THE_DOOR
+    packets: 4,
 };
 
 #[test]

@@ -8,7 +8,7 @@ use octets::SliceSource;
 use std::alloc::Global;
 use std::process::Abort;
 
-const SETTING: Setting<'static> = Setting {
+const SETTING: &Setting<'static> = &Setting {
     table: DOOR,
     slots: 2,
     rx_mtu: 247,
@@ -38,7 +38,9 @@ fn serve_each(rt: &impl Abort, alloc: Global, cases: &[(u64, Result<End, HostFau
 /// The same of a new host.
 fn leads_to(rt: &impl Abort, alloc: Global, turns: u64, outcome: Result<End, HostFault>) -> bool {
     let mut host = opened(rt, alloc, SETTING);
-    is_outcome(&mut host, turns, outcome)
+    let is_outcome = is_outcome(&mut host, turns, outcome);
+    drop(host);
+    is_outcome
 }
 
 #[test]

@@ -8,7 +8,7 @@ use std::alloc::Global;
 use std::process::Abort;
 
 /// Each connection has a share of two packets.
-const TWO_EACH: Setting<'static> = Setting {
+const TWO_EACH: &Setting<'static> = &Setting {
     table: DOOR,
     slots: 2,
     rx_mtu: 247,
@@ -16,15 +16,18 @@ const TWO_EACH: Setting<'static> = Setting {
 };
 
 /// Each connection has a share of one packet.
-const ONE_EACH: Setting<'static> = Setting {
+const ONE_EACH: &Setting<'static> = &Setting {
+    table: DOOR,
+    slots: 2,
+    rx_mtu: 247,
     packets: 2,
-    ..TWO_EACH
 };
 
-const ONE_ALONE: Setting<'static> = Setting {
+const ONE_ALONE: &Setting<'static> = &Setting {
+    table: DOOR,
     slots: 1,
+    rx_mtu: 247,
     packets: 1,
-    ..TWO_EACH
 };
 
 /// What is completed can be no more than what is outstanding.
@@ -100,12 +103,12 @@ const ENCRYPTION_LOST: &[Step] = &[
 
 #[test]
 fn shares(rt: HostRuntime) {
-    fill_shares(&rt, rt.alloc(), COMPLETED);
-    fill_shares(&rt, rt.alloc(), NEVER_COMPLETED);
+    fill_shares(&rt, rt.alloc());
     play(&rt, rt.alloc(), ONE_ALONE, TOO_MANY_READS);
     play(&rt, rt.alloc(), ONE_EACH, ENCRYPTION_LOST);
 }
 
-fn fill_shares(rt: &impl Abort, alloc: Global, steps: &[Step]) {
-    play(rt, alloc, TWO_EACH, steps);
+fn fill_shares(rt: &impl Abort, alloc: Global) {
+    play(rt, alloc, TWO_EACH, COMPLETED);
+    play(rt, alloc, TWO_EACH, NEVER_COMPLETED);
 }

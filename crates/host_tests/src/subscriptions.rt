@@ -7,21 +7,25 @@ use gatt_host::App;
 use std::alloc::Global;
 use std::process::Abort;
 
-const AT_THE_DOOR: Setting<'static> = Setting {
+const AT_THE_DOOR: &Setting<'static> = &Setting {
     table: DOOR,
     slots: 2,
     rx_mtu: 247,
     packets: 4,
 };
 
-const AT_THE_BELL: Setting<'static> = Setting {
+const AT_THE_BELL: &Setting<'static> = &Setting {
     table: BELL,
-    ..AT_THE_DOOR
+    slots: 2,
+    rx_mtu: 247,
+    packets: 4,
 };
 
-const AT_THE_LETTER_BOX: Setting<'static> = Setting {
+const AT_THE_LETTER_BOX: &Setting<'static> = &Setting {
     table: POST,
-    ..AT_THE_DOOR
+    slots: 2,
+    rx_mtu: 247,
+    packets: 4,
 };
 
 /// What a peer with a key has configured outlasts its connections, for its encrypted links alone.

@@ -1,0 +1,99 @@
+//! What the application asks of a host, step by step.
+
+use crate::controller::take;
+use crate::player::{Step, read_table};
+use crate::told::put_pdus;
+use crate::wire::{Octets, Written};
+use att_table::Table;
+use gatt_host::{App, AppFault, Host, Input, drive};
+use std::alloc::Global;
+use std::process::Abort;
+
+/// What the application asks, and what is to go out then.
+pub fn ask(
+    rt: &impl Abort,
+    alloc: Global,
+    host: &mut Host,
+    step: Step,
+    written: &mut Written,
+    wanted: &mut Octets,
+) {
+    match step {
+        Step::Calls(call, pdus) => {
+            put_pdus(rt, wanted, pdus);
+            make_call(rt, host, call, written);
+        }
+        Step::Refuses(call, fault) => refuse(rt, host, call, fault),
+        _ => ask_for_table(rt, alloc, host, step, written, wanted),
+    }
+}
+
+/// The same of another table.
+fn ask_for_table(
+    rt: &impl Abort,
+    alloc: Global,
+    host: &mut Host,
+    step: Step,
+    written: &mut Written,
+    wanted: &mut Octets,
+) {
+    match step {
+        Step::Replaces(table, pdus) => {
+            put_pdus(rt, wanted, pdus);
+            replace(rt, alloc, host, table, None);
+            take(rt, host, &[], written);
+        }
+        Step::Keeps(table, fault) => replace(rt, alloc, host, table, Some(fault)),
+        _ => {}
+    }
+}
+
+fn make_call(rt: &impl Abort, host: &mut Host, call: App<'_>, written: &mut Written) {
+    assert!(rt; drive(host, &[Input::Call(call)], written) == Ok(0));
+}
+
+fn refuse(rt: &impl Abort, host: &mut Host, call: App<'_>, fault: AppFault) {
+    assert!(rt; refusal(host, call) == Some(fault));
+}
+
+/// Why a call is refused, if all is out and it is.
+fn refusal(host: &mut Host, call: App<'_>) -> Option<AppFault> {
+    if host.drained() {
+        host.app(call).err()
+    } else {
+        None
+    }
+}
+
+/// Replaces the table of a host, which gives the old one back; or hands the new one back, for a fault.
+fn replace(rt: &impl Abort, alloc: Global, host: &mut Host, text: &str, fault: Option<AppFault>) {
+    let back = if fault.is_some() {
+        len(read_table(rt, alloc, text))
+    } else {
+        host.table().len()
+    };
+    assert!(rt; replaced(rt, alloc, host, text) == (back, fault));
+}
+
+/// How many attributes a table has, which is not needed any more.
+fn len(table: Table) -> usize {
+    table.len()
+}
+
+/// How many attributes the table has that comes back, and the fault.
+fn replaced(
+    rt: &impl Abort,
+    alloc: Global,
+    host: &mut Host,
+    text: &str,
+) -> (usize, Option<AppFault>) {
+    assert!(rt; host.drained());
+    came_back(host.replace(read_table(rt, alloc, text)))
+}
+
+fn came_back(replaced: Result<Table, (AppFault, Table)>) -> (usize, Option<AppFault>) {
+    match replaced {
+        Ok(back) => (len(back), None),
+        Err((fault, back)) => (len(back), Some(fault)),
+    }
+}
