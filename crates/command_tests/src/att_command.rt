@@ -90,9 +90,13 @@ fn is_answered<R: Read>(
 
 /// The same of an input that cannot be read to its end: the front of the output is printed.
 fn breaks_off<R: Read>(rt: &impl Abort, alloc: Global, input: &mut R, output: &[u8]) {
+    assert!(rt; is_broken_off(alloc, input, output));
+}
+
+fn is_broken_off<R: Read>(alloc: Global, input: &mut R, output: &[u8]) -> bool {
     let mut printed = Vec::new(alloc);
-    let ended = att_lines(alloc, input, &mut printed);
-    assert!(rt; ended == Err(ShellFault::Unreadable) && output.starts_with(printed.as_slice()));
+    att_lines(alloc, input, &mut printed) == Err(ShellFault::Unreadable)
+        && output.starts_with(printed.as_slice())
 }
 
 #[test]

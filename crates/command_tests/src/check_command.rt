@@ -138,10 +138,17 @@ fn are_judged(
     answer: Result<(), ShellFault>,
     printed: &str,
 ) -> bool {
-    let (table, keys) = paths;
     let mut output: Vec<u8> = Vec::new(rt.alloc());
-    check_paths(rt.alloc(), rt, table, keys, &mut output) == answer
-        && output.as_slice() == printed.as_bytes()
+    check_both(rt, paths, &mut output) == answer && output.as_slice() == printed.as_bytes()
+}
+
+fn check_both(
+    rt: &(impl AllocGlobal + Files),
+    paths: (TablePath<'_>, KeysPath<'_>),
+    output: &mut Vec<u8>,
+) -> Result<(), ShellFault> {
+    let (table, keys) = paths;
+    check_paths(rt.alloc(), rt, table, keys, output)
 }
 
 const TABLE: &str = "check_table.toml";
@@ -171,9 +178,20 @@ fn remove_files(rt: &impl Files) -> io::Result<()> {
 
 #[test]
 fn takes_the_files_in_their_order(rt: HostRuntime) -> Result<(), Fail> {
-    make_files(&rt)?;
-    for (table, keys, answer, printed) in PATHS {
-        judges_paths(&rt, table, keys, *answer, printed);
+    Ok(judges_files(&rt)?)
+}
+
+fn judges_files(rt: &(impl Abort + AllocGlobal + Files)) -> io::Result<()> {
+    make_files(rt)?;
+    judges_each(rt, PATHS);
+    remove_files(rt)
+}
+
+fn judges_each(
+    rt: &(impl Abort + AllocGlobal + Files),
+    cases: &[(&str, &str, Result<(), ShellFault>, &str)],
+) {
+    for (table, keys, answer, printed) in cases {
+        judges_paths(rt, table, keys, *answer, printed);
     }
-    Ok(remove_files(&rt)?)
 }

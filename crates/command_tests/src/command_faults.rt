@@ -38,10 +38,11 @@ fn says_each_fault(rt: HostRuntime) {
 /// One text after the other takes the place of the one before.
 fn says(rt: &impl Abort, out: &mut ArrayVec<u8, 40>, cases: &[(ShellFault, &str, u8)]) {
     for (fault, wanted, code) in cases {
-        text(fault, out);
-        assert!(rt;
-            out.as_slice() == wanted.as_bytes() && status(fault) == *code,
-            "{wanted}"
-        );
+        assert!(rt; is_said(fault, out, wanted, *code), "{wanted}");
     }
+}
+
+fn is_said(fault: &ShellFault, out: &mut ArrayVec<u8, 40>, wanted: &str, code: u8) -> bool {
+    text(fault, out);
+    out.as_slice() == wanted.as_bytes() && status(fault) == code
 }

@@ -1,11 +1,12 @@
 //! What a phone hears is its own: however the lines of another phone fall between its own, it hears
 //! the same.
 
-use gatt_commands::run_script;
+use crate::run_files::{Inputs, run};
 use le_security::examples::KEYS;
 use std::alloc::{AllocError, Global};
 use std::process::Abort;
 use std::str;
+use std::str::Lines;
 
 /// Two services with a level and a note each: the level at 3 and the note at 6 are those of the phone
 /// U, and the level at 9 and the note at 12 those of the phone V.
@@ -123,7 +124,7 @@ V > 1b090009
 ";
 
 /// Whose line comes next, until all have come: 17 are those of U, and 20 those of V.
-const ORDERS: [&str; 3] = [
+const ORDERS: &[&str] = &[
     "UUUUUUUUUUUUUUUUUVVVVVVVVVVVVVVVVVVVV",
     "VVVVVVVVVVVVVVVVVVVVUUUUUUUUUUUUUUUUU",
     "VUVUVVUVUUVUVUVVUVUUVUVVUUVVVUVUVUUVV",
@@ -138,10 +139,14 @@ fn interleave(order: &str, script: &mut String) -> Result<(), AllocError> {
         } else {
             of_v.next()
         };
-        script.push_str(line.unwrap_or_default())?;
-        script.push('\n')?;
+        put_line(line.unwrap_or_default(), script)?;
     }
     Ok(())
+}
+
+fn put_line(line: &str, script: &mut String) -> Result<(), AllocError> {
+    script.push_str(line)?;
+    script.push('\n')
 }
 
 /// Whether both phones hear what they are to hear of a script with their lines in an order.
@@ -157,17 +162,14 @@ fn hear_script(alloc: Global, script: &str) -> bool {
 
 /// Runs a script, and writes what is printed.
 fn is_run(alloc: Global, script: &str, printed: &mut Vec<u8>) -> bool {
-    run_script(
-        alloc,
-        &mut TABLE.as_bytes(),
-        &mut None::<&[u8]>,
-        &mut KEYS.as_bytes(),
-        &mut b"".as_slice(),
-        &mut script.as_bytes(),
-        &mut Vec::new(alloc),
-        printed,
-    )
-    .is_ok()
+    let inputs = Inputs {
+        table: TABLE,
+        next: None,
+        keys: KEYS,
+        rows: "",
+        script,
+    };
+    run(alloc, &inputs, &mut Vec::new(alloc), printed).is_ok()
 }
 
 fn is_heard(printed: &[u8]) -> bool {
@@ -181,16 +183,21 @@ fn is_heard(printed: &[u8]) -> bool {
 fn is_heard_by(printed: &str, name: &str, heard: &str) -> bool {
     let mut wanted = heard.lines();
     for line in printed.lines() {
-        if line.starts_with(name) && wanted.next() != Some(line) {
+        if !is_next(line, name, &mut wanted) {
             return false;
         }
     }
     wanted.next().is_none()
 }
 
+/// Whether a line is the next of these, where it begins with a name.
+fn is_next(line: &str, name: &str, wanted: &mut Lines<'_>) -> bool {
+    !line.starts_with(name) || wanted.next() == Some(line)
+}
+
 #[test]
 fn each_hears_the_same_in_each_order(rt: HostRuntime) {
-    check_orders(&rt, rt.alloc(), &ORDERS);
+    check_orders(&rt, rt.alloc(), ORDERS);
 }
 
 fn check_orders(rt: &impl Abort, alloc: Global, orders: &[&str]) {

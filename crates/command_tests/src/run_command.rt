@@ -1,7 +1,8 @@
 //! The command `run`: scripts, and what is printed for them.
 
+use crate::run_files;
+use crate::run_files::Inputs;
 use att_table::examples::{DOOR, PORCH, PORCH_NEXT, POST};
-use gatt_commands::run_script;
 use le_security::examples::KEYS;
 use std::alloc::Global;
 use std::process::Abort;
@@ -29,17 +30,14 @@ fn is_printed(alloc: Global, run: &Run) -> bool {
 
 /// Runs a script, and writes what is printed.
 fn is_run(alloc: Global, run: &Run, printed: &mut Vec<u8>) -> bool {
-    run_script(
-        alloc,
-        &mut run.table.as_bytes(),
-        &mut run.next.map(|next| next.as_bytes()),
-        &mut KEYS.as_bytes(),
-        &mut b"".as_slice(),
-        &mut run.script.as_bytes(),
-        &mut Vec::new(alloc),
-        printed,
-    )
-    .is_ok()
+    let inputs = Inputs {
+        table: run.table,
+        next: run.next,
+        keys: KEYS,
+        rows: "",
+        script: run.script,
+    };
+    run_files::run(alloc, &inputs, &mut Vec::new(alloc), printed).is_ok()
 }
 
 const AT_THE_DOOR: Run = Run {
@@ -114,9 +112,11 @@ B > 0118000004
     ..AT_THE_DOOR
 };
 
+const APART: &[Run] = &[PREPARED];
+
 #[test]
 fn keeps_what_each_phone_prepares_apart(rt: HostRuntime) {
-    prints(&rt, rt.alloc(), &[PREPARED]);
+    prints(&rt, rt.alloc(), APART);
 }
 
 /// What is prepared, and what is configured for a value of another type, goes with the old table.
@@ -168,9 +168,11 @@ U > 0b01
 ",
 };
 
+const REPLACEMENTS: &[Run] = &[REPLACED, REPLACED_TWICE];
+
 #[test]
 fn replaces_the_table(rt: HostRuntime) {
-    prints(&rt, rt.alloc(), &[REPLACED, REPLACED_TWICE]);
+    prints(&rt, rt.alloc(), REPLACEMENTS);
 }
 
 /// A phone is authorized up to a moment, and not at it. That moment stays past.
@@ -213,9 +215,11 @@ U > 010a030008
 ",
 };
 
+const AUTHORIZATIONS: &[Run] = &[AUTHORIZED, ALLOWED_AND_DENIED];
+
 #[test]
 fn ends_an_authorization_at_its_moment(rt: HostRuntime) {
-    prints(&rt, rt.alloc(), &[AUTHORIZED, ALLOWED_AND_DENIED]);
+    prints(&rt, rt.alloc(), AUTHORIZATIONS);
 }
 
 const CALLS_REFUSED: Run = Run {

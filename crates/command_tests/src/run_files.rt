@@ -10,12 +10,12 @@ use std::process::Abort;
 
 /// The files of a run.
 #[derive(Clone, Copy)]
-struct Inputs {
-    table: &'static str,
-    next: Option<&'static str>,
-    keys: &'static str,
-    rows: &'static str,
-    script: &'static str,
+pub struct Inputs<'a> {
+    pub table: &'a str,
+    pub next: Option<&'a str>,
+    pub keys: &'a str,
+    pub rows: &'a str,
+    pub script: &'a str,
 }
 
 /// What a run prints, the rows that it writes, and how it ends.
@@ -27,16 +27,16 @@ struct Outcome {
 }
 
 /// Runs over inputs, and writes the rows and what is printed to two writers.
-fn run<V: Write, W: Write>(
+pub fn run<V: Write, W: Write>(
     alloc: Global,
-    inputs: &Inputs,
+    inputs: &Inputs<'_>,
     rows: &mut V,
     printed: &mut W,
 ) -> Result<(), ShellFault> {
     run_script(
         alloc,
         &mut inputs.table.as_bytes(),
-        &mut inputs.next.map(|next| next.as_bytes()),
+        &mut next_of(inputs),
         &mut inputs.keys.as_bytes(),
         &mut inputs.rows.as_bytes(),
         &mut inputs.script.as_bytes(),
@@ -45,14 +45,18 @@ fn run<V: Write, W: Write>(
     )
 }
 
+fn next_of<'a>(inputs: &Inputs<'a>) -> Option<&'a [u8]> {
+    inputs.next.map(|next| next.as_bytes())
+}
+
 /// Runs over inputs, and compares what that prints and writes, and how it ends.
-fn runs(rt: &impl Abort, alloc: Global, cases: &[(Inputs, Outcome)]) {
+fn runs(rt: &impl Abort, alloc: Global, cases: &[(Inputs<'_>, Outcome)]) {
     for (inputs, outcome) in cases {
         assert!(rt; leads_to(alloc, inputs, outcome), "{}", inputs.script);
     }
 }
 
-fn leads_to(alloc: Global, inputs: &Inputs, outcome: &Outcome) -> bool {
+fn leads_to(alloc: Global, inputs: &Inputs<'_>, outcome: &Outcome) -> bool {
     let mut printed: Vec<u8> = Vec::new(alloc);
     is_written(alloc, inputs, outcome, &mut printed)
         && printed.as_slice() == outcome.printed.as_bytes()
@@ -61,7 +65,7 @@ fn leads_to(alloc: Global, inputs: &Inputs, outcome: &Outcome) -> bool {
 /// Whether a run ends so and writes these rows. What it prints goes to a writer.
 fn is_written<W: Write>(
     alloc: Global,
-    inputs: &Inputs,
+    inputs: &Inputs<'_>,
     outcome: &Outcome,
     printed: &mut W,
 ) -> bool {
@@ -73,7 +77,7 @@ fn is_written<W: Write>(
 /// A phone with a key has subscribed to the battery level.
 const SUBSCRIBED: &str = "1 c0:00:00:00:00:01 7 1\n";
 
-const GOOD: Inputs = Inputs {
+const GOOD: Inputs<'static> = Inputs {
     table: DOOR,
     next: None,
     keys: KEYS,
@@ -91,7 +95,7 @@ const fn refused(fault: ShellFault) -> Outcome {
 }
 
 /// All files are bad, and then one after the other is good.
-const BAD: Inputs = Inputs {
+const BAD: Inputs<'static> = Inputs {
     table: "service",
     next: Some(""),
     keys: "bell = 1",
@@ -99,27 +103,27 @@ const BAD: Inputs = Inputs {
     script: "replace\nreplace \n",
 };
 
-const GOOD_TABLE: Inputs = Inputs {
+const GOOD_TABLE: Inputs<'static> = Inputs {
     table: PORCH,
     ..BAD
 };
 
-const GOOD_NEXT: Inputs = Inputs {
+const GOOD_NEXT: Inputs<'static> = Inputs {
     next: Some(PORCH_NEXT),
     ..GOOD_TABLE
 };
 
-const GOOD_KEYS: Inputs = Inputs {
+const GOOD_KEYS: Inputs<'static> = Inputs {
     keys: KEYS,
     ..GOOD_NEXT
 };
 
-const GOOD_ROWS: Inputs = Inputs {
+const GOOD_ROWS: Inputs<'static> = Inputs {
     rows: SUBSCRIBED,
     ..GOOD_KEYS
 };
 
-const IN_TURN: &[(Inputs, ShellFault)] = &[
+const IN_TURN: &[(Inputs<'_>, ShellFault)] = &[
     (BAD, ShellFault::Table(1)),
     (GOOD_TABLE, ShellFault::Next(2)),
     (GOOD_NEXT, ShellFault::Keys(9)),
@@ -132,13 +136,13 @@ fn judges_table_next_keys_rows_and_script_in_turn(rt: HostRuntime) {
     refuses(&rt, rt.alloc(), IN_TURN);
 }
 
-fn refuses(rt: &impl Abort, alloc: Global, cases: &[(Inputs, ShellFault)]) {
+fn refuses(rt: &impl Abort, alloc: Global, cases: &[(Inputs<'_>, ShellFault)]) {
     for (inputs, fault) in cases {
         assert!(rt; is_refused(alloc, inputs, *fault), "{}", inputs.script);
     }
 }
 
-fn is_refused(alloc: Global, inputs: &Inputs, fault: ShellFault) -> bool {
+fn is_refused(alloc: Global, inputs: &Inputs<'_>, fault: ShellFault) -> bool {
     leads_to(alloc, inputs, &refused(fault))
 }
 
@@ -159,18 +163,19 @@ fn prints_nothing_of_a_script_with_a_bad_line(rt: HostRuntime) {
     check_lines(&rt, rt.alloc(), BAD_LINES);
 }
 
-fn check_lines(rt: &impl Abort, alloc: Global, cases: &[(&'static str, u64)]) {
+fn check_lines(rt: &impl Abort, alloc: Global, cases: &[(&str, u64)]) {
     for &(script, line) in cases {
-        let inputs = Inputs { script, ..GOOD };
-        assert!(rt;
-            is_refused(alloc, &inputs, ShellFault::Script(line)),
-            "{script}"
-        );
+        assert!(rt; is_bad_line(alloc, script, line), "{script}");
     }
 }
 
+fn is_bad_line(alloc: Global, script: &str, line: u64) -> bool {
+    let inputs = Inputs { script, ..GOOD };
+    is_refused(alloc, &inputs, ShellFault::Script(line))
+}
+
 /// The rows are those of the phones with keys: what a phone has configured, and what was there.
-const WRITTEN: &[(Inputs, Outcome)] = &[
+const WRITTEN: &[(Inputs<'_>, Outcome)] = &[
     (
         GOOD,
         Outcome {

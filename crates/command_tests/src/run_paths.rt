@@ -88,9 +88,20 @@ const CASES: &[(&str, Result<(), ShellFault>, &str)] = &[
 
 #[test]
 fn keeps_the_rows_file(rt: HostRuntime) -> Result<(), Fail> {
-    make_files(&rt)?;
-    for (script, ended, rows) in CASES {
-        leaves(&rt, script, *ended, rows);
+    Ok(keeps(&rt)?)
+}
+
+fn keeps(rt: &(impl Abort + AllocGlobal + Files)) -> io::Result<()> {
+    make_files(rt)?;
+    leaves_each(rt, CASES);
+    remove_files(rt)
+}
+
+fn leaves_each(
+    rt: &(impl Abort + AllocGlobal + Files),
+    cases: &[(&str, Result<(), ShellFault>, &str)],
+) {
+    for (script, ended, rows) in cases {
+        leaves(rt, script, *ended, rows);
     }
-    Ok(remove_files(&rt)?)
 }

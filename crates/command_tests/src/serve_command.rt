@@ -11,7 +11,7 @@ use le_security::examples::KEYS;
 use std::alloc::Global;
 use std::io;
 use std::io::{Read, Write};
-use std::net::{Net, Shutdown, TcpListener, TcpStream};
+use std::net::{Net, Shutdown, SocketAddr, TcpListener, TcpStream};
 use std::process::Abort;
 use std::time::Duration;
 
@@ -55,20 +55,39 @@ const SUBSCRIBED: &str = "1 c0:00:00:00:00:01 7 1\n";
 
 /// A host with two slots, at the public address of its controller.
 fn opened(rt: &impl Abort, alloc: Global) -> Host {
-    let table = Table::read(alloc, DOOR).expect(rt, "the table");
-    let keys = Keys::read(alloc, KEYS).expect(rt, "the keys");
-    let rows = Rows::read(alloc, SUBSCRIBED).expect(rt, "the rows");
+    Host::open(
+        alloc,
+        read_table(rt, alloc),
+        read_keys(rt, alloc),
+        read_rows(rt, alloc),
+        config(),
+    )
+    .expect(rt, "the host")
+}
+
+fn read_table(rt: &impl Abort, alloc: Global) -> Table {
+    Table::read(alloc, DOOR).expect(rt, "the table")
+}
+
+fn read_keys(rt: &impl Abort, alloc: Global) -> Keys {
+    Keys::read(alloc, KEYS).expect(rt, "the keys")
+}
+
+fn read_rows(rt: &impl Abort, alloc: Global) -> Rows {
+    Rows::read(alloc, SUBSCRIBED).expect(rt, "the rows")
+}
+
+fn config() -> Config {
     let mut advertising = ArrayVec::new();
     advertising.push(0x02);
     advertising.push(0x01);
     advertising.push(0x06);
-    let config = Config {
+    Config {
         slots: 2,
         rx_mtu: 247,
         address: None,
         advertising,
-    };
-    Host::open(alloc, table, keys, rows, config).expect(rt, "the host")
+    }
 }
 
 /// A listener on this machine.
@@ -82,10 +101,24 @@ fn connected<R: Abort + Net<Listener = TcpListener, Stream = TcpStream>>(
     listener: &TcpListener,
     packets: &[&[u8]],
 ) -> TcpStream {
-    let address = listener.local_addr().expect(rt, "an address");
-    let stream = TcpStream::connect(rt, address).expect(rt, "a connection");
-    send(&stream, packets).expect(rt, "octets that are sent");
+    let stream = connected_to(rt, listener);
+    sends(rt, &stream, packets);
     stream
+}
+
+fn connected_to<R: Abort + Net<Listener = TcpListener, Stream = TcpStream>>(
+    rt: &R,
+    listener: &TcpListener,
+) -> TcpStream {
+    TcpStream::connect(rt, address_of(rt, listener)).expect(rt, "a connection")
+}
+
+fn address_of(rt: &impl Abort, listener: &TcpListener) -> SocketAddr {
+    listener.local_addr().expect(rt, "an address")
+}
+
+fn sends(rt: &impl Abort, stream: &TcpStream, packets: &[&[u8]]) {
+    send(stream, packets).expect(rt, "octets that are sent");
 }
 
 /// Sends packets, and no more.
@@ -105,8 +138,21 @@ fn serves(
     ended: Result<(), ShellFault>,
     rows: &str,
 ) {
-    let is_served = is_served(alloc, listener, &mut opened(rt, alloc), ended, rows);
-    assert!(rt; is_served);
+    assert!(rt; is_served_by_new(rt, alloc, listener, ended, rows));
+}
+
+/// The host is ended by `drop`, which costs the proof less than the end of its scope.
+fn is_served_by_new(
+    rt: &impl Abort,
+    alloc: Global,
+    listener: &TcpListener,
+    ended: Result<(), ShellFault>,
+    rows: &str,
+) -> bool {
+    let mut host = opened(rt, alloc);
+    let is_served = is_served(alloc, listener, &mut host, ended, rows);
+    drop(host);
+    is_served
 }
 
 fn is_served(
@@ -164,9 +210,13 @@ fn tells_a_fault_of_the_host(rt: HostRuntime) {
     serves(&rt, rt.alloc(), &listener, Err(fault), SUBSCRIBED);
 }
 
+fn set_nonblocking(rt: &impl Abort, listener: &TcpListener) {
+    assert!(rt; listener.set_nonblocking(true).is_ok());
+}
+
 #[test]
 fn writes_no_rows_where_nothing_is_accepted(rt: HostRuntime) {
     let listener = listening(&rt);
-    assert!(&rt; listener.set_nonblocking(true).is_ok());
+    set_nonblocking(&rt, &listener);
     serves(&rt, rt.alloc(), &listener, Err(ShellFault::Listen), "");
 }

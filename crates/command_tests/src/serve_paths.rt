@@ -24,13 +24,21 @@ fn fails(
     address: &str,
     fault: ShellFault,
 ) {
+    assert!(rt; serve(rt, table, address) == Err(fault), "{address}");
+    assert!(rt; has_rows(rt), "{address}");
+}
+
+fn serve(
+    rt: &(impl AllocGlobal + Files + Net<Listener = TcpListener, Stream = TcpStream>),
+    table: &str,
+    address: &str,
+) -> Result<(), ShellFault> {
     let paths = ServePaths {
         table: TablePath(table),
         keys: KeysPath(PEERS),
         rows: RowsPath(Some(ROWS)),
     };
-    let served = serve_paths(rt.alloc(), rt, paths, Address(address));
-    assert!(rt; served == Err(fault) && has_rows(rt), "{address}");
+    serve_paths(rt.alloc(), rt, paths, Address(address))
 }
 
 /// Whether the rows file is as it was.
@@ -68,9 +76,22 @@ const CASES: &[(&str, &str, ShellFault)] = &[
 
 #[test]
 fn tells_an_address_where_it_cannot_listen(rt: HostRuntime) -> Result<(), Fail> {
-    make_files(&rt)?;
-    for (table, address, fault) in CASES {
-        fails(&rt, table, address, *fault);
+    Ok(tells(&rt)?)
+}
+
+fn tells(
+    rt: &(impl Abort + AllocGlobal + Files + Net<Listener = TcpListener, Stream = TcpStream>),
+) -> io::Result<()> {
+    make_files(rt)?;
+    fails_each(rt, CASES);
+    remove_files(rt)
+}
+
+fn fails_each(
+    rt: &(impl Abort + AllocGlobal + Files + Net<Listener = TcpListener, Stream = TcpStream>),
+    cases: &[(&str, &str, ShellFault)],
+) {
+    for (table, address, fault) in cases {
+        fails(rt, table, address, *fault);
     }
-    Ok(remove_files(&rt)?)
 }
