@@ -98,6 +98,7 @@ pub fn may_hear(guard: &Guard, bits: u8, standing: &Standing) -> bool
         && first_unmet_rule(&guard.read, standing).is_none()
 }
 
+#[inline(always)]
 fn first_broken_rule(access: Access, guard: Option<&Guard>, standing: &Standing) -> Option<Rule>
     ensures { result ≡ first_broken_rule_of access (option_copied guard.entry) standing.entry.now }
 {
@@ -111,6 +112,7 @@ fn first_broken_rule(access: Access, guard: Option<&Guard>, standing: &Standing)
 }
 
 /// The first rule on what is needed that a connection fails.
+#[inline(always)]
 fn first_unmet_rule(need: &Need, standing: &Standing) -> Option<Rule>
     ensures { result ≡ first_unmet_rule_of need.now standing.entry.now }
 {
