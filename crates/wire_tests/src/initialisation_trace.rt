@@ -1,6 +1,7 @@
 //! The octets of a whole initialisation, from the stream of a controller to what the host writes.
 
-ghost use Rattle.std.specs.Prelude.{◌<◌};
+ghost use Rattle.std.specs.Prelude.{◌<◌, IsSome};
+ghost use Rattle.le_hci.specs.Init.{command_awaited};
 
 use super::cases::assert_case;
 use arrayvec::ArrayVec;
@@ -82,12 +83,19 @@ fn write_next(init: &Init, written: &mut ArrayVec<u8, 260>) {
     }
 }
 
-/// The state after the awaited command, which has to be this one.
-fn complete(rt: &impl Abort, init: Init, opcode: u16, parameters: &[u8]) -> Init {
+/// The awaited command has to be this one.
+fn assert_awaits(rt: &impl Abort, init: &Init, opcode: u16)
+    ensures awaiting { IsSome (command_awaited init.now) }
+{
     let Some(awaited) = init.command() else {
         panic!(rt; "nothing is awaited");
     };
     assert!(rt; awaited.opcode() == opcode);
+}
+
+/// The state after the awaited command, which has to be this one.
+fn complete(rt: &impl Abort, init: Init, opcode: u16, parameters: &[u8]) -> Init {
+    assert_awaits(rt, &init, opcode);
     match init.complete(parameters) {
         Ok(next) => next,
         Err(_) => panic!(rt; "the command is not completed"),
