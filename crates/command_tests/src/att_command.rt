@@ -22,14 +22,22 @@ struct Pieces<R> {
 
 impl<R: Read> Read for Pieces<R> {
     fn read(&mut self, buf: &mut [u8]) -> io::Result<usize> {
-        if self.reads == 0 {
-            self.reads = u64::MAX;
+        if is_failing(&mut self.reads) {
             return Err(io::Error::from(self.error));
         }
-        self.reads -= 1;
         let end = self.piece.min(buf.len());
         self.reader.read(&mut buf[..end])
     }
+}
+
+/// Counts a read down, and says whether it is the one that fails.
+fn is_failing(reads: &mut u64) -> bool {
+    if *reads == 0 {
+        *reads = u64::MAX;
+        return true;
+    }
+    *reads -= 1;
+    false
 }
 
 fn in_pieces<R: Read>(reader: R, piece: usize) -> Pieces<R> {

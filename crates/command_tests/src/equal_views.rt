@@ -134,14 +134,19 @@ const ORDERS: &[&str] = &[
 fn interleave(order: &str, script: &mut String) -> Result<(), AllocError> {
     let (mut of_u, mut of_v) = (LINES_OF_U.lines(), LINES_OF_V.lines());
     for phone in order.bytes() {
-        let line = if phone == b'U' {
-            of_u.next()
-        } else {
-            of_v.next()
-        };
-        put_line(line.unwrap_or_default(), script)?;
+        put_line(next_line(phone, &mut of_u, &mut of_v), script)?;
     }
     Ok(())
+}
+
+/// The next line of a phone, and nothing behind its last.
+fn next_line<'a>(phone: u8, of_u: &mut Lines<'a>, of_v: &mut Lines<'a>) -> &'a str {
+    let line = if phone == b'U' {
+        of_u.next()
+    } else {
+        of_v.next()
+    };
+    line.unwrap_or_default()
 }
 
 fn put_line(line: &str, script: &mut String) -> Result<(), AllocError> {
