@@ -65,11 +65,11 @@ const WITHOUT_A_CHANGER: &[Step] = &[
 
 #[test]
 fn tables_replaced(rt: HostRuntime) {
-    replace_tables(&rt, rt.alloc());
+    replace_at_the_porch(&rt, rt.alloc());
+    play(&rt, rt.alloc(), AT_THE_DOOR, WITHOUT_A_CHANGER);
 }
 
-fn replace_tables(rt: &impl Abort, alloc: Global) {
+fn replace_at_the_porch(rt: &impl Abort, alloc: Global) {
     play(rt, alloc, AT_THE_PORCH, CONNECTED);
     play(rt, alloc, AT_THE_PORCH, AWAY);
-    play(rt, alloc, AT_THE_DOOR, WITHOUT_A_CHANGER);
 }

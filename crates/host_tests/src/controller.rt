@@ -21,19 +21,19 @@ fn answer(rt: &impl Abort, controller: Controller, written: &[u8], answer: &mut 
             4 + usize::from(*length)
         }
         [0x02, handle, flags, low, high, ..] => {
-            if controller.completes {
-                complete(rt, *handle, *flags, answer);
-            }
+            complete(rt, controller, *handle, *flags, answer);
             5 + usize::from(u16::from_le_bytes([*low, *high]))
         }
         _ => panic!(rt; "no packet"),
     }
 }
 
-/// An ACL packet is completed.
-fn complete(rt: &impl Abort, handle: u8, flags: u8, answer: &mut Octets) {
-    spell(rt, answer, "04130501");
-    put(rt, answer, &[handle, flags & 0x0F, 0x01, 0x00]);
+/// Completes an ACL packet, where the controller completes any.
+fn complete(rt: &impl Abort, controller: Controller, handle: u8, flags: u8, answer: &mut Octets) {
+    if controller.completes {
+        spell(rt, answer, "04130501");
+        put(rt, answer, &[handle, flags & 0x0F, 0x01, 0x00]);
+    }
 }
 
 /// A Disconnect is answered by its Command Status, and each other command by its Command Complete.

@@ -66,19 +66,31 @@ fn take_both(rt: &impl Abort, host: &mut Host, pieces: (&[u8], &[u8]), written: 
 /// Cuts the stream at every place.
 fn cut_everywhere(rt: &impl Abort, alloc: Global, told: &[u8], wanted: &[u8]) {
     for place in 0..told.len() {
-        let mut written = Written::new();
-        feed_both(rt, alloc, told.split_at(place), &mut written);
-        assert!(rt; written.octets() == wanted, "{place}");
+        let pieces = told.split_at(place);
+        assert!(rt; is_all(rt, alloc, pieces, wanted), "{place}");
     }
+}
+
+/// Whether just this is written where a host takes in two pieces.
+fn is_all(rt: &impl Abort, alloc: Global, pieces: (&[u8], &[u8]), wanted: &[u8]) -> bool {
+    let mut written = Written::new();
+    feed_both(rt, alloc, pieces, &mut written);
+    written.octets() == wanted
 }
 
 /// Ends the stream at every place: what is written is the front of all that is.
 fn end_everywhere(rt: &impl Abort, alloc: Global, told: &[u8], wanted: &[u8]) {
     for place in 0..told.len() {
-        let mut written = Written::new();
-        feed_both(rt, alloc, (told.split_at(place).0, &[]), &mut written);
-        assert!(rt; wanted.starts_with(written.octets()), "{place}");
+        let (front, _) = told.split_at(place);
+        assert!(rt; is_front(rt, alloc, front, wanted), "{place}");
     }
+}
+
+/// Whether the front of this is written where a host takes in one piece.
+fn is_front(rt: &impl Abort, alloc: Global, piece: &[u8], wanted: &[u8]) -> bool {
+    let mut written = Written::new();
+    feed_both(rt, alloc, (piece, &[]), &mut written);
+    wanted.starts_with(written.octets())
 }
 
 /// Takes in octet by octet.

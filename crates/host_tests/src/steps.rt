@@ -26,6 +26,20 @@ pub fn act(
             ask(rt, alloc, host, step, written, wanted);
         }
         Step::Rows(..) | Step::Value(..) | Step::Stops(..) => check(rt, host, step, written),
+        _ => hear(rt, controller, host, step, written, wanted),
+    }
+}
+
+/// The same of what the controller tells: at once, or in turn with the host where a link is encrypted.
+fn hear(
+    rt: &impl Abort,
+    controller: Controller,
+    host: &mut Host,
+    step: Step,
+    written: &mut Written,
+    wanted: &mut Octets,
+) {
+    match step {
         Step::Encrypts(handle, who, pdus) => {
             encrypt(rt, controller, host, (handle, who, pdus), written, wanted);
         }
