@@ -17,9 +17,8 @@ use crate::host::Host;
 use crate::host_fault::HostFault;
 use crate::host_state::HostState;
 use crate::packet::packet;
-use arrayvec::ArrayVec;
 use le_acl::Reassembler;
-use le_h4::{Deframer, H4Fault, WholePacket};
+use le_h4::{Deframer, H4Fault, PacketBuf, WholePacket};
 use octets::{Sink, write_all};
 
 /// Takes in octets of the stream from the controller, which may begin and end anywhere in its packets,
@@ -73,7 +72,7 @@ pub(crate) fn write_out<W: Sink>(host: &mut Host, out: &mut W) -> Result<(), Hos
 #[inline(always)]
 fn write_owed<W: Sink>(
     state: &mut HostState,
-    packet: &mut ArrayVec<u8, 260>,
+    packet: &mut PacketBuf,
     out: &mut W,
 ) -> Result<(), HostFault>
     requires { IsHeldByOne state.old }

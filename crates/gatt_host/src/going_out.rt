@@ -17,6 +17,7 @@ ghost use Rattle.le_hci.specs.Command.{Commanded, LeSetAdvertiseEnable, command_
 use crate::controller::Controller;
 use arrayvec::ArrayVec;
 use gatt_slots::Slots;
+use le_h4::PacketBuf;
 use le_hci::{Command, opcode};
 
 impl Controller {
@@ -44,13 +45,13 @@ impl Controller {
 
     /// Writes the command of initialisation, once its turn has come, and takes in that it is sent.
     #[inline(always)]
-    fn init_command_out(&mut self, out: &mut ArrayVec<u8, 260>) -> bool
+    fn init_command_out(&mut self, out: &mut PacketBuf) -> bool
         requires { nat_lt 0 self.old.credit ≡ true }
         ensures goes { result ≡ is_some (init_command self.old) }
-        ensures octets { OnTrue result (option_map command_octets (init_command self.old) ≡ Some out.new.items) }
+        ensures octets { OnTrue result (option_map command_octets (init_command self.old) ≡ Some out.new) }
         ensures after { (command : Commanded) → init_command self.old ≡ Some command → self.new ≡ controller_after self.old (command ∷ []) }
         ensures unchanged { OnFalse result (self.new ≡ self.old) }
-        ensures out_unchanged { OnFalse result (out.new.items ≡ out.old.items) }
+        ensures out_unchanged { OnFalse result (out.new ≡ out.old) }
     {
         if !self.has_init_command() {
             return false;
@@ -62,10 +63,10 @@ impl Controller {
     /// The same, where there is one.
     #[cold]
     #[inline(never)]
-    fn write_init_command(&mut self, out: &mut ArrayVec<u8, 260>)
+    fn write_init_command(&mut self, out: &mut PacketBuf)
         requires credit { nat_lt 0 self.old.credit ≡ true }
         requires due { is_some (init_command self.old) ≡ true }
-        ensures octets { option_map command_octets (init_command self.old) ≡ Some out.new.items }
+        ensures octets { option_map command_octets (init_command self.old) ≡ Some out.new }
         ensures after { (command : Commanded) → init_command self.old ≡ Some command → self.new ≡ controller_after self.old (command ∷ []) }
     {
         let Some(command) = self.init.command() else {
@@ -94,9 +95,9 @@ impl Controller {
     /// Writes the command to advertise, and takes in that it is sent.
     #[cold]
     #[inline(never)]
-    fn write_enabling(&mut self, out: &mut ArrayVec<u8, 260>)
+    fn write_enabling(&mut self, out: &mut PacketBuf)
         requires { nat_lt 0 self.old.credit ≡ true }
-        ensures octets { out.new.items ≡ command_octets LeSetAdvertiseEnable }
+        ensures octets { out.new ≡ command_octets LeSetAdvertiseEnable }
         ensures after { self.new ≡ controller_after self.old (LeSetAdvertiseEnable ∷ []) }
     {
         write_command(&Command::LeSetAdvertiseEnable, out);
@@ -105,22 +106,22 @@ impl Controller {
 }
 
 /// Writes a command with its indicator in place of what `out` holds.
-fn write_command(command: &Command<'_>, out: &mut ArrayVec<u8, 260>)
-    ensures { out.new.items ≡ command_octets (command_of command.now) }
+fn write_command(command: &Command<'_>, out: &mut PacketBuf)
+    ensures { out.new ≡ command_octets (command_of command.now) }
 {
     let mut packet = ArrayVec::new();
     le_hci::write_command(command, &mut packet);
-    le_h4::write_command(&packet, out);
+    out.command(packet.as_slice());
 }
 
 /// Writes the packet of the first slot that may give one.
 #[inline(always)]
-fn packet_out(slots: &mut Slots, out: &mut ArrayVec<u8, 260>) -> bool
+fn packet_out(slots: &mut Slots, out: &mut PacketBuf) -> bool
     ensures goes { result ≡ is_some (packet_in slots.old) }
-    ensures octets { OnTrue result (packet_in slots.old ≡ Some out.new.items) }
+    ensures octets { OnTrue result (packet_in slots.old ≡ Some out.new) }
     ensures after { slots.new ≡ with_first gives (option_map without_packet) slots.old }
     ensures unchanged { OnFalse result (slots.new ≡ slots.old) }
-    ensures out_unchanged { OnFalse result (out.new.items ≡ out.old.items) }
+    ensures out_unchanged { OnFalse result (out.new ≡ out.old) }
 {
     let Some(place) = slots.first_that_gives() else {
         return false;
@@ -130,12 +131,12 @@ fn packet_out(slots: &mut Slots, out: &mut ArrayVec<u8, 260>) -> bool
 
 /// Writes the first command that is due for a slot, and takes in that it is sent. Says its opcode.
 #[inline(always)]
-fn slot_command_out(slots: &mut Slots, out: &mut ArrayVec<u8, 260>) -> Option<u16>
+fn slot_command_out(slots: &mut Slots, out: &mut PacketBuf) -> Option<u16>
     ensures opcode { result ≡ option_map opcode_of (command_in slots.old) }
-    ensures octets { (command : Commanded) → command_in slots.old ≡ Some command → out.new.items ≡ command_octets command }
+    ensures octets { (command : Commanded) → command_in slots.old ≡ Some command → out.new ≡ command_octets command }
     ensures after { slots.new ≡ with_first has_command (option_map without_command) slots.old }
     ensures unchanged { OnFalse (is_some result) (slots.new ≡ slots.old) }
-    ensures out_unchanged { OnFalse (is_some result) (out.new.items ≡ out.old.items) }
+    ensures out_unchanged { OnFalse (is_some result) (out.new ≡ out.old) }
 {
     match slots.first_with_command() {
         Some(place) => Some(command_at_out(slots, place, out)),
@@ -147,11 +148,11 @@ fn slot_command_out(slots: &mut Slots, out: &mut ArrayVec<u8, 260>) -> Option<u1
 /// opcode.
 #[cold]
 #[inline(never)]
-fn command_at_out(slots: &mut Slots, place: usize, out: &mut ArrayVec<u8, 260>) -> u16
+fn command_at_out(slots: &mut Slots, place: usize, out: &mut PacketBuf) -> u16
     requires place { place < length slots.old }
     requires due { has_command (kept_at slots.old place) ≡ true }
     ensures opcode { Some result ≡ option_map opcode_of (command_due (kept_at slots.old place)) }
-    ensures octets { (command : Commanded) → command_due (kept_at slots.old place) ≡ Some command → out.new.items ≡ command_octets command }
+    ensures octets { (command : Commanded) → command_due (kept_at slots.old place) ≡ Some command → out.new ≡ command_octets command }
     ensures after { slots.new ≡ slots_at place without_command slots.old }
 {
     let Some(command) = slots.command(place) else {
@@ -164,14 +165,14 @@ fn command_at_out(slots: &mut Slots, place: usize, out: &mut ArrayVec<u8, 260>) 
 
 /// Writes the next command that is due, where the controller takes one, and takes in that it is sent.
 #[inline(always)]
-fn command_out(controller: &mut Controller, slots: &mut Slots, out: &mut ArrayVec<u8, 260>) -> bool
+fn command_out(controller: &mut Controller, slots: &mut Slots, out: &mut PacketBuf) -> bool
     ensures goes { result ≡ is_some (command_next controller.old slots.old) }
-    ensures octets { OnTrue result (option_map command_octets (command_next controller.old slots.old) ≡ Some out.new.items) }
+    ensures octets { OnTrue result (option_map command_octets (command_next controller.old slots.old) ≡ Some out.new) }
     ensures controller { controller.new ≡ controller_then controller.old slots.old }
     ensures controller_unchanged { OnFalse result (controller.new ≡ controller.old) }
     ensures slots { OnTrue result (slots.new ≡ slots_commanded controller.old slots.old) }
     ensures unchanged { OnFalse result (slots.new ≡ slots.old) }
-    ensures out_unchanged { OnFalse result (out.new.items ≡ out.old.items) }
+    ensures out_unchanged { OnFalse result (out.new ≡ out.old) }
 {
     if !controller.takes() {
         return false;
@@ -199,19 +200,19 @@ fn command_out(controller: &mut Controller, slots: &mut Slots, out: &mut ArrayVe
 /// changes, once all is out.
 #[inline(always)]
 #[tactic(auto, using(crate::proofs::Entering::owes_what_an_event_brings))]
-pub fn next_out(controller: &mut Controller, slots: &mut Slots, out: &mut ArrayVec<u8, 260>) -> bool
+pub fn next_out(controller: &mut Controller, slots: &mut Slots, out: &mut PacketBuf) -> bool
     ensures goes { result ≡ is_some (next_out controller.old slots.old) }
-    ensures octets { OnTrue result (next_out controller.old slots.old ≡ Some out.new.items) }
+    ensures octets { OnTrue result (next_out controller.old slots.old ≡ Some out.new) }
     ensures controller { controller.new ≡ controller_then controller.old slots.old }
     ensures slots { slots.new ≡ slots_then controller.old slots.old }
     // It is the first of what is owed; and where there is nothing, nothing is owed.
     ensures first { (final : State) (owed : List Octets) → IsOwing final owed controller.old slots.old
-        → OnTrue result (OwesTheRest final owed out.new.items controller.new slots.new) }
+        → OnTrue result (OwesTheRest final owed out.new controller.new slots.new) }
     ensures done { (final : State) (owed : List Octets) → IsOwing final owed controller.old slots.old
         → OnFalse result (IsDone final owed controller.old slots.old) }
     ensures controller_unchanged { OnFalse result (controller.new ≡ controller.old) }
     ensures slots_unchanged { OnFalse result (slots.new ≡ slots.old) }
-    ensures out_unchanged { OnFalse result (out.new.items ≡ out.old.items) }
+    ensures out_unchanged { OnFalse result (out.new ≡ out.old) }
     // What an event brings out is owed once all but its end is done.
     ensures events { OwesWhatAnEventBrings }
 {
@@ -220,14 +221,14 @@ pub fn next_out(controller: &mut Controller, slots: &mut Slots, out: &mut ArrayV
 
 /// Writes the next command, or else the next packet.
 #[inline(always)]
-fn either_out(controller: &mut Controller, slots: &mut Slots, out: &mut ArrayVec<u8, 260>) -> bool
+fn either_out(controller: &mut Controller, slots: &mut Slots, out: &mut PacketBuf) -> bool
     ensures goes { result ≡ is_some (next_out controller.old slots.old) }
-    ensures octets { OnTrue result (next_out controller.old slots.old ≡ Some out.new.items) }
+    ensures octets { OnTrue result (next_out controller.old slots.old ≡ Some out.new) }
     ensures controller { controller.new ≡ controller_then controller.old slots.old }
     ensures slots { slots.new ≡ slots_then controller.old slots.old }
     ensures controller_unchanged { OnFalse result (controller.new ≡ controller.old) }
     ensures slots_unchanged { OnFalse result (slots.new ≡ slots.old) }
-    ensures out_unchanged { OnFalse result (out.new.items ≡ out.old.items) }
+    ensures out_unchanged { OnFalse result (out.new ≡ out.old) }
 {
     if command_out(controller, slots, out) {
         return true;
@@ -274,12 +275,12 @@ fn none_waits(controller: &Controller, slots: &Slots) -> bool
 
 /// The same before the controller is initialised, where no slot has a connection: the command of
 /// initialisation.
-pub(crate) fn init_out(controller: &mut Controller, out: &mut ArrayVec<u8, 260>) -> bool
+pub(crate) fn init_out(controller: &mut Controller, out: &mut PacketBuf) -> bool
     ensures goes { result ≡ is_some (next_out controller.old []) }
-    ensures octets { OnTrue result (next_out controller.old [] ≡ Some out.new.items) }
+    ensures octets { OnTrue result (next_out controller.old [] ≡ Some out.new) }
     ensures controller { controller.new ≡ controller_then controller.old [] }
     ensures controller_unchanged { OnFalse result (controller.new ≡ controller.old) }
-    ensures out_unchanged { OnFalse result (out.new.items ≡ out.old.items) }
+    ensures out_unchanged { OnFalse result (out.new ≡ out.old) }
 {
     if !controller.takes() {
         return false;

@@ -8,7 +8,7 @@ ghost use Rattle.gatt_laws.specs.Start.{Start};
 ghost use Rattle.gatt_host.specs.Asked.{call_of, refusal_of, replacing_refusal_of};
 ghost use Rattle.gatt_host.specs.Credits.{most_out};
 ghost use Rattle.gatt_host.specs.GoingOut.{is_drained};
-ghost use Rattle.gatt_host.specs.Held.{open_slots};
+ghost use Rattle.gatt_host.specs.Held.{after_out, next_of, open_slots};
 ghost use Rattle.gatt_host.specs.Promises.{KeepsConnectionsApart, KeepsThePolicy};
 ghost use Rattle.gatt_host.specs.Whole.{all_out, is_own, outcome_of, Leads, StandsAt, Takes};
 ghost use Rattle.le_h4.specs.Packet.{seen};
@@ -22,7 +22,8 @@ use arrayvec::ArrayVec;
 use att_table::Table;
 use gatt_subs::Rows;
 use le_acl::Reassembler;
-use le_h4::{Deframer, PacketRef};
+use le_h4::{Deframer, PacketBuf, PacketRef};
+use octets::overwrite;
 use std::marker::Model;
 
 /// The host half of a Bluetooth Low Energy peripheral: an ATT and GATT server over the octets of a
@@ -35,7 +36,7 @@ pub struct Host {
     pub(crate) deframer: Deframer,
     pub(crate) fault: Option<HostFault>,
     /// Room for a packet on its way out: what it holds between two calls means nothing.
-    pub(crate) packet: ArrayVec<u8, 260>,
+    pub(crate) packet: PacketBuf,
 }
 
 impl Model for Host {
@@ -74,7 +75,7 @@ impl Host {
         if self.fault.is_some() {
             return false;
         }
-        self.state.next_out(out)
+        copy_next(&mut self.state, &mut self.packet, out)
     }
 
     /// Takes in one whole packet from the controller, once all is out. After a fault it answers that,
@@ -155,6 +156,22 @@ impl Host {
     {
         &self.state.table
     }
+}
+
+/// Puts the next packet that is to go out in place of what `out` holds, by way of `packet`, and takes in
+/// that it is out.
+fn copy_next(state: &mut HostState, packet: &mut PacketBuf, out: &mut ArrayVec<u8, 260>) -> bool
+    ensures goes { result ≡ is_some (next_of state.old) }
+    ensures octets { OnTrue result (next_of state.old ≡ Some out.new.items) }
+    ensures after { state.new ≡ after_out state.old }
+    ensures unchanged { OnFalse result (state.new ≡ state.old) }
+    ensures out_unchanged { OnFalse result (out.new.items ≡ out.old.items) }
+{
+    if !state.next_out(packet) {
+        return false;
+    }
+    overwrite(out, packet.as_slice(), &[], &[]);
+    true
 }
 
 /// Nothing is to go to the controller, or a fault stands.

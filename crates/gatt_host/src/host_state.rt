@@ -21,6 +21,7 @@ use arrayvec::ArrayVec;
 use att_table::Table;
 use gatt_slots::Slots;
 use gatt_subs::Rows;
+use le_h4::PacketBuf;
 use le_hci::Peer;
 use le_security::Keys;
 use std::marker::Model;
@@ -304,12 +305,12 @@ impl HostState {
 impl HostState {
     /// Puts the next packet that is to go out in place of what `out` holds, and takes in that it is out.
     #[inline(always)]
-    pub(crate) fn next_out(&mut self, out: &mut ArrayVec<u8, 260>) -> bool
+    pub(crate) fn next_out(&mut self, out: &mut PacketBuf) -> bool
         ensures goes { result ≡ is_some (next_of self.old) }
-        ensures octets { OnTrue result (next_of self.old ≡ Some out.new.items) }
+        ensures octets { OnTrue result (next_of self.old ≡ Some out.new) }
         ensures after { self.new ≡ after_out self.old }
         ensures unchanged { OnFalse result (self.new ≡ self.old) }
-        ensures out_unchanged { OnFalse result (out.new.items ≡ out.old.items) }
+        ensures out_unchanged { OnFalse result (out.new ≡ out.old) }
     {
         if self.controller.is_ready() {
             return next_out(&mut self.controller, &mut self.slots, out);

@@ -16,7 +16,7 @@ use att_table::Table;
 use gatt_slots::Slots;
 use gatt_subs::Rows;
 use le_acl::Reassembler;
-use le_h4::Deframer;
+use le_h4::{Deframer, PacketBuf};
 use le_security::Keys;
 use std::alloc::{AllocError, Global};
 use std::array;
@@ -64,7 +64,7 @@ impl Host {
             frames: array::from_fn(|_| Reassembler::new()),
             deframer: Deframer::new(),
             fault: None,
-            packet: ArrayVec::new(),
+            packet: PacketBuf::new(),
         })
     }
 }

@@ -11,7 +11,7 @@ ghost use Rattle.gatt_slots.specs.Slots.{kept_at, slots_at};
 use crate::places::{Due, first_due};
 use crate::slot::{Slot, Use};
 use crate::slots::Slots;
-use arrayvec::ArrayVec;
+use le_h4::PacketBuf;
 use le_hci::Command;
 
 impl Slot {
@@ -68,14 +68,14 @@ impl Slot {
     /// Writes the next packet in place of what `out` holds. There is none, and nothing changes, where
     /// all is given that may be.
     #[inline(always)]
-    pub fn next_packet(&mut self, out: &mut ArrayVec<u8, 260>) -> bool
+    pub fn next_packet(&mut self, out: &mut PacketBuf) -> bool
         ensures gives { result ≡ gives self.old }
-        ensures packet { OnTrue result (option_and_then packet_of self.old ≡ Some out.new.items) }
+        ensures packet { OnTrue result (option_and_then packet_of self.old ≡ Some out.new) }
         ensures after { OnTrue result (self.new ≡ option_map without_packet self.old) }
         ensures unchanged { OnFalse result (self.new ≡ self.old) }
-        ensures out_unchanged { OnFalse result (out.new.items ≡ out.old.items) }
+        ensures out_unchanged { OnFalse result (out.new ≡ out.old) }
     {
-        self.used != Use::Free && self.sender.next(self.handle, out)
+        self.used != Use::Free && self.sender.next_packet(self.handle, out)
     }
 }
 
@@ -145,13 +145,13 @@ impl Slots {
     /// Writes the next packet of the connection of a slot in place of what `out` holds. There is none,
     /// and nothing changes, where all is given that may be.
     #[inline(always)]
-    pub fn next_packet(&mut self, place: usize, out: &mut ArrayVec<u8, 260>) -> bool
+    pub fn next_packet(&mut self, place: usize, out: &mut PacketBuf) -> bool
         requires { place < length self.old }
         ensures gives { result ≡ gives (kept_at self.old place) }
-        ensures packet { OnTrue result (option_and_then packet_of (kept_at self.old place) ≡ Some out.new.items) }
+        ensures packet { OnTrue result (option_and_then packet_of (kept_at self.old place) ≡ Some out.new) }
         ensures after { OnTrue result (self.new ≡ slots_at place without_packet self.old) }
         ensures unchanged { OnFalse result (self.new ≡ self.old) }
-        ensures out_unchanged { OnFalse result (out.new.items ≡ out.old.items) }
+        ensures out_unchanged { OnFalse result (out.new ≡ out.old) }
     {
         let given = self.slots[place].next_packet(out);
         let giving = self.slots[place].gives();

@@ -11,7 +11,7 @@ ghost use Rattle.octets.specs.Number.{Octets, two_octets};
 
 use crate::pdus::{MAX_PDUS, Pdus};
 use arrayvec::ArrayVec;
-use le_h4::{write_acl, write_acl_parts};
+use le_h4::PacketBuf;
 use octets::overwrite;
 use std::alloc::{AllocError, Global};
 use std::marker::Model;
@@ -117,7 +117,6 @@ impl Sender {
 
     /// Writes the first packet not yet given in place of what `out` holds. There is none, and nothing
     /// changes, where no PDU is queued or as many packets are outstanding as may be.
-    #[inline(always)]
     pub fn next(&mut self, handle: u16, out: &mut ArrayVec<u8, 260>) -> bool
         requires { handle < 2 ^ 12 }
         ensures gives { result ≡ may_give self.old.outgoing }
@@ -125,6 +124,24 @@ impl Sender {
         ensures after { OnTrue result (self.new ≡ record self.old { outgoing = after_next self.old.outgoing }) }
         ensures unchanged { OnFalse result (self.new ≡ self.old) }
         ensures out_unchanged { OnFalse result (out.new.items ≡ out.old.items) }
+    {
+        let mut packet = PacketBuf::new();
+        if !self.next_packet(handle, &mut packet) {
+            return false;
+        }
+        overwrite(out, packet.as_slice(), &[], &[]);
+        true
+    }
+
+    /// The same into a buffer that is not cleared.
+    #[inline(always)]
+    pub fn next_packet(&mut self, handle: u16, out: &mut PacketBuf) -> bool
+        requires { handle < 2 ^ 12 }
+        ensures gives { result ≡ may_give self.old.outgoing }
+        ensures given { OnTrue result (option_map (acl_octets handle) (next_of self.old.outgoing.queue) ≡ Some out.new) }
+        ensures after { OnTrue result (self.new ≡ record self.old { outgoing = after_next self.old.outgoing }) }
+        ensures unchanged { OnFalse result (self.new ≡ self.old) }
+        ensures out_unchanged { OnFalse result (out.new ≡ out.old) }
     {
         if self.outstanding >= self.share {
             return false;
@@ -197,22 +214,22 @@ fn write_fragment(
     payload: &[u8],
     gone: usize,
     acl_len: usize,
-    out: &mut ArrayVec<u8, 260>,
+    out: &mut PacketBuf,
 )
     requires handle { handle < 2 ^ 12 }
     requires payload { length payload.now ≤ 517 }
     requires gone { 0 < gone → 4 ≤ gone }
     requires least { 4 ≤ acl_len }
     requires most { acl_len ≤ 251 }
-    ensures { out.new.items ≡ acl_octets handle (fragment_at gone (take acl_len (drop gone (frame_of (channel, payload.now))))) }
+    ensures { out.new ≡ acl_octets handle (fragment_at gone (take acl_len (drop gone (frame_of (channel, payload.now))))) }
 {
     if gone == 0 {
         let header = frame_header(channel, payload.len() as u16);
         let fragment = part(payload, 0, acl_len - HEADER);
-        write_acl_parts(handle, FIRST_FRAGMENT, &header, fragment, out);
+        out.acl(handle, FIRST_FRAGMENT, &header, fragment);
     } else {
         let fragment = part(payload, gone - HEADER, acl_len);
-        write_acl(handle, CONTINUATION, fragment, out);
+        out.acl(handle, CONTINUATION, &[], fragment);
     }
 }
 

@@ -6,10 +6,12 @@ mod deframer;
 mod gathered;
 pub mod indicator;
 mod packet;
+mod packet_buf;
 mod progress;
 mod write;
 
 pub use deframer::{Deframer, Fed, H4Fault};
 pub use octets::{ArraySink, Failed, Reader, Sink, SliceSource, Source, Writer};
 pub use packet::{PacketRef, WholePacket};
-pub use write::{write_acl, write_acl_parts, write_command};
+pub use packet_buf::PacketBuf;
+pub use write::{write_acl, write_command};

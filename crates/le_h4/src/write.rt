@@ -14,33 +14,21 @@ pub fn write_acl(handle: u16, pb: u8, octets: &[u8], out: &mut ArrayVec<u8, 260>
     requires octets { length octets.now ≤ 255 }
     ensures { out.new.items ≡ 0x02 ∷ two_octets (handle + 2 ^ 12 * pb) ++ two_octets (length octets.now) ++ octets.now }
 {
-    write_acl_parts(handle, pb, &[], octets, out);
+    let header = acl_header(handle, pb, octets.len() as u16);
+    overwrite(out, &header, octets, &[]);
 }
 
-/// The same of data that stand in two places: at most 255 octets, those of `header` and then those
-/// of `octets`. So the header of a frame goes in front of its payload without a copy of both.
+/// What stands in front of so many octets of ACL data: the indicator, the connection handle with the
+/// packet boundary flag, and their length.
 #[inline(always)]
-pub fn write_acl_parts(
-    handle: u16,
-    pb: u8,
-    header: &[u8],
-    octets: &[u8],
-    out: &mut ArrayVec<u8, 260>,
-)
+pub(crate) fn acl_header(handle: u16, pb: u8, length: u16) -> [u8; 5]
     requires handle { handle < 2 ^ 12 }
     requires pb { pb ≤ 3 }
-    requires octets { length header.now + length octets.now ≤ 255 }
-    ensures { out.new.items ≡ 0x02 ∷ two_octets (handle + 2 ^ 12 * pb) ++ two_octets (length (header.now ++ octets.now))
-        ++ header.now ++ octets.now }
+    ensures { result ≡ 0x02 ∷ two_octets (handle + 2 ^ 12 * pb) ++ two_octets length }
 {
     let [low, high] = (handle | u16::from(pb) << 12).to_le_bytes();
-    let [size_low, size_high] = ((header.len() + octets.len()) as u16).to_le_bytes();
-    overwrite(
-        out,
-        &[indicator::ACL, low, high, size_low, size_high],
-        header,
-        octets,
-    );
+    let [size_low, size_high] = length.to_le_bytes();
+    [indicator::ACL, low, high, size_low, size_high]
 }
 
 /// Writes a command in place of what `out` holds: its indicator, and its at most 259 octets from the

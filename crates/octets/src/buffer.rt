@@ -42,7 +42,7 @@ fn set_length<const N: usize>(buffer: &mut ArrayVec<u8, N>, length: usize)
 
 /// Writes octets of three places one behind the other.
 #[inline(always)]
-fn write_parts(out: &mut [u8], first: &[u8], second: &[u8], third: &[u8])
+pub fn write_parts(out: &mut [u8], first: &[u8], second: &[u8], third: &[u8])
     requires { length out.old ≡ length first.now + length second.now + length third.now }
     ensures { out.new ≡ first.now ++ second.now ++ third.now }
 {

@@ -5,5 +5,5 @@
 mod buffer;
 mod stream;
 
-pub use buffer::overwrite;
+pub use buffer::{overwrite, write_parts};
 pub use stream::{ArraySink, Failed, Reader, Sink, SliceSource, Source, Writer, write_all};

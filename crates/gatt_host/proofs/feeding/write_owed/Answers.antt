@@ -28,7 +28,7 @@ returns-then-is_err-clause-feeds g c = λ frames stream.
     let old : Held = c.args.state.now in
     let at : Held = c.loop-packet.state in
     let mid : Held = c.next_out.new.self in
-    let octets : Octets = c.next_out.new.out.items in
+    let octets : Octets = c.next_out.new.out in
     let before : Option Octets = g.W.Sink.contents c.args.out.now in
     let between : Option Octets = g.W.Sink.contents c.loop-packet.out in
     let after : Option Octets = g.W.Sink.contents c.write_all.new.sink in
@@ -43,13 +43,13 @@ pub loop-packet-smaller : goal.loop-packet-smaller
 loop-packet-smaller g c =
     let at : Held = c.loop-packet.state in
     subst (λ (held : Held). most_out held < most_out at) (sym c.next_out.ensures.after)
-    (fewer_out at c.next_out.new.out.items (OnTrue_at c.loop-packet-test.true c.next_out.ensures.octets))
+    (fewer_out at c.next_out.new.out (OnTrue_at c.loop-packet-test.true c.next_out.ensures.octets))
 
 pub loop-packet-preserved : goal.loop-packet-preserved
 loop-packet-preserved g c =
     let at : Held = c.loop-packet.state in
     let mid : Held = c.next_out.new.self in
-    let octets : Octets = c.next_out.new.out.items in
+    let octets : Octets = c.next_out.new.out in
     let between : Option Octets = g.W.Sink.contents c.loop-packet.out in
     let after : Option Octets = g.W.Sink.contents c.write_all.new.sink in
     record {

@@ -13,25 +13,25 @@ use Rattle.gatt_host.proofs.host.Host.next_out.Goals as goal
 pub invariant_of-self : goal.invariant_of-self
 invariant_of-self c =
     let old : Whole = the_view c.self.inside in
-    reached_out old (record old { held = c.next_out.new.self }) c.next_out.result c.next_out.new.out.items c.self.invariant c.next_out.ensures.octets c.next_out.ensures.after
-    c.next_out.ensures.unchanged refl refl refl
+    reached_out old (record old { held = c.copy_next.new.state }) c.copy_next.result c.copy_next.new.out.items c.self.invariant c.copy_next.ensures.octets c.copy_next.ensures.after
+    c.copy_next.ensures.unchanged refl refl refl
 
 pub returns-clause-goes : goal.returns-clause-goes
 returns-clause-goes c =
     let old : Whole = the_view c.self.inside in
-    subst (λ (whole : Whole). c.next_out.result ≡ not (all_out whole)) c.self.view_is
-    (c.next_out.ensures.goes ∙ goes_where_not_out old c.self.invariant (is_none_where old.fault (sym c.is_some.ensures ∙ c.if-is_some.false)))
+    subst (λ (whole : Whole). c.copy_next.result ≡ not (all_out whole)) c.self.view_is
+    (c.copy_next.ensures.goes ∙ goes_where_not_out old c.self.invariant (is_none_where old.fault (sym c.is_some.ensures ∙ c.if-is_some.false)))
 
 pub returns-clause-leads : goal.returns-clause-leads
 returns-clause-leads c = OnTrue_from _ _ (λ goes.
     let old : Whole = the_view c.self.inside in
-    let new : Whole = record old { held = c.next_out.new.self } in
-    subst (λ (whole : Whole). Leads [] (c.next_out.new.out.items ∷ []) whole new) c.self.view_is
-    (goes_out old new c.next_out.new.out.items (OnTrue_at goes c.next_out.ensures.octets) c.next_out.ensures.after refl refl refl))
+    let new : Whole = record old { held = c.copy_next.new.state } in
+    subst (λ (whole : Whole). Leads [] (c.copy_next.new.out.items ∷ []) whole new) c.self.view_is
+    (goes_out old new c.copy_next.new.out.items (OnTrue_at goes c.copy_next.ensures.octets) c.copy_next.ensures.after refl refl refl))
 
 pub returns-clause-fewer : goal.returns-clause-fewer
 returns-clause-fewer c = OnTrue_from _ _ (λ goes.
     let old : Whole = the_view c.self.inside in
-    subst (λ (whole : Whole). most_out c.next_out.new.self < most_out whole.held) c.self.view_is
-    (subst (λ (held : Held). most_out held < most_out old.held) (sym c.next_out.ensures.after)
-    (fewer_out old.held c.next_out.new.out.items (OnTrue_at goes c.next_out.ensures.octets))))
+    subst (λ (whole : Whole). most_out c.copy_next.new.state < most_out whole.held) c.self.view_is
+    (subst (λ (held : Held). most_out held < most_out old.held) (sym c.copy_next.ensures.after)
+    (fewer_out old.held c.copy_next.new.out.items (OnTrue_at goes c.copy_next.ensures.octets))))

@@ -6,14 +6,14 @@ use Rattle.le_acl.specs.Packets.{Pdu, frame_of}
 use Rattle.le_acl.specs.Outgoing.{next_of, acl_octets, after_next}
 use Rattle.le_acl.specs.Sending.{Sending, queue_of, room_of}
 use Rattle.le_acl.proofs.Fragments.{gives_first, queue-last, queue-more, not_all_gone}
-use Rattle.le_acl.proofs.sender.Sender.next.Goals as goal
+use Rattle.le_acl.proofs.sender.Sender.next_packet.Goals as goal
 
 pub returns-then-self-length-clause-given : goal.returns-then-self-length-clause-given
 returns-then-self-length-clause-given c =
     let pdu : Pdu = (c.in-Some.channel, c.in-Some.payload.now) in
     let left : c.self.inside.gone < length (frame_of pdu) = not_all_gone _ _ _ pdu c.in-Some.ensures.front c.self.invariant.within in
     let some : 0 < c.self.inside.acl_len = omega (arith, c.self.invariant.size_least) in
-    let P : Sending → Type 0 = λ sending. option_map (acl_octets c.args.handle) (next_of sending.outgoing.queue) ≡ Some c.write_fragment.new.out.items in
+    let P : Sending → Type 0 = λ sending. option_map (acl_octets c.args.handle) (next_of sending.outgoing.queue) ≡ Some c.write_fragment.new.out in
     subst P c.self.view_is (gives_first _ _ _ pdu c.in-Some.ensures.front some left _ _ c.write_fragment.ensures)
 
 pub returns-else-self-length-clause-given : goal.returns-else-self-length-clause-given
@@ -21,7 +21,7 @@ returns-else-self-length-clause-given c =
     let pdu : Pdu = (c.in-Some.channel, c.in-Some.payload.now) in
     let left : c.self.inside.gone < length (frame_of pdu) = not_all_gone _ _ _ pdu c.in-Some.ensures.front c.self.invariant.within in
     let some : 0 < c.self.inside.acl_len = omega (arith, c.self.invariant.size_least) in
-    let P : Sending → Type 0 = λ sending. option_map (acl_octets c.args.handle) (next_of sending.outgoing.queue) ≡ Some c.write_fragment.new.out.items in
+    let P : Sending → Type 0 = λ sending. option_map (acl_octets c.args.handle) (next_of sending.outgoing.queue) ≡ Some c.write_fragment.new.out in
     subst P c.self.view_is (gives_first _ _ _ pdu c.in-Some.ensures.front some left _ _ c.write_fragment.ensures)
 
 pub returns-then-self-length-clause-after : goal.returns-then-self-length-clause-after

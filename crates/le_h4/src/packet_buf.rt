@@ -1,0 +1,88 @@
+ghost use Rattle.std.specs.Prelude.{◌≡◌, ◌+◌, ◌*◌, ◌^◌, ◌<◌, ◌≤◌, [], ◌∷◌, ◌++◌, length};
+ghost use Rattle.octets.specs.Number.{two_octets};
+
+use crate::indicator;
+use crate::write::acl_header;
+use octets::write_parts;
+use std::marker::Model;
+
+/// The most octets of a packet to the controller: the header of ACL data, and 255 of them; or a
+/// command with its indicator.
+const LARGEST: usize = 260;
+
+/// A packet to the controller, and room for the next. What stood there before is not cleared, so that
+/// each octet is written once.
+#[derive(Drop)]
+pub struct PacketBuf {
+    octets: [u8; LARGEST],
+    len: usize,
+}
+
+impl Model for PacketBuf {
+    ghost use Rattle.octets.specs.Number.{Octets};
+
+    ghost Value = { Octets };
+
+    ghost use Rattle.std.specs.Prelude.{◌≤◌, take};
+
+    ghost view = { λ p. take p.len p.octets };
+
+    ghost invariant = { λ p. p.len ≤ 260 };
+}
+
+impl PacketBuf {
+    /// No packet.
+    pub fn new() -> Self
+        ensures { result ≡ [] }
+    {
+        PacketBuf {
+            octets: [0; LARGEST],
+            len: 0,
+        }
+    }
+
+    /// The octets of the packet, from its indicator on.
+    #[inline(always)]
+    pub fn as_slice(&self) -> &[u8]
+        ensures value { result.now ≡ self.now }
+        ensures fits { length result.now ≤ 260 }
+    {
+        &self.octets[..self.len]
+    }
+
+    /// Writes an ACL packet in place of the one before: a connection handle of 12 bits, the packet
+    /// boundary flag, and at most 255 octets of data, those of `header` and then those of `octets`. So
+    /// the header of a frame goes in front of its payload without a copy of both. Its broadcast flag is
+    /// 0. (Core 5.0, Vol 2 Part E, 5.4.2)
+    #[inline(always)]
+    pub fn acl(&mut self, handle: u16, pb: u8, header: &[u8], octets: &[u8])
+        requires handle { handle < 2 ^ 12 }
+        requires pb { pb ≤ 3 }
+        requires octets { length header.now + length octets.now ≤ 255 }
+        ensures { self.new ≡ 0x02 ∷ two_octets (handle + 2 ^ 12 * pb) ++ two_octets (length (header.now ++ octets.now))
+            ++ header.now ++ octets.now }
+    {
+        let length = header.len() + octets.len();
+        self.write(&acl_header(handle, pb, length as u16), header, octets);
+    }
+
+    /// Writes a command in place of the packet before: its indicator, and its at most 259 octets from
+    /// the opcode on. (Core 5.0, Vol 2 Part E, 5.4.1)
+    pub fn command(&mut self, octets: &[u8])
+        requires { length octets.now ≤ 259 }
+        ensures { self.new ≡ 0x01 ∷ octets.now }
+    {
+        self.write(&[indicator::COMMAND], octets, &[]);
+    }
+
+    /// Puts octets of three places, one behind the other, in place of those before.
+    #[inline(always)]
+    fn write(&mut self, first: &[u8], second: &[u8], third: &[u8])
+        requires { length first.now + length second.now + length third.now ≤ 260 }
+        ensures { self.new ≡ first.now ++ second.now ++ third.now }
+    {
+        let len = first.len() + second.len() + third.len();
+        write_parts(&mut self.octets[..len], first, second, third);
+        self.len = len;
+    }
+}
