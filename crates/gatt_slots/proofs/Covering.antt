@@ -47,11 +47,11 @@ there due slots place is = ⊎_elim (λ within. within)
     (λ beyond. clash is (ap (is_due due) (past slots place (omega (arith, beyond))) ∙ none-due due))
     (cases_lt place (length slots))
 
-at-same : (slots : Held) (place : ℕ) (slot : Option Kept) → place < length slots → kept_at (set slots place slot) place ≡ slot
+pub at-same : (slots : Held) (place : ℕ) (slot : Option Kept) → place < length slots → kept_at (set slots place slot) place ≡ slot
 at-same slots place slot within =
     kept-is (set slots place slot) place (omega (arith, length-set slots place slot)) ∙ get_or-set_same slots place slot None within
 
-at-other : (slots : Held) (place other : ℕ) (slot : Option Kept) → other ≢ place → kept_at (set slots place slot) other ≡ kept_at slots other
+pub at-other : (slots : Held) (place other : ℕ) (slot : Option Kept) → other ≢ place → kept_at (set slots place slot) other ≡ kept_at slots other
 at-other slots place other slot apart = ⊎_elim
     (λ within.
     kept-is (set slots place slot) other (omega (arith, within, length-set slots place slot))
@@ -166,6 +166,16 @@ none_waits (slot ∷ slots) waiting so none =
     idle : (test : Bool) → (test ≡ true → waiting ≡ true) → test ≡ false
     idle true is = clash (is refl) none
     idle false is = refl
+
+-- what waited at the places before it, and waits at one that is changed
+pub waits_more : (slots : Held) (place : ℕ) (slot : Option Kept) (old new : Bool) → ((other : ℕ) → other < place → waits (kept_at slots other) ≡ true → old ≡ true)
+    → (old ≡ true → new ≡ true) → (waits (kept_at (set slots place slot) place) ≡ true → new ≡ true)
+    → (other : ℕ) → other < place + 1 → waits (kept_at (set slots place slot) other) ≡ true → new ≡ true
+waits_more slots place slot old new before still here other within is = ⊎_elim
+    (λ same. here (ap (λ at. waits (kept_at (set slots place slot) at)) (sym same) ∙ is))
+    (λ apart. still (before other (⊎_elim (λ less. less) (λ most. absurd (apart (omega (arith, within, most)))) (cases_lt other place))
+    (ap waits (sym (at-other slots place other slot apart)) ∙ is)))
+    (cases_eq other place)
 
 -- the marks after a change of one slot
 module _ (slots : Held) (place : ℕ) (slot : Option Kept) (old new : Marks) (marked : IsMarked slots old)

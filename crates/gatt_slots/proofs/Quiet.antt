@@ -7,13 +7,13 @@ use Rattle.att_policy.specs.declared.standing.Standing.{Standing}
 use Rattle.att_policy.specs.Policy.{configuration_bits_of, first_unmet_rule_of, may_hear_of}
 use Rattle.att_table.specs.declared.attr.Attr.{Attr}
 use Rattle.att_table.specs.Table.{attribute_at, is_value}
-use Rattle.gatt_slots.specs.Hearing.{Ear, Told, after_hearing, ear_of, told_in_turn, told_of, told_raised, told_released, with_heard, with_told}
+use Rattle.gatt_slots.specs.Hearing.{Ear, Told, after_hearing, ear_of, row_in_force, told_in_turn, told_of, told_raised, told_released, with_heard, with_told}
 use Rattle.gatt_subs.specs.Hearing.{may_hear_at, wants_indications}
 use Rattle.gatt_subs.specs.Indications.{with_handle}
 use Rattle.gatt_subs.specs.Told.{notification_of}
 use Rattle.std.specs.Int.Bits.{and_zero_l}
 use Rattle.std.specs.Int.RustNames.{bit_and}
-use Rattle.std.specs.Prelude.{is_none}
+use Rattle.std.specs.Prelude.{is_none, IfSome}
 use Rattle.std.specs.List.{list_any}
 use Rattle.std.specs.Option.{option_map_or, option_to_list}
 use Rattle.gatt_slots.specs.Kept.{Kept}
@@ -99,6 +99,20 @@ none-in-turn table ear now (handle ∷ handles) told none =
 pub nothing_asked : (table : Contents) (ear : Ear) (now : ℕ) (handles : List Handle) (told : Told) → ear.row ≡ [] → told.pending.waiting ≡ []
     → told_in_turn table ear now handles told ≡ told
 nothing_asked table ear now handles told none idle = none-in-turn table ear now handles told none ∙ idle_released table ear now told idle
+
+nothing_configured : (table : Contents) (now : ℕ) (bond : Option Row) (handles : List Handle) (kept : Kept) → row_in_force bond kept ≡ []
+    → kept.pending.waiting ≡ [] → after_hearing table now bond handles kept ≡ kept
+nothing_configured table now bond handles kept none idle =
+    elim kept.live as (λ live. (if live then with_told kept (told_in_turn table (ear_of now bond kept) now handles (told_of kept)) else kept) ≡ kept) [
+      | true ↦ ap (with_told kept) (nothing_asked table (ear_of now bond kept) now handles (told_of kept) none idle)
+      | false ↦ refl
+    ]
+
+pub nobody_asked : (table : Contents) (now : ℕ) (rows : Subscriptions) (handles : List Handle) (slot : Option Kept)
+    → IfSome slot (λ kept. (row_in_force (row_of rows kept.peer) kept ≡ []) × (kept.pending.waiting ≡ [])) → heard_by table now rows handles slot ≡ slot
+nobody_asked table now rows handles None none = refl
+nobody_asked table now rows handles (Some kept) none =
+    ap (λ (it : Kept). Some it) (nothing_configured table now (row_of rows kept.peer) handles kept none.0 none.1)
 
 -- and where nothing waits for any of them, and nothing was written, none hears anything
 none-waits : (waiting : List Handle) → is_some_handle waiting ≡ false → waiting ≡ []

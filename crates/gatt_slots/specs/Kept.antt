@@ -63,8 +63,11 @@ abbrev pub kept_if_there : Room → Part → ℕ → Option Kept
 kept_if_there room part handed = if is_there part.mark then Some (kept_of room part handed) else None
 
 -- what the policy sees of a connection, and what the server does
+abbrev pub standing_with : Linking → Bool → ℕ → ℕ → Standing
+standing_with link key_known until now = record { key = link.key; key_known = key_known; until = until; now = now }
+
 abbrev pub standing_of : ℕ → Kept → Standing
-standing_of now kept = record { key = kept.link.key; key_known = kept.key_known; until = kept.until; now = now }
+standing_of now kept = standing_with kept.link kept.key_known kept.until now
 
 abbrev pub connection_of : ℕ → Kept → Connection
 connection_of now kept = record {

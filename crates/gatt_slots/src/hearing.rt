@@ -1,10 +1,11 @@
 //! What a connection hears unasked at the end of an event: Core 5.0, Vol 3 Part F, 3.4.7.
 
-ghost use Rattle.std.specs.Prelude.{◌≡◌, ◌-◌, ◌≤◌, ◌<◌, true, [], ◌∷◌, ◌++◌, length, take, Some, IsSome, is_some, if◌then◌else◌, unwrap_or, IfSome};
-ghost use Rattle.std.specs.Bool.{OnTrue};
+ghost use Rattle.std.specs.Prelude.{◌≡◌, ◌-◌, ◌≤◌, ◌<◌, true, false, [], ◌∷◌, ◌++◌, length, take, Some, IsSome, is_some, if◌then◌else◌, unwrap_or, IfSome};
+ghost use Rattle.std.specs.Bool.{OnTrue, OnFalse};
 ghost use Rattle.std.specs.Option.{option_map, option_copied};
 ghost use Rattle.att_table.specs.Table.{attribute_at, is_value_at, value_at};
 ghost use Rattle.gatt_laws.specs.Heard.{att_pdu};
+ghost use Rattle.gatt_slots.specs.Kept.{standing_with};
 ghost use Rattle.gatt_slots.specs.Hearing.{after_hearing, row_in_force, told_in_turn, told_raised, told_released, with_told};
 ghost use Rattle.gatt_slots.specs.Places.{waits};
 ghost use Rattle.gatt_slots.specs.Slots.{handles_for, heard_by};
@@ -17,6 +18,7 @@ use crate::slot::{Slot, Use};
 use att_numbers::opcode::{HANDLE_VALUE_INDICATION, HANDLE_VALUE_NOTIFICATION};
 use att_policy::Standing;
 use att_table::{ConfigRow, Table};
+use gatt_conn::Conn;
 use gatt_subs::{Pending, Rows};
 use le_acl::Sender;
 use le_hci::Peer;
@@ -28,35 +30,21 @@ use le_security::Link;
 struct Ear<'a> {
     /// What it has configured.
     row: &'a ConfigRow,
-    standing: Standing,
-    mtu: u16,
+    link: &'a Link,
+    conn: &'a Conn,
+    key_known: bool,
+    until: u64,
 }
 
-/// Tells of values that were written, and of what is then due.
-#[inline(always)]
-#[tactic(auto, using(crate::proofs::Quiet::nothing_asked))]
-fn tell(
-    table: &Table,
-    row: &ConfigRow,
-    standing: Standing,
-    mtu: u16,
-    now: u64,
-    handles: &[u16],
-    pending: &mut Pending,
-    sender: &mut Sender,
-)
-    requires least { 23 ≤ mtu }
-    requires most { mtu ≤ 517 }
-    ensures { record { pending = pending.new; outgoing = sender.new.outgoing }
-        ≡ told_in_turn table.now (record { row = row.now; standing = standing; mtu = mtu }) now handles.now
-        (record { pending = pending.old; outgoing = sender.old.outgoing }) }
-{
-    // A client that has configured nothing is told nothing.
-    if is_empty(row) && !pending.waits() {
-        return;
+impl Ear<'_> {
+    /// What the policy sees of the connection. It is put together where it is asked for: few values
+    /// need all of it.
+    #[inline(always)]
+    fn standing(&self, now: u64) -> Standing
+        ensures { result ≡ standing_with self.now.link.now self.now.key_known self.now.until now }
+    {
+        standing(self.link, self.key_known, self.until, now)
     }
-    let ear = Ear { row, standing, mtu };
-    tell_in_turn(table, &ear, now, handles, pending, sender);
 }
 
 /// Raises values in their order, and then releases what is due.
@@ -70,14 +58,12 @@ fn tell_in_turn(
     pending: &mut Pending,
     sender: &mut Sender,
 )
-    requires least { 23 ≤ ear.now.mtu }
-    requires most { ear.now.mtu ≤ 517 }
     ensures { record { pending = pending.new; outgoing = sender.new.outgoing }
-        ≡ told_in_turn table.now (record { row = ear.now.row.now; standing = ear.now.standing; mtu = ear.now.mtu }) now handles.now
+        ≡ told_in_turn table.now (record { row = ear.now.row.now; standing = standing_with ear.now.link.now ear.now.key_known ear.now.until now; mtu = ear.now.conn.now.mtu }) now handles.now
         (record { pending = pending.old; outgoing = sender.old.outgoing }) }
 {
     for handle in handles {
-        raise(table, ear, *handle, pending, sender);
+        raise(table, ear, now, *handle, pending, sender);
     }
     // Most connections wait for nothing.
     if pending.waits() {
@@ -87,19 +73,24 @@ fn tell_in_turn(
 
 /// Tells of a value that was written.
 #[inline(always)]
-fn raise(table: &Table, ear: &Ear<'_>, handle: u16, pending: &mut Pending, sender: &mut Sender)
-    requires least { 23 ≤ ear.now.mtu }
-    requires most { ear.now.mtu ≤ 517 }
+fn raise(
+    table: &Table,
+    ear: &Ear<'_>,
+    now: u64,
+    handle: u16,
+    pending: &mut Pending,
+    sender: &mut Sender,
+)
     ensures { record { pending = pending.new; outgoing = sender.new.outgoing }
-        ≡ told_raised table.now (record { row = ear.now.row.now; standing = ear.now.standing; mtu = ear.now.mtu }) handle
+        ≡ told_raised table.now (record { row = ear.now.row.now; standing = standing_with ear.now.link.now ear.now.key_known ear.now.until now; mtu = ear.now.conn.now.mtu }) handle
         (record { pending = pending.old; outgoing = sender.old.outgoing }) }
 {
-    if pending.raise(table, handle, ear.row, &ear.standing, sender.backlog()) {
+    if pending.raise(table, handle, ear.row, &ear.standing(now), sender.backlog()) {
         queue_value(
             HANDLE_VALUE_NOTIFICATION,
             handle,
             table.value(handle),
-            ear.mtu,
+            ear.conn.mtu(),
             sender,
         );
     }
@@ -109,18 +100,22 @@ fn raise(table: &Table, ear: &Ear<'_>, handle: u16, pending: &mut Pending, sende
 /// needs the registers.
 #[inline(never)]
 fn release(table: &Table, ear: Ear<'_>, now: u64, pending: &mut Pending, sender: &mut Sender)
-    requires least { 23 ≤ ear.mtu }
-    requires most { ear.mtu ≤ 517 }
     ensures { record { pending = pending.new; outgoing = sender.new.outgoing }
-        ≡ told_released table.now (record { row = ear.entry.row.now; standing = ear.entry.standing; mtu = ear.entry.mtu }) now
+        ≡ told_released table.now (record { row = ear.entry.row.now; standing = standing_with ear.entry.link.now ear.entry.key_known ear.entry.until now; mtu = ear.entry.conn.now.mtu }) now
         (record { pending = pending.old; outgoing = sender.old.outgoing }) }
 {
-    if let Some(handle) = pending.release(table, ear.row, &ear.standing, sender.backlog(), now) {
+    if let Some(handle) = pending.release(
+        table,
+        ear.row,
+        &ear.standing(now),
+        sender.backlog(),
+        now,
+    ) {
         queue_value(
             HANDLE_VALUE_INDICATION,
             handle,
             table.value(handle),
-            ear.mtu,
+            ear.conn.mtu(),
             sender,
         );
     }
@@ -161,7 +156,9 @@ fn is_empty(row: &ConfigRow) -> bool
 
 impl Slot {
     /// Tells the connection of the values that were raised for it, and then what is due: the slot is at
-    /// this place, and of `here` the connection of the slot `own` hears, of `handles` each other.
+    /// this place, and of `here` the connection of the slot `own` hears, of `handles` each other. `false`
+    /// where nothing is told and nothing waits.
+    #[inline(always)]
     #[tactic(auto, using(crate::proofs::Quiet::nothing_heard))]
     pub(crate) fn hear(
         &mut self,
@@ -172,30 +169,40 @@ impl Slot {
         here: &[u16],
         handles: &[u16],
         now: u64,
-    )
-        ensures { self.new ≡ heard_by table.now now rows.now (handles_for own here.now handles.now place) self.old }
+    ) -> bool
+        ensures heard { self.new ≡ heard_by table.now now rows.now (handles_for own here.now handles.now place) self.old }
+        ensures unchanged { OnFalse result (self.new ≡ self.old) }
+        ensures idle { OnFalse result (waits self.new ≡ false) }
     {
         if self.used != Use::Live {
-            return;
+            return self.waits();
         }
         let handles = raised_for(place, own, here, handles);
         // Most events tell a connection nothing.
         if handles.is_empty() && !self.pending.waits() {
-            return;
+            return false;
         }
         let row = row_in_force(&self.link, &self.peer, &self.row, rows);
-        let standing = standing(&self.link, self.key_known, self.until, now);
-        let mtu = self.conn.mtu();
-        tell(
-            table,
+        // A client that has configured nothing is told nothing.
+        if is_empty(row) && !self.pending.waits() {
+            return false;
+        }
+        let ear = Ear {
             row,
-            standing,
-            mtu,
+            link: &self.link,
+            conn: &self.conn,
+            key_known: self.key_known,
+            until: self.until,
+        };
+        tell_in_turn(
+            table,
+            &ear,
             now,
             handles,
             &mut self.pending,
             &mut self.sender,
         );
+        true
     }
 
     /// Whether a value waits to be indicated to the connection.
@@ -203,6 +210,14 @@ impl Slot {
         ensures { result ≡ waits self.now }
     {
         self.used != Use::Free && self.pending.waits()
+    }
+
+    /// Whether a value may wait to be indicated: where it is not so, none does.
+    #[inline(always)]
+    pub(crate) fn may_wait(&self) -> bool
+        ensures { OnFalse result (waits self.now ≡ false) }
+    {
+        self.pending.waits()
     }
 
     /// Whether the peer of the connection is owed an indication of a changed table.
@@ -216,7 +231,7 @@ impl Slot {
 /// What the policy sees of a connection.
 #[inline(always)]
 pub(crate) fn standing(link: &Link, key_known: bool, until: u64, now: u64) -> Standing
-    ensures { result ≡ record { key = link.now.key; key_known = key_known; until = until; now = now } }
+    ensures { result ≡ standing_with link.now key_known until now }
 {
     Standing {
         key: link.facts(),

@@ -16,7 +16,7 @@ ghost use Rattle.le_security.specs.Keys.{answer_of};
 ghost use Rattle.le_security.specs.Link.{after_step, Encryption, Refresh};
 
 use crate::each::{
-    complete_all, find_free, find_holding, find_serving, hear_all, replace_all, tick_all,
+    Heard, complete_all, find_free, find_holding, find_serving, hear_all, replace_all, tick_all,
 };
 use crate::marks::Marks;
 use crate::places::Places;
@@ -282,51 +282,52 @@ impl Slots {
         ensures count { length self.new ≡ length self.old }
     {
         let before = self.marks;
-        hear_in(&mut self.slots, table, rows, own, here, handles, now);
-        self.marks = heard_marks(self.slots.as_slice(), before);
+        let heard = hear_in(
+            &mut self.slots,
+            before.packets,
+            table,
+            rows,
+            own,
+            here,
+            handles,
+            now,
+        );
+        self.marks = Marks {
+            packets: heard.packets,
+            waiting: heard.waiting,
+            ..before
+        };
     }
 }
 
 /// All of them hear.
 fn hear_in(
     slots: &mut Vec<Slot>,
+    packets: Places,
     table: &Table,
     rows: &Rows,
     own: Option<usize>,
     here: &[u16],
     handles: &[u16],
     now: u64,
-)
+) -> Heard
+    requires few { length slots.old.items ≤ 8 }
+    requires covers { Covers Packet packets.bits slots.old.items }
     ensures heard { slots.new.items ≡ all_heard table.now now rows.now own here.now handles.now slots.old.items }
     ensures count { length slots.new.items ≡ length slots.old.items }
+    ensures packets { Covers Packet result.packets.bits slots.new.items }
+    ensures waiting { result.waiting ≡ false → list_any waits slots.new.items ≡ false }
 {
-    hear_all(slots.as_mut_slice(), table, rows, own, here, handles, now);
-}
-
-/// The marks once all have heard: where a packet may be given, and whether a value waits.
-#[tactic(auto, using(crate::proofs::Covering::none_waits))]
-fn heard_marks(slots: &[Slot], before: Marks) -> Marks
-    requires { length slots.now ≤ 8 }
-    ensures packets { Covers Packet result.packets.bits slots.now }
-    ensures waiting { result.waiting ≡ false → list_any waits slots.now ≡ false }
-    ensures commands { result.commands ≡ before.commands }
-    ensures free { result.free ≡ before.free }
-{
-    let mut packets = Places::NONE;
-    let mut waiting = false;
-    for place in 0..slots.len() {
-        if slots[place].gives() {
-            packets.add(place);
-        }
-        if slots[place].waits() {
-            waiting = true;
-        }
-    }
-    Marks {
+    hear_all(
+        slots.as_mut_slice(),
         packets,
-        waiting,
-        ..before
-    }
+        table,
+        rows,
+        own,
+        here,
+        handles,
+        now,
+    )
 }
 
 /// Free slots, as many.

@@ -1,16 +1,31 @@
-use Rattle.std.proofs.Common.{◌<◌, ℕ, Option, length, set, ap, sym, ◌∙◌, arith}
+use Rattle.std.proofs.Common.{◌≡◌, ◌<◌, ◌+◌, ℕ, true, Option, None, length, subst, sym, ◌∙◌, arith}
+use Rattle.std.proofs.lemmas.List.{get_or_default}
 use Rattle.gatt_slots.specs.Kept.{Kept}
-use Rattle.gatt_slots.specs.Slots.{heard_by, handles_for}
+use Rattle.gatt_slots.specs.Places.{waits}
+use Rattle.gatt_slots.specs.Slots.{Held, heard_by, handles_for, kept_at}
+use Rattle.gatt_slots.proofs.Covering.{waits_more}
 use Rattle.gatt_slots.proofs.EachSlot.{heard_more}
+use Rattle.gatt_slots.proofs.Found.{kept-is}
 use Rattle.gatt_slots.proofs.each.hear_all.Goals as goal
 
 pub loop-place-preserved : goal.loop-place-preserved
 loop-place-preserved c =
     let a = c.args in
     let place = c.loop-place.place in
+    let slots = c.loop-place.slots in
+    let heard = c.loop-place.invariant in
+    let at = c.hear_at in
     let within : place < length a.slots.now = omega (arith, c.loop-place-test.true) in
+    let there : place < length slots = omega (arith, c.loop-place-test.true, c.loop-place.auto.slots) in
     let hear : ℕ → Option Kept → Option Kept =
     λ at slot. heard_by a.table.now a.now a.rows.now (handles_for a.own a.here.now a.handles.now at) slot in
-    ap (λ (slot : Option Kept). set c.loop-place.slots place slot)
-    (c.hear.ensures ∙ ap (λ (slot : Option Kept). hear place slot) (sym c.index-slots-place.is))
-    ∙ heard_more hear a.slots.now c.loop-place.slots place c.index-slots-place.result within c.loop-place.invariant c.index-slots-place.is
+    let slot : Option Kept = hear place (kept_at slots place) in (
+      at.ensures.slots
+          ∙ heard_more hear a.slots.now slots place (kept_at slots place) within heard.0 (kept-is slots place there ∙ get_or_default slots place None (kept_at slots place) there),
+      (
+        at.ensures.packets heard.1.0,
+        subst (λ (it : Held). (other : ℕ) → other < place + 1 → waits (kept_at it other) ≡ true → at.new.heard.waiting ≡ true) (sym at.ensures.slots)
+            (waits_more slots place slot c.loop-place.heard.waiting at.new.heard.waiting heard.1.1 at.ensures.still
+            (subst (λ (it : Held). waits (kept_at it place) ≡ true → at.new.heard.waiting ≡ true) at.ensures.slots at.ensures.waiting)),
+      ),
+    )
