@@ -1,5 +1,8 @@
 //! The octets of a whole initialisation, and of what goes wrong in one.
 
+ghost use Rattle.std.specs.Prelude.{IsSome};
+ghost use Rattle.le_hci.specs.Init.{command_awaited};
+
 use super::cases::assert_case;
 use arrayvec::ArrayVec;
 use le_hci::{Buffers, Event, Init, InitFault, read_event, write_command};
@@ -29,12 +32,19 @@ fn returned<'a>(rt: &impl Abort, packet: &'a [u8], command: u16) -> &'a [u8] {
     }
 }
 
+/// What the completion of the awaited command returns.
+fn returned_by_awaited<'a>(rt: &impl Abort, init: &Init, packet: &'a [u8]) -> &'a [u8]
+    ensures awaiting { IsSome (command_awaited init.now) }
+{
+    match init.command() {
+        Some(command) => returned(rt, packet, command.opcode()),
+        None => panic!(rt; "nothing is awaited"),
+    }
+}
+
 /// What follows on the completion of the awaited command: a fault, if there is one, and the state.
 fn complete(rt: &impl Abort, init: Init, packet: &[u8]) -> (Option<InitFault>, Init) {
-    let Some(command) = init.command() else {
-        panic!(rt; "nothing is awaited");
-    };
-    let parameters = returned(rt, packet, command.opcode());
+    let parameters = returned_by_awaited(rt, &init, packet);
     match init.complete(parameters) {
         Ok(next) => (None, next),
         Err((fault, same)) => (Some(fault), same),
@@ -170,44 +180,51 @@ const WITH_A_RANDOM_ADDRESS: &[Exchange] = &[
     ),
 ];
 
+/// The state after the packets up to LE Read Buffer Size, and then these.
+fn run_past_sizing(rt: &impl Abort, first: Init, exchanges: &[Exchange]) -> Init {
+    let sizing = run(rt, first, UP_TO_SIZING);
+    run(rt, sizing, exchanges)
+}
+
+fn is_ready(init: &Init) -> bool {
+    matches!(
+        init,
+        Init::Ready {
+            length: 27,
+            packets: 4
+        }
+    )
+}
+
 #[test]
 fn initialises_with_a_public_address(rt: HostRuntime) {
     let init = Init::new(None, advertising());
     assert_next(&rt, &init, &[0x03, 0x0C, 0x00]);
-    let init = run(&rt, init, UP_TO_SIZING);
-    let init = run(&rt, init, WITH_A_PUBLIC_ADDRESS);
-    assert!(rt;
-        matches!(
-            init,
-            Init::Ready {
-                length: 27,
-                packets: 4
-            }
-        )
-    );
+    assert!(rt; is_ready(&run_past_sizing(&rt, init, WITH_A_PUBLIC_ADDRESS)));
+}
+
+/// The shared buffers are known, and the advertising parameters are awaited.
+fn is_describing(init: &Init) -> bool {
+    matches!(
+        init,
+        Init::Describing {
+            buffers: Buffers {
+                length: 251,
+                packets: 264
+            },
+            ..
+        }
+    )
 }
 
 #[test]
 fn initialises_with_shared_buffers_and_a_random_address(rt: HostRuntime) {
-    let init = run(&rt, Init::new(Some(RANDOM), advertising()), UP_TO_SIZING);
-    let init = run(&rt, init, WITH_A_RANDOM_ADDRESS);
-    assert!(rt;
-        matches!(
-            init,
-            Init::Describing {
-                buffers: Buffers {
-                    length: 251,
-                    packets: 264
-                },
-                ..
-            }
-        )
-    );
+    let init = Init::new(Some(RANDOM), advertising());
+    assert!(rt; is_describing(&run_past_sizing(&rt, init, WITH_A_RANDOM_ADDRESS)));
 }
 
 #[test]
 fn hands_back_what_it_cannot_complete(rt: HostRuntime) {
     let init = run(&rt, Init::new(None, advertising()), REFUSED);
-    let init = run(&rt, init, UP_TO_SIZING);
-    run(&rt, init, BAD_BUFFERS);
+    run_past_sizing(&rt, init, BAD_BUFFERS);
 }

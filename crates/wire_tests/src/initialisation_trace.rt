@@ -1,6 +1,6 @@
 //! The octets of a whole initialisation, from the stream of a controller to what the host writes.
 
-ghost use Rattle.std.specs.Prelude.{◌<◌, IsSome};
+ghost use Rattle.std.specs.Prelude.{◌<◌, ◌↔◌, IsSome, IsTrue};
 ghost use Rattle.le_hci.specs.Init.{command_awaited};
 
 use super::cases::assert_case;
@@ -102,25 +102,34 @@ fn complete(rt: &impl Abort, init: Init, opcode: u16, parameters: &[u8]) -> Init
     }
 }
 
-/// What an event leads to: the next state, and the command that is written.
+/// What a packet leads to: the next state, and the command that is written.
 fn follow(
     rt: &impl Abort,
     init: Init,
-    event: Option<Event<'_>>,
+    packet: PacketRef<'_>,
     written: &mut ArrayVec<u8, 260>,
 ) -> Init {
-    match event {
+    if let Some((opcode, parameters)) = completion_in(rt, packet) {
+        let next = complete(rt, init, opcode, parameters);
+        write_next(&next, written);
+        next
+    } else {
+        write(&Command::LeSetAdvertiseEnable, written);
+        init
+    }
+}
+
+/// The command that a packet completes and what it returns, or none where the packet tells the
+/// connection.
+fn completion_in<'a>(rt: &impl Abort, packet: PacketRef<'a>) -> Option<(u16, &'a [u8])> {
+    match event_in(packet) {
         Some(
             Event::CommandComplete {
                 opcode,
                 parameters,
                 ..
             },
-        ) => {
-            let next = complete(rt, init, opcode, parameters);
-            write_next(&next, written);
-            next
-        }
+        ) => Some((opcode, parameters)),
         Some(
             Event::ConnectionComplete {
                 handle: 0x0040,
@@ -130,10 +139,7 @@ fn follow(
                 },
                 ..
             },
-        ) => {
-            write(&Command::LeSetAdvertiseEnable, written);
-            init
-        }
+        ) => None,
         _ => panic!(rt; "neither a completion nor the connection"),
     }
 }
@@ -145,6 +151,16 @@ fn event_in(packet: PacketRef<'_>) -> Option<Event<'_>> {
     }
 }
 
+/// Takes in a piece of what the controller sends, and tells whether it ends a packet.
+fn ends_packet(rt: &impl Abort, deframer: &mut Deframer, piece: &[u8]) -> bool
+    ensures { IsTrue result ↔ IsSome deframer.new.marked }
+{
+    match deframer.feed(piece) {
+        Ok(fed) if fed.used == piece.len() => fed.packet,
+        _ => panic!(rt; "not all of {piece:?} is taken"),
+    }
+}
+
 /// Takes in a piece of what the controller sends, and writes the command that it leads to.
 fn take(
     rt: &impl Abort,
@@ -153,35 +169,57 @@ fn take(
     piece: &[u8],
     written: &mut ArrayVec<u8, 260>,
 ) -> Init {
-    match deframer.feed(piece) {
-        Ok(fed) if fed.used == piece.len() => {
-            if fed.packet {
-                follow(rt, init, event_in(deframer.packet()), written)
-            } else {
-                init
-            }
-        }
-        _ => panic!(rt; "not all of {piece:?} is taken"),
+    if ends_packet(rt, deframer, piece) {
+        follow(rt, init, deframer.packet(), written)
+    } else {
+        init
     }
+}
+
+/// Takes in a packet in pieces of at most `size` octets, and writes the command that it leads to.
+fn take_all(
+    rt: &impl Abort,
+    deframer: &mut Deframer,
+    first: Init,
+    size: usize,
+    packet: &[u8],
+    written: &mut ArrayVec<u8, 260>,
+) -> Init
+    requires { 0 < size }
+{
+    let mut init = first;
+    for piece in packet.chunks(size) {
+        init = take(rt, deframer, init, piece, written);
+    }
+    init
 }
 
 /// Takes in a packet in pieces of at most `size` octets, which lead to these octets.
 fn exchange(
     rt: &impl Abort,
     deframer: &mut Deframer,
-    first: Init,
+    init: Init,
     size: usize,
     packet: &[u8],
     wanted: &[u8],
 ) -> Init
     requires { 0 < size }
 {
-    let mut init = first;
     let mut written = ArrayVec::new();
-    for piece in packet.chunks(size) {
-        init = take(rt, deframer, init, piece, &mut written);
-    }
+    let next = take_all(rt, deframer, init, size, packet, &mut written);
     assert_case(rt, written.as_slice() == wanted, packet);
+    next
+}
+
+/// The state after these packets, from a new stream on.
+fn exchange_all(rt: &impl Abort, first: Init, size: usize, exchanges: &[(&[u8], &[u8])]) -> Init
+    requires { 0 < size }
+{
+    let mut deframer = Deframer::new();
+    let mut init = first;
+    for (packet, wanted) in exchanges {
+        init = exchange(rt, &mut deframer, init, size, packet, wanted);
+    }
     init
 }
 
@@ -206,13 +244,9 @@ fn is_ready(init: &Init) -> bool {
 fn initialise(rt: &impl Abort, size: usize, exchanges: &[(&[u8], &[u8])])
     requires { 0 < size }
 {
-    let mut deframer = Deframer::new();
-    let mut init = Init::new(None, advertising());
-    assert_first(rt, &init);
-    for (packet, wanted) in exchanges {
-        init = exchange(rt, &mut deframer, init, size, packet, wanted);
-    }
-    assert!(rt; is_ready(&init));
+    let first = Init::new(None, advertising());
+    assert_first(rt, &first);
+    assert!(rt; is_ready(&exchange_all(rt, first, size, exchanges)));
 }
 
 #[test]

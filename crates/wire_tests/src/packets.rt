@@ -2,6 +2,7 @@
 
 use arrayvec::ArrayVec;
 use le_h4::{PacketBuf, write_acl, write_command};
+use std::process::Abort;
 
 /// A Read Response in a frame, and its packet.
 const FRAME: [u8; 9] = [0x05, 0x00, 0x04, 0x00, 0x0B, 0x4C, 0x6F, 0x63, 0x6B];
@@ -20,13 +21,16 @@ fn a_command(rt: HostRuntime) {
     assert!(rt; out.as_slice() == b"\x01\x03\x0C\x00".as_slice());
 }
 
-/// Each packet takes the place of what was written before.
 #[test]
 fn acl_data(rt: HostRuntime) {
-    let mut out = ArrayVec::new();
-    write_acl(0x0040, 0, FRAME.as_slice(), &mut out);
+    assert_written_over(&rt, &mut ArrayVec::new());
+}
+
+/// Each packet takes the place of what was written before.
+fn assert_written_over(rt: &impl Abort, out: &mut ArrayVec<u8, 260>) {
+    write_acl(0x0040, 0, FRAME.as_slice(), out);
     assert!(rt; out.as_slice() == FRAME_PACKET.as_slice());
-    write_acl(0x0EFF, 1, &[], &mut out);
+    write_acl(0x0EFF, 1, &[], out);
     assert!(rt; out.as_slice() == EMPTY_PACKET.as_slice());
 }
 
@@ -34,9 +38,19 @@ fn acl_data(rt: HostRuntime) {
 #[test]
 fn packets_over_another(rt: HostRuntime) {
     let mut packet = PacketBuf::new();
+    assert_frame(&rt, &mut packet);
+    assert_shorter(&rt, &mut packet);
+}
+
+/// The packet of a frame, of which the header stands apart.
+fn assert_frame(rt: &impl Abort, packet: &mut PacketBuf) {
     let (header, payload) = FRAME.split_at(4);
     packet.acl(0x0040, 0, header, payload);
     assert!(rt; packet.as_slice() == FRAME_PACKET.as_slice());
+}
+
+/// Packets that are shorter than the one before.
+fn assert_shorter(rt: &impl Abort, packet: &mut PacketBuf) {
     packet.acl(0x0EFF, 1, &[], &[]);
     assert!(rt; packet.as_slice() == EMPTY_PACKET.as_slice());
     packet.command(&[0x03, 0x0C, 0x00]);

@@ -1,5 +1,7 @@
 //! Frames from fragments.
 
+ghost use Rattle.std.specs.Prelude.{IsSome};
+
 use super::cases::assert_case;
 use le_acl::{Piece, Reassembler};
 use le_h4::{Deframer, Fed, PacketRef};
@@ -63,10 +65,16 @@ fn a_new_beginning(rt: HostRuntime) {
     assert_frames(&rt, &mut Reassembler::new(), TWO_BEGINNINGS);
 }
 
-#[test]
-fn largest_frame(rt: HostRuntime) {
+/// A frame of 517 octets.
+fn largest() -> [u8; 521] {
     let mut largest = [0x0B; 521];
     largest[..4].copy_from_slice(&[0x05, 0x02, 0x04, 0x00]);
+    largest
+}
+
+#[test]
+fn largest_frame(rt: HostRuntime) {
+    let largest = largest();
     let cases: [Case<'_>; 5] = [
         (&[0x05, 0x02, 0x04, 0x00], true, None),
         (&[0x0B; 517], false, Some(&largest)),
@@ -89,12 +97,19 @@ fn assert_packet(
     assert_frame(rt, reassembler, (octets, begins, expected));
 }
 
-/// The ACL data of a packet, and whether they begin a frame.
-fn acl_data<'a>(rt: &impl Abort, deframer: &'a mut Deframer, packet: &[u8]) -> (&'a [u8], bool) {
+/// Takes in a whole packet.
+fn feed(rt: &impl Abort, deframer: &mut Deframer, packet: &[u8])
+    ensures { IsSome deframer.new.marked }
+{
     let fed = deframer.feed(packet);
     let Ok(Fed { packet: true, .. }) = fed else {
         panic!(rt; "{fed:?}");
     };
+}
+
+/// The ACL data of a packet, and whether they begin a frame.
+fn acl_data<'a>(rt: &impl Abort, deframer: &'a mut Deframer, packet: &[u8]) -> (&'a [u8], bool) {
+    feed(rt, deframer, packet);
     match deframer.packet() {
         PacketRef::Acl { pb, octets, .. } => (octets, pb == 0b10),
         _ => panic!(rt; "no ACL data"),

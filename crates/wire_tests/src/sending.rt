@@ -8,7 +8,7 @@ use std::alloc::Global;
 use std::process::Abort;
 
 /// What is done with a sender of packets of at most 27 octets of data, and what has to come of it.
-#[derive(Clone, Copy, Debug)]
+#[derive(Clone, Copy)]
 enum Step {
     /// So many PDUs with this payload are queued.
     Queue(usize, &'static [u8]),
@@ -40,8 +40,8 @@ fn assert_sends(rt: &impl Abort, alloc: Global, share: u16, steps: &[Step])
 }
 
 fn assert_steps(rt: &impl Abort, sender: &mut Sender, steps: &[Step]) {
-    for &step in steps {
-        assert!(rt; is_as_expected(sender, step), "{step:?}");
+    for (place, &step) in steps.iter().enumerate() {
+        assert!(rt; is_as_expected(sender, step), "step {place}");
     }
 }
 
