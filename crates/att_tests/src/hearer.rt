@@ -1,6 +1,7 @@
 //! A connection that hears of a table's values, step by step.
 
 use att_policy::Standing;
+use att_table::examples::{BELL, DOOR, POST};
 use att_table::{ConfigRow, Table};
 use gatt_subs::Pending;
 use std::alloc::Global;
@@ -34,18 +35,39 @@ pub const PLAIN: Standing = Standing {
     now: 0,
 };
 
+/// The table of an example file.
+#[derive(Clone, Copy)]
+pub enum Example {
+    Bell,
+    Door,
+    Post,
+}
+
+fn text_of(example: Example) -> &'static str {
+    match example {
+        Example::Bell => BELL,
+        Example::Door => DOOR,
+        Example::Post => POST,
+    }
+}
+
 /// Makes the steps of a new connection over each table.
-pub fn check(rt: &impl Abort, alloc: Global, cases: &[(&str, &[Step])]) {
-    for (place, &(text, steps)) in cases.iter().enumerate() {
-        assert_none_wrong(rt, first_wrong(alloc, text, steps), place);
+pub fn check(rt: &impl Abort, alloc: Global, cases: &[(Example, &[Step])]) {
+    for (place, &(example, steps)) in cases.iter().enumerate() {
+        assert_none_wrong(rt, first_wrong(alloc, text_of(example), steps), place);
     }
 }
 
 fn assert_none_wrong(rt: &impl Abort, wrong: Option<Option<usize>>, place: usize) {
     match wrong {
-        Some(None) => {}
-        Some(Some(step)) => panic!(rt; "step {step} of case {place}"),
+        Some(step) => assert_no_step(rt, step, place),
         None => panic!(rt; "the table of case {place}"),
+    }
+}
+
+fn assert_no_step(rt: &impl Abort, wrong: Option<usize>, place: usize) {
+    if let Some(step) = wrong {
+        panic!(rt; "step {step} of case {place}");
     }
 }
 
@@ -79,12 +101,7 @@ fn make(
 ) -> bool {
     match step {
         Step::Stands(_) => return false,
-        Step::Configures(handle, bits) => {
-            if handle == 0 || bits > 3 || !row.can_set(handle) {
-                return false;
-            }
-            row.set(handle, bits);
-        }
+        Step::Configures(handle, bits) => return configures(row, handle, bits),
         Step::Raise(handle, backlog, wanted) => {
             return pending.raise(table, handle, row, standing, backlog) == wanted;
         }
@@ -97,5 +114,14 @@ fn make(
         Step::End => pending.end(),
         Step::Told(handle, wanted) => return pending.told(handle) == wanted,
     }
+    true
+}
+
+/// Configures bits at a handle, and tells whether there is room for them.
+fn configures(row: &mut ConfigRow, handle: u16, bits: u8) -> bool {
+    if handle == 0 || bits > 3 || !row.can_set(handle) {
+        return false;
+    }
+    row.set(handle, bits);
     true
 }

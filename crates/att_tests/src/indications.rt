@@ -1,8 +1,7 @@
 //! What a connection is told unasked, step by step.
 
-use crate::hearer::{PLAIN, Step, check};
+use crate::hearer::{Example, PLAIN, Step, check};
 use att_policy::{KeyFacts, Standing};
-use att_table::examples::{BELL, DOOR, POST};
 
 /// The link is encrypted.
 const ENCRYPTED: Standing = Standing {
@@ -241,18 +240,18 @@ const LETTERS_INDICATED: &[Step] = &[
 ];
 
 /// Tables, each with what happens to a new connection.
-const CASES: &[(&str, &[Step])] = &[
-    (BELL, ONE_AT_A_TIME),
-    (BELL, NOT_CONFIRMED),
-    (BELL, IN_ORDER),
-    (BELL, BACKLOG),
-    (BELL, UNASKED),
-    (BELL, REPLACED),
-    (BELL, STILL_LATE),
-    (BELL, ENDED),
-    (DOOR, STATE_OF_THE_LOCK),
-    (POST, LETTERS_NOTIFIED),
-    (POST, LETTERS_INDICATED),
+const CASES: &[(Example, &[Step])] = &[
+    (Example::Bell, ONE_AT_A_TIME),
+    (Example::Bell, NOT_CONFIRMED),
+    (Example::Bell, IN_ORDER),
+    (Example::Bell, BACKLOG),
+    (Example::Bell, UNASKED),
+    (Example::Bell, REPLACED),
+    (Example::Bell, STILL_LATE),
+    (Example::Bell, ENDED),
+    (Example::Door, STATE_OF_THE_LOCK),
+    (Example::Post, LETTERS_NOTIFIED),
+    (Example::Post, LETTERS_INDICATED),
 ];
 
 #[test]

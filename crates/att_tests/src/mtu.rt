@@ -1,6 +1,8 @@
 use crate::session::Step::{Long, Mtu, Pdu};
 use crate::session::{Step, play, play_limited};
 use att_table::examples::DOOR;
+use std::alloc::Global;
+use std::process::Abort;
 
 const OF_247: &[Step] = &[
     Mtu(23),
@@ -25,10 +27,16 @@ const OF_THE_LARGEST: &[Step] = &[Pdu("02ffff", "030502"), Mtu(517)];
 
 #[test]
 fn exchanges_of_the_mtu(rt: HostRuntime) {
-    play(&rt, rt.alloc(), DOOR, OF_247);
-    play(&rt, rt.alloc(), DOOR, BELOW_THE_LEAST);
+    play_each(&rt, rt.alloc(), &[OF_247, BELOW_THE_LEAST]);
     play_limited(&rt, rt.alloc(), DOOR, 23, OF_THE_LEAST);
     play_limited(&rt, rt.alloc(), DOOR, 517, OF_THE_LARGEST);
+}
+
+/// Sessions with a new table each.
+fn play_each(rt: &impl Abort, alloc: Global, sessions: &[&[Step]]) {
+    for steps in sessions {
+        play(rt, alloc, DOOR, steps);
+    }
 }
 
 /// A value of 512 octets is written and read whole at the largest ATT_MTU, and its first 253 octets

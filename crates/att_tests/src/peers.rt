@@ -51,8 +51,13 @@ pub fn standing(rt: &impl Abort, alloc: Global, who: Who, encrypted: bool, until
 
 /// The keys of both example files.
 fn read_keys(rt: &impl Abort, alloc: Global) -> Keys {
+    let text = both_files(rt, alloc);
+    Keys::read(alloc, &text).expect(rt, "the keys")
+}
+
+fn both_files(rt: &impl Abort, alloc: Global) -> String {
     match format!(in alloc; "{KEYS}{SECURE_KEY}") {
-        Ok(text) => Keys::read(alloc, &text).expect(rt, "the keys"),
+        Ok(text) => text,
         Err(_) => panic!(rt; "memory"),
     }
 }

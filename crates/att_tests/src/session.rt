@@ -7,7 +7,7 @@ use crate::peers::{Who, standing};
 use arrayvec::ArrayVec;
 use att_pdu::PduBuf;
 use att_table::{ConfigRow, Table};
-use gatt_conn::{Conn, answer};
+use gatt_conn::{Answered, Conn, answer};
 use std::alloc::Global;
 use std::process::Abort;
 
@@ -57,9 +57,17 @@ pub fn play_limited(rt: &impl Abort, alloc: Global, text: &str, rx_mtu: u16, ste
     requires most { rx_mtu ≤ 517 }
 {
     let mut table = Table::read(alloc, text).expect(rt, "the table");
+    play_with(rt, alloc, &mut table, rx_mtu, steps);
+}
+
+/// The same with this table.
+fn play_with(rt: &impl Abort, alloc: Global, table: &mut Table, rx_mtu: u16, steps: &[Step])
+    requires least { 23 ≤ rx_mtu }
+    requires most { rx_mtu ≤ 517 }
+{
     let mut first = new_client(rt, alloc, rx_mtu);
     let mut second = new_client(rt, alloc, rx_mtu);
-    make_all(rt, alloc, &mut table, &mut first, &mut second, steps);
+    make_all(rt, alloc, table, &mut first, &mut second, steps);
 }
 
 fn new_client(rt: &impl Abort, alloc: Global, rx_mtu: u16) -> Client
@@ -145,10 +153,27 @@ fn exchange_of(step: Step) -> Option<Exchange> {
 
 /// Makes a step that exchanges no PDUs.
 fn change(rt: &impl Abort, alloc: Global, conn: &mut Conn, step: Step) {
+    if let Some((who, encrypted, until)) = seen_from(step) {
+        conn.stand(standing(rt, alloc, who, encrypted, until));
+    } else {
+        act(rt, conn, step);
+    }
+}
+
+/// The client that the policy sees from this step on, whether its link is encrypted, and the end of
+/// its authorization.
+fn seen_from(step: Step) -> Option<(Who, bool, u64)> {
     match step {
-        Step::Plain(who) => conn.stand(standing(rt, alloc, who, false, 0)),
-        Step::Encrypted(who) => conn.stand(standing(rt, alloc, who, true, 0)),
-        Step::Authorized(who) => conn.stand(standing(rt, alloc, who, true, u64::MAX)),
+        Step::Plain(who) => Some((who, false, 0)),
+        Step::Encrypted(who) => Some((who, true, 0)),
+        Step::Authorized(who) => Some((who, true, u64::MAX)),
+        _ => None,
+    }
+}
+
+/// Makes a step of the connection alone.
+fn act(rt: &impl Abort, conn: &mut Conn, step: Step) {
+    match step {
         Step::Mtu(mtu) => assert!(rt; conn.mtu() == mtu, "{mtu}"),
         Step::Cancel => conn.cancel(),
         _ => panic!(rt; "no step of a connection"),
@@ -172,18 +197,27 @@ fn serve(rt: &impl Abort, table: &mut Table, client: &mut Client, exchange: Exch
     ensures attributes { table.new.attributes ≡ table.old.attributes }
     ensures row { IsRowOf table.new.attributes client.new.row }
 {
-    let (pdu, more) = exchange.pdu;
-    let (wanted, more_wanted) = exchange.answer;
-    let pdu_octets = octets(rt, pdu, more);
-    let wanted_octets = octets(rt, wanted, more_wanted);
-    let served = serves(
-        table,
-        client,
-        pdu_octets.as_slice(),
-        wanted_octets.as_slice(),
-        exchange.handles,
-    );
-    assert!(rt; served, "{pdu}");
+    let (text, more) = exchange.pdu;
+    let pdu = octets(rt, text, more);
+    let served = serves_spelled(rt, table, client, pdu.as_slice(), exchange);
+    assert!(rt; served, "{text}");
+}
+
+/// Whether a PDU has the answer of an exchange, and writes its handles.
+fn serves_spelled(
+    rt: &impl Abort,
+    table: &mut Table,
+    client: &mut Client,
+    pdu: &[u8],
+    exchange: Exchange,
+) -> bool
+    requires row { IsRowOf table.old.attributes client.old.row }
+    ensures attributes { table.new.attributes ≡ table.old.attributes }
+    ensures row { IsRowOf table.new.attributes client.new.row }
+{
+    let (text, more) = exchange.answer;
+    let wanted = octets(rt, text, more);
+    serves(table, client, pdu, wanted.as_slice(), exchange.handles)
 }
 
 /// Whether a PDU has this answer, and writes these handles.
@@ -201,16 +235,20 @@ fn serves(
     let mut octets = ArrayVec::new();
     let mut out = PduBuf::new(&mut octets, client.conn.mtu());
     let answered = answer(table, &mut client.row, &mut client.conn, pdu, &mut out);
-    octets.as_slice() == wanted
-        && answered.due != wanted.is_empty()
+    octets.as_slice() == wanted && is_told(&answered, pdu, wanted, handles)
+}
+
+/// Whether what is told of a PDU fits with its answer and these handles.
+fn is_told(answered: &Answered, pdu: &[u8], wanted: &[u8], handles: Option<&[u16]>) -> bool {
+    answered.due != wanted.is_empty()
         && answered.confirmed == (pdu == b"\x1e".as_slice())
         && is_written(answered.touched.as_slice(), pdu, wanted, handles)
 }
 
 /// Whether these handles were to be written: those of a Write Request that is accepted are known.
 fn is_written(touched: &[u16], pdu: &[u8], wanted: &[u8], handles: Option<&[u16]>) -> bool {
-    if let ([0x12, low, high, ..], [0x13]) = (pdu, wanted) {
-        if touched != [u16::from_le_bytes([*low, *high])].as_slice() {
+    if let Some(handle) = accepted_write(pdu, wanted) {
+        if touched != [handle].as_slice() {
             return false;
         }
     }
@@ -220,15 +258,29 @@ fn is_written(touched: &[u16], pdu: &[u8], wanted: &[u8], handles: Option<&[u16]
     }
 }
 
+/// The handle of a Write Request that is accepted.
+fn accepted_write(pdu: &[u8], wanted: &[u8]) -> Option<u16> {
+    match pdu {
+        [0x12, low, high, ..] if wanted == [0x13].as_slice() => Some(u16::from_le_bytes([
+            *low, *high,
+        ])),
+        _ => None,
+    }
+}
+
 /// The octets that hexadecimal text spells, and behind them some octets `61`.
 fn octets(rt: &impl Abort, text: &str, more: usize) -> ArrayVec<u8, 520> {
-    let mut spelled = [0; 64];
-    let part = spelled.get_mut(..text.len() / 2).expect(rt, "room");
-    hex::decode_to_slice(text, part).expect(rt, "hexadecimal");
     let mut octets = ArrayVec::new();
-    octets.try_extend_from_slice(part).expect(rt, "room");
+    append_spelled(rt, text, &mut octets);
     for _ in 0..more {
         octets.try_push(0x61).expect(rt, "room");
     }
     octets
+}
+
+fn append_spelled(rt: &impl Abort, text: &str, octets: &mut ArrayVec<u8, 520>) {
+    let mut spelled = [0; 64];
+    let part = spelled.get_mut(..text.len() / 2).expect(rt, "room");
+    hex::decode_to_slice(text, part).expect(rt, "hexadecimal");
+    octets.try_extend_from_slice(part).expect(rt, "room");
 }
