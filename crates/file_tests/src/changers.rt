@@ -1,8 +1,7 @@
 //! The value of a table by which clients are told that it was replaced.
 
-use super::cases::assert_case;
+use super::cases::{Example, assert_case, text_of};
 use att_table::Table;
-use att_table::examples::{BELL, DOOR, PORCH};
 use std::alloc::Global;
 use std::process::Abort;
 
@@ -11,60 +10,70 @@ const SERVICE: &str = "uuid = \"1801\"";
 const NEXT_SERVICE: &str = "[[service]]\nuuid = \"fff0\"";
 
 /// Tables, a change of each, and the handle of the changer.
-const CHANGERS: &[(&str, &str, &str, Option<u16>)] = &[
-    (DOOR, "", "", None),
-    (BELL, "", "", None),
-    (PORCH, "", "", Some(3)),
+const CHANGERS: &[(Example, &str, &str, Option<u16>)] = &[
+    (Example::Door, "", "", None),
+    (Example::Bell, "", "", None),
+    (Example::Porch, "", "", Some(3)),
     (
-        PORCH,
+        Example::Porch,
         SERVICE,
         "uuid = \"00001801-0000-1000-8000-00805f9b34fb\"",
         Some(3),
     ),
     (
-        PORCH,
+        Example::Porch,
         SERVICE,
         "uuid = \"00001801-0000-1000-8000-00805f9b34fc\"",
         None,
     ),
-    (PORCH, SERVICE, "uuid = \"1800\"", None),
-    (PORCH, SERVICE, "uuid = \"1801\"\nsecondary = true", None),
+    (Example::Porch, SERVICE, "uuid = \"1800\"", None),
     (
-        PORCH,
+        Example::Porch,
+        SERVICE,
+        "uuid = \"1801\"\nsecondary = true",
+        None,
+    ),
+    (
+        Example::Porch,
         SERVICE,
         "uuid = \"1801\"\n[[service]]\nuuid = \"fff7\"",
         None,
     ),
     (
-        PORCH,
+        Example::Porch,
         SERVICE,
         "uuid = \"1801\"\n[[service]]\nuuid = \"fff7\"\nsecondary = true",
         None,
     ),
     (
-        PORCH,
+        Example::Porch,
         SERVICE,
         "uuid = \"fff7\"\n[[service]]\nuuid = \"1801\"",
         Some(4),
     ),
-    (PORCH, "\"2a05\"", "\"2a06\"", None),
+    (Example::Porch, "\"2a05\"", "\"2a06\"", None),
     (
-        PORCH,
+        Example::Porch,
         "\"2a05\"",
         "\"00002a05-0000-1000-8000-00805f9b34fb\"",
         Some(3),
     ),
     (
-        PORCH,
+        Example::Porch,
         "[\"indicate\"]",
         "[\"read\", \"notify\", \"indicate\"]",
         Some(3),
     ),
-    (PORCH, "[\"indicate\"]", "[\"read\", \"notify\"]", None),
-    (PORCH, "fixed = true", "max = 4", None),
-    (PORCH, "\"00000000\"", "\"000000\"", None),
     (
-        PORCH,
+        Example::Porch,
+        "[\"indicate\"]",
+        "[\"read\", \"notify\"]",
+        None,
+    ),
+    (Example::Porch, "fixed = true", "max = 4", None),
+    (Example::Porch, "\"00000000\"", "\"000000\"", None),
+    (
+        Example::Porch,
         NEXT_SERVICE,
         "[[service.characteristic]]\nuuid = \"2a05\"\nvalue = \"00000000\"\nfixed = true\nproperties = [\"indicate\"]\n",
         Some(3),
@@ -76,9 +85,13 @@ fn changers(rt: HostRuntime) {
     check_changers(&rt, rt.alloc(), CHANGERS);
 }
 
-fn check_changers(rt: &impl Abort, alloc: Global, cases: &[(&str, &str, &str, Option<u16>)]) {
-    for &(text, old, new, wanted) in cases {
-        assert_case(rt, is_changer(alloc, (text, old, new), wanted), new);
+fn check_changers(rt: &impl Abort, alloc: Global, cases: &[(Example, &str, &str, Option<u16>)]) {
+    for &(example, old, new, wanted) in cases {
+        assert_case(
+            rt,
+            is_changer(alloc, (text_of(example), old, new), wanted),
+            new,
+        );
     }
 }
 

@@ -1,7 +1,6 @@
 //! What one client has configured, and what of it stays when its table is replaced.
 
-use super::cases::assert_at;
-use att_table::examples::{BELL, DOOR, PORCH, PORCH_NEXT};
+use super::cases::{Example, assert_at, text_of};
 use att_table::{ConfigRow, Table};
 use std::alloc::Global;
 use std::process::Abort;
@@ -9,22 +8,22 @@ use std::process::Abort;
 /// A table, the text of the one in its place with a change of it, and entries by handle and bits,
 /// each with whether it stays.
 struct Replacement {
-    old: &'static str,
-    new: &'static str,
+    old: Example,
+    new: Example,
     change: (&'static str, &'static str),
     entries: &'static [(u16, u8, bool)],
 }
 
 const REPLACEMENTS: &[Replacement] = &[
     Replacement {
-        old: PORCH,
-        new: PORCH_NEXT,
+        old: Example::Porch,
+        new: Example::PorchNext,
         change: ("", ""),
         entries: &[(4, 2, true), (8, 1, false)],
     },
     Replacement {
-        old: PORCH,
-        new: PORCH,
+        old: Example::Porch,
+        new: Example::Porch,
         change: ("", ""),
         entries: &[
             (3, 2, false),
@@ -35,44 +34,44 @@ const REPLACEMENTS: &[Replacement] = &[
         ],
     },
     Replacement {
-        old: BELL,
-        new: BELL,
+        old: Example::Bell,
+        new: Example::Bell,
         change: ("\"notify\", \"indicate\"", "\"notify\""),
         entries: &[(4, 3, false), (7, 2, true)],
     },
     Replacement {
-        old: BELL,
-        new: BELL,
+        old: Example::Bell,
+        new: Example::Bell,
         change: ("\"notify\", \"indicate\"", "\"notify\""),
         entries: &[(4, 1, true), (7, 2, true)],
     },
     Replacement {
-        old: BELL,
-        new: BELL,
+        old: Example::Bell,
+        new: Example::Bell,
         change: ("\"notify\", \"indicate\"", "\"notify\""),
         entries: &[(7, 3, false), (4, 2, false)],
     },
     Replacement {
-        old: BELL,
-        new: BELL,
+        old: Example::Bell,
+        new: Example::Bell,
         change: ("\"fff9\"", "\"0000fff9-0000-1000-8000-00805f9b34fb\""),
         entries: &[(4, 3, true), (7, 2, true)],
     },
     Replacement {
-        old: BELL,
-        new: BELL,
+        old: Example::Bell,
+        new: Example::Bell,
         change: ("\"fff9\"", "\"fff7\""),
         entries: &[(4, 3, false), (7, 2, true)],
     },
     Replacement {
-        old: BELL,
-        new: DOOR,
+        old: Example::Bell,
+        new: Example::Door,
         change: ("", ""),
         entries: &[(4, 1, false), (7, 1, false)],
     },
     Replacement {
-        old: DOOR,
-        new: BELL,
+        old: Example::Door,
+        new: Example::Bell,
         change: ("", ""),
         entries: &[(7, 1, false), (11, 1, false)],
     },
@@ -88,7 +87,11 @@ fn keeps_what_was_written_last(rt: HostRuntime) {
 
 fn check_full_row(rt: &impl Abort, cases: &[(u16, u8, bool)]) {
     for &(handle, bits, can_set) in cases {
-        assert_eq!(rt; full_row_at(handle), (bits, can_set));
+        assert_at(
+            rt,
+            full_row_at(handle) == (bits, can_set),
+            usize::from(handle),
+        );
     }
 }
 
@@ -117,8 +120,8 @@ fn check_replacements(rt: &impl Abort, alloc: Global, cases: &[Replacement]) {
 
 fn is_kept(alloc: Global, case: &Replacement) -> Option<bool> {
     let (from, to) = case.change;
-    match case.new.replacen(alloc, from, to, 1) {
-        Ok(text) => is_kept_by(alloc, case.old, &text, case.entries),
+    match text_of(case.new).replacen(alloc, from, to, 1) {
+        Ok(text) => is_kept_by(alloc, text_of(case.old), &text, case.entries),
         Err(_) => None,
     }
 }

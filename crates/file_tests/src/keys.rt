@@ -170,10 +170,15 @@ fn check_lines(
 /// A text, and behind it the lines of the first key, but for one of them.
 fn with_line(alloc: Global, before: &str, place: usize, line: &str) -> Result<String, AllocError> {
     let mut text = String::from_str(alloc, before)?;
+    push_lines(&mut text, place, line)?;
+    Ok(text)
+}
+
+fn push_lines(text: &mut String, place: usize, line: &str) -> Result<(), AllocError> {
     for (other, original) in LINES.iter().enumerate() {
         text.push_str(if other == place { line } else { original })?;
     }
-    Ok(text)
+    Ok(())
 }
 
 #[test]
@@ -202,11 +207,16 @@ fn read_many(alloc: Global, more: &str) -> Result<usize, u8> {
 fn many_keys(alloc: Global, more: &str) -> Result<String, AllocError> {
     let mut text = String::new(alloc);
     for diversifier in 0..64 {
-        let line = format!(in alloc; "ediv = {diversifier}\n")?;
-        text = with_line(alloc, &text, 4, &line)?;
+        text = with_key(alloc, &text, diversifier)?;
     }
     text.push_str(more)?;
     Ok(text)
+}
+
+/// A text, and behind it a key of this diversifier.
+fn with_key(alloc: Global, before: &str, diversifier: u16) -> Result<String, AllocError> {
+    let line = format!(in alloc; "ediv = {diversifier}\n")?;
+    with_line(alloc, before, 4, &line)
 }
 
 /// A request for a key: the peer, its random number, and its diversifier.
@@ -255,15 +265,20 @@ const ANSWERS: &[(Request, Option<Key>)] = &[
 
 #[test]
 fn answers(rt: HostRuntime) {
-    match KEYS.replacen(rt.alloc(), "", SECURE_KEY, 1) {
-        Ok(text) => check_answers(&rt, rt.alloc(), &text, ANSWERS),
-        Err(_) => assert!(&rt; false, "memory"),
-    }
+    check_answers(&rt, rt.alloc(), ANSWERS);
 }
 
-fn check_answers(rt: &impl Abort, alloc: Global, text: &str, cases: &[(Request, Option<Key>)]) {
-    let keys = read_keys(rt, alloc, text);
+fn check_answers(rt: &impl Abort, alloc: Global, cases: &[(Request, Option<Key>)]) {
+    let keys = read_all_keys(rt, alloc);
     check_each_answer(rt, &keys, cases);
+}
+
+/// The keys of the door, with the secure key behind them.
+fn read_all_keys(rt: &impl Abort, alloc: Global) -> Keys {
+    match KEYS.replacen(alloc, "", SECURE_KEY, 1) {
+        Ok(text) => read_keys(rt, alloc, &text),
+        Err(_) => panic!(rt; "memory"),
+    }
 }
 
 fn read_keys(rt: &impl Abort, alloc: Global, text: &str) -> Keys {
@@ -299,11 +314,17 @@ fn check_peers(rt: &impl Abort, keys: &Keys) {
 }
 
 fn has_peers(keys: &Keys) -> bool {
-    keys.count() == 3
-        && keys.peer(0) == Some(&PHONE)
-        && keys.peer(1) == Some(&TABLET)
-        && keys.peer(2) == Some(&TABLET)
-        && keys.peer(3).is_none()
+    keys.count() == 3 && are_peers(keys, &[PHONE, TABLET, TABLET]) && keys.peer(3).is_none()
+}
+
+/// Whether these are the peers of the first keys.
+fn are_peers(keys: &Keys, peers: &[Peer]) -> bool {
+    for (place, peer) in peers.iter().enumerate() {
+        if keys.peer(place) != Some(peer) {
+            return false;
+        }
+    }
+    true
 }
 
 fn knows_peers(keys: &Keys) -> bool {

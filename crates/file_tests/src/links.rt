@@ -83,10 +83,15 @@ fn refreshed(rt: HostRuntime) {
 fn check_trace(rt: &impl Abort, trace: &[Step]) {
     let mut link = Link::new();
     assert!(rt; link.facts().is_none());
-    for &(event, change, key) in trace {
-        assert!(rt; happen(&mut link, event) == change);
-        assert!(rt; link.facts() == key);
+    for &step in trace {
+        check_step(rt, &mut link, step);
     }
+}
+
+fn check_step(rt: &impl Abort, link: &mut Link, step: Step) {
+    let (event, change, key) = step;
+    assert!(rt; happen(link, event) == change);
+    assert!(rt; link.facts() == key);
 }
 
 fn happen(link: &mut Link, event: Event) -> Option<LinkChange> {

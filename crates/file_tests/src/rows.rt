@@ -221,12 +221,19 @@ fn set_all(rows: &mut Rows) {
 
 #[test]
 fn too_many(rt: HostRuntime) {
-    for (handles, peers, answer) in [
-        (4096, 64, None),
-        (4097, 64, Some(RowsFault::TooMany)),
-        (4096, 65, Some(RowsFault::TooMany)),
-    ] {
-        assert!(&rt; is_refused(rt.alloc(), handles, peers, answer));
+    check_many(&rt, rt.alloc(), MANY);
+}
+
+/// How many configurations and peers that are owed there are, and the fault of that.
+const MANY: &[(u16, u16, Option<RowsFault>)] = &[
+    (4096, 64, None),
+    (4097, 64, Some(RowsFault::TooMany)),
+    (4096, 65, Some(RowsFault::TooMany)),
+];
+
+fn check_many(rt: &impl Abort, alloc: Global, cases: &[(u16, u16, Option<RowsFault>)]) {
+    for &(handles, peers, answer) in cases {
+        assert!(rt; is_refused(alloc, handles, peers, answer));
     }
 }
 
@@ -245,9 +252,18 @@ fn many(alloc: Global, handles: u16, peers: u16) -> Result<String, AllocError> {
 }
 
 fn push_many(text: &mut String, handles: u16, peers: u16) -> Result<(), AllocError> {
+    push_configurations(text, handles)?;
+    push_owed(text, peers)
+}
+
+fn push_configurations(text: &mut String, handles: u16) -> Result<(), AllocError> {
     for handle in 1..=handles {
         write!(text, "0 00:00:00:00:00:00 {handle} 1\n")?;
     }
+    Ok(())
+}
+
+fn push_owed(text: &mut String, peers: u16) -> Result<(), AllocError> {
     for peer in 0..peers {
         write!(text, "! 0 00:00:00:00:00:{peer:02x}\n")?;
     }
@@ -257,14 +273,14 @@ fn push_many(text: &mut String, handles: u16, peers: u16) -> Result<(), AllocErr
 /// A sink that is full takes the front of the text.
 #[test]
 fn full_sinks(rt: HostRuntime) {
-    match Rows::read(rt.alloc(), CHANGES) {
-        Ok(rows) => check_full(&rt, &rows),
-        Err(_) => assert!(&rt; false),
-    }
+    assert!(rt; fills_sinks(rt.alloc()));
 }
 
-fn check_full(rt: &impl Abort, rows: &Rows) {
-    assert!(rt; fills_each(rows));
+fn fills_sinks(alloc: Global) -> bool {
+    match Rows::read(alloc, CHANGES) {
+        Ok(rows) => fills_each(&rows),
+        Err(_) => false,
+    }
 }
 
 fn fills_each(rows: &Rows) -> bool {

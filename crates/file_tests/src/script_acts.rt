@@ -33,7 +33,7 @@ const TABLET: Peer = Peer {
     address: [0x55, 0x44, 0x33, 0x22, 0x11, 0x00],
 };
 
-/// Lines, and what is done by each.
+/// Lines of phones and of their controller, and what is done by each.
 const LINES: &[(&str, &[Wanted<'static>])] = &[
     (
         "connect Q 0 00:11:22:33:44:55",
@@ -67,6 +67,10 @@ const LINES: &[(&str, &[Wanted<'static>])] = &[
         "done U 00000000000000000000000000012",
         &[Wanted::Done(0, 12)],
     ),
+];
+
+/// The same of lines of the application.
+const APPLICATION_LINES: &[(&str, &[Wanted<'static>])] = &[
     ("update 0 -", &[Wanted::Update(0, b"")]),
     ("update 65535 0001", &[Wanted::Update(65535, b"\x00\x01")]),
     ("allow U", &[Wanted::Authorize(0, u64::MAX)]),
@@ -127,95 +131,96 @@ const TEXTS: &[(&str, &[Wanted<'static>])] = &[
 ];
 
 /// Texts, and the numbers of their first lines with faults.
-const FAULTS: &[(&str, u64)] = &[
-    ("bad", 1),
-    ("\n# here\nU < 0a0300\nbad\nbad", 4),
-    (" ", 1),
-    (" # no comment", 1),
-    ("\r", 1),
-    ("\r\n", 1),
-    ("drop U\r\n", 1),
-    ("drop U\r", 1),
-    ("replace\r\n", 1),
-    ("drop U\n\r\n", 2),
-    ("connect", 1),
-    ("connect U", 1),
-    ("connect U 1", 1),
-    ("connect U 1 c0:00:00:00:00:0a ", 1),
-    ("connect U 1 c0:00:00:00:00:0a x", 1),
-    ("connect  U 1 c0:00:00:00:00:0a", 1),
-    (" connect U 1 c0:00:00:00:00:0a", 1),
-    ("connect U 2 c0:00:00:00:00:0a", 1),
-    ("connect U 01 c0:00:00:00:00:0a", 1),
-    ("connect U random c0:00:00:00:00:0a", 1),
-    ("connect U 1 c0:00:00:00:00:0", 1),
-    ("connect U 1 c000000000000a", 1),
-    ("connect drop 1 c0:00:00:00:00:0a", 1),
-    ("connect U\t1 c0:00:00:00:00:0a", 1),
-    ("Connect U 1 c0:00:00:00:00:0a", 1),
-    ("drop", 1),
-    ("drop ", 1),
-    ("drop U ", 1),
-    ("drop U V", 1),
-    ("drop connect", 1),
-    ("drop drop", 1),
-    ("drop encrypt", 1),
-    ("drop clear", 1),
-    ("drop hold", 1),
-    ("drop done", 1),
-    ("drop update", 1),
-    ("drop allow", 1),
-    ("drop deny", 1),
-    ("drop tick", 1),
-    ("drop replace", 1),
-    ("drop U_1", 1),
-    ("drop \u{e9}", 1),
-    ("drop 123456789", 1),
-    ("encrypt P 0101010101010101", 1),
-    ("encrypt P 010101010101010 257", 1),
-    ("encrypt P 01010101010101010 257", 1),
-    ("encrypt P 010101010101010g 257", 1),
-    ("encrypt P - 257", 1),
-    ("encrypt P 0101010101010101 65536", 1),
-    ("encrypt P 0101010101010101 0x1", 1),
-    ("encrypt P 0101010101010101 -", 1),
-    ("clear", 1),
-    ("U", 1),
-    ("U <", 1),
-    ("U < ", 1),
-    ("U < 0", 1),
-    ("U < 0g", 1),
-    ("U < 0a 03", 1),
-    ("U < --", 1),
-    ("U <4 0a0300", 1),
-    ("U <7 0a0300", 1),
-    ("U > 0a0300", 1),
-    ("U <50a0300", 1),
-    ("U  < 0a0300", 1),
-    ("drop < 0a0300", 1),
-    ("replace < 0a0300", 1),
-    ("123456789 < 0a0300", 1),
-    ("hold", 1),
-    ("done U", 1),
-    ("done U 65536", 1),
-    ("done U +1", 1),
-    ("done U -1", 1),
-    ("done U 1.0", 1),
-    ("done U 1 1", 1),
-    ("update 10", 1),
-    ("update x 00", 1),
-    ("update 65536 00", 1),
-    ("update 10 0", 1),
-    ("update U 00", 1),
-    ("allow", 1),
-    ("allow U -1", 1),
-    ("allow U 18446744073709551616", 1),
-    ("deny U 0", 1),
-    ("tick", 1),
-    ("tick -1", 1),
-    ("tick 18446744073709551616", 1),
-    ("replace U", 1),
-    ("Replace", 1),
+const FAULTS: &[(&str, u64)] = &[("\n# here\nU < 0a0300\nbad\nbad", 4), ("drop U\n\r\n", 2)];
+
+/// Texts with a fault in their first line.
+const BAD_LINES: &[&str] = &[
+    "bad",
+    " ",
+    " # no comment",
+    "\r",
+    "\r\n",
+    "drop U\r\n",
+    "drop U\r",
+    "replace\r\n",
+    "connect",
+    "connect U",
+    "connect U 1",
+    "connect U 1 c0:00:00:00:00:0a ",
+    "connect U 1 c0:00:00:00:00:0a x",
+    "connect  U 1 c0:00:00:00:00:0a",
+    " connect U 1 c0:00:00:00:00:0a",
+    "connect U 2 c0:00:00:00:00:0a",
+    "connect U 01 c0:00:00:00:00:0a",
+    "connect U random c0:00:00:00:00:0a",
+    "connect U 1 c0:00:00:00:00:0",
+    "connect U 1 c000000000000a",
+    "connect drop 1 c0:00:00:00:00:0a",
+    "connect U\t1 c0:00:00:00:00:0a",
+    "Connect U 1 c0:00:00:00:00:0a",
+    "drop",
+    "drop ",
+    "drop U ",
+    "drop U V",
+    "drop connect",
+    "drop drop",
+    "drop encrypt",
+    "drop clear",
+    "drop hold",
+    "drop done",
+    "drop update",
+    "drop allow",
+    "drop deny",
+    "drop tick",
+    "drop replace",
+    "drop U_1",
+    "drop \u{e9}",
+    "drop 123456789",
+    "encrypt P 0101010101010101",
+    "encrypt P 010101010101010 257",
+    "encrypt P 01010101010101010 257",
+    "encrypt P 010101010101010g 257",
+    "encrypt P - 257",
+    "encrypt P 0101010101010101 65536",
+    "encrypt P 0101010101010101 0x1",
+    "encrypt P 0101010101010101 -",
+    "clear",
+    "U",
+    "U <",
+    "U < ",
+    "U < 0",
+    "U < 0g",
+    "U < 0a 03",
+    "U < --",
+    "U <4 0a0300",
+    "U <7 0a0300",
+    "U > 0a0300",
+    "U <50a0300",
+    "U  < 0a0300",
+    "drop < 0a0300",
+    "replace < 0a0300",
+    "123456789 < 0a0300",
+    "hold",
+    "done U",
+    "done U 65536",
+    "done U +1",
+    "done U -1",
+    "done U 1.0",
+    "done U 1 1",
+    "update 10",
+    "update x 00",
+    "update 65536 00",
+    "update 10 0",
+    "update U 00",
+    "allow",
+    "allow U -1",
+    "allow U 18446744073709551616",
+    "deny U 0",
+    "tick",
+    "tick -1",
+    "tick 18446744073709551616",
+    "replace U",
+    "Replace",
 ];
 
 /// Texts with nine names, and with eight.
@@ -228,6 +233,11 @@ const EIGHT: &str =
 #[test]
 fn lines(rt: HostRuntime) {
     check_texts(&rt, rt.alloc(), LINES);
+    check_application_lines(&rt, rt.alloc());
+}
+
+fn check_application_lines(rt: &impl Abort, alloc: Global) {
+    check_texts(rt, alloc, APPLICATION_LINES);
 }
 
 #[test]
@@ -249,42 +259,53 @@ fn reads_as(alloc: Global, text: &str, wanted: &[Wanted<'_>]) -> bool {
 }
 
 fn are_acts(acts: &[Act<'_>], wanted: &[Wanted<'_>]) -> bool {
-    acts.len() == wanted.len()
-        && acts
-            .iter()
-            .zip(wanted)
-            .all(|(act, wanted)| is_act(act, wanted))
+    acts.len() == wanted.len() && are_each(acts, wanted)
+}
+
+fn are_each(acts: &[Act<'_>], wanted: &[Wanted<'_>]) -> bool {
+    for (act, wanted) in acts.iter().zip(wanted) {
+        if !is_act(act, wanted) {
+            return false;
+        }
+    }
+    true
 }
 
 fn is_act(act: &Act<'_>, wanted: &Wanted<'_>) -> bool {
     match act {
         Act::Phone { phone, act } => is_phone_act(*phone, act, wanted),
-        Act::Authorize { phone, until } => {
-            matches!(wanted, Wanted::Authorize(of, moment) if of == phone && moment == until)
-        }
-        Act::Update { handle, value } => {
-            matches!(wanted, Wanted::Update(place, octets) if place == handle && writes(value, octets))
-        }
+        Act::Authorize { phone, until } => is_authorization(*phone, *until, wanted),
+        Act::Update { handle, value } => is_update(*handle, value, wanted),
         Act::Tick { time } => matches!(wanted, Wanted::Tick(moment) if moment == time),
         Act::Replace => matches!(wanted, Wanted::Replace),
     }
 }
 
+fn is_authorization(phone: u8, until: u64, wanted: &Wanted<'_>) -> bool {
+    matches!(wanted, Wanted::Authorize(of, moment) if *of == phone && *moment == until)
+}
+
+fn is_update(handle: u16, value: &Payload<'_>, wanted: &Wanted<'_>) -> bool {
+    matches!(wanted, Wanted::Update(place, octets) if *place == handle && writes(value, octets))
+}
+
 fn is_phone_act(phone: u8, act: &PhoneAct<'_>, wanted: &Wanted<'_>) -> bool {
     match act {
         PhoneAct::Connect { peer } => is_connection(phone, peer, wanted),
-        PhoneAct::Drop => matches!(wanted, Wanted::Drop(of) if *of == phone),
         PhoneAct::Encrypt {
             random_number,
             diversifier,
         } => is_encryption(phone, random_number, *diversifier, wanted),
-        PhoneAct::Clear => matches!(wanted, Wanted::Clear(of) if *of == phone),
         PhoneAct::Send { channel, payload } => is_sent(phone, *channel, payload, wanted),
+        PhoneAct::Done { packets } => is_completion(phone, *packets, wanted),
+        PhoneAct::Drop => matches!(wanted, Wanted::Drop(of) if *of == phone),
+        PhoneAct::Clear => matches!(wanted, Wanted::Clear(of) if *of == phone),
         PhoneAct::Hold => matches!(wanted, Wanted::Hold(of) if *of == phone),
-        PhoneAct::Done { packets } => {
-            matches!(wanted, Wanted::Done(of, count) if *of == phone && count == packets)
-        }
     }
+}
+
+fn is_completion(phone: u8, packets: u16, wanted: &Wanted<'_>) -> bool {
+    matches!(wanted, Wanted::Done(of, count) if *of == phone && *count == packets)
 }
 
 fn is_connection(phone: u8, peer: &Peer, wanted: &Wanted<'_>) -> bool {
@@ -313,6 +334,7 @@ fn writes(payload: &Payload<'_>, wanted: &[u8]) -> bool {
 #[test]
 fn faults(rt: HostRuntime) {
     check_faults(&rt, rt.alloc(), FAULTS);
+    check_bad_lines(&rt, rt.alloc(), BAD_LINES);
 }
 
 fn check_faults(rt: &impl Abort, alloc: Global, cases: &[(&str, u64)]) {
@@ -321,12 +343,15 @@ fn check_faults(rt: &impl Abort, alloc: Global, cases: &[(&str, u64)]) {
     }
 }
 
+fn check_bad_lines(rt: &impl Abort, alloc: Global, texts: &[&str]) {
+    for text in texts {
+        assert_case(rt, is_bad_at(alloc, text, true, 1), text);
+    }
+}
+
 /// Whether a script is refused for this line.
 fn is_bad_at(alloc: Global, text: &str, has_next: bool, line: u64) -> bool {
-    match Script::read(alloc, text, has_next) {
-        Ok(_) => false,
-        Err(fault) => fault == ScriptFault::BadLine(line),
-    }
+    Script::read(alloc, text, has_next).err() == Some(ScriptFault::BadLine(line))
 }
 
 /// Without a table to replace by, the first line with a fault is that of the replacement.
@@ -357,9 +382,16 @@ fn has_names(alloc: Global, text: &str, wanted: &str) -> bool {
 }
 
 fn are_names(names: &[Name<'_>], wanted: &str) -> bool {
-    names.len() == wanted.len()
-        && names.iter().zip(wanted.as_bytes()).all(|(name, letter)| name.as_str().as_bytes()
-            == [*letter].as_slice())
+    names.len() == wanted.len() && are_letters(names, wanted.as_bytes())
+}
+
+fn are_letters(names: &[Name<'_>], letters: &[u8]) -> bool {
+    for (name, letter) in names.iter().zip(letters) {
+        if name.as_str().as_bytes() != [*letter].as_slice() {
+            return false;
+        }
+    }
+    true
 }
 
 /// A line writes at most 517 octets.

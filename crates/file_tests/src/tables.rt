@@ -194,8 +194,14 @@ fn check_of_type(rt: &impl Abort, table: &Table, kind: u128, range: (u16, u16), 
     let mut steps = Counted { count: 0 };
     let (first, last) = range;
     let handles = table.of_type(kind, first, last, &mut steps);
-    assert!(rt; handles == wanted, "{kind:x} from {first} to {last}");
+    assert_handles(rt, handles == wanted, kind, range);
     assert!(rt; steps.count <= 22);
+}
+
+/// Ends the test with a type and a range, unless the handles of the type in it are as they were to be.
+fn assert_handles(rt: &impl Abort, holds: bool, kind: u128, range: (u16, u16)) {
+    let (first, last) = range;
+    assert!(rt; holds, "{kind:x} from {first} to {last}");
 }
 
 fn value_of(table: &Table, handle: u16) -> &[u8] {
@@ -238,17 +244,15 @@ fn has_code(table: &Table) -> bool {
 
 #[test]
 fn comparisons_of_a_full_table(rt: HostRuntime) {
-    match read_services(rt.alloc(), 1024) {
-        Ok(table) => check_services(&rt, &table),
-        Err(number) => assert_eq!(&rt; number, 0),
-    }
+    let table = read_services(&rt, rt.alloc(), 1024);
+    check_services(&rt, &table);
 }
 
-/// A table of so many services, or the number of its fault.
-fn read_services(alloc: Global, count: usize) -> Result<Table, u8> {
+/// A table of so many services.
+fn read_services(rt: &impl Abort, alloc: Global, count: usize) -> Table {
     match "[[service]]\nuuid = \"1800\"\n".repeat(alloc, count) {
-        Ok(text) => Table::read(alloc, &text).map_err(|fault| fault.number()),
-        Err(_) => Err(10),
+        Ok(text) => read_table(rt, alloc, &text),
+        Err(_) => panic!(rt; "memory"),
     }
 }
 
@@ -257,6 +261,11 @@ fn check_services(rt: &impl Abort, table: &Table) {
     for handle in 1..=1024 {
         check_of_type(rt, table, PRIMARY_SERVICE, (handle, handle), &[handle]);
     }
+    check_others(rt, table);
+}
+
+/// There is nothing but services.
+fn check_others(rt: &impl Abort, table: &Table) {
     for kind in [CHARACTERISTIC, INCLUDE, CLIENT_CHARACTERISTIC_CONFIGURATION] {
         check_of_type(rt, table, kind, (1, 0xFFFF), &[]);
     }

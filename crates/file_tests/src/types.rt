@@ -3,7 +3,7 @@
 use super::cases::assert_case;
 use att_numbers::attribute_type::{BASE_UUID, PRIMARY_SERVICE, from_16_bits};
 use att_table::{Table, is_of_16_bits, is_service, type_octets};
-use std::alloc::Global;
+use std::alloc::{AllocError, Global};
 use std::process::Abort;
 
 const CUSTOM: u128 = 0x1234_5678_9ABC_DEF0_0123_4567_89AB_CDEF;
@@ -39,17 +39,25 @@ fn check_texts(rt: &impl Abort, alloc: Global, cases: &[(&str, Option<&[u8]>)]) 
 
 /// Whether a service of this type has these octets as its value, or is refused where there are none.
 fn is_value_of_service(alloc: Global, uuid: &str, octets: Option<&[u8]>) -> bool {
-    match format!(in alloc; "[[service]]\nuuid = \"{uuid}\"\n") {
+    match service_of(alloc, uuid) {
         Ok(text) => is_first_value(alloc, &text, octets),
         Err(_) => false,
     }
 }
 
+fn service_of(alloc: Global, uuid: &str) -> Result<String, AllocError> {
+    format!(in alloc; "[[service]]\nuuid = \"{uuid}\"\n")
+}
+
 fn is_first_value(alloc: Global, text: &str, octets: Option<&[u8]>) -> bool {
     match Table::read(alloc, text) {
-        Ok(table) => table.get(1).is_some() && octets == Some(table.value(1)),
+        Ok(table) => has_first_value(&table, octets),
         Err(fault) => fault.number() == 3 && octets.is_none(),
     }
+}
+
+fn has_first_value(table: &Table, octets: Option<&[u8]>) -> bool {
+    table.get(1).is_some() && octets == Some(table.value(1))
 }
 
 #[test]
