@@ -23,13 +23,18 @@ fn a_command(rt: HostRuntime) {
 
 #[test]
 fn acl_data(rt: HostRuntime) {
-    assert_written_over(&rt, &mut ArrayVec::new());
+    let mut out = ArrayVec::new();
+    assert_frame_written(&rt, &mut out);
+    assert_empty_written(&rt, &mut out);
 }
 
-/// Each packet takes the place of what was written before.
-fn assert_written_over(rt: &impl Abort, out: &mut ArrayVec<u8, 260>) {
+fn assert_frame_written(rt: &impl Abort, out: &mut ArrayVec<u8, 260>) {
     write_acl(0x0040, 0, FRAME.as_slice(), out);
     assert!(rt; out.as_slice() == FRAME_PACKET.as_slice());
+}
+
+/// The packet takes the place of what was written before.
+fn assert_empty_written(rt: &impl Abort, out: &mut ArrayVec<u8, 260>) {
     write_acl(0x0EFF, 1, &[], out);
     assert!(rt; out.as_slice() == EMPTY_PACKET.as_slice());
 }
@@ -39,7 +44,8 @@ fn assert_written_over(rt: &impl Abort, out: &mut ArrayVec<u8, 260>) {
 fn packets_over_another(rt: HostRuntime) {
     let mut packet = PacketBuf::new();
     assert_frame(&rt, &mut packet);
-    assert_shorter(&rt, &mut packet);
+    assert_empty(&rt, &mut packet);
+    assert_command(&rt, &mut packet);
 }
 
 /// The packet of a frame, of which the header stands apart.
@@ -49,10 +55,12 @@ fn assert_frame(rt: &impl Abort, packet: &mut PacketBuf) {
     assert!(rt; packet.as_slice() == FRAME_PACKET.as_slice());
 }
 
-/// Packets that are shorter than the one before.
-fn assert_shorter(rt: &impl Abort, packet: &mut PacketBuf) {
+fn assert_empty(rt: &impl Abort, packet: &mut PacketBuf) {
     packet.acl(0x0EFF, 1, &[], &[]);
     assert!(rt; packet.as_slice() == EMPTY_PACKET.as_slice());
+}
+
+fn assert_command(rt: &impl Abort, packet: &mut PacketBuf) {
     packet.command(&[0x03, 0x0C, 0x00]);
     assert!(rt; packet.as_slice() == b"\x01\x03\x0C\x00".as_slice());
 }

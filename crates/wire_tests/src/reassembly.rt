@@ -72,17 +72,27 @@ fn largest() -> [u8; 521] {
     largest
 }
 
+/// A frame that is longer, and one with more octets than it tells.
+const TOO_LONG: &[Case<'static>] = &[
+    (&[0x06, 0x02, 0x04, 0x00], true, None),
+    (&[0x0B; 518], false, None),
+    (&[0x01, 0x00, 0x04, 0x00, 0x0B, 0x0B], true, None),
+];
+
 #[test]
 fn largest_frame(rt: HostRuntime) {
+    let mut reassembler = Reassembler::new();
+    assert_largest(&rt, &mut reassembler);
+    assert_frames(&rt, &mut reassembler, TOO_LONG);
+}
+
+fn assert_largest(rt: &impl Abort, reassembler: &mut Reassembler) {
     let largest = largest();
-    let cases: [Case<'_>; 5] = [
+    let cases: [Case<'_>; 2] = [
         (&[0x05, 0x02, 0x04, 0x00], true, None),
         (&[0x0B; 517], false, Some(&largest)),
-        (&[0x06, 0x02, 0x04, 0x00], true, None),
-        (&[0x0B; 518], false, None),
-        (&[0x01, 0x00, 0x04, 0x00, 0x0B, 0x0B], true, None),
     ];
-    assert_frames(&rt, &mut Reassembler::new(), &cases);
+    assert_frames(rt, reassembler, &cases);
 }
 
 /// The frame that an ACL packet has to make whole, or none.

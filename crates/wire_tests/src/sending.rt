@@ -41,8 +41,12 @@ fn assert_sends(rt: &impl Abort, alloc: Global, share: u16, steps: &[Step])
 
 fn assert_steps(rt: &impl Abort, sender: &mut Sender, steps: &[Step]) {
     for (place, &step) in steps.iter().enumerate() {
-        assert!(rt; is_as_expected(sender, step), "step {place}");
+        assert_step(rt, is_as_expected(sender, step), place);
     }
+}
+
+fn assert_step(rt: &impl Abort, holds: bool, place: usize) {
+    assert!(rt; holds, "step {place}");
 }
 
 fn is_as_expected(sender: &mut Sender, step: Step) -> bool {
