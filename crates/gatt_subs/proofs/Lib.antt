@@ -15,3 +15,4 @@ pub mod Undisclosed
 pub mod Writing
 pub mod Fitted
 pub mod Ascending
+pub mod Unheard

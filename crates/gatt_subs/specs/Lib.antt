@@ -2,6 +2,7 @@ pub mod Hearing
 pub mod HeardOnly
 pub mod InOrder
 pub mod Indications
+pub mod Raised
 pub mod RowEntry
 pub mod RowsFault
 pub mod RowsLine

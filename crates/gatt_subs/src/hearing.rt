@@ -1,12 +1,16 @@
 //! Of which values a connection hears unasked.
 
-ghost use Rattle.std.specs.Prelude.{◌≡◌, ◌<◌, ◌≤◌, true, is_some, IfSome};
+ghost use Rattle.std.specs.Prelude.{◌≡◌, ◌<◌, ◌≤◌, true, false, is_some, None, IfSome, IsNone};
 ghost use Rattle.std.specs.Bool.{OnTrue};
-ghost use Rattle.att_table.specs.Table.{is_value_at};
+ghost use Rattle.att_numbers.specs.Types.{Row};
+ghost use Rattle.att_policy.specs.declared.standing.Standing.{Standing};
+ghost use Rattle.att_policy.specs.Policy.{first_unmet_rule_of, may_hear_of};
+ghost use Rattle.att_table.specs.Table.{is_value_at, value_at};
 ghost use Rattle.gatt_subs.specs.Hearing.{bits_for, is_indicated, is_indication, may_hear_at, wants_indications};
 
-use att_policy::{INDICATION, Standing, may_hear};
+use att_policy::{Guard, INDICATION, Need, Standing, may_hear};
 use att_table::{ConfigRow, Role, Table};
+use std::marker::Model;
 
 /// How a connection is told of a value: by an indication where the client has asked for both.
 #[derive(Clone, Copy)]
@@ -15,29 +19,108 @@ pub enum Telling {
     Indication,
 }
 
-/// How the connection is told of the attribute at a handle, if it may hear of it.
-#[inline(always)]
-pub fn telling_at(
-    table: &Table,
-    row: &ConfigRow,
-    standing: &Standing,
+/// A value that was written and that some may hear of, looked up once for all connections.
+#[derive(Drop)]
+pub struct Raised<'a> {
+    table: &'a Table,
     handle: u16,
-) -> Option<Telling>
-    ensures may { is_some result ≡ may_hear_at table.now.attributes row.now standing.entry.now handle }
-    ensures indicated { IfSome result (λ telling. is_indication telling ≡ wants_indications row.now handle) }
-    ensures value { IfSome result (λ telling. is_value_at table.now.attributes handle ≡ true) }
-    ensures used { IfSome result (λ telling. 0 < handle) }
-    ensures most { IfSome result (λ telling. handle ≤ 1024) }
-{
-    let attr = table.get(handle)?;
-    let bits = bits_for(row, handle);
-    if attr.role != Role::Value || !may_hear(&attr.guard, bits, standing) {
-        return None;
+    guard: &'a Guard,
+    /// Reading it needs nothing, so that each connection may hear of it.
+    unguarded: bool,
+    octets: &'a [u8],
+}
+
+impl<'a> Model for Raised<'a> {
+    ghost use Rattle.gatt_subs.specs.Raised.{InTable, IsLookedUp};
+
+    ghost Value = { InTable };
+
+    ghost view = { λ raised. record { table = raised.table.now; handle = raised.handle } };
+
+    ghost invariant = { λ raised. IsLookedUp raised.table.now raised.handle raised.guard.now raised.unguarded raised.octets.now };
+}
+
+impl<'a> Raised<'a> {
+    /// The value at a handle. There is none where nobody may hear of it: it is not that of a
+    /// characteristic, or of one that is neither notified nor indicated.
+    #[inline(always)]
+    #[tactic(auto, using(crate::proofs::Unheard::unheard))]
+    pub fn of(table: &'a Table, handle: u16) -> Option<Raised<'a>>
+        ensures raised { IfSome result (λ raised. raised ≡ record { table = table.now; handle = handle }) }
+        ensures value { IfSome result (λ raised. is_value_at table.now.attributes handle ≡ true) }
+        ensures used { IfSome result (λ raised. 0 < handle) }
+        ensures most { IfSome result (λ raised. handle ≤ 1024) }
+        ensures none { IsNone result → (row : Row) (standing : Standing) → may_hear_at table.now.attributes row standing handle ≡ false }
+    {
+        let attr = table.get(handle)?;
+        if attr.role != Role::Value || attr.guard.properties.configuration_bits() == 0 {
+            return None;
+        }
+        Some(Raised {
+            table,
+            handle,
+            guard: &attr.guard,
+            unguarded: needs_nothing(&attr.guard.read),
+            octets: table.value(handle),
+        })
     }
-    if bits & INDICATION != 0 {
-        Some(Telling::Indication)
+
+    /// Its handle: 1 to 1,024.
+    #[inline(always)]
+    pub fn handle(&self) -> u16
+        ensures handle { result ≡ self.now.handle }
+        ensures used { 0 < result }
+        ensures most { result ≤ 1024 }
+    {
+        self.handle
+    }
+
+    /// The octets of the value.
+    #[inline(always)]
+    pub fn octets(&self) -> &'a [u8]
+        ensures { result.now ≡ value_at self.now.table.values self.now.handle }
+    {
+        self.octets
+    }
+
+    /// How a connection is told of it, if it may hear of it.
+    #[inline(always)]
+    pub(crate) fn telling(&self, row: &ConfigRow, standing: &Standing) -> Option<Telling>
+        ensures may { is_some result ≡ may_hear_at self.now.table.attributes row.now standing.entry.now self.now.handle }
+        ensures indicated { IfSome result (λ telling. is_indication telling ≡ wants_indications row.now self.now.handle) }
+    {
+        let bits = bits_for(row, self.handle);
+        if !is_heard(self.guard, self.unguarded, bits, standing) {
+            return None;
+        }
+        if bits & INDICATION != 0 {
+            Some(Telling::Indication)
+        } else {
+            Some(Telling::Notification)
+        }
+    }
+}
+
+/// Whether each connection meets what is needed.
+#[tactic(auto, using(crate::proofs::Unheard::met_by_all))]
+fn needs_nothing(need: &Need) -> bool
+    ensures { OnTrue result ((standing : Standing) → first_unmet_rule_of need.now standing ≡ None) }
+{
+    *need == Need::NONE
+}
+
+/// Whether a client that has configured these bits may hear of a value: what reading it needs is not
+/// judged where that is nothing.
+#[inline(always)]
+#[tactic(auto, using(crate::proofs::Unheard::heard_by_all))]
+fn is_heard(guard: &Guard, unguarded: bool, bits: u8, standing: &Standing) -> bool
+    requires { OnTrue unguarded (first_unmet_rule_of guard.now.read standing.now ≡ None) }
+    ensures { result ≡ may_hear_of guard.now bits standing.entry.now }
+{
+    if unguarded {
+        bits & guard.properties.configuration_bits() != 0
     } else {
-        Some(Telling::Notification)
+        may_hear(guard, bits, standing)
     }
 }
 
@@ -64,8 +147,8 @@ pub fn is_indicated(table: &Table, row: &ConfigRow, standing: &Standing, handle:
     ensures due { result ≡ is_indicated table.now.attributes row.now standing.entry.now handle }
     ensures value { OnTrue result (is_value_at table.now.attributes handle ≡ true) }
 {
-    match telling_at(table, row, standing, handle) {
-        Some(Telling::Indication) => true,
-        _ => false,
+    match Raised::of(table, handle) {
+        Some(raised) => matches!(raised.telling(row, standing), Some(Telling::Indication)),
+        None => false,
     }
 }

@@ -13,6 +13,7 @@ mod rows_line;
 mod rows_text;
 mod unfitted;
 
+pub use hearing::Raised;
 pub use pending::Pending;
 pub use rows::Rows;
 pub use rows_fault::RowsFault;

@@ -6,7 +6,7 @@ ghost use Rattle.gatt_subs.specs.HeardOnly.{RaisesOnlyWhatIsHeard, ReleasesOnlyW
 ghost use Rattle.gatt_subs.specs.Indications.{after_confirmation, after_end, after_raise, after_release, after_replacement, after_tick, first_of, from_due, is_notified, is_told, is_waiting, no_indications, released_handle, rest_of, with_handle, HaveOnePlace};
 ghost use Rattle.gatt_subs.specs.Told.{TellsOnlyWhatIsHeard};
 
-use crate::hearing::{Telling, is_indicated, telling_at};
+use crate::hearing::{Raised, Telling, is_indicated};
 use arrayvec::ArrayVec;
 use att_policy::Standing;
 use att_table::{ConfigRow, Table};
@@ -82,14 +82,33 @@ impl Pending {
         ensures room { OnTrue result (backlog < 8) }
         ensures value { OnTrue result (is_value_at table.now.attributes handle ≡ true) }
     {
+        match Raised::of(table, handle) {
+            Some(raised) => self.raise_value(&raised, row, standing, backlog),
+            None => false,
+        }
+    }
+
+    /// The same of a value that was looked up.
+    #[inline(always)]
+    pub fn raise_value(
+        &mut self,
+        raised: &Raised<'_>,
+        row: &ConfigRow,
+        standing: &Standing,
+        backlog: usize,
+    ) -> bool
+        ensures notified { result ≡ is_notified self.old raised.now.table.attributes row.now standing.entry.now raised.now.handle backlog }
+        ensures pending { self.new ≡ after_raise self.old raised.now.table.attributes row.now standing.entry.now raised.now.handle }
+        ensures room { OnTrue result (backlog < 8) }
+    {
         if self.timed_out {
             return false;
         }
-        match telling_at(table, row, standing, handle) {
+        match raised.telling(row, standing) {
             None => false,
             Some(Telling::Notification) => backlog < MAX_BACKLOG,
             Some(Telling::Indication) => {
-                wait_once(&mut self.waiting, handle);
+                wait_once(&mut self.waiting, raised.handle());
                 false
             }
         }

@@ -1,0 +1,21 @@
+-- A value that was written, by the table that holds it.
+use Rattle.std.specs.Prelude.{◌≡◌, ◌≤◌, ◌<◌, Bool, true, Some, None}
+use Rattle.att_numbers.specs.Types.{Handle}
+use Rattle.att_policy.specs.declared.guard.Guard.{Guard}
+use Rattle.att_policy.specs.declared.standing.Standing.{Standing}
+use Rattle.att_policy.specs.Policy.{first_unmet_rule_of}
+use Rattle.att_table.specs.Table.{Contents, guard_at, is_value_at, value_at}
+use Rattle.octets.specs.Number.{Octets}
+
+pub record InTable : Type 0 where
+  pub table : Contents
+  pub handle : Handle
+
+-- a guard and octets are those of the value at a handle, and each connection may hear of one that is unguarded
+pub record IsLookedUp (table : Contents) (handle : Handle) (guard : Guard) (unguarded : Bool) (octets : Octets) : Type 0 where
+  pub guarded : guard_at table.attributes handle ≡ Some guard
+  pub is_value : is_value_at table.attributes handle ≡ true
+  pub read_by_all : unguarded ≡ true → (standing : Standing) → first_unmet_rule_of guard.read standing ≡ None
+  pub value : octets ≡ value_at table.values handle
+  pub used : 0 < handle
+  pub most : handle ≤ 1024
