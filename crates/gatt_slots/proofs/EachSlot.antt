@@ -1,7 +1,12 @@
 -- A loop that changes each slot by its place.
 use Rattle.std.proofs.Common.{◌≡◌, ℕ, zero, suc, ◌+◌, ◌<◌, [], ◌∷◌, ◌++◌, take, drop, length, set, get_or, Option, refl, ap, ap₂, ◌∙◌, arith}
 use Rattle.gatt_slots.specs.Kept.{Kept}
-use Rattle.gatt_slots.specs.Slots.{Held, heard_from}
+use Rattle.gatt_slots.specs.Slots.{Held, heard_from, kept_at}
+
+pub set-kept : (slots : Held) (place : ℕ) → place < length slots → set slots place (kept_at slots place) ≡ slots
+set-kept [] place within = absurd (omega (arith, within))
+set-kept (slot ∷ slots) zero within = refl
+set-kept (slot ∷ slots) (suc place) within = ap (λ (rest : Held). slot ∷ rest) (set-kept slots place (omega (arith, within)))
 
 module _ (hear : ℕ → Option Kept → Option Kept) where
   from-more : (start : ℕ) (old now : Held) (place : ℕ) (slot : Option Kept) → place < length old → now ≡ heard_from start hear (take place old) ++ drop place old

@@ -6,3 +6,4 @@ pub mod parts
 pub mod Found
 pub mod Covering
 pub mod AtPlace
+pub mod InTurn

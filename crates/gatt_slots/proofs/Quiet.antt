@@ -4,21 +4,15 @@ use Rattle.std.proofs.lemmas.Bool.Decides.{nat_tests}
 use Rattle.att_numbers.specs.Types.{Handle, Row}
 use Rattle.att_table.specs.Table.{Contents}
 use Rattle.att_policy.specs.declared.standing.Standing.{Standing}
-use Rattle.att_policy.specs.Policy.{configuration_bits_of, first_unmet_rule_of, may_hear_of}
-use Rattle.att_table.specs.declared.attr.Attr.{Attr}
-use Rattle.att_table.specs.Table.{attribute_at, is_value}
-use Rattle.gatt_slots.specs.Hearing.{Ear, Told, after_hearing, ear_of, row_in_force, told_in_turn, told_of, told_raised, told_released, with_heard, with_told}
+use Rattle.gatt_slots.specs.Hearing.{Ear, Told, after_hearing, ear_of, told_of, told_raised, told_released, with_heard, with_told}
 use Rattle.gatt_subs.specs.Hearing.{may_hear_at, wants_indications}
 use Rattle.gatt_subs.specs.Indications.{with_handle}
 use Rattle.gatt_subs.specs.Told.{notification_of}
-use Rattle.std.specs.Int.Bits.{and_zero_l}
-use Rattle.std.specs.Int.RustNames.{bit_and}
-use Rattle.std.specs.Prelude.{is_none, IfSome}
 use Rattle.std.specs.List.{list_any}
-use Rattle.std.specs.Option.{option_map_or, option_to_list}
+use Rattle.std.specs.Option.{option_to_list}
 use Rattle.gatt_slots.specs.Kept.{Kept}
 use Rattle.gatt_slots.specs.Places.{is_some_handle, waits}
-use Rattle.gatt_slots.specs.Slots.{Held, all_heard, handles_for, heard_by, heard_from}
+use Rattle.gatt_slots.specs.Slots.{Held, all_heard, handles_for, heard_by, heard_from, is_own, raised_by}
 use Rattle.gatt_subs.specs.Rows.{Subscriptions, row_of}
 use Rattle.gatt_subs.specs.declared.pending.Unconfirmed.{Unconfirmed}
 use Rattle.gatt_subs.specs.Indications.{Indications}
@@ -57,21 +51,6 @@ nothing_heard table now bond kept none =
       | false ↦ refl
     ]
 
--- nor does one whose client has configured nothing
-none-may-hear : (attributes : List Attr) (standing : Standing) (handle : Handle) → may_hear_at attributes [] standing handle ≡ false
-none-may-hear attributes standing handle =
-    elim (attribute_at attributes handle) as (λ (found : Option Attr). option_map_or (λ (attr : Attr). is_value attr.role && may_hear_of attr.guard 0 standing) found false ≡ false) [
-      | None ↦ refl
-      | Some attr ↦ unset (is_value attr.role) (configuration_bits_of attr.guard.properties) (is_none (first_unmet_rule_of attr.guard.read standing))
-    ]
-  where
-    none : (test : Bool) → (test && false) ≡ false
-    none true = refl
-    none false = refl
-
-    unset : (test : Bool) (bits : ℕ) (met : Bool) → (test && (not (bit_and 0 bits == 0) && met)) ≡ false
-    unset test bits met = ap (λ (both : ℕ). test && (not (both == 0) && met)) (and_zero_l bits) ∙ none test
-
 -- what a value that was raised leaves, by whether it is heard
 abbrev raised-if : Contents → Ear → Handle → Told → Bool → Told
 raised-if table ear handle told heard = with_heard told (record {
@@ -81,38 +60,24 @@ raised-if table ear handle told heard = with_heard told (record {
       then record told.pending { waiting = with_handle told.pending.waiting handle } else told.pending;
 })
 
-none-raised : (table : Contents) (ear : Ear) (handle : Handle) (told : Told) → ear.row ≡ [] → told_raised table ear handle told ≡ told
-none-raised table ear handle told none =
-    ap (raised-if table ear handle told) (unheard (not told.pending.timed_out) _
-    (ap (λ (row : Row). may_hear_at table.attributes row ear.standing handle) none ∙ none-may-hear table.attributes ear.standing handle))
+-- nor does one that may not hear of the value that is raised
+unheard-raised : (table : Contents) (ear : Ear) (handle : Handle) (told : Told) → may_hear_at table.attributes ear.row ear.standing handle ≡ false
+    → told_raised table ear handle told ≡ told
+unheard-raised table ear handle told silent = ap (raised-if table ear handle told) (unheard (not told.pending.timed_out) _ silent)
   where
     unheard : (on may : Bool) → may ≡ false → (on && may) ≡ false
     unheard true may none = none
     unheard false may none = refl
 
-none-in-turn : (table : Contents) (ear : Ear) (now : ℕ) (handles : List Handle) (told : Told) → ear.row ≡ []
-    → told_in_turn table ear now handles told ≡ told_released table ear now told
-none-in-turn table ear now [] told none = refl
-none-in-turn table ear now (handle ∷ handles) told none =
-    ap (told_in_turn table ear now handles) (none-raised table ear handle told none) ∙ none-in-turn table ear now handles told none
-
-pub nothing_asked : (table : Contents) (ear : Ear) (now : ℕ) (handles : List Handle) (told : Told) → ear.row ≡ [] → told.pending.waiting ≡ []
-    → told_in_turn table ear now handles told ≡ told
-nothing_asked table ear now handles told none idle = none-in-turn table ear now handles told none ∙ idle_released table ear now told idle
-
-nothing_configured : (table : Contents) (now : ℕ) (bond : Option Row) (handles : List Handle) (kept : Kept) → row_in_force bond kept ≡ []
-    → kept.pending.waiting ≡ [] → after_hearing table now bond handles kept ≡ kept
-nothing_configured table now bond handles kept none idle =
-    elim kept.live as (λ live. (if live then with_told kept (told_in_turn table (ear_of now bond kept) now handles (told_of kept)) else kept) ≡ kept) [
-      | true ↦ ap (with_told kept) (nothing_asked table (ear_of now bond kept) now handles (told_of kept) none idle)
+pub nothing_raised : (table : Contents) (now : ℕ) (rows : Subscriptions) (handle : Handle) → ((row : Row) (standing : Standing) → may_hear_at table.attributes row standing handle ≡ false)
+    → (slot : Option Kept) → raised_by table now rows handle slot ≡ slot
+nothing_raised table now rows handle silent None = refl
+nothing_raised table now rows handle silent (Some kept) =
+    let ear : Ear = ear_of now (row_of rows kept.peer) kept in
+    elim kept.live as (λ live. Some (if live then with_told kept (told_raised table ear handle (told_of kept)) else kept) ≡ Some kept) [
+      | true ↦ ap (λ (told : Told). Some (with_told kept told)) (unheard-raised table ear handle (told_of kept) (silent ear.row ear.standing))
       | false ↦ refl
     ]
-
-pub nobody_asked : (table : Contents) (now : ℕ) (rows : Subscriptions) (handles : List Handle) (slot : Option Kept)
-    → IfSome slot (λ kept. (row_in_force (row_of rows kept.peer) kept ≡ []) × (kept.pending.waiting ≡ [])) → heard_by table now rows handles slot ≡ slot
-nobody_asked table now rows handles None none = refl
-nobody_asked table now rows handles (Some kept) none =
-    ap (λ (it : Kept). Some it) (nothing_configured table now (row_of rows kept.peer) handles kept none.0 none.1)
 
 -- and where nothing waits for any of them, and nothing was written, none hears anything
 none-waits : (waiting : List Handle) → is_some_handle waiting ≡ false → waiting ≡ []
@@ -139,7 +104,7 @@ pub nothing_heard_by_all : (table : Contents) (now : ℕ) (rows : Subscriptions)
     → slots ≡ all_heard table now rows own [] [] slots
 nothing_heard_by_all table now rows own slots none =
     sym (all-quiet (λ place slot. heard_by table now rows (handles_for own [] [] place) slot)
-    (λ place slot idle. ap (λ (handles : List Handle). heard_by table now rows handles slot) (either (option_map_or (λ (at : ℕ). at == place) own false) [])
+    (λ place slot idle. ap (λ (handles : List Handle). heard_by table now rows handles slot) (either (is_own own place) [])
     ∙ quiet-slot table now rows slot idle)
     0 slots none)
 

@@ -67,3 +67,8 @@ with_told kept told = record kept { pending = told.pending; outgoing = told.outg
 abbrev pub after_hearing : Contents → ℕ → Option Row → List Handle → Kept → Kept
 after_hearing table now bond handles kept =
     if kept.live then with_told kept (told_in_turn table (ear_of now bond kept) now handles (told_of kept)) else kept
+
+-- and where one value is raised for it, before what is due is released
+abbrev pub after_raising : Contents → ℕ → Option Row → Handle → Kept → Kept
+after_raising table now bond handle kept =
+    if kept.live then with_told kept (told_raised table (ear_of now bond kept) handle (told_of kept)) else kept

@@ -5,6 +5,7 @@ use Rattle.std.specs.List.{list_any}
 use Rattle.std.specs.Option.{option_map_or}
 use Rattle.gatt_slots.specs.Commands.{gives, has_command}
 use Rattle.gatt_slots.specs.declared.marks.Marks.{Marks}
+use Rattle.gatt_slots.specs.declared.telling.Heard.{Heard}
 use Rattle.gatt_slots.specs.declared.places.Due.{Due}
 use Rattle.gatt_slots.specs.declared.places.Due.TheVariants.{Command, Packet}
 use Rattle.gatt_slots.specs.Kept.{Kept}
@@ -40,6 +41,11 @@ pub record IsMarked (slots : Held) (marks : Marks) : Type 0 where
   pub packets : Covers Packet marks.packets.bits slots
   pub waiting : marks.waiting ≡ false → list_any waits slots ≡ false
   pub free : marks.free ≡ false → list_any (λ slot. is_none slot) slots ≡ false
+
+-- the same of what connections hear: packets, and values that wait
+pub record CoversHeard (slots : Held) (heard : Heard) : Type 0 where
+  pub packets : Covers Packet heard.packets.bits slots
+  pub waiting : heard.waiting ≡ false → list_any waits slots ≡ false
 
 -- a connection goes on: its slot is not freed, no command is due that was not, and nothing waits that did not wait
 pub record GoesOn (old new : Option Kept) : Type 0 where

@@ -1,11 +1,11 @@
 -- All slots of a host, in their order.
-use Rattle.std.specs.Prelude.{ℕ, ◌+◌, ◌==◌, ◌<◌, ◌&&◌, Bool, false, is_none, if◌then◌else◌, List, [], ◌∷◌, length, map, set, slice_get, Option, None, IsSome}
+use Rattle.std.specs.Prelude.{ℕ, ◌+◌, ◌==◌, ◌<◌, ◌&&◌, Bool, false, not, is_none, if◌then◌else◌, List, [], ◌∷◌, length, map, set, slice_get, Option, None, IsSome}
 use Rattle.std.specs.List.{position}
 use Rattle.std.specs.Option.{option_map, option_map_or}
 use Rattle.att_numbers.specs.Types.{Handle}
 use Rattle.att_table.specs.declared.attr.Attr.{Attr}
 use Rattle.att_table.specs.Table.{Contents}
-use Rattle.gatt_slots.specs.Hearing.{after_hearing}
+use Rattle.gatt_slots.specs.Hearing.{after_hearing, after_raising}
 use Rattle.gatt_slots.specs.Kept.{Kept}
 use Rattle.gatt_slots.specs.Turn.{after_completed, after_table, after_time}
 use Rattle.gatt_subs.specs.Rows.{Subscriptions, row_of}
@@ -47,8 +47,11 @@ pub record IsThere (slots : Held) (place : ℕ) : Type 0 where
   pub kept : IsSome (kept_at slots place)
 
 -- all hear at the end of an event: the one of the connection that it happened to of some values, and the others of others
+abbrev pub is_own : Option ℕ → ℕ → Bool
+is_own own place = option_map_or (λ (at : ℕ). at == place) own false
+
 abbrev pub handles_for : Option ℕ → List Handle → List Handle → ℕ → List Handle
-handles_for own here handles place = if option_map_or (λ (at : ℕ). at == place) own false then here else handles
+handles_for own here handles place = if is_own own place then here else handles
 
 abbrev pub heard_by : Contents → ℕ → Subscriptions → List Handle → Option Kept → Option Kept
 heard_by table now rows handles slot = option_map (λ (kept : Kept). after_hearing table now (row_of rows kept.peer) handles kept) slot
@@ -60,6 +63,24 @@ heard_from place hear (slot ∷ slots) = hear place slot ∷ heard_from (place +
 abbrev pub all_heard : Contents → ℕ → Subscriptions → Option ℕ → List Handle → List Handle → Held → Held
 all_heard table now rows own here handles slots =
     heard_from 0 (λ place slot. heard_by table now rows (handles_for own here handles place) slot) slots
+
+-- value by value: one is raised for the connection that it happened to, or for the others
+abbrev pub raised_by : Contents → ℕ → Subscriptions → Handle → Option Kept → Option Kept
+raised_by table now rows handle slot = option_map (λ (kept : Kept). after_raising table now (row_of rows kept.peer) handle kept) slot
+
+abbrev pub is_among : Option ℕ → Bool → ℕ → Bool
+is_among own others place = if others then not (is_own own place) else is_own own place
+
+abbrev pub raised_at : Contents → ℕ → Subscriptions → Option ℕ → Bool → Handle → ℕ → Option Kept → Option Kept
+raised_at table now rows own others handle place slot = if is_among own others place then raised_by table now rows handle slot else slot
+
+abbrev pub all_raised : Contents → ℕ → Subscriptions → Option ℕ → Bool → Handle → Held → Held
+all_raised table now rows own others handle slots = heard_from 0 (λ place slot. raised_at table now rows own others handle place slot) slots
+
+abbrev pub all_raised_in_turn : Contents → ℕ → Subscriptions → Option ℕ → Bool → List Handle → Held → Held
+all_raised_in_turn table now rows own others [] slots = slots
+all_raised_in_turn table now rows own others (handle ∷ handles) slots =
+    all_raised_in_turn table now rows own others handles (all_raised table now rows own others handle slots)
 
 -- time has gone by for all, and the table is replaced for all
 abbrev pub all_after_time : ℕ → Held → Held

@@ -1,121 +1,79 @@
 //! What a connection hears unasked at the end of an event: Core 5.0, Vol 3 Part F, 3.4.7.
 
-ghost use Rattle.std.specs.Prelude.{◌≡◌, ◌-◌, ◌≤◌, ◌<◌, true, false, [], ◌∷◌, ◌++◌, length, take, Some, IsSome, is_some, if◌then◌else◌, unwrap_or, IfSome};
+ghost use Rattle.std.specs.Prelude.{◌≡◌, ◌-◌, ◌≤◌, ◌<◌, true, false, [], ◌∷◌, ◌++◌, length, take, is_some, if◌then◌else◌, unwrap_or, IfSome};
 ghost use Rattle.std.specs.Bool.{OnTrue, OnFalse};
-ghost use Rattle.std.specs.Option.{option_map, option_copied};
-ghost use Rattle.att_table.specs.Table.{attribute_at, is_value_at, value_at};
-ghost use Rattle.gatt_laws.specs.Heard.{att_pdu};
+ghost use Rattle.gatt_slots.specs.Commands.{gives};
 ghost use Rattle.gatt_slots.specs.Kept.{standing_with};
-ghost use Rattle.gatt_slots.specs.Hearing.{after_hearing, row_in_force, told_in_turn, told_raised, told_released, with_told};
+ghost use Rattle.gatt_slots.specs.Hearing.{told_raised, told_released};
 ghost use Rattle.gatt_slots.specs.Places.{waits};
-ghost use Rattle.gatt_slots.specs.Slots.{handles_for, heard_by};
+ghost use Rattle.gatt_slots.specs.Slots.{heard_by, raised_by};
 ghost use Rattle.gatt_subs.specs.Rows.{owes, row_of};
 ghost use Rattle.le_acl.specs.Outgoing.{with_pdu};
 ghost use Rattle.octets.specs.Number.{two_octets};
 
-use crate::each::raised_for;
 use crate::slot::{Slot, Use};
 use att_numbers::opcode::{HANDLE_VALUE_INDICATION, HANDLE_VALUE_NOTIFICATION};
 use att_policy::Standing;
 use att_table::{ConfigRow, Table};
-use gatt_conn::Conn;
-use gatt_subs::{Pending, Rows};
+use gatt_subs::{Pending, Raised, Rows};
 use le_acl::Sender;
 use le_hci::Peer;
 use le_l2cap::channel::ATT;
 use le_security::Link;
 
-/// By what a connection hears.
-#[derive(Clone, Copy)]
-struct Ear<'a> {
-    /// What it has configured.
-    row: &'a ConfigRow,
-    link: &'a Link,
-    conn: &'a Conn,
-    key_known: bool,
-    until: u64,
-}
-
-impl Ear<'_> {
-    /// What the policy sees of the connection. It is put together where it is asked for: few values
-    /// need all of it.
-    #[inline(always)]
-    fn standing(&self, now: u64) -> Standing
-        ensures { result ≡ standing_with self.now.link.now self.now.key_known self.now.until now }
-    {
-        standing(self.link, self.key_known, self.until, now)
-    }
-}
-
-/// Raises values in their order, and then releases what is due.
-#[inline(always)]
-#[tactic(auto, using(crate::proofs::Quiet::idle_released))]
-fn tell_in_turn(
-    table: &Table,
-    ear: &Ear<'_>,
-    now: u64,
-    handles: &[u16],
-    pending: &mut Pending,
-    sender: &mut Sender,
-)
-    ensures { record { pending = pending.new; outgoing = sender.new.outgoing }
-        ≡ told_in_turn table.now (record { row = ear.now.row.now; standing = standing_with ear.now.link.now ear.now.key_known ear.now.until now; mtu = ear.now.conn.now.mtu }) now handles.now
-        (record { pending = pending.old; outgoing = sender.old.outgoing }) }
-{
-    for handle in handles {
-        raise(table, ear, now, *handle, pending, sender);
-    }
-    // Most connections wait for nothing.
-    if pending.waits() {
-        release(table, *ear, now, pending, sender);
-    }
-}
-
-/// Tells of a value that was written.
+/// Tells of a value that was written: whether it is notified.
 #[inline(always)]
 fn raise(
-    table: &Table,
-    ear: &Ear<'_>,
-    now: u64,
-    handle: u16,
+    raised: &Raised<'_>,
+    row: &ConfigRow,
+    standing: &Standing,
+    mtu: u16,
     pending: &mut Pending,
     sender: &mut Sender,
-)
-    ensures { record { pending = pending.new; outgoing = sender.new.outgoing }
-        ≡ told_raised table.now (record { row = ear.now.row.now; standing = standing_with ear.now.link.now ear.now.key_known ear.now.until now; mtu = ear.now.conn.now.mtu }) handle
+) -> bool
+    requires least { 23 ≤ mtu }
+    requires most { mtu ≤ 517 }
+    ensures told { record { pending = pending.new; outgoing = sender.new.outgoing }
+        ≡ told_raised raised.now.table (record { row = row.now; standing = standing.entry.now; mtu = mtu }) raised.now.handle
         (record { pending = pending.old; outgoing = sender.old.outgoing }) }
+    ensures unnotified { OnFalse result (sender.new.outgoing ≡ sender.old.outgoing) }
 {
-    if pending.raise(table, handle, ear.row, &ear.standing(now), sender.backlog()) {
+    let notified = pending.raise_value(raised, row, standing, sender.backlog());
+    if notified {
         queue_value(
             HANDLE_VALUE_NOTIFICATION,
-            handle,
-            table.value(handle),
-            ear.conn.mtu(),
+            raised.handle(),
+            raised.octets(),
+            mtu,
             sender,
         );
     }
+    notified
 }
 
-/// Sends the indication that is due, if one is. It is not inlined, since what most connections hear
-/// needs the registers.
-#[inline(never)]
-fn release(table: &Table, ear: Ear<'_>, now: u64, pending: &mut Pending, sender: &mut Sender)
+/// Sends the indication that is due, if one is.
+#[inline(always)]
+fn release(
+    table: &Table,
+    row: &ConfigRow,
+    standing: &Standing,
+    mtu: u16,
+    now: u64,
+    pending: &mut Pending,
+    sender: &mut Sender,
+)
+    requires least { 23 ≤ mtu }
+    requires most { mtu ≤ 517 }
     ensures { record { pending = pending.new; outgoing = sender.new.outgoing }
-        ≡ told_released table.now (record { row = ear.entry.row.now; standing = standing_with ear.entry.link.now ear.entry.key_known ear.entry.until now; mtu = ear.entry.conn.now.mtu }) now
+        ≡ told_released table.now (record { row = row.now; standing = standing.entry.now; mtu = mtu }) now
         (record { pending = pending.old; outgoing = sender.old.outgoing }) }
 {
-    if let Some(handle) = pending.release(
-        table,
-        ear.row,
-        &ear.standing(now),
-        sender.backlog(),
-        now,
-    ) {
+    if let Some(handle) = pending.release(table, row, standing, sender.backlog(), now) {
         queue_value(
             HANDLE_VALUE_INDICATION,
             handle,
             table.value(handle),
-            ear.conn.mtu(),
+            mtu,
             sender,
         );
     }
@@ -146,59 +104,46 @@ fn row_in_force<'a>(link: &Link, peer: &Peer, own: &'a ConfigRow, rows: &'a Rows
     own
 }
 
-/// Whether a client has configured nothing.
-#[tactic(auto, using(crate::proofs::Quiet::none_there))]
-fn is_empty(row: &ConfigRow) -> bool
-    ensures { OnTrue result (row.now ≡ []) }
-{
-    row.entries().is_empty()
-}
-
 impl Slot {
-    /// Tells the connection of the values that were raised for it, and then what is due: the slot is at
-    /// this place, and of `here` the connection of the slot `own` hears, of `handles` each other. `false`
-    /// where nothing is told and nothing waits.
+    /// Tells the connection of a value that was written: whether it is notified. Where it is indicated
+    /// the value waits.
     #[inline(always)]
+    pub(crate) fn raise(&mut self, raised: &Raised<'_>, rows: &Rows, now: u64) -> bool
+        ensures raised { self.new ≡ raised_by raised.now.table now rows.now raised.now.handle self.old }
+        ensures unnotified { OnFalse result (gives self.new ≡ gives self.old) }
+    {
+        if self.used != Use::Live {
+            return false;
+        }
+        raise(
+            raised,
+            row_in_force(&self.link, &self.peer, &self.row, rows),
+            &standing(&self.link, self.key_known, self.until, now),
+            self.conn.mtu(),
+            &mut self.pending,
+            &mut self.sender,
+        )
+    }
+
+    /// Sends the connection the indication that is due, if one is. `false` where nothing waits.
     #[tactic(auto, using(crate::proofs::Quiet::nothing_heard))]
-    pub(crate) fn hear(
-        &mut self,
-        table: &Table,
-        rows: &Rows,
-        place: usize,
-        own: Option<usize>,
-        here: &[u16],
-        handles: &[u16],
-        now: u64,
-    ) -> bool
-        ensures heard { self.new ≡ heard_by table.now now rows.now (handles_for own here.now handles.now place) self.old }
+    pub(crate) fn release(&mut self, table: &Table, rows: &Rows, now: u64) -> bool
+        ensures heard { self.new ≡ heard_by table.now now rows.now [] self.old }
         ensures unchanged { OnFalse result (self.new ≡ self.old) }
         ensures idle { OnFalse result (waits self.new ≡ false) }
     {
         if self.used != Use::Live {
             return self.waits();
         }
-        let handles = raised_for(place, own, here, handles);
-        // Most events tell a connection nothing.
-        if handles.is_empty() && !self.pending.waits() {
+        if !self.pending.waits() {
             return false;
         }
-        let row = row_in_force(&self.link, &self.peer, &self.row, rows);
-        // A client that has configured nothing is told nothing.
-        if is_empty(row) && !self.pending.waits() {
-            return false;
-        }
-        let ear = Ear {
-            row,
-            link: &self.link,
-            conn: &self.conn,
-            key_known: self.key_known,
-            until: self.until,
-        };
-        tell_in_turn(
+        release(
             table,
-            &ear,
+            row_in_force(&self.link, &self.peer, &self.row, rows),
+            &standing(&self.link, self.key_known, self.until, now),
+            self.conn.mtu(),
             now,
-            handles,
             &mut self.pending,
             &mut self.sender,
         );

@@ -10,6 +10,7 @@ mod places;
 mod request;
 mod slot;
 mod slots;
+mod telling;
 mod turn;
 
 pub use slots::Slots;

@@ -5,8 +5,7 @@ ghost use Rattle.std.specs.List.{list_any};
 ghost use Rattle.att_table.specs.ConfigRow.{IsRowOf};
 ghost use Rattle.gatt_laws.specs.Turn.{gained_encryption};
 ghost use Rattle.gatt_slots.specs.Hearing.{row_in_force};
-ghost use Rattle.gatt_slots.specs.Places.{waits, Covers};
-ghost use Rattle.gatt_slots.specs.declared.places.Due.TheVariants.{Packet};
+ghost use Rattle.gatt_slots.specs.Places.{CoversHeard};
 ghost use Rattle.gatt_slots.specs.Request.{bond_served, handles_of, kept_served, table_after};
 ghost use Rattle.gatt_slots.specs.Slots.{after_entries, all_after_table, all_after_time, all_heard, at_place, kept_at, place_free, place_holding, place_serving, slots_at, IsThere};
 ghost use Rattle.gatt_slots.specs.Turn.{after_authorizing, after_key_asked, after_link_step, after_signal, come};
@@ -15,12 +14,11 @@ ghost use Rattle.le_hci.specs.Event.{completed_packets_of};
 ghost use Rattle.le_security.specs.Keys.{answer_of};
 ghost use Rattle.le_security.specs.Link.{after_step, Encryption, Refresh};
 
-use crate::each::{
-    Heard, complete_all, find_free, find_holding, find_serving, hear_all, replace_all, tick_all,
-};
+use crate::each::{complete_all, find_free, find_holding, find_serving, replace_all, tick_all};
 use crate::marks::Marks;
 use crate::places::Places;
 use crate::slot::Slot;
+use crate::telling::{Heard, hear_all};
 use arrayvec::ArrayVec;
 use att_table::Table;
 use gatt_subs::Rows;
@@ -284,7 +282,10 @@ impl Slots {
         let before = self.marks;
         let heard = hear_in(
             &mut self.slots,
-            before.packets,
+            Heard {
+                packets: before.packets,
+                waiting: before.waiting,
+            },
             table,
             rows,
             own,
@@ -303,7 +304,7 @@ impl Slots {
 /// All of them hear.
 fn hear_in(
     slots: &mut Vec<Slot>,
-    packets: Places,
+    before: Heard,
     table: &Table,
     rows: &Rows,
     own: Option<usize>,
@@ -312,15 +313,14 @@ fn hear_in(
     now: u64,
 ) -> Heard
     requires few { length slots.old.items ≤ 8 }
-    requires covers { Covers Packet packets.bits slots.old.items }
+    requires covered { CoversHeard slots.old.items before }
     ensures heard { slots.new.items ≡ all_heard table.now now rows.now own here.now handles.now slots.old.items }
     ensures count { length slots.new.items ≡ length slots.old.items }
-    ensures packets { Covers Packet result.packets.bits slots.new.items }
-    ensures waiting { result.waiting ≡ false → list_any waits slots.new.items ≡ false }
+    ensures covered { CoversHeard slots.new.items result }
 {
     hear_all(
         slots.as_mut_slice(),
-        packets,
+        before,
         table,
         rows,
         own,

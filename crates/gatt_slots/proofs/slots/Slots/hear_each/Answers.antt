@@ -10,7 +10,7 @@ invariant_of-self c =
     record {
       few = omega (arith, c.self.invariant.few, heard.count);
       commands = commands_heard a.table.now a.now a.rows.now a.own a.here.now a.handles.now c.self.inside.marks.commands.bits old _ heard.heard c.self.invariant.commands;
-      packets = heard.packets;
-      waiting = heard.waiting;
+      packets = heard.covered.packets;
+      waiting = heard.covered.waiting;
       free = λ none. free_heard a.table.now a.now a.rows.now a.own a.here.now a.handles.now old _ heard.heard (c.self.invariant.free none);
     }

@@ -1,12 +1,12 @@
-use Rattle.std.proofs.Common.{◌≡◌, ◌<◌, ◌+◌, ℕ, true, Option, None, length, subst, sym, ◌∙◌, arith}
+use Rattle.std.proofs.Common.{◌≡◌, ◌<◌, ◌+◌, ℕ, true, [], Option, None, length, subst, sym, ◌∙◌, arith}
 use Rattle.std.proofs.lemmas.List.{get_or_default}
 use Rattle.gatt_slots.specs.Kept.{Kept}
 use Rattle.gatt_slots.specs.Places.{waits}
-use Rattle.gatt_slots.specs.Slots.{Held, heard_by, handles_for, kept_at}
+use Rattle.gatt_slots.specs.Slots.{Held, heard_by, kept_at}
 use Rattle.gatt_slots.proofs.Covering.{waits_more}
 use Rattle.gatt_slots.proofs.EachSlot.{heard_more}
 use Rattle.gatt_slots.proofs.Found.{kept-is}
-use Rattle.gatt_slots.proofs.each.hear_all.Goals as goal
+use Rattle.gatt_slots.proofs.telling.release_all.Goals as goal
 
 pub loop-place-preserved : goal.loop-place-preserved
 loop-place-preserved c =
@@ -14,11 +14,10 @@ loop-place-preserved c =
     let place = c.loop-place.place in
     let slots = c.loop-place.slots in
     let heard = c.loop-place.invariant in
-    let at = c.hear_at in
+    let at = c.release_at in
     let within : place < length a.slots.now = omega (arith, c.loop-place-test.true) in
     let there : place < length slots = omega (arith, c.loop-place-test.true, c.loop-place.auto.slots) in
-    let hear : ℕ → Option Kept → Option Kept =
-    λ at slot. heard_by a.table.now a.now a.rows.now (handles_for a.own a.here.now a.handles.now at) slot in
+    let hear : ℕ → Option Kept → Option Kept = λ at slot. heard_by a.table.now a.now a.rows.now [] slot in
     let slot : Option Kept = hear place (kept_at slots place) in (
       at.ensures.slots
           ∙ heard_more hear a.slots.now slots place (kept_at slots place) within heard.0 (kept-is slots place there ∙ get_or_default slots place None (kept_at slots place) there),

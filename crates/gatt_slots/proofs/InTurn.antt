@@ -1,0 +1,103 @@
+-- Values are raised one by one for all connections: the same as if each connection heard all of them in its turn.
+use Rattle.std.proofs.Common.{◌≡◌, ℕ, ◌+◌, Bool, true, false, not, if◌then◌else◌, List, [], ◌∷◌, Option, Some, None, refl, sym, ap, ◌∙◌}
+use Rattle.att_numbers.specs.Types.{Handle, Row}
+use Rattle.att_policy.specs.declared.standing.Standing.{Standing}
+use Rattle.att_table.specs.Table.{Contents}
+use Rattle.gatt_slots.specs.Kept.{Kept}
+use Rattle.gatt_slots.specs.Slots.{Held, all_heard, all_raised, all_raised_in_turn, handles_for, heard_by, heard_from, is_among, is_own, raised_at, raised_by}
+use Rattle.gatt_slots.proofs.Quiet.{nothing_raised}
+use Rattle.gatt_subs.specs.Hearing.{may_hear_at}
+use Rattle.gatt_subs.specs.Rows.{Subscriptions}
+
+-- what happens to each slot, one thing behind the other
+together : (later first : ℕ → Option Kept → Option Kept) (start : ℕ) (slots : Held)
+    → heard_from start later (heard_from start first slots) ≡ heard_from start (λ place slot. later place (first place slot)) slots
+together later first start [] = refl
+together later first start (slot ∷ slots) = ap (λ (rest : Held). later start (first start slot) ∷ rest) (together later first (start + 1) slots)
+
+nothing : (start : ℕ) (slots : Held) → heard_from start (λ place slot. slot) slots ≡ slots
+nothing start [] = refl
+nothing start (slot ∷ slots) = ap (λ (rest : Held). slot ∷ rest) (nothing (start + 1) slots)
+
+alike : (one other : ℕ → Option Kept → Option Kept) (slots : Held) → ((place : ℕ) (slot : Option Kept) → one place slot ≡ other place slot)
+    → heard_from 0 one slots ≡ heard_from 0 other slots
+alike one other slots same = λ i. heard_from 0 (λ place slot. same place slot i) slots
+
+either : (test : Bool) (slot : Option Kept) → (if test then slot else slot) ≡ slot
+either true slot = refl
+either false slot = refl
+
+module _ (table : Contents) (now : ℕ) (rows : Subscriptions) where
+  -- for one connection
+  abbrev raised : List Handle → Option Kept → Option Kept
+  raised [] slot = slot
+  raised (handle ∷ handles) slot = raised handles (raised_by table now rows handle slot)
+
+  next-heard : (handle : Handle) (handles : List Handle) (slot : Option Kept)
+      → heard_by table now rows (handle ∷ handles) slot ≡ heard_by table now rows handles (raised_by table now rows handle slot)
+  next-heard handle handles None = refl
+  next-heard handle handles (Some kept) =
+      elim kept.live as (λ (live : Bool). let it : Option Kept = Some (record kept { live = live }) in
+      heard_by table now rows (handle ∷ handles) it ≡ heard_by table now rows handles (raised_by table now rows handle it)) [
+        | true ↦ refl
+        | false ↦ refl
+      ]
+
+  heard-in-turn : (handles : List Handle) (slot : Option Kept) → heard_by table now rows handles slot ≡ heard_by table now rows [] (raised handles slot)
+  heard-in-turn [] slot = refl
+  heard-in-turn (handle ∷ handles) slot = next-heard handle handles slot ∙ heard-in-turn handles (raised_by table now rows handle slot)
+
+  -- for all of them
+  module _ (own : Option ℕ) where
+    abbrev raised-where : Bool → List Handle → ℕ → Option Kept → Option Kept
+    raised-where others handles place slot = if is_among own others place then raised handles slot else slot
+
+    in-turn : (others : Bool) (handles : List Handle) (slots : Held)
+        → all_raised_in_turn table now rows own others handles slots ≡ heard_from 0 (raised-where others handles) slots
+    in-turn others [] slots = sym (alike (raised-where others []) (λ place slot. slot) slots (λ place slot. either (is_among own others place) slot) ∙ nothing 0 slots)
+    in-turn others (handle ∷ handles) slots =
+        in-turn others handles (all_raised table now rows own others handle slots)
+        ∙ together (raised-where others handles) (raised_at table now rows own others handle) 0 slots
+        ∙ alike (λ place slot. raised-where others handles place (raised_at table now rows own others handle place slot)) (raised-where others (handle ∷ handles)) slots
+        (λ place slot. both place slot)
+      where
+        both : (place : ℕ) (slot : Option Kept) → raised-where others handles place (raised_at table now rows own others handle place slot) ≡ raised-where others (handle ∷ handles) place slot
+        both place slot = elim (is_among own others place) as (λ (among : Bool).
+            (if among then raised handles (if among then raised_by table now rows handle slot else slot) else (if among then raised_by table now rows handle slot else slot))
+            ≡ (if among then raised handles (raised_by table now rows handle slot) else slot)) [
+              | true ↦ refl
+              | false ↦ refl
+            ]
+
+    pub all_in_turn : (here handles : List Handle) (slots : Held)
+        → all_heard table now rows None [] [] (all_raised_in_turn table now rows own true handles (all_raised_in_turn table now rows own false here slots))
+        ≡ all_heard table now rows own here handles slots
+    all_in_turn here handles slots =
+        let mine : ℕ → Option Kept → Option Kept = raised-where false here in
+        let theirs : ℕ → Option Kept → Option Kept = raised-where true handles in
+        let released : ℕ → Option Kept → Option Kept = λ place slot. heard_by table now rows [] slot in
+        ap (heard_from 0 released) (in-turn true handles (all_raised_in_turn table now rows own false here slots)
+        ∙ ap (heard_from 0 theirs) (in-turn false here slots) ∙ together theirs mine 0 slots)
+        ∙ together released (λ place slot. theirs place (mine place slot)) 0 slots
+        ∙ alike (λ place slot. released place (theirs place (mine place slot))) (λ place slot. heard_by table now rows (handles_for own here handles place) slot) slots
+        (λ place slot. each place slot)
+      where
+        each : (place : ℕ) (slot : Option Kept)
+            → heard_by table now rows [] (raised-where true handles place (raised-where false here place slot)) ≡ heard_by table now rows (handles_for own here handles place) slot
+        each place slot = elim (is_own own place) as (λ (is : Bool).
+            heard_by table now rows [] (if not is then raised handles (if is then raised here slot else slot) else (if is then raised here slot else slot))
+            ≡ heard_by table now rows (if is then here else handles) slot) [
+              | true ↦ sym (heard-in-turn here slot)
+              | false ↦ sym (heard-in-turn handles slot)
+            ]
+
+    -- of a value of which nobody may hear
+    pub nobody_hears : (others : Bool) (handle : Handle) (slots : Held)
+        → ((row : Row) (standing : Standing) → may_hear_at table.attributes row standing handle ≡ false)
+        → slots ≡ all_raised table now rows own others handle slots
+    nobody_hears others handle slots silent =
+        sym (alike (raised_at table now rows own others handle) (λ place slot. slot) slots (λ place slot. same (is_among own others place) slot) ∙ nothing 0 slots)
+      where
+        same : (among : Bool) (slot : Option Kept) → (if among then raised_by table now rows handle slot else slot) ≡ slot
+        same true slot = nothing_raised table now rows handle silent slot
+        same false slot = refl
