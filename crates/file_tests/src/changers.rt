@@ -86,13 +86,18 @@ fn changers(rt: HostRuntime) {
 }
 
 fn check_changers(rt: &impl Abort, alloc: Global, cases: &[(Example, &str, &str, Option<u16>)]) {
-    for &(example, old, new, wanted) in cases {
-        assert_case(
-            rt,
-            is_changer(alloc, (text_of(example), old, new), wanted),
-            new,
-        );
+    for case in cases {
+        check_changer(rt, alloc, case);
     }
+}
+
+fn check_changer(rt: &impl Abort, alloc: Global, case: &(Example, &str, &str, Option<u16>)) {
+    let &(example, old, new, wanted) = case;
+    assert_case(
+        rt,
+        is_changer(alloc, (text_of(example), old, new), wanted),
+        new,
+    );
 }
 
 fn is_changer(alloc: Global, change: (&str, &str, &str), wanted: Option<u16>) -> bool {

@@ -206,17 +206,22 @@ fn read_many(alloc: Global, more: &str) -> Result<usize, u8> {
 /// A file of 64 keys, and what stands behind them.
 fn many_keys(alloc: Global, more: &str) -> Result<String, AllocError> {
     let mut text = String::new(alloc);
-    for diversifier in 0..64 {
-        text = with_key(alloc, &text, diversifier)?;
-    }
+    push_keys(alloc, &mut text)?;
     text.push_str(more)?;
     Ok(text)
 }
 
-/// A text, and behind it a key of this diversifier.
-fn with_key(alloc: Global, before: &str, diversifier: u16) -> Result<String, AllocError> {
+fn push_keys(alloc: Global, text: &mut String) -> Result<(), AllocError> {
+    for diversifier in 0..64 {
+        push_key(alloc, text, diversifier)?;
+    }
+    Ok(())
+}
+
+/// Puts a key of this diversifier behind a text.
+fn push_key(alloc: Global, text: &mut String, diversifier: u16) -> Result<(), AllocError> {
     let line = format!(in alloc; "ediv = {diversifier}\n")?;
-    with_line(alloc, before, 4, &line)
+    push_lines(text, 4, &line)
 }
 
 /// A request for a key: the peer, its random number, and its diversifier.

@@ -18,6 +18,8 @@ mod rows;
 #[cfg(test)]
 mod script_acts;
 #[cfg(test)]
+mod script_faults;
+#[cfg(test)]
 mod stores;
 #[cfg(test)]
 mod table_faults;

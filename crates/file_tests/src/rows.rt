@@ -232,9 +232,14 @@ const MANY: &[(u16, u16, Option<RowsFault>)] = &[
 ];
 
 fn check_many(rt: &impl Abort, alloc: Global, cases: &[(u16, u16, Option<RowsFault>)]) {
-    for &(handles, peers, answer) in cases {
-        assert!(rt; is_refused(alloc, handles, peers, answer));
+    for case in cases {
+        check_count(rt, alloc, case);
     }
+}
+
+fn check_count(rt: &impl Abort, alloc: Global, case: &(u16, u16, Option<RowsFault>)) {
+    let &(handles, peers, answer) = case;
+    assert!(rt; is_refused(alloc, handles, peers, answer));
 }
 
 fn is_refused(alloc: Global, handles: u16, peers: u16, answer: Option<RowsFault>) -> bool {
@@ -258,16 +263,24 @@ fn push_many(text: &mut String, handles: u16, peers: u16) -> Result<(), AllocErr
 
 fn push_configurations(text: &mut String, handles: u16) -> Result<(), AllocError> {
     for handle in 1..=handles {
-        write!(text, "0 00:00:00:00:00:00 {handle} 1\n")?;
+        push_configuration(text, handle)?;
     }
     Ok(())
 }
 
+fn push_configuration(text: &mut String, handle: u16) -> Result<(), AllocError> {
+    write!(text, "0 00:00:00:00:00:00 {handle} 1\n")
+}
+
 fn push_owed(text: &mut String, peers: u16) -> Result<(), AllocError> {
     for peer in 0..peers {
-        write!(text, "! 0 00:00:00:00:00:{peer:02x}\n")?;
+        push_peer(text, peer)?;
     }
     Ok(())
+}
+
+fn push_peer(text: &mut String, peer: u16) -> Result<(), AllocError> {
+    write!(text, "! 0 00:00:00:00:00:{peer:02x}\n")
 }
 
 /// A sink that is full takes the front of the text.
