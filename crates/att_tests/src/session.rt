@@ -233,9 +233,23 @@ fn serves(
     ensures row { IsRowOf table.new.attributes client.new.row }
 {
     let mut octets = ArrayVec::new();
-    let mut out = PduBuf::new(&mut octets, client.conn.mtu());
-    let answered = answer(table, &mut client.row, &mut client.conn, pdu, &mut out);
+    let answered = answered(table, client, pdu, &mut octets);
     octets.as_slice() == wanted && is_told(&answered, pdu, wanted, handles)
+}
+
+/// Has the server answer a PDU.
+fn answered(
+    table: &mut Table,
+    client: &mut Client,
+    pdu: &[u8],
+    octets: &mut ArrayVec<u8, 517>,
+) -> Answered
+    requires row { IsRowOf table.old.attributes client.old.row }
+    ensures attributes { table.new.attributes ≡ table.old.attributes }
+    ensures row { IsRowOf table.new.attributes client.new.row }
+{
+    let mut out = PduBuf::new(octets, client.conn.mtu());
+    answer(table, &mut client.row, &mut client.conn, pdu, &mut out)
 }
 
 /// Whether what is told of a PDU fits with its answer and these handles.
