@@ -1,5 +1,5 @@
 -- What a writer takes in turn.
-use Rattle.std.proofs.Common.{◌≡◌, ℕ, List, [], ◌++◌, Option, Some, None, sym, ◌∙◌, arith}
+use Rattle.std.proofs.Common.{ℕ, List, [], ◌++◌, Option, Some, None, arith}
 use Rattle.std.specs.Io.KnownBytes.{Appends, Keeps}
 use Rattle.std.proofs.lemmas.Grind.{common_steps}
 

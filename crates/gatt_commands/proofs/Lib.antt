@@ -5,6 +5,7 @@ pub mod KeyFiles
 pub mod Printing
 pub mod Reports
 pub mod RowsFiles
+pub mod RunFaults
 pub mod RunOrders
 pub mod ScriptFiles
 pub mod ServeFaults

@@ -1,9 +1,9 @@
 -- The report on lines, one after the other, is that on all of them.
-use Rattle.std.proofs.Common.{◌≡◌, ℕ, ◌+◌, Bool, true, false, if◌then◌else◌, List, [], ◌∷◌, ◌++◌, length, Option, Some, None, refl, sym, ap, ◌∙◌, arith}
-use Rattle.std.specs.Prelude.{is_none, not, take_while, filter_map}
-use Rattle.std.specs.List.{list_any, flat_map}
+use Rattle.std.proofs.Common.{◌≡◌, ℕ, ◌+◌, Bool, true, false, if◌then◌else◌, List, [], ◌∷◌, ◌++◌, length, Option, Some, None, refl, ap, ◌∙◌, arith}
+use Rattle.std.specs.Prelude.{is_none}
+use Rattle.std.specs.List.{list_any}
 use Rattle.gatt_commands.specs.Att.{Server, pdu_of, pdu_in, is_bad, good_lines, bad_line_from, printed_answer, answer_from, server_after, printed_by}
-use Rattle.gatt_commands.specs.Session.{Report, nothing, pdu_report, line_report, report}
+use Rattle.gatt_commands.specs.Session.{pdu_report, report}
 
 -- a line behind which the lines go on, if it is good
 with_line : (server : Server) (number : ℕ) (line : List ℕ) (lines : List (List ℕ)) (pdu : Option (List ℕ)) → pdu_of line ≡ pdu → is_bad line ≡ is_none pdu → pdu_in line ≡ pdu

@@ -1,5 +1,5 @@
 -- The order in which the files of a run are judged.
-use Rattle.std.proofs.Common.{◌≡◌, ◌<◌, ℕ, Bool, List, Option, Some, None, sym, rules, subst, ◌∙◌, arith}
+use Rattle.std.proofs.Common.{◌≡◌, ◌<◌, ℕ, Bool, List, Option, Some, None, rules, subst, ◌∙◌, arith}
 use Rattle.std.specs.Prelude.{IfSome, IsOk, IsErrAnd, Result, Ok, Err}
 use Rattle.scripts.specs.declared.script_fault.ScriptFault.{ScriptFault}
 use Rattle.scripts.specs.declared.script_fault.ScriptFault.TheVariants.{BadLine}

@@ -12,7 +12,7 @@ use Rattle.hex.specs.Hex.{encode_lower}
 use Rattle.gatt_commands.specs.declared.acts.Refused.{Refused}
 use Rattle.gatt_commands.specs.declared.acts.Refused.TheVariants.{Call, Act}
 use Rattle.gatt_commands.specs.declared.fault.ShellFault.{ShellFault}
-use Rattle.gatt_commands.specs.declared.fault.ShellFault.TheVariants.{Host, Controller, TooLong, Unwritten, Memory}
+use Rattle.gatt_commands.specs.declared.fault.ShellFault.TheVariants.{Table, Next, Keys, Rows, Script, Host, Controller, TooLong, Unreadable, Unwritten, Memory}
 use Rattle.octets.specs.Number.{Octets}
 
 -- a refusal is of one of so many phones, or of none
@@ -106,3 +106,13 @@ IsRunFault fault = IsExchangeFault fault
 abbrev pub IsHostRunFault : ShellFault → Type 0
 IsHostRunFault Memory = Unit {0}
 IsHostRunFault fault = IsRunFault fault
+
+-- what may end it from the first file on
+abbrev pub IsRunCommandFault : ShellFault → Type 0
+IsRunCommandFault (Table number) = Unit {0}
+IsRunCommandFault (Next number) = Unit {0}
+IsRunCommandFault (Keys number) = Unit {0}
+IsRunCommandFault (Rows number) = Unit {0}
+IsRunCommandFault (Script line) = Unit {0}
+IsRunCommandFault Unreadable = Unit {0}
+IsRunCommandFault fault = IsHostRunFault fault

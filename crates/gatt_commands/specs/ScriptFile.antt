@@ -1,5 +1,5 @@
 -- Scripts, as octets.
-use Rattle.std.specs.Prelude.{◌≡◌, ℕ, Bool, if◌then◌else◌, Result, Ok, Err}
+use Rattle.std.specs.Prelude.{◌≡◌, Bool, if◌then◌else◌, Result, Err}
 use Rattle.std.specs.Str.{is_utf8}
 use Rattle.octets.specs.Number.{Octets}
 use Rattle.scripts.specs.declared.script_fault.ScriptFault.{ScriptFault}

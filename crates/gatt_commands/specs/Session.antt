@@ -5,7 +5,7 @@ use Rattle.gatt_commands.specs.declared.fault.ShellFault.{ShellFault}
 use Rattle.gatt_commands.specs.declared.fault.ShellFault.TheVariants.{Table, NotHex, Unwritten, Memory}
 use Rattle.gatt_commands.specs.declared.session.Session.{Session}
 use Rattle.gatt_commands.specs.TableFile.{IsRefusedAs}
-use Rattle.gatt_commands.specs.Att.{Server, door_read, door_server, lines_of, pdu_of, printed_answer, answer_from, server_after, PrintsFront}
+use Rattle.gatt_commands.specs.Att.{Server, door_read, lines_of, pdu_of, printed_answer, answer_from, server_after, PrintsFront}
 use Rattle.octets.specs.Number.{Octets}
 
 -- what is printed in all, and the number of the first line that is not hexadecimal, with which the printing ends

@@ -4,7 +4,7 @@ ghost use Rattle.std.specs.Prelude.{◌≡◌, ◌≢◌, ℕ, is_some, IfErr, I
 ghost use Rattle.scripts.specs.Phones.{HasNamedPhones};
 ghost use Rattle.scripts.specs.declared.script_fault.ScriptFault.TheVariants.{BadLine};
 ghost use Rattle.gatt_commands.specs.KeyFile.{keys_in, AreRefusedAs as KeysAreRefusedAs};
-ghost use Rattle.gatt_commands.specs.Lines.{IsRunFault, IsHostRunFault};
+ghost use Rattle.gatt_commands.specs.Lines.{IsHostRunFault, IsRunCommandFault, IsRunFault};
 ghost use Rattle.gatt_commands.specs.RowsFile.{rows_in, AreRefusedAs};
 ghost use Rattle.gatt_commands.specs.ScriptFile.{script_in};
 ghost use Rattle.gatt_commands.specs.TableFile.{table_in, IsRefusedAs};
@@ -71,6 +71,7 @@ pub fn run_script<T: Read, N: Read, K: Read, R: Read, S: Read, V: Write, W: Writ
     ensures keys_third { IsPast OfKeys result → IfSome (K.remaining keys.old) (λ octets. IsOk (keys_in octets)) }
     ensures rows_fourth { IsPast OfRows result → IfSome (R.remaining rows.old) (λ octets. IsOk (rows_in octets)) }
     ensures script_last { IsPast OfScript result → IfSome (S.remaining script.old) (λ octets. IsOk (script_in (is_some next.old) octets)) }
+    ensures faults { IfErr result IsRunCommandFault }
 {
     let table = read_table(alloc, table)?;
     let mut next = read_next(alloc, next)?;
@@ -152,7 +153,9 @@ pub fn run_paths<F: Files, W: Write>(
     files: &F,
     paths: RunPaths<'_>,
     writer: &mut W,
-) -> Result<(), ShellFault> {
+) -> Result<(), ShellFault>
+    ensures { IfErr result IsRunCommandFault }
+{
     let mut table = LazyFile::new(files, paths.table.0);
     let mut next = next_file(files, paths.next);
     let mut keys = LazyFile::new(files, paths.keys.0);

@@ -1,0 +1,48 @@
+-- What may end a part of a run may end the command.
+use Rattle.std.proofs.Common.{◌≡◌, Bool, List, ℕ, sym, subst}
+use Rattle.std.specs.Prelude.{Result, Ok, Err, IfErr, IsErrAnd}
+use Rattle.gatt_commands.specs.declared.fault.ShellFault.{ShellFault}
+use Rattle.gatt_commands.specs.declared.fault.ShellFault.TheVariants.{Table, Keys, Rows, Next, Script, Host, Controller, TooLong, NotHex, Unreadable, Unwritten, Listen, Memory}
+use Rattle.gatt_commands.specs.Lines.{IsHostRunFault, IsRunCommandFault}
+use Rattle.gatt_commands.specs.ScriptFile.{IsScriptRefusal}
+
+ran : (fault : ShellFault) → IsHostRunFault fault → IsRunCommandFault fault
+ran (Host number) is = is
+ran (Controller number) is = is
+ran TooLong is = is
+ran Unwritten is = is
+ran Memory is = is
+ran (Table number) is = absurd is
+ran (Next number) is = absurd is
+ran (Keys number) is = absurd is
+ran (Rows number) is = absurd is
+ran (Script line) is = absurd is
+ran (NotHex line) is = absurd is
+ran Unreadable is = absurd is
+ran Listen is = absurd is
+
+pub ran_at_all : (result : Result Unit ShellFault) → IfErr result IsHostRunFault → IfErr result IsRunCommandFault
+ran_at_all (Ok done) is = is
+ran_at_all (Err fault) is = ran fault is
+
+judged : (has_next : Bool) (text : List ℕ) (fault : ShellFault) → IsScriptRefusal has_next text fault → IsRunCommandFault fault
+judged has_next text (Script line) refusal = tt
+judged has_next text Memory refusal = tt
+judged has_next text (Table number) refusal = absurd refusal
+judged has_next text (Keys number) refusal = absurd refusal
+judged has_next text (Rows number) refusal = absurd refusal
+judged has_next text (Next number) refusal = absurd refusal
+judged has_next text (Host number) refusal = absurd refusal
+judged has_next text (Controller number) refusal = absurd refusal
+judged has_next text TooLong refusal = absurd refusal
+judged has_next text (NotHex line) refusal = absurd refusal
+judged has_next text Unreadable refusal = absurd refusal
+judged has_next text Unwritten refusal = absurd refusal
+judged has_next text Listen refusal = absurd refusal
+
+-- the refusal of a script that is passed on
+pub judged_at_all : (has_next : Bool) (text : List ℕ) (outer : Result Unit ShellFault) (fault : ShellFault)
+    → IsErrAnd outer (λ passed_on. passed_on ≡ fault) → IsScriptRefusal has_next text fault → IfErr outer IsRunCommandFault
+judged_at_all has_next text (Ok done) fault was refusal = absurd was
+judged_at_all has_next text (Err passed_on) fault was refusal =
+    subst IsRunCommandFault (sym was) (judged has_next text fault refusal)
