@@ -139,6 +139,14 @@ module _ (first count : ℕ) (channels : List ℕ) (payloads : List (ArrayVec �
     payloads_length = ring.payloads_length;
   }
 
+  pub ring-written : (written : ArrayVec ℕ) → IsRing first count channels (set payloads ((first + count) % 16) written)
+  ring-written written = record {
+    first_below = ring.first_below;
+    count_within = ring.count_within;
+    channels_length = ring.channels_length;
+    payloads_length = length-set payloads ((first + count) % 16) written ∙ ring.payloads_length;
+  }
+
   pub room-pop : 0 < count → (queued_of ((first + 1) % 16) (count - 1) channels payloads).room ≡ (queued_of first count channels payloads).room
   room-pop some =
       let back : first + 1 + (count - 1) ≡ first + count = omega arith in

@@ -2,6 +2,7 @@ ghost use Rattle.std.specs.Prelude.{◌≡◌, ◌+◌, ◌<◌, ◌≤◌, ◌�
 ghost use Rattle.std.specs.Borrow.{sem};
 
 use arrayvec::ArrayVec;
+use octets::overwrite;
 use std::alloc::{AllocError, Global};
 use std::marker::Model;
 
@@ -89,6 +90,19 @@ impl Pdus {
         ensures { self.new.pdus ≡ self.old.pdus ++ (channel, self.old.room) ∷ [] }
     {
         self.channels[(self.first + self.count) % MAX_PDUS] = channel;
+        self.count += 1;
+    }
+
+    /// Queues the octets of two places, one behind the other. What stood in the room is lost.
+    #[inline(always)]
+    pub(crate) fn queue(&mut self, channel: u16, front: &[u8], rest: &[u8])
+        requires room { length self.old.pdus < 16 }
+        requires fits { length front.now + length rest.now ≤ 517 }
+        ensures { self.new.pdus ≡ self.old.pdus ++ (channel, front.now ++ rest.now) ∷ [] }
+    {
+        let place = (self.first + self.count) % MAX_PDUS;
+        overwrite(self.payloads.at_mut(place), front, rest, &[]);
+        self.channels[place] = channel;
         self.count += 1;
     }
 

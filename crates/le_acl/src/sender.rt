@@ -110,8 +110,7 @@ impl Sender {
         requires fits { length first.now + length rest.now ≤ 517 }
         ensures { self.new ≡ record { outgoing = with_pdu self.old.outgoing (cid, first.now ++ rest.now); room = None } }
     {
-        overwrite(self.pdus.room(), first, rest, &[]);
-        self.pdus.push(cid);
+        self.pdus.queue(cid, first, rest);
         self.lent = false;
     }
 
