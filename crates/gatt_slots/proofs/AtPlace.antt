@@ -8,7 +8,8 @@ use Rattle.att_table.specs.Table.{Contents}
 use Rattle.gatt_conn.specs.Answer.{is_confirmation}
 use Rattle.std.specs.Bool.{OnFalse, OnTrue}
 use Rattle.std.proofs.lemmas.Bool.{OnFalse_at, OnTrue_at}
-use Rattle.gatt_slots.proofs.Covering.{clash, read_at}
+use Rattle.gatt_slots.proofs.Covering.{read_at}
+use Rattle.gatt_slots.proofs.Found.{clash}
 use Rattle.gatt_slots.specs.Commands.{has_command, without_packet}
 use Rattle.gatt_slots.specs.Kept.{Kept}
 use Rattle.gatt_slots.specs.Places.{is_some_handle, waits, GoesOn}

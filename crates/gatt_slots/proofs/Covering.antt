@@ -1,17 +1,15 @@
 -- What a set of places covers, as slots change and as places leave it.
 use Rattle.std.proofs.Common.{◌≡◌, ◌≢◌, ℕ, zero, suc, ◌+◌, ◌<◌, ◌≤◌, Bool, true, false, ◌||◌, List, [], ◌∷◌, length, set, get_or, Option, Some, None, refl, sym, ap, subst, ◌∙◌, arith}
-use Rattle.std.specs.Prelude.{cond, is_none, if◌then◌else◌}
+use Rattle.std.specs.Prelude.{is_none, if◌then◌else◌}
 use Rattle.std.specs.Int.{bit_at}
-use Rattle.std.specs.List.{list_any, position, position_from}
+use Rattle.std.specs.List.{list_any, position}
 use Rattle.std.specs.Option.{option_map_or}
 use Rattle.std.proofs.lemmas.Bool.{cases_eq, cases_lt}
-use Rattle.std.proofs.lemmas.Iterator.Adapters.{position_from-zero}
 use Rattle.std.proofs.lemmas.List.{get_or-set_same, get_or-set_other, length-set}
-use Rattle.std.proofs.lemmas.List.Quantifiers.{position-Some}
 use Rattle.std.proofs.lemmas.Nat.Bits.{bit_at-zero, bit_at_ones}
 use Rattle.std.proofs.lemmas.Option.{slice_get-get_or}
 use Rattle.std.proofs.Math.Logic.{⊎_elim}
-use Rattle.gatt_slots.proofs.Found.{kept-is}
+use Rattle.gatt_slots.proofs.Found.{clash, first_at, kept-is, none_at, past, within}
 use Rattle.att_numbers.specs.Types.{Handle}
 use Rattle.att_table.specs.Table.{Contents}
 use Rattle.gatt_slots.specs.Commands.{gives, has_command}
@@ -25,27 +23,13 @@ use Rattle.gatt_slots.specs.declared.places.Due.{Due}
 use Rattle.gatt_slots.specs.declared.places.Places.{Places}
 use Rattle.gatt_slots.specs.declared.places.Due.TheVariants.{Command, Packet}
 
-pub clash : {X : Type 0} {test : Bool} → test ≡ true → test ≡ false → X
-clash is not = absurd (no (sym is ∙ not))
-  where
-    no : true ≡ false → ⊥
-    no e = cc e
-
--- what a slot keeps beyond the last: nothing
-pub past : (slots : Held) (place : ℕ) → length slots ≤ place → kept_at slots place ≡ None
-past [] place beyond = refl
-past (slot ∷ slots) zero beyond = absurd (omega arith)
-past (slot ∷ slots) (suc place) beyond = past slots place (omega arith)
-
 pub none-due : (due : Due) → is_due due None ≡ false
 none-due Command = refl
 none-due Packet = refl
 
 -- what is due is due at a slot that is there
 there : (due : Due) (slots : Held) (place : ℕ) → is_due due (kept_at slots place) ≡ true → place < length slots
-there due slots place is = ⊎_elim (λ within. within)
-    (λ beyond. clash is (ap (is_due due) (past slots place (omega (arith, beyond))) ∙ none-due due))
-    (cases_lt place (length slots))
+there due slots place is = within (is_due due) (none-due due) slots place is
 
 pub at-same : (slots : Held) (place : ℕ) (slot : Option Kept) → place < length slots → kept_at (set slots place slot) place ≡ slot
 at-same slots place slot within =
@@ -91,45 +75,12 @@ covered_without due old new slots place few covers idle others = λ other is. �
     (cases_eq other place)
 
 -- the first place at which something is due
-module _ {A : Type 0} (test : A → Bool) (d : A) where
-  some-passes : (n : ℕ) (xs : List A) (place : ℕ) → place < length xs → test (get_or xs place d) ≡ true → position_from test n xs ≡ None → ⊥
-  some-passes n [] place within is none = absurd (omega (arith, within))
-  some-passes n (x ∷ xs) zero within is none = found (sym (ap (λ (it : Bool). cond it (Some n) (position_from test (n + 1) xs)) is) ∙ none)
-    where
-      found : Some n ≡ None → ⊥
-      found e = cc e
-  some-passes n (x ∷ xs) (suc place) within is none =
-      elim (test x) as (λ (it : Bool). cond it (Some n) (position_from test (n + 1) xs) ≡ None → ⊥) [
-        | true ↦ λ found. no found
-        | false ↦ λ later. some-passes (n + 1) xs place (omega (arith, within)) is later
-      ] none
-    where
-      no : Some n ≡ None → ⊥
-      no e = cc e
-
 pub none_due : (due : Due) (slots : Held) → ((place : ℕ) → is_due due (kept_at slots place) ≡ false) → position (is_due due) slots ≡ None
-none_due due slots none =
-    elim (position (is_due due) slots) as (λ (found : Option ℕ). position (is_due due) slots ≡ found → found ≡ None) [
-      | None ↦ λ is. refl
-      | Some place ↦ λ is.
-          let at = position-Some (is_due due) slots place None is in
-          clash at.1 (ap (is_due due) (sym (kept-is slots place at.0)) ∙ none place)
-    ] refl
+none_due due slots none = none_at (is_due due) (none-due due) slots none
 
 pub first_due : (due : Due) (slots : Held) (place : ℕ) → is_due due (kept_at slots place) ≡ true
     → ((other : ℕ) → other < place → is_due due (kept_at slots other) ≡ false) → position (is_due due) slots ≡ Some place
-first_due due slots place is before =
-    let within = there due slots place is in
-    elim (position (is_due due) slots) as (λ (found : Option ℕ). position (is_due due) slots ≡ found → found ≡ Some place) [
-      | None ↦ λ none. absurd (some-passes (is_due due) None 0 slots place within (ap (is_due due) (sym (kept-is slots place within)) ∙ is)
-          (sym (position_from-zero (is_due due) slots) ∙ none))
-      | Some other ↦ λ at.
-          let found = position-Some (is_due due) slots other None at in
-          let due-there : is_due due (kept_at slots other) ≡ true = ap (is_due due) (kept-is slots other found.0) ∙ found.1 in
-          ap Some (⊎_elim (λ less. clash due-there (before other less))
-          (λ least. ⊎_elim (λ more. clash (ap (is_due due) (sym (kept-is slots place within)) ∙ is) (found.2 place more))
-          (λ most. omega (arith, least, most)) (cases_lt place other)) (cases_lt other place))
-    ] refl
+first_due due slots place is before = first_at (is_due due) (none-due due) slots place is before
 
 -- what no slot is, none is after a change of one that was not, or is not then
 module _ (test : Option Kept → Bool) (slot : Option Kept) where
@@ -253,7 +204,7 @@ read_at slots place slot within is =
 
 -- what hears at each place
 module _ (hear : ℕ → Option Kept → Option Kept) (nobody : (place : ℕ) → hear place None ≡ None) where
-  heard-at : (start : ℕ) (slots : Held) (place : ℕ) → kept_at (heard_from start hear slots) place ≡ hear (start + place) (kept_at slots place)
+  pub heard-at : (start : ℕ) (slots : Held) (place : ℕ) → kept_at (heard_from start hear slots) place ≡ hear (start + place) (kept_at slots place)
   heard-at start [] place = sym (nobody (start + place))
   heard-at start (slot ∷ slots) zero = ap (λ (at : ℕ). hear at slot) (omega arith)
   heard-at start (slot ∷ slots) (suc place) =

@@ -1,9 +1,13 @@
--- A slot that is found is there.
-use Rattle.std.proofs.Common.{◌≡◌, ℕ, ◌<◌, true, length, get_or, Option, Some, None, refl, sym, ap, subst}
-use Rattle.std.specs.Prelude.{is_none, IsSome, IfSome}
+-- What is found among slots: it is there, and it is the first.
+use Rattle.std.proofs.Common.{◌≡◌, ℕ, zero, suc, ◌+◌, ◌<◌, ◌≤◌, Bool, true, false, List, [], ◌∷◌, length, get_or, Option, Some, None, refl, sym, ap, subst, ◌∙◌, arith}
+use Rattle.std.specs.Prelude.{cond, is_none, IsSome, IfSome}
+use Rattle.std.specs.List.{position, position_from}
 use Rattle.std.specs.Option.{option_map_or}
+use Rattle.std.proofs.lemmas.Bool.{cases_lt}
+use Rattle.std.proofs.lemmas.Iterator.Adapters.{position_from-zero}
 use Rattle.std.proofs.lemmas.List.Quantifiers.{position-Some}
 use Rattle.std.proofs.lemmas.Option.{slice_get-get_or}
+use Rattle.std.proofs.Math.Logic.{⊎_elim}
 use Rattle.gatt_slots.specs.Kept.{Kept}
 use Rattle.gatt_slots.specs.Slots.{Held, is_serving, is_holding, kept_at, place_serving, place_holding, place_free, IsThere}
 
@@ -11,6 +15,64 @@ use Rattle.gatt_slots.specs.Slots.{Held, is_serving, is_holding, kept_at, place_
 pub kept-is : (slots : Held) (place : ℕ) → place < length slots → kept_at slots place ≡ get_or slots place None
 kept-is slots place within =
     ap (λ (found : Option (Option Kept)). option_map_or (λ (slot : Option Kept). slot) found None) (slice_get-get_or slots place None within)
+
+pub clash : {X : Type 0} {test : Bool} → test ≡ true → test ≡ false → X
+clash is not = absurd (no (sym is ∙ not))
+  where
+    no : true ≡ false → ⊥
+    no e = cc e
+
+-- what a slot keeps beyond the last: nothing
+pub past : (slots : Held) (place : ℕ) → length slots ≤ place → kept_at slots place ≡ None
+past [] place beyond = refl
+past (slot ∷ slots) zero beyond = absurd (omega arith)
+past (slot ∷ slots) (suc place) beyond = past slots place (omega arith)
+
+pub some-passes : {A : Type 0} (test : A → Bool) (d : A) (n : ℕ) (xs : List A) (place : ℕ) → place < length xs → test (get_or xs place d) ≡ true → position_from test n xs ≡ None → ⊥
+some-passes test d n [] place within is none = absurd (omega (arith, within))
+some-passes test d n (x ∷ xs) zero within is none = found (sym (ap (λ (it : Bool). cond it (Some n) (position_from test (n + 1) xs)) is) ∙ none)
+  where
+    found : Some n ≡ None → ⊥
+    found e = cc e
+some-passes test d n (x ∷ xs) (suc place) within is none =
+    elim (test x) as (λ (it : Bool). cond it (Some n) (position_from test (n + 1) xs) ≡ None → ⊥) [
+      | true ↦ λ found. no found
+      | false ↦ λ later. some-passes test d (n + 1) xs place (omega (arith, within)) is later
+    ] none
+  where
+    no : Some n ≡ None → ⊥
+    no e = cc e
+
+-- the first slot that passes a test, which a free one does not
+module _ (test : Option Kept → Bool) (free : test None ≡ false) where
+  pub within : (slots : Held) (place : ℕ) → test (kept_at slots place) ≡ true → place < length slots
+  within slots place is = ⊎_elim (λ less. less)
+      (λ beyond. clash is (ap test (past slots place (omega (arith, beyond))) ∙ free))
+      (cases_lt place (length slots))
+
+  pub none_at : (slots : Held) → ((place : ℕ) → test (kept_at slots place) ≡ false) → position test slots ≡ None
+  none_at slots none =
+      elim (position test slots) as (λ (found : Option ℕ). position test slots ≡ found → found ≡ None) [
+        | None ↦ λ is. refl
+        | Some place ↦ λ is.
+            let at = position-Some test slots place None is in
+            clash at.1 (ap test (sym (kept-is slots place at.0)) ∙ none place)
+      ] refl
+
+  pub first_at : (slots : Held) (place : ℕ) → test (kept_at slots place) ≡ true
+      → ((other : ℕ) → other < place → test (kept_at slots other) ≡ false) → position test slots ≡ Some place
+  first_at slots place is before =
+      let there = within slots place is in
+      elim (position test slots) as (λ (found : Option ℕ). position test slots ≡ found → found ≡ Some place) [
+        | None ↦ λ none. absurd (some-passes test None 0 slots place there (ap test (sym (kept-is slots place there)) ∙ is)
+            (sym (position_from-zero test slots) ∙ none))
+        | Some other ↦ λ at.
+            let found = position-Some test slots other None at in
+            let passes : test (kept_at slots other) ≡ true = ap test (kept-is slots other found.0) ∙ found.1 in
+            ap Some (⊎_elim (λ less. clash passes (before other less))
+            (λ least. ⊎_elim (λ more. clash (ap test (sym (kept-is slots place there)) ∙ is) (found.2 place more))
+            (λ most. omega (arith, least, most)) (cases_lt place other)) (cases_lt other place))
+      ] refl
 
 serves-some : (handle : ℕ) (slot : Option Kept) → is_serving handle slot ≡ true → IsSome slot
 serves-some handle None is = cc is

@@ -7,3 +7,4 @@ pub mod Found
 pub mod Covering
 pub mod AtPlace
 pub mod InTurn
+pub mod Noted

@@ -6,3 +6,4 @@ pub mod Turn
 pub mod Request
 pub mod Slots
 pub mod Places
+pub mod Handles

@@ -1,31 +1,27 @@
 //! Which of the slots has a connection, and what an event does to each.
 
-ghost use Rattle.std.specs.Prelude.{◌≡◌, ◌<◌, is_none, length, map, IfSome};
+ghost use Rattle.std.specs.Prelude.{◌≡◌, ◌<◌, false, is_none, length, map, IfSome};
+ghost use Rattle.std.specs.Option.{option_map_or};
 ghost use Rattle.le_hci.specs.Event.{completed_packets_of};
+ghost use Rattle.gatt_slots.specs.Handles.{AreNoted};
 ghost use Rattle.gatt_slots.specs.Places.{IsMarked};
-ghost use Rattle.gatt_slots.specs.Slots.{after_entries, after_entry, all_after_table, all_after_time, is_holding, is_serving, place_free, place_holding, place_serving, IsThere};
+ghost use Rattle.gatt_slots.specs.Slots.{after_entries, after_entry, all_after_table, all_after_time, is_serving, place_free, place_serving, IsThere};
 
+use crate::handles::Handles;
 use crate::marks::Marks;
 use crate::slot::{Slot, Use};
 use att_table::Table;
 use le_hci::CompletedPackets;
 
 /// The slot whose connection has a handle and serves.
+#[cold]
+#[inline(never)]
 #[tactic(auto, using(crate::proofs::Found::serving_there))]
 pub(crate) fn find_serving(slots: &[Slot], handle: u16) -> Option<usize>
     ensures place { result ≡ place_serving slots.now handle }
     ensures there { IfSome result (IsThere slots.now) }
 {
     slots.iter().position(|slot| slot.is_serving(handle))
-}
-
-/// The slot whose connection has a handle, also one that is ending.
-#[tactic(auto, using(crate::proofs::Found::holding_there))]
-pub(crate) fn find_holding(slots: &[Slot], handle: u16) -> Option<usize>
-    ensures place { result ≡ place_holding slots.now handle }
-    ensures there { IfSome result (IsThere slots.now) }
-{
-    slots.iter().position(|slot| slot.is_holding(handle))
 }
 
 /// The first slot that is free.
@@ -41,13 +37,14 @@ impl Slot {
     fn is_serving(&self, handle: u16) -> bool
         ensures { result ≡ is_serving handle self.now }
     {
-        self.handle == handle && self.used == Use::Live
+        self.handle == handle && self.is_live()
     }
 
-    fn is_holding(&self, handle: u16) -> bool
-        ensures { result ≡ is_holding handle self.now }
+    /// Whether it has a connection that is not ending.
+    pub(crate) fn is_live(&self) -> bool
+        ensures { result ≡ option_map_or (λ kept. kept.live) self.now false }
     {
-        self.handle == handle && self.used != Use::Free
+        self.used == Use::Live
     }
 }
 
@@ -71,23 +68,37 @@ pub(crate) fn replace_all(slots: &mut [Slot], old: &Table, new: &Table)
 
 /// Counts packets as completed, each entry at most those that are outstanding. Entries of unknown
 /// handles are ignored.
-pub(crate) fn complete_all(slots: &mut [Slot], marks: &mut Marks, entries: &[[u8; 4]])
-    requires { IsMarked slots.old marks.old }
+pub(crate) fn complete_all(
+    slots: &mut [Slot],
+    handles: &Handles,
+    marks: &mut Marks,
+    entries: &[[u8; 4]],
+)
+    requires marked { IsMarked slots.old marks.old }
+    requires noted { AreNoted slots.old handles.now.noted }
     ensures after { slots.new ≡ after_entries (map completed_packets_of entries.now) slots.old }
     ensures marked { IsMarked slots.new marks.new }
+    ensures noted { AreNoted slots.new handles.now.noted }
 {
     for octets in entries {
-        complete_entry(slots, marks, &CompletedPackets::read(octets));
+        complete_entry(slots, handles, marks, &CompletedPackets::read(octets));
     }
 }
 
 /// Counts the packets of one entry as completed.
-fn complete_entry(slots: &mut [Slot], marks: &mut Marks, entry: &CompletedPackets)
-    requires { IsMarked slots.old marks.old }
+fn complete_entry(
+    slots: &mut [Slot],
+    handles: &Handles,
+    marks: &mut Marks,
+    entry: &CompletedPackets,
+)
+    requires marked { IsMarked slots.old marks.old }
+    requires noted { AreNoted slots.old handles.now.noted }
     ensures after { slots.new ≡ after_entry entry.now slots.old }
     ensures marked { IsMarked slots.new marks.new }
+    ensures noted { AreNoted slots.new handles.now.noted }
 {
-    if let Some(place) = find_holding(slots, entry.handle) {
+    if let Some(place) = handles.find(slots, entry.handle) {
         slots[place].complete(entry.packets);
         let giving = slots[place].gives();
         marks.go_on(place, giving);

@@ -4,6 +4,7 @@
 
 mod each;
 mod going_out;
+mod handles;
 mod hearing;
 mod marks;
 mod places;

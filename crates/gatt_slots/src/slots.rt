@@ -14,7 +14,8 @@ ghost use Rattle.le_hci.specs.Event.{completed_packets_of};
 ghost use Rattle.le_security.specs.Keys.{answer_of};
 ghost use Rattle.le_security.specs.Link.{after_step, Encryption, Refresh};
 
-use crate::each::{complete_all, find_free, find_holding, find_serving, replace_all, tick_all};
+use crate::each::{complete_all, find_free, find_serving, replace_all, tick_all};
+use crate::handles::Handles;
 use crate::marks::Marks;
 use crate::places::Places;
 use crate::slot::Slot;
@@ -31,10 +32,12 @@ use std::marker::Model;
 #[derive(Drop)]
 pub struct Slots {
     pub(crate) slots: Vec<Slot>,
+    pub(crate) handles: Handles,
     pub(crate) marks: Marks,
 }
 
 impl Model for Slots {
+    ghost use Rattle.gatt_slots.specs.Handles.{AreNoted};
     ghost use Rattle.gatt_slots.specs.Places.{IsMarked};
     ghost use Rattle.gatt_slots.specs.Slots.{Held};
 
@@ -42,7 +45,7 @@ impl Model for Slots {
 
     ghost view = { λ s. s.slots.items };
 
-    ghost invariant = { λ s. IsMarked s.slots.items s.marks };
+    ghost invariant = { λ s. IsMarked s.slots.items s.marks × AreNoted s.slots.items s.handles.noted };
 }
 
 impl Slots {
@@ -53,6 +56,7 @@ impl Slots {
     {
         Ok(Slots {
             slots: free_slots(alloc, count)?,
+            handles: Handles::NONE,
             marks: Marks::all(),
         })
     }
@@ -79,7 +83,12 @@ impl Slots {
         ensures there { IfSome result (IsThere self.now) }
         ensures few { IfSome result (λ place. place < 8) }
     {
-        find_serving(self.slots.as_slice(), handle)
+        let slots = self.slots.as_slice();
+        match self.handles.find(slots, handle) {
+            Some(place) if slots[place].is_live() => Some(place),
+            // Beside a connection that is ending another may have its handle.
+            _ => find_serving(slots, handle),
+        }
     }
 
     /// The slot whose connection has a handle, also one that is ending.
@@ -87,7 +96,7 @@ impl Slots {
         ensures place { result ≡ place_holding self.now handle }
         ensures there { IfSome result (IsThere self.now) }
     {
-        find_holding(self.slots.as_slice(), handle)
+        self.handles.find(self.slots.as_slice(), handle)
     }
 
     /// The first slot that is free.
@@ -130,6 +139,7 @@ impl Slots {
         ensures { self.new ≡ at_place place (λ slot. Some (come handle peer key_known rx_mtu share acl_len)) self.old }
     {
         self.slots[place].come(handle, peer, key_known, rx_mtu, share, acl_len);
+        self.handles.came(place, handle);
         self.marks.change(place);
     }
 
@@ -139,6 +149,7 @@ impl Slots {
         ensures { self.new ≡ at_place place (λ slot. None) self.old }
     {
         self.slots[place].go();
+        self.handles.went(place);
         self.marks.change(place);
     }
 
@@ -223,7 +234,12 @@ impl Slots {
     pub fn complete(&mut self, entries: &[[u8; 4]])
         ensures { self.new ≡ after_entries (map completed_packets_of entries.now) self.old }
     {
-        complete_all(self.slots.as_mut_slice(), &mut self.marks, entries);
+        complete_all(
+            self.slots.as_mut_slice(),
+            &self.handles,
+            &mut self.marks,
+            entries,
+        );
     }
 
     /// Takes in the time, in milliseconds.

@@ -1,5 +1,6 @@
 use Rattle.std.proofs.Common.{◌≡◌, ◌<◌, false, length, refl, sym, ap, ◌∙◌, arith}
-use Rattle.gatt_slots.proofs.Covering.{covered_without, first_due, idle_outside, none_covered, past, none-due, read_at}
+use Rattle.gatt_slots.proofs.Covering.{covered_without, first_due, idle_outside, none_covered, none-due, read_at}
+use Rattle.gatt_slots.proofs.Found.{past}
 use Rattle.gatt_slots.specs.Places.{is_due}
 use Rattle.gatt_slots.specs.Slots.{kept_at}
 use Rattle.gatt_slots.proofs.places.first_due.Goals.{else-place-slots-via-then-place-slots+else-is_due, else-place-slots-via-else-place-slots}

@@ -2,7 +2,9 @@ use Rattle.std.proofs.Common.{◌<◌, Option, length, subst, sym, ap, ◌∙◌
 use Rattle.std.proofs.lemmas.Bool.{OnTrue_at, OnTrue_from}
 use Rattle.std.proofs.lemmas.List.{get_or-set_same}
 use Rattle.gatt_slots.proofs.AtPlace.{changed_at, given_goes_on, there_at}
+use Rattle.gatt_slots.proofs.Noted.{given_noted, noted_still}
 use Rattle.gatt_slots.specs.Commands.{gives, without_packet}
+use Rattle.gatt_slots.specs.Handles.{noted_of}
 use Rattle.gatt_slots.specs.Kept.{Kept}
 use Rattle.gatt_slots.specs.Places.{GoesOn}
 use Rattle.gatt_slots.specs.Slots.{Held}
@@ -23,9 +25,12 @@ invariant_of-self c =
     let slot = c.index_mut.result.now in
     let within : place < length slots = subst (λ (it : Held). place < length it) (sym c.self.view_is) c.requires in
     let there = there_at slots slots (λ i. slots) place slot within c.index_mut.ensures.value in
-    let goes = given_goes_on slot c.next_packet-given.new.self c.next_packet-given.result c.next_packet-given.ensures.after c.next_packet-given.ensures.unchanged in
-    c.go_on.ensures slots c.next_packet-given.new.self within c.self.invariant
-    (subst (λ (it : Option Kept). GoesOn it c.next_packet-given.new.self) there goes)
-    (λ none.
-    ap gives (sym (get_or-set_same slots place c.next_packet-given.new.self c.index.result.now within)) ∙ ap gives (sym c.index.ensures)
-    ∙ sym c.gives-giving.ensures ∙ none)
+    let goes = given_goes_on slot c.next_packet-given.new.self c.next_packet-given.result c.next_packet-given.ensures.after c.next_packet-given.ensures.unchanged in (
+      c.go_on.ensures slots c.next_packet-given.new.self within c.self.invariant.0
+          (subst (λ (it : Option Kept). GoesOn it c.next_packet-given.new.self) there goes)
+          (λ none.
+          ap gives (sym (get_or-set_same slots place c.next_packet-given.new.self c.index.result.now within)) ∙ ap gives (sym c.index.ensures)
+          ∙ sym c.gives-giving.ensures ∙ none),
+      noted_still slots c.self.inside.handles.noted c.self.invariant.1 place c.next_packet-given.new.self within
+          (given_noted slot c.next_packet-given.new.self c.next_packet-given.result c.next_packet-given.ensures.after c.next_packet-given.ensures.unchanged ∙ ap noted_of there),
+    )

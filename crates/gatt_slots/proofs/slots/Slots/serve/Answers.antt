@@ -2,6 +2,7 @@ use Rattle.std.proofs.Common.{◌≡◌, ◌<◌, Option, length, subst, sym, ap
 use Rattle.std.specs.Prelude.{IfSome}
 use Rattle.std.proofs.lemmas.List.{get_or-set_same}
 use Rattle.gatt_slots.proofs.AtPlace.{changed_at, served_goes_on, there_at}
+use Rattle.gatt_slots.proofs.Noted.{changed_noted, served_handle}
 use Rattle.gatt_slots.specs.Commands.{has_command}
 use Rattle.gatt_slots.specs.Kept.{Kept}
 use Rattle.gatt_slots.specs.Places.{GoesOn}
@@ -15,12 +16,16 @@ invariant_of-self c =
     let slots = c.self.inside.slots.items in
     let place = c.args.place in
     let slot = c.index_mut.result.now in
-    let within : place < length slots = subst (λ (it : Held). place < length it) (sym c.self.view_is) c.requires.place in
-    c.serve-2.ensures slots c.serve.new.self within c.self.invariant (λ none.
-    subst (λ (it : Option Kept). GoesOn it c.serve.new.self) (there_at slots slots (λ i. slots) place slot within c.index_mut.ensures.value)
-    (subst (λ (it : Option Kept). GoesOn slot it) (sym c.serve.ensures.after)
-    (served_goes_on c.args.table.now c.args.now c.args.rows.now c.args.pdu.now slot
-    (ap has_command (sym c.serve.ensures.after) ∙ ap has_command (sym (c.index.ensures ∙ get_or-set_same slots place c.serve.new.self c.index.result.now within)) ∙ sym c.has_command-commanded.ensures ∙ none))))
+    let within : place < length slots = subst (λ (it : Held). place < length it) (sym c.self.view_is) c.requires.place in (
+      c.serve-2.ensures slots c.serve.new.self within c.self.invariant.0 (λ none.
+          subst (λ (it : Option Kept). GoesOn it c.serve.new.self) (there_at slots slots (λ i. slots) place slot within c.index_mut.ensures.value)
+          (subst (λ (it : Option Kept). GoesOn slot it) (sym c.serve.ensures.after)
+          (served_goes_on c.args.table.now c.args.now c.args.rows.now c.args.pdu.now slot
+          (ap has_command (sym c.serve.ensures.after) ∙ ap has_command (sym (c.index.ensures ∙ get_or-set_same slots place c.serve.new.self c.index.result.now within)) ∙ sym c.has_command-commanded.ensures ∙ none)))),
+      changed_noted slots c.self.inside.handles.noted place slot c.serve.new.self
+          (λ (kept : Kept). kept_served c.args.table.now c.args.now (row_of c.args.rows.now kept.peer) c.args.pdu.now kept) within c.index_mut.ensures.value
+          (λ kept. served_handle c.args.table.now c.args.now (row_of c.args.rows.now kept.peer) c.args.pdu.now kept) c.serve.ensures.after c.self.invariant.1,
+    )
 
 pub returns-clause-after : goal.returns-clause-after
 returns-clause-after c =

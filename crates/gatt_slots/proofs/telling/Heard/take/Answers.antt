@@ -1,5 +1,6 @@
 use Rattle.std.proofs.Common.{set, sym, subst, ◌∙◌}
-use Rattle.gatt_slots.proofs.Covering.{clash, covered_still, covered_with, none_with}
+use Rattle.gatt_slots.proofs.Covering.{covered_still, covered_with, none_with}
+use Rattle.gatt_slots.proofs.Found.{clash}
 use Rattle.gatt_slots.specs.Places.{waits, CoversHeard}
 use Rattle.gatt_slots.specs.declared.places.Due.TheVariants.{Packet}
 use Rattle.gatt_slots.proofs.telling.Heard.take.Goals.{then-told, else-told}

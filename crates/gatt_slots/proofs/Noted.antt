@@ -1,0 +1,230 @@
+-- What is noted of slots, as they change, and what is found by it.
+use Rattle.std.proofs.Common.{◌≡◌, ℕ, zero, suc, ◌+◌, ◌<◌, ◌≤◌, ◌==◌, ◌&&◌, Bool, true, false, List, [], ◌∷◌, ◌++◌, drop, length, map, set, get_or, take, Option, Some, None, refl, sym, ap, subst, ◌∙◌, arith}
+use Rattle.std.specs.Prelude.{is_some, replicate, if◌then◌else◌}
+use Rattle.std.specs.Bool.{OnFalse, OnTrue}
+use Rattle.std.specs.List.{position}
+use Rattle.std.specs.Option.{option_map, option_map_or}
+use Rattle.std.proofs.lemmas.Bool.{OnFalse_at, OnTrue_at, and_right, cases_eq, cases_lt}
+use Rattle.std.proofs.lemmas.Bool.Decides.{eqb_tells}
+use Rattle.std.proofs.lemmas.Iterator.Adapters.{position_from-zero}
+use Rattle.std.proofs.lemmas.List.{drop_all, get_or_past, get_or-set_same, get_or-set_other, length-set, take-append-le, take_all}
+use Rattle.std.proofs.lemmas.List.Quantifiers.{position-Some}
+use Rattle.std.proofs.Math.Logic.{⊎_elim}
+use Rattle.att_numbers.specs.Types.{Handle, Row}
+use Rattle.att_table.specs.declared.attr.Attr.{Attr}
+use Rattle.att_table.specs.ConfigRow.{kept_row}
+use Rattle.att_table.specs.Table.{Contents}
+use Rattle.gatt_laws.specs.Turn.{authentication_failure, channel_answer, lost_encryption, remote_user_terminated}
+use Rattle.gatt_slots.proofs.Covering.{at-other, at-same, heard-at, read_at}
+use Rattle.gatt_slots.proofs.Found.{first_at, kept-is, none_at, past, some-passes}
+use Rattle.gatt_slots.specs.Commands.{without_command, without_packet}
+use Rattle.gatt_slots.specs.Handles.{noted_of, AreNoted}
+use Rattle.gatt_slots.specs.Hearing.{ear_of, told_in_turn, told_of, with_told}
+use Rattle.gatt_slots.specs.Kept.{Kept, backlog_of}
+use Rattle.gatt_slots.specs.Request.{is_full, kept_served}
+use Rattle.gatt_slots.specs.Slots.{Held, all_heard, handles_for, heard_by, is_holding, is_serving, kept_at, place_holding, place_serving}
+use Rattle.gatt_slots.specs.Turn.{after_ending, after_link_step, after_signal, after_table, with_answer}
+use Rattle.gatt_subs.specs.Rows.{Subscriptions, row_of}
+use Rattle.le_security.specs.Link.{Step, after_step}
+use Rattle.octets.specs.Number.{Octets}
+
+-- a handle is noted of the connection that has it
+holds-noted : (handle : ℕ) → handle < 65536 → (slot : Option Kept) → is_holding handle slot ≡ (noted_of slot == handle)
+holds-noted handle below None = ⊎_elim (λ same. absurd (omega (arith, same.1, below))) (λ apart. sym apart.0) (eqb_tells 65536 handle)
+holds-noted handle below (Some kept) = refl
+
+module _ (slots : Held) (noted : List ℕ) (are : AreNoted slots noted) where
+  -- a slot is changed whose connection keeps its handle
+  pub noted_still : (place : ℕ) (slot : Option Kept) → place < length slots → noted_of slot ≡ noted_of (kept_at slots place) → AreNoted (set slots place slot) noted
+  noted_still place slot within same = λ other there. ⊎_elim
+      (λ is. ap (λ at. get_or noted at 65536) is ∙ are place within ∙ sym same
+      ∙ ap noted_of (sym (at-same slots place slot within)) ∙ ap (λ at. noted_of (kept_at (set slots place slot) at)) (sym is))
+      (λ apart. are other (omega (arith, there, length-set slots place slot)) ∙ ap noted_of (sym (at-other slots place other slot apart)))
+      (cases_eq other place)
+
+  -- another is noted of a slot
+  pub noted_with : (place : ℕ) (slot : Option Kept) (handle : ℕ) → place < length slots → place < length noted → handle ≡ noted_of slot
+      → AreNoted (set slots place slot) (set noted place handle)
+  noted_with place slot handle within room is = λ other there. ⊎_elim
+      (λ same. ap (λ at. get_or (set noted place handle) at 65536) same ∙ get_or-set_same noted place handle 65536 room ∙ is
+      ∙ ap noted_of (sym (at-same slots place slot within)) ∙ ap (λ at. noted_of (kept_at (set slots place slot) at)) (sym same))
+      (λ apart. get_or-set_other noted place other handle 65536 apart ∙ are other (omega (arith, there, length-set slots place slot))
+      ∙ ap noted_of (sym (at-other slots place other slot apart)))
+      (cases_eq other place)
+
+  -- all that are there keep theirs
+  pub noted_all : (others : Held) → length others ≤ length slots → ((place : ℕ) → place < length others → noted_of (kept_at others place) ≡ noted_of (kept_at slots place)) → AreNoted others noted
+  noted_all others fewer same = λ place there. are place (omega (arith, there, fewer)) ∙ sym (same place there)
+
+-- the event of a connection leaves it its handle
+pub mapped_noted : (change : Kept → Kept) → ((kept : Kept) → (change kept).handle ≡ kept.handle) → (slot : Option Kept)
+    → noted_of (option_map change slot) ≡ noted_of slot
+mapped_noted change keeps None = refl
+mapped_noted change keeps (Some kept) = keeps kept
+
+pub changed_noted : (slots : Held) (noted : List ℕ) (place : ℕ) (old new : Option Kept) (change : Kept → Kept) → place < length slots → old ≡ get_or slots place old
+    → ((kept : Kept) → (change kept).handle ≡ kept.handle) → new ≡ option_map change old → AreNoted slots noted → AreNoted (set slots place new) noted
+changed_noted slots noted place old new change within is keeps changes are =
+    noted_still slots noted are place new within
+    (ap noted_of changes ∙ mapped_noted change keeps old ∙ ap noted_of (sym (read_at slots place old within is)))
+
+-- what becomes of a served one, of one whose link is encrypted, and of one that is signalled to
+ended-or : (full : Bool) (reason : ℕ) (kept other : Kept) → other.handle ≡ kept.handle → (let after : Kept = if full then after_ending reason kept else other in after).handle ≡ kept.handle
+ended-or true reason kept other same = refl
+ended-or false reason kept other same = same
+
+pub served_handle : (table : Contents) (now : ℕ) (bond : Option Row) (pdu : Octets) (kept : Kept) → (kept_served table now bond pdu kept).handle ≡ kept.handle
+served_handle table now bond pdu kept = ended-or (is_full pdu kept) remote_user_terminated kept _ refl
+
+pub stepped_handle : (step : Step) (kept : Kept) → (after_link_step step kept).handle ≡ kept.handle
+stepped_handle step kept =
+    let link = after_step kept.link step in
+    let new : Kept = record kept { link = link } in
+    ended-or (lost_encryption kept.link.key link.key) authentication_failure new new refl
+
+answered-handle : (channel : ℕ) (answer : Option Octets) (kept : Kept) → (with_answer channel answer kept).handle ≡ kept.handle
+answered-handle channel None kept = refl
+answered-handle channel (Some answer) kept = ended-or (backlog_of kept == 16) remote_user_terminated kept _ refl
+
+pub signalled_handle : (channel : ℕ) (payload : Octets) (kept : Kept) → (after_signal channel payload kept).handle ≡ kept.handle
+signalled_handle channel payload kept = answered-handle channel (channel_answer channel payload) kept
+
+pub commanded_handle : (kept : Kept) → (without_command kept).handle ≡ kept.handle
+commanded_handle kept = elim (is_some kept.reason) as (λ (is : Bool). (let after : Kept = if is then record kept { reason = None } else record kept { reply = None } in after).handle ≡ kept.handle) [
+  | true ↦ refl
+  | false ↦ refl
+]
+
+table-handle : (live : Bool) (kept other : Kept) → other.handle ≡ kept.handle → (let after : Kept = if live then other else kept in after).handle ≡ kept.handle
+table-handle true kept other same = same
+table-handle false kept other same = refl
+
+pub replaced_handle : (old new : List Attr) (kept : Kept) → (after_table old new kept).handle ≡ kept.handle
+replaced_handle old new kept = table-handle kept.live (record kept { row = kept_row old new kept.row }) _ refl
+
+-- and of one of which a packet may be given
+pub given_noted : (slot given : Option Kept) (gave : Bool) → OnTrue gave (given ≡ option_map without_packet slot) → OnFalse gave (given ≡ slot)
+    → noted_of given ≡ noted_of slot
+given_noted slot given true after stays = ap noted_of (OnTrue_at refl after) ∙ mapped_noted without_packet (λ kept. refl) slot
+given_noted slot given false after stays = ap noted_of (OnFalse_at refl stays)
+
+-- slots that are free, and the first ones alone
+pub free_noted : (count : ℕ) → AreNoted (replicate count None) (replicate 8 65536)
+free_noted count = λ place there. all-free 8 place ∙ sym (ap noted_of (none-kept count place))
+  where
+    all-free : (n place : ℕ) → ◌≡◌ {A = ℕ} (get_or (replicate n 65536) place 65536) 65536
+    all-free zero place = refl
+    all-free (suc n) zero = refl
+    all-free (suc n) (suc place) = all-free n place
+
+    none-kept : (n place : ℕ) → kept_at (replicate n None) place ≡ None
+    none-kept zero place = refl
+    none-kept (suc n) zero = refl
+    none-kept (suc n) (suc place) = none-kept n place
+
+first-kept : (slots : Held) (count place : ℕ) → place < length (take count slots) → (kept_at (take count slots) place ≡ kept_at slots place) × (place < length slots)
+first-kept [] zero place there = absurd (omega (arith, there))
+first-kept [] (suc count) place there = absurd (omega (arith, there))
+first-kept (slot ∷ slots) zero place there = absurd (omega (arith, there))
+first-kept (slot ∷ slots) (suc count) zero there = (refl, omega arith)
+first-kept (slot ∷ slots) (suc count) (suc place) there =
+    let rest = first-kept slots count place (omega (arith, there)) in
+    (rest.0, omega (arith, rest.1))
+
+pub first_noted : (slots : Held) (noted : List ℕ) (count : ℕ) → AreNoted slots noted → AreNoted (take count slots) noted
+first_noted slots noted count are = λ place there.
+    let first = first-kept slots count place there in
+    are place first.1 ∙ ap noted_of (sym first.0)
+
+-- each is changed
+map-kept : (f : Option Kept → Option Kept) (slots : Held) (place : ℕ) → place < length (map f slots)
+    → (kept_at (map f slots) place ≡ f (kept_at slots place)) × (place < length slots)
+map-kept f [] place there = absurd (omega (arith, there))
+map-kept f (slot ∷ slots) zero there = (refl, omega arith)
+map-kept f (slot ∷ slots) (suc place) there =
+    let rest = map-kept f slots place (omega (arith, there)) in
+    (rest.0, omega (arith, rest.1))
+
+pub each_noted : (slots others : Held) (noted : List ℕ) (change : Kept → Kept) → ((kept : Kept) → (change kept).handle ≡ kept.handle)
+    → others ≡ map (λ (slot : Option Kept). option_map change slot) slots → AreNoted slots noted → AreNoted others noted
+each_noted slots others noted change keeps is are =
+    subst (λ (it : Held). AreNoted it noted) (sym is) (λ place there.
+    let at = map-kept (λ (slot : Option Kept). option_map change slot) slots place there in
+    are place at.1 ∙ sym (mapped_noted change keeps (kept_at slots place)) ∙ ap noted_of (sym at.0))
+
+-- what is written over all of them is there
+pub written_over : (len : ℕ) (old new : Held) → length new ≡ length old → length old ≡ len → take len (new ++ drop (length new) old) ≡ new
+written_over len old new same is =
+    ap (λ (rest : Held). take len (new ++ rest)) (drop_all (length new) old (omega (arith, same)))
+    ∙ take-append-le len new [] (omega (arith, same, is)) ∙ take_all len new (omega (arith, same, is))
+
+heard-handle : (table : Contents) (now : ℕ) (rows : Subscriptions) (handles : List Handle) (slot : Option Kept)
+    → noted_of (heard_by table now rows handles slot) ≡ noted_of slot
+heard-handle table now rows handles None = refl
+heard-handle table now rows handles (Some kept) = table-handle kept.live kept (with_told kept (told_in_turn table (ear_of now (row_of rows kept.peer) kept) now handles (told_of kept))) refl
+
+pub heard_noted : (table : Contents) (now : ℕ) (rows : Subscriptions) (own : Option ℕ) (here handles : List Handle) (slots heard : Held) (noted : List ℕ)
+    → heard ≡ all_heard table now rows own here handles slots → length heard ≡ length slots → AreNoted slots noted → AreNoted heard noted
+heard_noted table now rows own here handles slots heard noted is count are = λ place there.
+    let hear : ℕ → Option Kept → Option Kept = λ at slot. heard_by table now rows (handles_for own here handles at) slot in
+    are place (omega (arith, there, count))
+    ∙ sym (heard-handle table now rows (handles_for own here handles place) (kept_at slots place))
+    ∙ ap noted_of (sym (heard-at hear (λ at. refl) 0 slots place ∙ ap (λ (at : ℕ). hear at (kept_at slots place)) (first place)))
+    ∙ ap (λ (it : Held). noted_of (kept_at it place)) (sym is)
+  where
+    first : (place : ℕ) → 0 + place ≡ place
+    first place = omega arith
+
+-- what is found by a handle
+module _ (slots : Held) (noted : List ℕ) (are : AreNoted slots noted) (handle : ℕ) (below : handle < 65536) where
+  is-noted : (place : ℕ) → place < length slots → is_holding handle (kept_at slots place) ≡ (get_or noted place 65536 == handle)
+  is-noted place there = holds-noted handle below (kept_at slots place) ∙ ap (λ (it : ℕ). it == handle) (sym (are place there))
+
+  -- nothing holds it of which it is not noted
+  unheld : (place : ℕ) → (place < length slots → (get_or noted place 65536 == handle) ≡ false) → is_holding handle (kept_at slots place) ≡ false
+  unheld place not = ⊎_elim
+      (λ there. is-noted place there ∙ not there)
+      (λ beyond. ap (is_holding handle) (past slots place (omega (arith, beyond))))
+      (cases_lt place (length slots))
+
+  pub noted_found : (place : ℕ) → position (λ (it : ℕ). it == handle) noted ≡ Some place → place < length slots → Some place ≡ place_holding slots handle
+  noted_found place is there =
+      let found = position-Some (λ (it : ℕ). it == handle) noted place 65536 is in
+      sym (first_at (is_holding handle) refl slots place (is-noted place there ∙ found.1)
+      (λ other less. unheld other (λ _. found.2 other less)))
+
+  pub noted_beyond : (place : ℕ) → position (λ (it : ℕ). it == handle) noted ≡ Some place → length slots ≤ place → None ≡ place_holding slots handle
+  noted_beyond place is beyond =
+      let found = position-Some (λ (it : ℕ). it == handle) noted place 65536 is in
+      sym (none_at (is_holding handle) refl slots (λ other. unheld other (λ there. found.2 other (omega (arith, there, beyond)))))
+
+  pub noted_nowhere : position (λ (it : ℕ). it == handle) noted ≡ None → None ≡ place_holding slots handle
+  noted_nowhere none = sym (none_at (is_holding handle) refl slots (λ other. unheld other (λ there. no other refl)))
+    where
+      no : (other : ℕ) {so : Bool} → (get_or noted other 65536 == handle) ≡ so → (get_or noted other 65536 == handle) ≡ false
+      no other {so = false} is = is
+      no other {so = true} is = ⊎_elim
+          (λ within. absurd (some-passes (λ (it : ℕ). it == handle) 65536 0 noted other within is (sym (position_from-zero (λ (it : ℕ). it == handle) noted) ∙ none)))
+          (λ beyond. ap (λ (it : ℕ). it == handle) (get_or_past noted other 65536 (omega (arith, beyond))) ∙ above)
+          (cases_lt other (length noted))
+        where
+          above : (65536 == handle) ≡ false
+          above = ⊎_elim (λ same. absurd (omega (arith, same.1, below))) (λ apart. apart.0) (eqb_tells 65536 handle)
+
+-- a connection that is found and serves is the first that does
+live-holds : (handle : ℕ) (slot : Option Kept) → is_holding handle slot ≡ false → is_serving handle slot ≡ false
+live-holds handle None not = refl
+live-holds handle (Some kept) not = and_right kept.live (kept.handle == handle) not
+
+serves-live : (handle : ℕ) (slot : Option Kept) → is_holding handle slot ≡ true → option_map_or (λ (kept : Kept). kept.live) slot false ≡ true → is_serving handle slot ≡ true
+serves-live handle None holds live = holds
+serves-live handle (Some kept) holds live = λ i. live i && holds i
+
+pub found_serving : (slots : Held) (handle place : ℕ) → Some place ≡ place_holding slots handle → option_map_or (λ (kept : Kept). kept.live) (kept_at slots place) false ≡ true
+    → Some place ≡ place_serving slots handle
+found_serving slots handle place is live =
+    let found = position-Some (is_holding handle) slots place None (sym is) in
+    let held : (other : ℕ) → other < place → is_serving handle (kept_at slots other) ≡ false = λ other less.
+    live-holds handle (kept_at slots other) (ap (is_holding handle) (kept-is slots other (omega (arith, less, found.0))) ∙ found.2 other less) in
+    sym (first_at (is_serving handle) refl slots place
+    (serves-live handle (kept_at slots place) (ap (is_holding handle) (kept-is slots place found.0) ∙ found.1) live) held)
