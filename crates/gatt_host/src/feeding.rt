@@ -101,16 +101,18 @@ fn take(host: &mut Host, octets: &[u8]) -> Result<usize, HostFault>
     ensures within { IfOk result (λ used. used ≤ length octets.now) }
     ensures some { IfOk result (λ used. 0 < length octets.now → 0 < used) }
 {
-    let taken = take_in(
+    match take_in(
         &mut host.state,
         &mut host.frames,
         &mut host.deframer,
         octets,
-    );
-    if taken.is_err() {
-        host.fault = taken.err();
+    ) {
+        Ok(used) => Ok(used),
+        Err(fault) => {
+            host.fault = Some(fault);
+            Err(fault)
+        }
     }
-    taken
 }
 
 /// The same by the parts of a host. Most packets lie whole in what is fed, and are heard where they lie.
