@@ -1,6 +1,6 @@
 -- What happens at one place of the slots.
 use Rattle.std.proofs.Common.{◌≡◌, ℕ, ◌<◌, Bool, true, false, List, length, set, get_or, Option, Some, None, refl, sym, ap, subst, ◌∙◌}
-use Rattle.std.specs.Prelude.{is_none, if◌then◌else◌}
+use Rattle.std.specs.Prelude.{is_none, if◌then◌else◌, IfSome}
 use Rattle.std.specs.Option.{option_map, option_map_or}
 use Rattle.std.proofs.lemmas.Option.{slice_get-get_or}
 use Rattle.att_numbers.specs.Types.{Row}
@@ -9,7 +9,6 @@ use Rattle.gatt_conn.specs.Answer.{is_confirmation}
 use Rattle.std.specs.Bool.{OnFalse, OnTrue}
 use Rattle.std.proofs.lemmas.Bool.{OnFalse_at, OnTrue_at}
 use Rattle.gatt_slots.proofs.Covering.{read_at}
-use Rattle.gatt_slots.proofs.Found.{clash}
 use Rattle.gatt_slots.specs.Commands.{has_command, without_packet}
 use Rattle.gatt_slots.specs.Kept.{Kept}
 use Rattle.gatt_slots.specs.Places.{is_some_handle, waits, GoesOn}
@@ -54,12 +53,20 @@ served-waits table now bond pdu kept is = by (is_full pdu kept) _ (confirmed-wai
     by true other same is = cc is
     by false other same is = ap is_some_handle (sym same) ∙ is
 
-pub served_goes_on : (table : Contents) (now : ℕ) (rows : Subscriptions) (pdu : Octets) (slot : Option Kept)
-    → has_command (option_map (λ kept. kept_served table now (row_of rows kept.peer) pdu kept) slot) ≡ false
-    → GoesOn slot (option_map (λ kept. kept_served table now (row_of rows kept.peer) pdu kept) slot)
-served_goes_on table now rows pdu None none = record { command = λ is. is; waiting = λ is. is; free = λ is. is }
-served_goes_on table now rows pdu (Some kept) none = record {
-  command = λ is. clash is none;
+served-command : (table : Contents) (now : ℕ) (bond : Option Row) (pdu : Octets) (kept : Kept) → is_full pdu kept ≡ false
+    → has_command (Some (kept_served table now bond pdu kept)) ≡ has_command (Some kept)
+served-command table now bond pdu kept not = by (is_full pdu kept) _ refl not
+  where
+    by : (full : Bool) (other : Kept) → has_command (Some other) ≡ has_command (Some kept) → full ≡ false
+        → has_command (let served : Kept = if full then after_ending remote_user_terminated kept else other in Some served) ≡ has_command (Some kept)
+    by true other same not = cc not
+    by false other same not = same
+
+pub served_goes_on : (table : Contents) (now : ℕ) (rows : Subscriptions) (pdu : Octets) (slot : Option Kept) (ended : Bool)
+    → IfSome slot (λ kept. ended ≡ is_full pdu kept) → ended ≡ false → GoesOn slot (option_map (λ kept. kept_served table now (row_of rows kept.peer) pdu kept) slot)
+served_goes_on table now rows pdu None ended says not = record { command = λ is. is; waiting = λ is. is; free = λ is. is }
+served_goes_on table now rows pdu (Some kept) ended says not = record {
+  command = λ is. sym (served-command table now (row_of rows kept.peer) pdu kept (sym says ∙ not)) ∙ is;
   waiting = served-waits table now (row_of rows kept.peer) pdu kept;
   free = λ is. is;
 }

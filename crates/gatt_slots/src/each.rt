@@ -99,8 +99,9 @@ fn complete_entry(
     ensures noted { AreNoted slots.new handles.now.noted }
 {
     if let Some(place) = handles.find(slots, entry.handle) {
-        slots[place].complete(entry.packets);
-        let giving = slots[place].gives();
+        let slot = &mut slots[place];
+        slot.complete(entry.packets);
+        let giving = slot.gives();
         marks.go_on(place, giving);
     }
 }

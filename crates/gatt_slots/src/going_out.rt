@@ -153,8 +153,9 @@ impl Slots {
         ensures unchanged { OnFalse result (self.new ≡ self.old) }
         ensures out_unchanged { OnFalse result (out.new ≡ out.old) }
     {
-        let given = self.slots[place].next_packet(out);
-        let giving = self.slots[place].gives();
+        let slot = &mut self.slots[place];
+        let given = slot.next_packet(out);
+        let giving = slot.gives();
         self.marks.go_on(place, giving);
         given
     }

@@ -46,14 +46,14 @@ impl Marks {
         self.free = true;
     }
 
-    /// Takes in that a request was served at a slot, and whether a command is due there now.
+    /// Takes in that a request was served at a slot, and whether its connection was ended.
     #[inline(always)]
-    pub(crate) fn serve(&mut self, place: usize, commanded: bool)
+    pub(crate) fn serve(&mut self, place: usize, ended: bool)
         requires { place < 8 }
-        ensures { (slots : Held) (slot : Option Kept) → place < length slots → IsMarked slots self.old → (commanded ≡ false → GoesOn (kept_at slots place) slot)
+        ensures { (slots : Held) (slot : Option Kept) → place < length slots → IsMarked slots self.old → (ended ≡ false → GoesOn (kept_at slots place) slot)
             → IsMarked (set slots place slot) self.new }
     {
-        if commanded {
+        if ended {
             self.change(place);
         } else {
             self.go_on(place, true);

@@ -8,7 +8,7 @@ ghost use Rattle.att_table.specs.ConfigRow.{IsRowOf};
 ghost use Rattle.gatt_conn.specs.Answer.{answer_to, stored_by, handles_by, conn_after, is_confirmation};
 ghost use Rattle.gatt_laws.specs.Heard.{att_pdu};
 ghost use Rattle.gatt_slots.specs.Hearing.{row_in_force, with_pdus};
-ghost use Rattle.gatt_slots.specs.Request.{bond_after, bond_served, handles_of, kept_served, own_row_after, table_after, with_owed_after};
+ghost use Rattle.gatt_slots.specs.Request.{bond_after, bond_served, handles_of, is_full, kept_served, own_row_after, table_after, with_owed_after};
 ghost use Rattle.gatt_subs.specs.Indications.{after_confirmation, is_told};
 ghost use Rattle.gatt_subs.specs.Rows.{row_of, ChangesBond};
 
@@ -27,7 +27,8 @@ use le_security::Link;
 
 impl Slot {
     /// Serves a PDU of the Attribute Protocol, with the handles that it wrote in place of what `written`
-    /// holds. The connection is ended where an answer is due and there is no room for it.
+    /// holds. Where an answer is due and there is no room for it, the connection is ended, and it says
+    /// so.
     #[inline(always)]
     pub fn serve(
         &mut self,
@@ -37,21 +38,21 @@ impl Slot {
         now: u64,
         pdu: &[u8],
         written: &mut ArrayVec<u16, 32>,
-    )
+    ) -> bool
         requires there { IsSome self.old }
         requires row { IfSome self.old (λ kept. IsRowOf table.old.attributes (row_in_force (row_of rows.old kept.peer) kept)) }
         ensures after { self.new ≡ option_map (λ kept. kept_served table.old now (row_of rows.old kept.peer) pdu.now kept) self.old }
         ensures table { IfSome self.old (λ kept. table.new ≡ table_after table.old now (row_of rows.old kept.peer) pdu.now kept) }
         ensures bond { IfSome self.old (λ kept. ChangesBond (bond_served table.old now changer (row_of rows.old kept.peer) pdu.now kept) kept.peer rows.old rows.new) }
         ensures written { IfSome self.old (λ kept. written.new.items ≡ handles_of table.old now (row_of rows.old kept.peer) pdu.now kept) }
+        ensures ended { IfSome self.old (λ kept. result ≡ is_full pdu.now kept) }
     {
         if is_full(&self.conn, &self.sender, pdu) {
             self.end(REMOTE_USER_TERMINATED);
             written.clear();
-            return;
+            return true;
         }
         let has_key = self.link.facts().is_some();
-        let knows_change = knows_change(&self.link, &self.pending, changer);
         let standing = standing(&self.link, self.key_known, self.until, now);
         self.conn.stand(standing);
         let served = answer_by_row(
@@ -65,8 +66,10 @@ impl Slot {
             &mut self.sender,
             written,
         );
+        let knows_change = knows_change(&self.link, &self.pending, changer);
         owe_unless(served.confirmed, knows_change, &self.peer, rows);
         take_confirmation(served.confirmed, &mut self.pending);
+        false
     }
 }
 

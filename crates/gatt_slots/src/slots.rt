@@ -224,9 +224,8 @@ impl Slots {
         ensures bond { IfSome (kept_at self.old place) (λ kept. ChangesBond (bond_served table.old now changer (row_of rows.old kept.peer) pdu.now kept) kept.peer rows.old rows.new) }
         ensures written { IfSome (kept_at self.old place) (λ kept. written.new.items ≡ handles_of table.old now (row_of rows.old kept.peer) pdu.now kept) }
     {
-        self.slots[place].serve(table, rows, changer, now, pdu, written);
-        let commanded = self.slots[place].has_command();
-        self.marks.serve(place, commanded);
+        let ended = self.slots[place].serve(table, rows, changer, now, pdu, written);
+        self.marks.serve(place, ended);
     }
 
     /// Counts packets as completed, each entry at most those that are outstanding. Entries of unknown
