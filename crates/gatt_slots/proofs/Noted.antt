@@ -1,6 +1,6 @@
 -- What is noted of slots, as they change, and what is found by it.
 use Rattle.std.proofs.Common.{◌≡◌, ℕ, zero, suc, ◌+◌, ◌<◌, ◌≤◌, ◌==◌, ◌&&◌, Bool, true, false, List, [], ◌∷◌, ◌++◌, drop, length, map, set, get_or, take, Option, Some, None, refl, sym, ap, subst, ◌∙◌, arith}
-use Rattle.std.specs.Prelude.{is_some, replicate, if◌then◌else◌}
+use Rattle.std.specs.Prelude.{is_some, if◌then◌else◌}
 use Rattle.std.specs.Bool.{OnFalse, OnTrue}
 use Rattle.std.specs.List.{position}
 use Rattle.std.specs.Option.{option_map, option_map_or}
@@ -51,10 +51,6 @@ module _ (slots : Held) (noted : List ℕ) (are : AreNoted slots noted) where
       (λ apart. get_or-set_other noted place other handle 65536 apart ∙ are other (omega (arith, there, length-set slots place slot))
       ∙ ap noted_of (sym (at-other slots place other slot apart)))
       (cases_eq other place)
-
-  -- all that are there keep theirs
-  pub noted_all : (others : Held) → length others ≤ length slots → ((place : ℕ) → place < length others → noted_of (kept_at others place) ≡ noted_of (kept_at slots place)) → AreNoted others noted
-  noted_all others fewer same = λ place there. are place (omega (arith, there, fewer)) ∙ sym (same place there)
 
 -- the event of a connection leaves it its handle
 pub mapped_noted : (change : Kept → Kept) → ((kept : Kept) → (change kept).handle ≡ kept.handle) → (slot : Option Kept)
@@ -108,20 +104,7 @@ pub given_noted : (slot given : Option Kept) (gave : Bool) → OnTrue gave (give
 given_noted slot given true after stays = ap noted_of (OnTrue_at refl after) ∙ mapped_noted without_packet (λ kept. refl) slot
 given_noted slot given false after stays = ap noted_of (OnFalse_at refl stays)
 
--- slots that are free, and the first ones alone
-pub free_noted : (count : ℕ) → AreNoted (replicate count None) (replicate 8 65536)
-free_noted count = λ place there. all-free 8 place ∙ sym (ap noted_of (none-kept count place))
-  where
-    all-free : (n place : ℕ) → ◌≡◌ {A = ℕ} (get_or (replicate n 65536) place 65536) 65536
-    all-free zero place = refl
-    all-free (suc n) zero = refl
-    all-free (suc n) (suc place) = all-free n place
-
-    none-kept : (n place : ℕ) → kept_at (replicate n None) place ≡ None
-    none-kept zero place = refl
-    none-kept (suc n) zero = refl
-    none-kept (suc n) (suc place) = none-kept n place
-
+-- the first ones alone
 first-kept : (slots : Held) (count place : ℕ) → place < length (take count slots) → (kept_at (take count slots) place ≡ kept_at slots place) × (place < length slots)
 first-kept [] zero place there = absurd (omega (arith, there))
 first-kept [] (suc count) place there = absurd (omega (arith, there))
