@@ -3,10 +3,10 @@ use Rattle.std.proofs.Common.{◌≡◌, Bool, List, ℕ, sym, subst}
 use Rattle.std.specs.Prelude.{Result, Ok, Err, IfErr, IsErrAnd}
 use Rattle.gatt_commands.specs.declared.fault.ShellFault.{ShellFault}
 use Rattle.gatt_commands.specs.declared.fault.ShellFault.TheVariants.{Table, Keys, Rows, Next, Script, Host, Controller, TooLong, NotHex, Unreadable, Unwritten, Listen, Memory}
-use Rattle.gatt_commands.specs.Lines.{IsHostRunFault, IsRunCommandFault}
+use Rattle.gatt_commands.specs.Lines.{IsHostRunFault, IsRunCommandFault, IsScriptRunFault}
 use Rattle.gatt_commands.specs.ScriptFile.{IsScriptRefusal}
 
-ran : (fault : ShellFault) → IsHostRunFault fault → IsRunCommandFault fault
+ran : (fault : ShellFault) → IsHostRunFault fault → IsScriptRunFault fault
 ran (Host number) is = is
 ran (Controller number) is = is
 ran TooLong is = is
@@ -21,11 +21,11 @@ ran (NotHex line) is = absurd is
 ran Unreadable is = absurd is
 ran Listen is = absurd is
 
-pub ran_at_all : (result : Result Unit ShellFault) → IfErr result IsHostRunFault → IfErr result IsRunCommandFault
+pub ran_at_all : (result : Result Unit ShellFault) → IfErr result IsHostRunFault → IfErr result IsScriptRunFault
 ran_at_all (Ok done) is = is
 ran_at_all (Err fault) is = ran fault is
 
-judged : (has_next : Bool) (text : List ℕ) (fault : ShellFault) → IsScriptRefusal has_next text fault → IsRunCommandFault fault
+judged : (has_next : Bool) (text : List ℕ) (fault : ShellFault) → IsScriptRefusal has_next text fault → IsScriptRunFault fault
 judged has_next text (Script line) refusal = tt
 judged has_next text Memory refusal = tt
 judged has_next text (Table number) refusal = absurd refusal
@@ -42,7 +42,26 @@ judged has_next text Listen refusal = absurd refusal
 
 -- the refusal of a script that is passed on
 pub judged_at_all : (has_next : Bool) (text : List ℕ) (outer : Result Unit ShellFault) (fault : ShellFault)
-    → IsErrAnd outer (λ passed_on. passed_on ≡ fault) → IsScriptRefusal has_next text fault → IfErr outer IsRunCommandFault
+    → IsErrAnd outer (λ passed_on. passed_on ≡ fault) → IsScriptRefusal has_next text fault → IfErr outer IsScriptRunFault
 judged_at_all has_next text (Ok done) fault was refusal = absurd was
 judged_at_all has_next text (Err passed_on) fault was refusal =
-    subst IsRunCommandFault (sym was) (judged has_next text fault refusal)
+    subst IsScriptRunFault (sym was) (judged has_next text fault refusal)
+
+begun : (fault : ShellFault) → IsScriptRunFault fault → IsRunCommandFault fault
+begun (Script line) is = is
+begun (Host number) is = is
+begun (Controller number) is = is
+begun TooLong is = is
+begun Unreadable is = is
+begun Unwritten is = is
+begun Memory is = is
+begun (Table number) is = absurd is
+begun (Next number) is = absurd is
+begun (Keys number) is = absurd is
+begun (Rows number) is = absurd is
+begun (NotHex line) is = absurd is
+begun Listen is = absurd is
+
+pub run_at_all : (result : Result Unit ShellFault) → IfErr result IsScriptRunFault → IfErr result IsRunCommandFault
+run_at_all (Ok done) is = is
+run_at_all (Err fault) is = begun fault is

@@ -52,3 +52,14 @@ pub never_past : (has_next : Bool) (text : List ℕ) (outer : Result Unit ShellF
 never_past has_next text (Ok done) fault was refusal later = absurd was
 never_past has_next text (Err passed_on) fault was refusal later =
     past has_next text fault refusal (subst (λ (f : ShellFault). place_of OfScript < place_of_fault f) was later)
+
+-- what is judged where a next table was read is judged where one was given
+pub script_refused : (known : Option (List ℕ)) (judged given : Bool) (line : ℕ) → judged ≡ given
+    → IfSome known (λ octets. script_in judged octets ≡ Err (BadLine line)) → IfSome known (λ octets. script_in given octets ≡ Err (BadLine line))
+script_refused known judged given line same is =
+    subst (λ (has_next : Bool). IfSome known (λ octets. script_in has_next octets ≡ Err (BadLine line))) same is
+
+pub script_accepted : (known : Option (List ℕ)) (judged given : Bool) → judged ≡ given
+    → IfSome known (λ octets. IsOk (script_in judged octets)) → IfSome known (λ octets. IsOk (script_in given octets))
+script_accepted known judged given same is =
+    subst (λ (has_next : Bool). IfSome known (λ octets. IsOk (script_in has_next octets))) same is

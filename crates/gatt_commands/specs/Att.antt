@@ -53,6 +53,9 @@ pub record Server : Type 0 where
   pub row : Row
   pub conn : Connection
 
+abbrev pub server_with : Contents → Row → Connection → Server
+server_with table row conn = record { table = table; row = row; conn = conn }
+
 -- the answer to a PDU, if one is due, and the server afterwards
 abbrev pub asked_of : Server → Octets → Question
 asked_of server pdu = request_of pdu server.conn.mtu

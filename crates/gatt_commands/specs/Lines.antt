@@ -107,12 +107,16 @@ abbrev pub IsHostRunFault : ShellFault → Type 0
 IsHostRunFault Memory = Unit {0}
 IsHostRunFault fault = IsRunFault fault
 
+-- what may end it from the script on
+abbrev pub IsScriptRunFault : ShellFault → Type 0
+IsScriptRunFault (Script line) = Unit {0}
+IsScriptRunFault Unreadable = Unit {0}
+IsScriptRunFault fault = IsHostRunFault fault
+
 -- what may end it from the first file on
 abbrev pub IsRunCommandFault : ShellFault → Type 0
 IsRunCommandFault (Table number) = Unit {0}
 IsRunCommandFault (Next number) = Unit {0}
 IsRunCommandFault (Keys number) = Unit {0}
 IsRunCommandFault (Rows number) = Unit {0}
-IsRunCommandFault (Script line) = Unit {0}
-IsRunCommandFault Unreadable = Unit {0}
-IsRunCommandFault fault = IsHostRunFault fault
+IsRunCommandFault fault = IsScriptRunFault fault

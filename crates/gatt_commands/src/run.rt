@@ -4,7 +4,7 @@ ghost use Rattle.std.specs.Prelude.{◌≡◌, ◌≢◌, ℕ, is_some, IfErr, I
 ghost use Rattle.scripts.specs.Phones.{HasNamedPhones};
 ghost use Rattle.scripts.specs.declared.script_fault.ScriptFault.TheVariants.{BadLine};
 ghost use Rattle.gatt_commands.specs.KeyFile.{keys_in, AreRefusedAs as KeysAreRefusedAs};
-ghost use Rattle.gatt_commands.specs.Lines.{IsHostRunFault, IsRunCommandFault, IsRunFault};
+ghost use Rattle.gatt_commands.specs.Lines.{IsHostRunFault, IsRunCommandFault, IsRunFault, IsScriptRunFault};
 ghost use Rattle.gatt_commands.specs.RowsFile.{rows_in, AreRefusedAs};
 ghost use Rattle.gatt_commands.specs.ScriptFile.{script_in};
 ghost use Rattle.gatt_commands.specs.TableFile.{table_in, IsRefusedAs};
@@ -26,6 +26,8 @@ use crate::table_file::{read_next, read_table};
 use crate::told::print_outcome;
 use att_table::Table;
 use gatt_host::Host;
+use gatt_subs::Rows;
+use le_security::Keys;
 use scripts::Script;
 use sim_controller::{Sim, SimConfig};
 use std::alloc::Global;
@@ -74,9 +76,28 @@ pub fn run_script<T: Read, N: Read, K: Read, R: Read, S: Read, V: Write, W: Writ
     ensures faults { IfErr result IsRunCommandFault }
 {
     let table = read_table(alloc, table)?;
-    let mut next = read_next(alloc, next)?;
+    let next = read_next(alloc, next)?;
     let keys = read_keys(alloc, keys)?;
     let rows = read_rows(alloc, rows)?;
+    run_files(alloc, table, next, keys, rows, script, rows_writer, writer)
+}
+
+/// Reads a script, and runs it with a host that has these files.
+fn run_files<S: Read, V: Write, W: Write>(
+    alloc: Global,
+    table: Table,
+    mut next: Option<Table>,
+    keys: Keys,
+    rows: Rows,
+    script: &mut S,
+    rows_writer: &mut V,
+    writer: &mut W,
+) -> Result<(), ShellFault>
+    ensures script { (line : ℕ) → result ≡ Err (ShellFault.Script line)
+        → IfSome (S.remaining script.old) (λ octets. script_in (is_some next) octets ≡ Err (BadLine line)) }
+    ensures script_last { IsPast OfScript result → IfSome (S.remaining script.old) (λ octets. IsOk (script_in (is_some next) octets)) }
+    ensures faults { IfErr result IsScriptRunFault }
+{
     let octets = read_all(alloc, script)?;
     let script = judged_script(alloc, octets.as_slice(), next.is_some())?;
     let mut host = open_host(alloc, table, keys, rows)?;

@@ -1,7 +1,7 @@
 //! The command `serve`.
 
 ghost use Rattle.std.specs.Prelude.{◌≡◌, ◌≢◌, Err, IfErr};
-ghost use Rattle.gatt_commands.specs.Serving.{IsServeFault, IsServedFault};
+ghost use Rattle.gatt_commands.specs.Serving.{IsOpeningFault, IsServeFault, IsServedFault};
 
 use crate::check::{KeysPath, TablePath};
 use crate::fault::ShellFault;
@@ -94,14 +94,21 @@ pub fn serve_paths<F: Files + Net<Listener = TcpListener, Stream = TcpStream>>(
 ) -> Result<(), ShellFault>
     ensures { IfErr result IsServeFault }
 {
-    let table = read_table(alloc, &mut LazyFile::new(system, paths.table.0))?;
-    let keys = read_keys(alloc, &mut LazyFile::new(system, paths.keys.0))?;
-    let rows = read_rows(alloc, &mut RowsReader::new(system, paths.rows))?;
-    let mut host = open_host(alloc, table, keys, rows)?;
+    let mut host = open_paths(alloc, system, paths)?;
     let listener = listen(system, address)?;
     serve_on(
         &listener,
         &mut host,
         &mut RowsWriter::new(system, paths.rows),
     )
+}
+
+/// A host with the files at these paths. None of them is opened before its turn.
+fn open_paths<F: Files>(alloc: Global, files: &F, paths: ServePaths<'_>) -> Result<Host, ShellFault>
+    ensures { IfErr result IsOpeningFault }
+{
+    let table = read_table(alloc, &mut LazyFile::new(files, paths.table.0))?;
+    let keys = read_keys(alloc, &mut LazyFile::new(files, paths.keys.0))?;
+    let rows = read_rows(alloc, &mut RowsReader::new(files, paths.rows))?;
+    open_host(alloc, table, keys, rows)
 }

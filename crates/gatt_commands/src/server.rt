@@ -1,7 +1,8 @@
 ghost use Rattle.std.specs.Prelude.{◌≡◌, [], Some, None, if◌then◌else◌, IfErr, IfOk};
 ghost use Rattle.std.specs.Option.{option_map};
 ghost use Rattle.att_pdu.specs.Response.{sent};
-ghost use Rattle.gatt_commands.specs.Att.{answer_from, door, door_server, server_after};
+ghost use Rattle.att_table.specs.ConfigRow.{IsRowOf};
+ghost use Rattle.gatt_commands.specs.Att.{answer_from, door, door_server, server_after, server_with};
 ghost use Rattle.gatt_commands.specs.Session.{IsStartFault};
 
 use crate::fault::ShellFault;
@@ -51,17 +52,25 @@ impl DoorServer {
         ensures answer { option_map sent (answer_from self.old pdu.now) ≡ (if result then Some octets.new.items else None) }
         ensures server { self.new ≡ server_after self.old pdu.now }
     {
-        let mut touched = ArrayVec::new();
-        let served = answer_into(
-            &mut self.table,
-            &mut self.row,
-            &mut self.conn,
-            pdu,
-            octets,
-            &mut touched,
-        );
-        served.due
+        answer_from(&mut self.table, &mut self.row, &mut self.conn, pdu, octets)
     }
+}
+
+/// Serves a PDU from a table, to a connection whose client has configured a row.
+fn answer_from(
+    table: &mut Table,
+    row: &mut ConfigRow,
+    conn: &mut Conn,
+    pdu: &[u8],
+    octets: &mut ArrayVec<u8, 517>,
+) -> bool
+    requires row { IsRowOf table.old.attributes row.old }
+    ensures answer { option_map sent (answer_from (server_with table.old row.old conn.old) pdu.now) ≡ (if result then Some octets.new.items else None) }
+    ensures server { server_with table.new row.new conn.new ≡ server_after (server_with table.old row.old conn.old) pdu.now }
+    ensures table { IsRowOf table.new.attributes row.new }
+{
+    let mut touched = ArrayVec::new();
+    answer_into(table, row, conn, pdu, octets, &mut touched).due
 }
 
 /// The table of the example door lock.

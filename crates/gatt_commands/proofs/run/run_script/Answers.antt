@@ -1,19 +1,13 @@
-use Rattle.std.proofs.Common.{◌∙◌}
+use Rattle.std.specs.Prelude.{is_some}
 use Rattle.gatt_commands.specs.KeyFile.{keys_in}
 use Rattle.gatt_commands.specs.RowsFile.{rows_in}
-use Rattle.gatt_commands.specs.ScriptFile.{script_in}
 use Rattle.gatt_commands.specs.TableFile.{table_in}
-use Rattle.std.specs.Prelude.{is_some, Ok, Err}
-use Rattle.scripts.specs.declared.script_fault.ScriptFault.TheVariants.{BadLine}
-use Rattle.gatt_commands.proofs.RunFaults.{judged_at_all, ran_at_all}
-use Rattle.gatt_commands.proofs.RunOrders.{accepted, judged_all, refused_at, never_past}
+use Rattle.gatt_commands.proofs.RunFaults.{run_at_all}
+use Rattle.gatt_commands.proofs.RunOrders.{accepted, script_accepted, script_refused}
 use Rattle.gatt_commands.proofs.run.run_script.Goals as goal
 
 pub returns-in_err-rows-clause-table_first : goal.returns-in_err-rows-clause-table_first
 returns-in_err-rows-clause-table_first g c = λ past. accepted (g.T.Read.remaining c.args.table.now) table_in c.in_ok-table.table c.in_ok-table.ensures.table
-
-pub returns-in_err-script-clause-table_first : goal.returns-in_err-script-clause-table_first
-returns-in_err-script-clause-table_first g c = λ past. accepted (g.T.Read.remaining c.args.table.now) table_in c.in_ok-table.table c.in_ok-table.ensures.table
 
 pub returns-clause-table_first : goal.returns-clause-table_first
 returns-clause-table_first g c = λ past. accepted (g.T.Read.remaining c.args.table.now) table_in c.in_ok-table.table c.in_ok-table.ensures.table
@@ -24,28 +18,15 @@ returns-clause-keys_third g c = λ past. accepted (g.K.Read.remaining c.args.key
 pub returns-clause-rows_fourth : goal.returns-clause-rows_fourth
 returns-clause-rows_fourth g c = λ past. accepted (g.R.Read.remaining c.args.rows.now) rows_in c.in_ok-rows.rows c.in_ok-rows.ensures.rows
 
-pub returns-in_err-script-clause-script : goal.returns-in_err-script-clause-script
-returns-in_err-script-clause-script g c = λ line is.
-    judged_all (g.S.Read.remaining c.args.script.now) c.in_ok-octets.octets.items c.as_slice.result.now c.is_some.result (is_some c.args.next.now) (Err (BadLine line))
-    c.in_ok-octets.ensures.all c.as_slice.ensures.value (c.is_some.ensures ∙ c.in_ok-next.ensures.some)
-    (refused_at c.is_some.result c.as_slice.result.now c.from_residual-in_err-script.result c.in_err-script.field-0.0 line
-    c.from_residual-in_err-script.ensures.1 c.in_err-script.ensures.refused is)
-
-pub returns-in_err-script-clause-script_last : goal.returns-in_err-script-clause-script_last
-returns-in_err-script-clause-script_last g c = λ past.
-    absurd (never_past c.is_some.result c.as_slice.result.now c.from_residual-in_err-script.result c.in_err-script.field-0.0
-    c.from_residual-in_err-script.ensures.1 c.in_err-script.ensures.refused past)
+pub returns-clause-script : goal.returns-clause-script
+returns-clause-script g c = λ line is.
+    script_refused (g.S.Read.remaining c.args.script.now) (is_some c.in_ok-next.next) (is_some c.args.next.now) line
+    c.in_ok-next.ensures.some (c.run_files.ensures.script line is)
 
 pub returns-clause-script_last : goal.returns-clause-script_last
 returns-clause-script_last g c = λ past.
-    accepted (g.S.Read.remaining c.args.script.now) (script_in (is_some c.args.next.now)) c.in_ok-script.script
-    (judged_all (g.S.Read.remaining c.args.script.now) c.in_ok-octets.octets.items c.as_slice.result.now c.is_some.result (is_some c.args.next.now) (Ok c.in_ok-script.script)
-    c.in_ok-octets.ensures.all c.as_slice.ensures.value (c.is_some.ensures ∙ c.in_ok-next.ensures.some) c.in_ok-script.ensures.script)
-
-pub returns-in_err-script-clause-faults : goal.returns-in_err-script-clause-faults
-returns-in_err-script-clause-faults g c =
-    judged_at_all c.is_some.result c.as_slice.result.now c.from_residual-in_err-script.result c.in_err-script.field-0.0
-    c.from_residual-in_err-script.ensures.1 c.in_err-script.ensures.refused
+    script_accepted (g.S.Read.remaining c.args.script.now) (is_some c.in_ok-next.next) (is_some c.args.next.now)
+    c.in_ok-next.ensures.some (c.run_files.ensures.script_last past)
 
 pub returns-clause-faults : goal.returns-clause-faults
-returns-clause-faults g c = ran_at_all c.run_host.result c.run_host.ensures
+returns-clause-faults g c = run_at_all c.run_files.result c.run_files.ensures.faults
