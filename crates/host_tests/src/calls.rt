@@ -49,7 +49,12 @@ fn ask_for_table(
 }
 
 fn make_call(rt: &impl Abort, host: &mut Host, call: App<'_>, written: &mut Written) {
-    assert!(rt; drive(host, &[Input::Call(call)], written) == Ok(0));
+    assert!(rt; are_made(host, &[Input::Call(call)], written));
+}
+
+/// Whether a host makes these calls, and takes in no octet.
+fn are_made(host: &mut Host, calls: &[Input<'_>], written: &mut Written) -> bool {
+    drive(host, calls, written) == Ok(0)
 }
 
 fn refuse(rt: &impl Abort, host: &mut Host, call: App<'_>, fault: AppFault) {
