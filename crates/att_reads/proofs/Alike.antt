@@ -12,9 +12,10 @@ use Rattle.att_policy.specs.Refusal.{Refusal}
 use Rattle.att_pdu.specs.Uuid.{number_of}
 use Rattle.att_pdu.specs.Request.{Asked, ExchangeMtuRequest, WriteRequest, PrepareWriteRequest, ExecuteWriteRequest, ConfirmationPdu, WriteCommandPdu, FindInformationRequest, FindByTypeValueRequest, ReadByTypeRequest, ReadRequest, ReadBlobRequest, ReadMultipleRequest, ReadByGroupTypeRequest}
 use Rattle.att_pdu.specs.Response.{Element, Response, FindByTypeValueResponse, ReadResponse, ReadBlobResponse, ReadMultipleResponse, ReadByTypeResponse, ReadByGroupTypeResponse}
+use Rattle.att_attributes.specs.Attributes.{is_configuration_at}
+use Rattle.att_attributes.specs.OfType.{handles_of_type}
 use Rattle.att_table.specs.ConfigRow.{bits_at}
-use Rattle.att_table.specs.Table.{Contents, is_configuration_at, value_at}
-use Rattle.att_table.specs.OfType.{handles_of_type}
+use Rattle.att_table.specs.Table.{Contents, value_at}
 use Rattle.att_reads.specs.declared.list.Listing.{Listing}
 use Rattle.att_reads.specs.declared.list.Listing.TheVariants.{Values, Groups}
 use Rattle.att_reads.specs.Access.{refusal_at, refusal_of, value_for, IsAlike}

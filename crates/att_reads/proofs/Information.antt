@@ -1,7 +1,7 @@
 -- How types are listed one after another.
 use Rattle.std.proofs.Common.{◌≡◌, ◌<◌, ℕ, ◌+◌, List, length, drop, get_or, map, ap, sym, subst, ◌∙◌}
 use Rattle.att_numbers.specs.Types.{Mtu}
-use Rattle.att_table.specs.declared.attr.Attr.{Attr}
+use Rattle.att_attributes.specs.declared.attr.Attr.{Attr}
 use Rattle.att_reads.specs.Answer.{information_of}
 use Rattle.att_reads.specs.Listing.{with_listed, HasNext, HasNoNext}
 use Rattle.att_reads.proofs.Listed.{listed_next, listed_stop}

@@ -12,8 +12,9 @@ use Rattle.att_pdu.specs.Response.{Response, FindInformationResponse, FindByType
 use Rattle.att_pdu.specs.Uuid.{number_of}
 use Rattle.att_policy.specs.Refusal.{Refusal}
 use Rattle.att_policy.specs.declared.standing.Standing.{Standing}
-use Rattle.att_table.specs.OfType.{handles_of_type}
-use Rattle.att_table.specs.Table.{Contents, attributes_in}
+use Rattle.att_attributes.specs.Attributes.{attributes_in}
+use Rattle.att_attributes.specs.OfType.{handles_of_type}
+use Rattle.att_table.specs.Table.{Contents}
 use Rattle.att_reads.specs.declared.list.Listing.TheVariants.{Values, Groups}
 use Rattle.att_reads.specs.Access.{refusal_of, value_for}
 use Rattle.att_reads.specs.List.{candidate_of}

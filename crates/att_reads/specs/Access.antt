@@ -6,9 +6,10 @@ use Rattle.att_policy.specs.declared.policy.Access.TheVariants.{Read}
 use Rattle.att_policy.specs.declared.standing.Standing.{Standing}
 use Rattle.att_policy.specs.Policy.{first_broken_of}
 use Rattle.att_policy.specs.Refusal.{Refusal}
-use Rattle.att_table.specs.declared.attr.Attr.{Attr}
+use Rattle.att_attributes.specs.declared.attr.Attr.{Attr}
+use Rattle.att_attributes.specs.Attributes.{guard_at, is_configuration_at}
 use Rattle.att_table.specs.ConfigRow.{bits_at}
-use Rattle.att_table.specs.Table.{Contents, guard_at, is_configuration_at, value_at}
+use Rattle.att_table.specs.Table.{Contents, value_at}
 use Rattle.octets.specs.Number.{Octets}
 
 -- the error code of the first rule that reading there breaks, if it breaks one

@@ -9,10 +9,11 @@ use Rattle.att_pdu.specs.Uuid.{number_of}
 use Rattle.att_pdu.specs.Request.{Asked, FindInformationRequest, FindByTypeValueRequest, ReadByTypeRequest, ReadRequest, ReadBlobRequest, ReadMultipleRequest, ReadByGroupTypeRequest}
 use Rattle.att_pdu.specs.Response.{Element, element_octets, OfAttribute, OfGroup, Response, FindInformationResponse, FindByTypeValueResponse, ReadByTypeResponse, ReadResponse, ReadBlobResponse, ReadMultipleResponse, ReadByGroupTypeResponse}
 use Rattle.att_policy.specs.declared.standing.Standing.{Standing}
-use Rattle.att_table.specs.declared.attr.Attr.{Attr}
-use Rattle.att_table.specs.Group.{group_end_at}
-use Rattle.att_table.specs.OfType.{handles_of_type}
-use Rattle.att_table.specs.Table.{Contents, attributes_in}
+use Rattle.att_attributes.specs.declared.attr.Attr.{Attr}
+use Rattle.att_attributes.specs.Attributes.{attributes_in}
+use Rattle.att_attributes.specs.Group.{group_end_at}
+use Rattle.att_attributes.specs.OfType.{handles_of_type}
+use Rattle.att_table.specs.Table.{Contents}
 use Rattle.att_reads.specs.Access.{refusal_at, refusal_of, value_for}
 use Rattle.att_reads.specs.declared.list.Listing.TheVariants.{Values, Groups}
 use Rattle.att_reads.specs.List.{candidate_of}

@@ -4,7 +4,7 @@ use Rattle.att_numbers.specs.Types.{Handle, Mtu, Opcode, Row}
 use Rattle.att_numbers.specs.declared.opcode.TheConstants.{READ_BY_TYPE_REQUEST, READ_BY_GROUP_TYPE_REQUEST}
 use Rattle.att_pdu.specs.Response.{Element, OfAttribute, OfGroup, Response, ReadByTypeResponse, ReadByGroupTypeResponse}
 use Rattle.att_policy.specs.declared.standing.Standing.{Standing}
-use Rattle.att_table.specs.Group.{group_end_at}
+use Rattle.att_attributes.specs.Group.{group_end_at}
 use Rattle.att_table.specs.Table.{Contents}
 use Rattle.att_reads.specs.declared.list.Listing.{Listing}
 use Rattle.att_reads.specs.declared.list.Listing.TheVariants.{Values, Groups}

@@ -4,7 +4,7 @@ use Rattle.att_numbers.specs.Types.{Handle, AttributeType, Opcode}
 use Rattle.att_numbers.specs.declared.error_code.TheConstants.{INVALID_HANDLE, INVALID_OFFSET, ATTRIBUTE_NOT_FOUND, UNSUPPORTED_GROUP_TYPE}
 use Rattle.att_pdu.specs.Response.{Response, ErrorResponse}
 use Rattle.att_policy.specs.Refusal.{Refusal}
-use Rattle.att_table.specs.Group.{is_service_type}
+use Rattle.att_attributes.specs.Group.{is_service_type}
 use Rattle.octets.specs.Number.{Octets}
 
 -- the first of these refusals that there is answers a request, and else this

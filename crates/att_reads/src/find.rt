@@ -6,7 +6,7 @@ ghost use Rattle.std.specs.Bool.{OnTrue};
 ghost use Rattle.att_numbers.specs.declared.opcode.TheConstants.{FIND_INFORMATION_REQUEST, FIND_BY_TYPE_VALUE_REQUEST};
 ghost use Rattle.att_pdu.specs.PduBuf.{contents, mtu_of, IsSameBuffer, AppendsWhereFits};
 ghost use Rattle.att_pdu.specs.Response.{element_octets, sent, FindInformationResponse, FindByTypeValueResponse};
-ghost use Rattle.att_table.specs.Table.{attribute_at};
+ghost use Rattle.att_attributes.specs.Attributes.{attribute_at};
 ghost use Rattle.att_reads.specs.Answer.{is_match, with_groups, group_of, information_of, information_format};
 ghost use Rattle.att_reads.specs.Listing.{size_of_first, elements_within, with_listed, AppendsNext};
 ghost use Rattle.att_reads.specs.Refusals.{unless_refused, not_found};

@@ -4,7 +4,7 @@
 ghost use Rattle.std.specs.Prelude.{◌≡◌, ◌+◌, ◌≤◌, ◌<◌, ◌∷◌, [], map, length, take, IsSome};
 ghost use Rattle.att_pdu.specs.PduBuf.{contents, mtu_of, IsSameBuffer, AppendsWhereFits};
 ghost use Rattle.att_pdu.specs.Response.{element_octets, sent};
-ghost use Rattle.att_table.specs.Table.{attribute_at};
+ghost use Rattle.att_attributes.specs.Attributes.{attribute_at};
 ghost use Rattle.att_reads.specs.List.{request_of, head_of, cut_of, element_of, candidate_of, list_answer};
 ghost use Rattle.att_reads.specs.Listing.{with_listed, AppendsNext};
 

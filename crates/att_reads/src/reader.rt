@@ -1,6 +1,6 @@
 ghost use Rattle.std.specs.Prelude.{◌≡◌, ◌≤◌, ◌∷◌, [], IfOk, IfErr, IsSome, None, Some};
 ghost use Rattle.att_reads.specs.Access.{refusal_at, value_for};
-ghost use Rattle.att_table.specs.Table.{attribute_at};
+ghost use Rattle.att_attributes.specs.Attributes.{attribute_at};
 
 use att_policy::{Access, Standing, first_broken};
 use att_table::{ConfigRow, Role, Table};

@@ -1,9 +1,9 @@
 -- The handle of an attribute that is found is that of one of at most 1,024.
-use Rattle.std.proofs.Common.{◌≡◌, ℕ, ◌+◌, ◌<◌, ◌≤◌, Bool, true, false, if◌then◌else◌, List, [], ◌∷◌, length, Option, Some, None, arith}
+use Rattle.std.proofs.Common.{ℕ, ◌+◌, ◌<◌, ◌≤◌, Bool, true, false, if◌then◌else◌, List, [], ◌∷◌, length, Option, Some, None, arith}
 use Rattle.std.specs.List.{find}
 use Rattle.std.specs.Option.{IfSome, option_map}
-use Rattle.att_table.specs.declared.attr.Attr.{Attr}
-use Rattle.att_table.specs.Table.{HaveHandlesFrom, IsNumbered}
+use Rattle.att_attributes.specs.declared.attr.Attr.{Attr}
+use Rattle.att_attributes.specs.Attributes.{HaveHandlesFrom, IsNumbered}
 
 found_below : (test : Attr → Bool) (first : ℕ) (attributes : List Attr) → HaveHandlesFrom first attributes
     → IfSome (option_map (λ (attr : Attr). attr.handle) (find test attributes)) (λ handle. handle < first + length attributes)

@@ -7,10 +7,9 @@ use Rattle.std.proofs.lemmas.Bool.Decides.{nat_tests}
 use Rattle.std.proofs.lemmas.List.Elements.{All-cons, All-head, All-tail}
 use Rattle.std.proofs.lemmas.List.Sums.{sum_by-cons}
 use Rattle.att_numbers.specs.Types.{Handle, Row}
-use Rattle.att_table.specs.declared.attr.Attr.{Attr}
+use Rattle.att_attributes.specs.declared.attr.Attr.{Attr}
+use Rattle.att_attributes.specs.Attributes.{is_configuration, configurations_of, attribute_at, is_configuration_at, HaveHandlesFrom, IsNumbered}
 use Rattle.att_table.specs.ConfigRow.{with_bits, has_entry, HasOneEntryEach, IsRowOf, HasRowRoom}
-use Rattle.att_table.specs.Table.{is_configuration, configurations_of}
-use Rattle.att_table.specs.Table.{attribute_at, is_configuration_at, HaveHandlesFrom, IsNumbered}
 
 -- a write adds no other entry
 has_with_bits : (row : Row) (handle bits other : ℕ) → has_entry (with_bits row handle bits) other ≡ has_entry row other || (handle == other)

@@ -9,13 +9,14 @@ use Rattle.std.proofs.lemmas.List.Elements.{All-nil, All-cons, All-head, All-tai
 use Rattle.std.proofs.lemmas.List.Sums.{sum_by-cons}
 use Rattle.octets.specs.Number.{Octets}
 use Rattle.att_numbers.specs.Types.{Handle}
-use Rattle.att_values.specs.Cell.{Cell, no_cell, cell_at, value_with_part, patched_cell, with_part}
-use Rattle.att_table.specs.declared.attr.Attr.{Attr}
-use Rattle.att_table.specs.declared.attr.Role.{Role}
-use Rattle.att_table.specs.declared.attr.Role.TheVariants.{Declaration, Value, Configuration, Descriptor}
+use Rattle.att_values.specs.Cell.{Cell, no_cell, cell_at, value_with_part}
+use Rattle.att_attributes.specs.declared.attr.Attr.{Attr}
+use Rattle.att_attributes.specs.declared.attr.Role.{Role}
+use Rattle.att_attributes.specs.declared.attr.Role.TheVariants.{Declaration, Value, Configuration, Descriptor}
+use Rattle.att_attributes.specs.Attributes.{attribute_at, largest_at, is_configuration, is_configuration_at, is_fixed_at, is_value, is_value_at}
 use Rattle.att_table.specs.Facts.{IsTable}
-use Rattle.att_table.specs.Table.{Contents, attribute_at, value_at, largest_at, is_configuration, is_configuration_at, is_fixed_at, is_value, is_value_at, room_at, values_of, most_octets, counted_octets, octets_of, StandBehind, last_role, AreExact, IsKept, IsNext, IsWhole}
-use Rattle.att_table.proofs.OfType.{numbered_pushed}
+use Rattle.att_table.specs.Table.{Contents, value_at, room_at, values_of, most_octets, counted_octets, octets_of, StandBehind, last_role, AreExact, IsKept, IsNext, IsWhole}
+use Rattle.att_attributes.proofs.OfType.{numbered_pushed}
 use Rattle.att_table.proofs.Configurations.{room_in_row}
 use Rattle.att_table.proofs.Services.{attribute_at-within}
 use Rattle.att_table.proofs.Tables.{kept-length, kept-room, value_at-cell, cell-within}

@@ -8,13 +8,12 @@ use Rattle.toml.specs.Parse.{parse_document}
 use Rattle.toml_tables.specs.Reading.{◌>>=◌, unless, require, each, text_at, integer_at, flag_at, array_at, items_at, table_at}
 use Rattle.toml_tables.specs.Shape.{is_shaped}
 use Rattle.att_numbers.specs.AttributeType.{type_octets}
-use Rattle.att_numbers.specs.Types.{Handle, AttributeType}
 use Rattle.att_numbers.specs.declared.attribute_type.TheConstants.{INCLUDE, CHARACTERISTIC}
 use Rattle.att_policy.specs.declared.guard.Need.{Need}
 use Rattle.att_policy.specs.declared.guard.Properties.{Properties}
-use Rattle.att_table.specs.declared.attr.Attr.{Attr}
-use Rattle.att_table.specs.declared.attr.Role.{Role}
-use Rattle.att_table.specs.declared.attr.Role.TheVariants.{Value as ValueRole, Descriptor}
+use Rattle.att_attributes.specs.declared.attr.Attr.{Attr}
+use Rattle.att_attributes.specs.declared.attr.Role.{Role}
+use Rattle.att_attributes.specs.declared.attr.Role.TheVariants.{Value as ValueRole, Descriptor}
 use Rattle.att_table.specs.declared.table_fault.Name.TheVariants.{Service as ServiceName, Uuid, Properties as PropertiesName, Value}
 use Rattle.att_table.specs.declared.table_fault.TableFault.{TableFault}
 use Rattle.att_table.specs.declared.table_fault.TableFault.TheVariants.{NotToml, Missing, BadUuid, BadSecurity, BadProperty, BadInclude, TooLong, TooMany, Shape}

@@ -4,9 +4,9 @@ use Rattle.std.proofs.lemmas.Bool.Decides.{nat_tests}
 use Rattle.std.specs.List.{All, filter}
 use Rattle.std.proofs.lemmas.List.Elements.{All-nil, All-cons, All-filter}
 use Rattle.att_numbers.specs.Types.{Handle, Row}
-use Rattle.att_table.specs.declared.attr.Attr.{Attr}
+use Rattle.att_attributes.specs.declared.attr.Attr.{Attr}
+use Rattle.att_attributes.specs.Attributes.{is_configuration_at}
 use Rattle.att_table.specs.ConfigRow.{bits_at, has_entry, has_its_meaning, is_supported, kept_bits, kept_row, IsEntry, HasOneEntryEach, IsRowOf}
-use Rattle.att_table.specs.Table.{is_configuration_at}
 
 -- what is left out of a row adds no entry
 has-filter : (test : Handle × ℕ → Bool) (row : Row) (handle : Handle) → has_entry row handle ≡ false → has_entry (filter test row) handle ≡ false

@@ -2,9 +2,7 @@ pub mod Configurations
 pub mod Digits
 pub mod Facts
 pub mod Faults
-pub mod Groups
 pub mod Kept
-pub mod OfType
 pub mod Parsed
 pub mod Rows
 pub mod ServiceBefore

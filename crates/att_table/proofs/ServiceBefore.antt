@@ -11,11 +11,12 @@ use Rattle.att_numbers.specs.declared.attribute_type.TheConstants.{SERVICE_CHANG
 use Rattle.att_policy.specs.declared.guard.TheConstants.Properties.{INDICATE}
 use Rattle.att_policy.specs.Policy.{has_property}
 use Rattle.att_values.specs.Cell.{Cell, IsUsed}
-use Rattle.att_table.specs.declared.attr.Attr.{Attr}
+use Rattle.att_attributes.specs.declared.attr.Attr.{Attr}
+use Rattle.att_attributes.specs.Attributes.{attribute_at, is_fixed_at, is_value, largest_at, HaveHandlesFrom}
 use Rattle.att_table.specs.declared.changer.TheConstants.{CHANGER_LEN}
 use Rattle.att_table.specs.Changer.{changer_of, declares_generic_attribute, is_changer, last_service, IsOfAChanger}
 use Rattle.att_table.specs.Facts.{IsTable}
-use Rattle.att_table.specs.Table.{Contents, attribute_at, is_fixed_at, is_value, largest_at, value_at, values_of, HaveHandlesFrom, IsKept, IsWhole}
+use Rattle.att_table.specs.Table.{Contents, value_at, values_of, IsKept, IsWhole}
 use Rattle.att_table.proofs.Facts.{facts_of}
 use Rattle.att_table.proofs.Tables.{kept-length}
 

@@ -3,11 +3,11 @@ use Rattle.std.proofs.Common.{◌≡◌, ℕ, zero, suc, ◌+◌, ◌-◌, ◌<�
 use Rattle.std.proofs.lemmas.Grind.{common_steps}
 use Rattle.std.specs.Option.{option_to_list}
 use Rattle.std.specs.Prelude.{ℤ, pos, negsuc, slice_get, IsSome}
-use Rattle.att_table.specs.declared.attr.Attr.{Attr}
+use Rattle.att_attributes.specs.declared.attr.Attr.{Attr}
+use Rattle.att_attributes.specs.Attributes.{attribute_at}
 use Rattle.att_table.specs.declared.file.include.ServiceHandles.{ServiceHandles}
 use Rattle.att_table.specs.file.Draft.{HaveHandlesTo}
 use Rattle.att_table.specs.file.Service.{followed_service, earlier_services, earlier_service}
-use Rattle.att_table.specs.Table.{attribute_at}
 
 -- a place after the first one
 pub later_place : {A : Type 0} (x : A) (xs : List A) (place : ℕ) → 0 < place → slice_get (x ∷ xs) place ≡ slice_get xs (place - 1)

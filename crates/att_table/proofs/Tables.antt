@@ -1,5 +1,5 @@
 -- A table whose values are kept in cells.
-use Rattle.std.proofs.Common.{◌≡◌, ℕ, ◌+◌, ◌-◌, ◌<◌, ◌≤◌, Bool, true, false, List, length, get_or, map, refl, sym, ◌∙◌, ap, subst, inl, inr, arith, length-append, length-take, length-drop}
+use Rattle.std.proofs.Common.{◌≡◌, ℕ, ◌+◌, ◌-◌, ◌≤◌, Bool, true, false, List, length, get_or, map, refl, sym, ◌∙◌, ap, subst, inl, inr, arith, length-append, length-take, length-drop}
 use Rattle.std.specs.Prelude.{IsSome, Option, Some, None, slice_get, unwrap_or, cond, sum, sum_by}
 use Rattle.std.specs.Option.{option_map, option_map_or}
 use Rattle.std.proofs.Math.Seq.{map-set_same}
@@ -8,17 +8,12 @@ use Rattle.std.proofs.lemmas.List.{map-set, get_or_past, length-map, append-nil}
 use Rattle.std.proofs.Math.ListN.{get_or-map as get_or-map_default}
 use Rattle.std.proofs.lemmas.List.Sums.{sum-map}
 use Rattle.std.proofs.lemmas.List.Elements.{All-get_or, All-set}
-use Rattle.std.proofs.lemmas.Option.{slice_get-get_or, slice_get_within, slice_get_past, slice_get-map, unwrap_or-slice_get}
-use Rattle.att_table.specs.declared.attr.Attr.{Attr}
+use Rattle.std.proofs.lemmas.Option.{slice_get-map, unwrap_or-slice_get}
+use Rattle.att_attributes.specs.declared.attr.Attr.{Attr}
 use Rattle.att_values.specs.Cell.{Cell, no_cell, cell_at, value_with_part, patched_cell, with_part}
-use Rattle.att_table.specs.Table.{Contents, attribute_at, value_at, with_value, is_fixed_at, room_at, values_of, AreExact, IsKept}
-
--- an attribute has its place in the list
-pub place_within : (attributes : List Attr) (handle : ℕ) → IsSome (attribute_at attributes handle) → (0 < handle) × (handle - 1 < length attributes)
-place_within attributes handle h = (grind (arith, slice_get_within {A = Attr}), grind (arith, slice_get_within {A = Attr}, slice_get-get_or {X = Attr}, slice_get_past {X = Attr}))
-
-attribute_at-found : (attributes : List Attr) (handle : ℕ) → IsSome (attribute_at attributes handle) → attribute_at attributes handle ≡ slice_get attributes (handle - 1)
-attribute_at-found attributes handle h = grind arith
+use Rattle.att_attributes.specs.Attributes.{attribute_at, is_fixed_at}
+use Rattle.att_table.specs.Table.{Contents, value_at, with_value, room_at, values_of, AreExact, IsKept}
+use Rattle.att_attributes.proofs.Places.{attribute_at-found}
 
 -- a part that fits keeps the value within its room
 length-patched : (keep : Bool) (value : List ℕ) (offset : ℕ) (part : List ℕ) (room : ℕ)

@@ -9,10 +9,11 @@ use Rattle.att_numbers.specs.Types.{Handle}
 use Rattle.att_numbers.specs.declared.attribute_type.TheConstants.{GENERIC_ATTRIBUTE_SERVICE, PRIMARY_SERVICE, SERVICE_CHANGED}
 use Rattle.att_policy.specs.declared.guard.TheConstants.Properties.{INDICATE}
 use Rattle.att_policy.specs.Policy.{has_property}
-use Rattle.att_table.specs.declared.attr.Attr.{Attr}
+use Rattle.att_attributes.specs.declared.attr.Attr.{Attr}
+use Rattle.att_attributes.specs.Attributes.{is_fixed_at, is_value, is_value_at}
+use Rattle.att_attributes.specs.Group.{is_service_type}
 use Rattle.att_table.specs.declared.changer.TheConstants.{CHANGER_LEN}
-use Rattle.att_table.specs.Group.{is_service_type}
-use Rattle.att_table.specs.Table.{Contents, is_fixed_at, is_value, is_value_at, room_at, value_at}
+use Rattle.att_table.specs.Table.{Contents, room_at, value_at}
 
 -- the last of some attributes that begins a service
 abbrev pub last_service : List Attr → Option Attr

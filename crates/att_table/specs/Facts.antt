@@ -1,9 +1,10 @@
 -- What holds of each table: the limits are this profile's own, the largest length is that of Core 5.0, Vol 3 Part F, 3.2.9.
 use Rattle.std.specs.Prelude.{◌≡◌, ◌<◌, ◌≤◌, ◌-◌, true, All, length, sum_by}
 use Rattle.att_numbers.specs.Types.{Handle}
-use Rattle.att_table.specs.declared.attr.Attr.{Attr}
+use Rattle.att_attributes.specs.declared.attr.Attr.{Attr}
+use Rattle.att_attributes.specs.Attributes.{configurations_of, is_configuration_at, is_fixed_at, is_value_at, largest_at, HaveHandlesFrom}
 use Rattle.att_table.specs.ConfigRow.{HasRowRoom}
-use Rattle.att_table.specs.Table.{Contents, configurations_of, is_configuration_at, is_fixed_at, is_value_at, largest_at, value_at, HaveHandlesFrom}
+use Rattle.att_table.specs.Table.{Contents, value_at}
 
 -- the handles are 1, 2, 3 and so on, and there is a value for each
 pub record IsTable (table : Contents) : Type 0 where

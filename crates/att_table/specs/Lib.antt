@@ -4,9 +4,6 @@ pub use Rattle.att_values.specs.ValueStore
 pub mod Changer
 pub mod ConfigRow
 pub mod Facts
-pub mod Group
-pub mod OfType
 pub mod Table
 pub mod TableFault
-pub mod TypeIndex
 pub mod file

@@ -1,58 +1,20 @@
 -- The attribute table: the attributes by their handles, and their values, which are all that changes.
 -- Core 5.0, Vol 3 Part F, 3.2
-use Rattle.std.specs.Prelude.{◌≡◌, ◌≤◌, All, ℕ, ◌+◌, ◌-◌, ◌==◌, Bool, true, false, if◌then◌else◌, List, [], ◌∷◌, length, take, drop, map, slice_set, slice_index_or, slice_get, count_by, sum_by, Option, None}
-use Rattle.std.specs.Option.{option_map, option_map_or}
+use Rattle.std.specs.Prelude.{◌≡◌, ◌≤◌, All, ℕ, ◌+◌, ◌-◌, true, if◌then◌else◌, List, [], ◌∷◌, length, map, slice_set, slice_index_or, sum_by}
 use Rattle.octets.specs.Number.{Octets}
-use Rattle.att_numbers.specs.Types.{Handle, AttributeType, Values}
-use Rattle.att_policy.specs.declared.guard.Guard.{Guard}
-use Rattle.att_policy.specs.Policy.{configuration_bits_of}
+use Rattle.att_numbers.specs.Types.{Handle, Values}
 use Rattle.att_values.specs.Cell.{Cell}
-use Rattle.att_table.specs.declared.attr.Attr.{Attr}
-use Rattle.att_table.specs.declared.attr.Role.{Role}
-use Rattle.att_table.specs.declared.attr.Role.TheVariants.{Declaration, Value, Configuration, Descriptor}
-use Rattle.att_table.specs.Group.{group_ends_of}
-use Rattle.att_table.specs.TypeIndex.{by_type}
+use Rattle.att_attributes.specs.declared.attr.Attr.{Attr}
+use Rattle.att_attributes.specs.declared.attr.Role.{Role}
+use Rattle.att_attributes.specs.declared.attr.Role.TheVariants.{Declaration, Value, Configuration, Descriptor}
+use Rattle.att_attributes.specs.Attributes.{configurations_of, is_configuration, is_fixed_at, is_value, largest_at, IsNumbered}
+use Rattle.att_attributes.specs.Group.{group_ends_of}
+use Rattle.att_attributes.specs.OfType.{handles_by_type}
 
 -- the attributes in the order of their handles, and the value of each
 pub record Contents : Type 0 where
   pub attributes : List Attr
   pub values : Values
-
--- the attribute at a handle: handles count from 1
-abbrev pub attribute_at : List Attr → Handle → Option Attr
-attribute_at attributes handle = if handle == 0 then None else slice_get attributes (handle - 1)
-
--- the attributes whose handles are from the first to the last one: those up to the last, without those before the first
-abbrev pub attributes_in : List Attr → Handle → Handle → List Attr
-attributes_in attributes first last = drop (first - 1) (take last attributes)
-
--- who may use the attribute at a handle
-abbrev pub guard_at : List Attr → Handle → Option Guard
-guard_at attributes handle = option_map (λ (attr : Attr). attr.guard) (attribute_at attributes handle)
-
--- whether an attribute is a client characteristic configuration, by its role
-abbrev pub is_configuration : Role → Bool
-is_configuration Declaration = false
-is_configuration Value = false
-is_configuration Configuration = true
-is_configuration Descriptor = false
-
-abbrev pub configurations_of : List Attr → ℕ
-configurations_of attributes = count_by (λ (attr : Attr). is_configuration attr.role) attributes
-
--- whether it is the value of a characteristic
-abbrev pub is_value : Role → Bool
-is_value Declaration = false
-is_value Value = true
-is_value Configuration = false
-is_value Descriptor = false
-
--- the same of the attribute at a handle
-abbrev pub is_value_at : List Attr → Handle → Bool
-is_value_at attributes handle = option_map_or (λ (attr : Attr). is_value attr.role) (attribute_at attributes handle) false
-
-abbrev pub is_configuration_at : List Attr → Handle → Bool
-is_configuration_at attributes handle = option_map_or (λ (attr : Attr). is_configuration attr.role) (attribute_at attributes handle) false
 
 -- the value at a handle
 abbrev pub value_at : Values → Handle → Octets
@@ -62,46 +24,15 @@ value_at values handle = slice_index_or values (handle - 1) []
 abbrev pub with_value : Values → Handle → Octets → Values
 with_value values handle value = slice_set values (handle - 1) value
 
--- whether the value at a handle keeps its length
-abbrev pub is_fixed_at : List Attr → Handle → Bool
-is_fixed_at attributes handle = option_map_or (λ (attr : Attr). attr.fixed) (attribute_at attributes handle) false
-
--- the largest length of the value at a handle
-abbrev pub largest_at : List Attr → Handle → ℕ
-largest_at attributes handle = option_map_or (λ (attr : Attr). attr.largest) (attribute_at attributes handle) 0
-
 -- how many octets the value at a handle may have: a fixed value keeps its length
 abbrev pub room_at : Contents → Handle → ℕ
 room_at table handle =
     if is_fixed_at table.attributes handle then length (value_at table.values handle)
     else largest_at table.attributes handle
 
--- the type of the attribute at a handle
-abbrev pub type_at : List Attr → Handle → AttributeType
-type_at attributes handle = option_map_or (λ (attr : Attr). attr.kind) (attribute_at attributes handle) 0
-
--- the bits that the configuration at a handle may have: its characteristic value stands before it (Core 5.0, Vol 3 Part G, 3.3.3.3)
-abbrev pub configuration_bits_at : List Attr → Handle → ℕ
-configuration_bits_at attributes handle =
-    option_map_or (λ (attr : Attr). configuration_bits_of attr.guard.properties) (attribute_at attributes (handle - 1)) 0
-
--- all handles, by the types of their attributes, and those of one type ascending
-abbrev pub handles_by_type : List Attr → List Handle
-handles_by_type attributes = by_type (type_at attributes) (map (λ (attr : Attr). attr.handle) attributes)
-
 -- the values that cells hold
 abbrev pub values_of : List Cell → Values
 values_of cells = map (λ (cell : Cell). cell.octets) cells
-
--- the handles count from the first one without gaps
-abbrev pub HaveHandlesFrom : Handle → List Attr → Type 0
-HaveHandlesFrom first [] = Unit
-HaveHandlesFrom first (attr ∷ rest) = (attr.handle ≡ first) × HaveHandlesFrom (first + 1) rest
-
--- the handles count from 1, of at most 1,024 attributes
-pub record IsNumbered (attributes : List Attr) : Type 0 where
-  pub handles : HaveHandlesFrom 1 attributes
-  pub most : length attributes ≤ 1024
 
 -- the most octets of a value, by the role of its attribute: a declaration has properties, a handle and a type of 16
 -- octets at most, and a configuration has none in the table (Core 5.0, Vol 3 Part F, 3.2.9, and Part G, 3.3.1)

@@ -10,8 +10,7 @@ ghost use Rattle.att_values.specs.Cell.{IsUsed};
 ghost use Rattle.att_table.specs.Changer.{last_service, is_changer, changer_of};
 ghost use Rattle.att_table.specs.Table.{value_at, values_of, IsKept};
 
-use crate::attr::{Attr, Role};
-use crate::group::is_service;
+use att_attributes::{Attr, Role, is_service};
 use att_numbers::attribute_type::{GENERIC_ATTRIBUTE_SERVICE, PRIMARY_SERVICE, SERVICE_CHANGED};
 use att_policy::Properties;
 use att_values::FlatStore;

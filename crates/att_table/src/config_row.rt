@@ -1,12 +1,12 @@
 ghost use Rattle.std.specs.Prelude.{◌≡◌, ◌≢◌, ℕ, ◌-◌, ◌<◌, ◌≤◌, ◌==◌, true, All, List, [], length, position, IsTrue};
 ghost use Rattle.std.specs.Bool.{OnTrue, OnFalse};
-ghost use Rattle.att_table.specs.declared.attr.Attr.{Attr};
+ghost use Rattle.att_attributes.specs.declared.attr.Attr.{Attr};
+ghost use Rattle.att_attributes.specs.Attributes.{is_configuration_at, type_at};
 ghost use Rattle.att_table.specs.ConfigRow.{bits_at, with_bits, has_entry, has_its_meaning, has_room, kept_bits, kept_row, HasOneEntryEach, IsEntry, IsRowOf};
-ghost use Rattle.att_table.specs.Table.{is_configuration_at, type_at};
 
-use crate::attr::Role;
 use crate::table::Table;
 use arrayvec::ArrayVec;
+use att_attributes::Role;
 use std::marker::Model;
 
 /// What one client has written to the client characteristic configurations of a table: at most 64

@@ -1,17 +1,17 @@
 ghost use Rattle.std.specs.Prelude.{◌≡◌, ◌+◌, ◌<◌, ◌≤◌, ◌∷◌, ◌++◌, [], true, map, length, sum_by, vec_len, IfSome, IsSome, OnOk, OnErr};
 ghost use Rattle.std.specs.Option.{option_copied};
-ghost use Rattle.att_table.specs.declared.attr.Attr.{Attr};
+ghost use Rattle.att_attributes.specs.declared.attr.Attr.{Attr};
 ghost use Rattle.att_values.specs.Cell.{value_with_part};
+ghost use Rattle.att_attributes.specs.Attributes.{attribute_at, attributes_in, configuration_bits_at, configurations_of, is_fixed_at};
+ghost use Rattle.att_attributes.specs.Group.{group_ends_of, group_end_at};
+ghost use Rattle.att_attributes.specs.OfType.{handles_of_type, handles_by_type};
 ghost use Rattle.att_table.specs.Changer.{changer_of, IsOfAChanger};
 ghost use Rattle.att_table.specs.ConfigRow.{is_supported, HasRowRoom};
 ghost use Rattle.att_table.specs.Facts.{IsTable};
-ghost use Rattle.att_table.specs.Group.{group_ends_of, group_end_at};
-ghost use Rattle.att_table.specs.OfType.{handles_of_type};
-ghost use Rattle.att_table.specs.Table.{Contents, attribute_at, attributes_in, configuration_bits_at, configurations_of, octets_of, value_at, is_fixed_at, room_at, with_value, values_of, handles_by_type, IsKept, IsWhole};
+ghost use Rattle.att_table.specs.Table.{Contents, octets_of, value_at, room_at, with_value, values_of, IsKept, IsWhole};
 
-use crate::attr::{Attr, Role};
-use crate::type_index::Steps;
-use crate::{changer, type_index};
+use crate::changer;
+use att_attributes::{Attr, Role, Steps};
 use att_values::FlatStore;
 use std::marker::Model;
 
@@ -114,7 +114,7 @@ impl Table {
         ensures handles { result.now ≡ handles_of_type self.now.attributes kind first last }
         ensures steps { S.count steps.new ≤ S.count steps.old + 22 }
     {
-        type_index::of_type(&self.by_type, &self.attributes, kind, first, last, steps)
+        att_attributes::of_type(&self.by_type, &self.attributes, kind, first, last, steps)
     }
 
     /// How many octets the value of the attribute at a handle may have: a fixed value keeps its

@@ -1,11 +1,11 @@
 //! A table that grows by one attribute at a time, until it is whole.
 
 ghost use Rattle.std.specs.Prelude.{◌≡◌, ◌+◌, ◌<◌, ◌≤◌, ◌∷◌, ◌++◌, [], length, IfOk, IsSome, OnOk, OnErr};
-ghost use Rattle.att_table.specs.Table.{Contents, attribute_at, configurations_of, octets_of, value_at, values_of, IsKept, IsNext};
+ghost use Rattle.att_attributes.specs.Attributes.{attribute_at, configurations_of};
+ghost use Rattle.att_table.specs.Table.{Contents, octets_of, value_at, values_of, IsKept, IsNext};
 
-use crate::attr::Attr;
 use crate::table::Table;
-use crate::{group, type_index};
+use att_attributes::Attr;
 use att_values::FlatStore;
 use std::alloc::{AllocError, Global};
 use std::marker::Model;
@@ -81,8 +81,8 @@ impl TableBuilder {
         requires counted { octets_of self.attributes ≤ 65536 }
         ensures { IfOk result (λ table. table ≡ self) }
     {
-        let group_ends = group::group_ends(alloc, &self.attributes)?;
-        let by_type = type_index::by_type(alloc, &self.attributes)?;
+        let group_ends = att_attributes::group_ends(alloc, &self.attributes)?;
+        let by_type = att_attributes::by_type(alloc, &self.attributes)?;
         Ok(Table::from_parts(self.attributes, self.values, group_ends, by_type))
     }
 }

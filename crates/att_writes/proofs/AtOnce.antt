@@ -7,8 +7,9 @@ use Rattle.att_policy.specs.declared.policy.Access.{Access}
 use Rattle.att_policy.specs.declared.policy.Rule.{Rule}
 use Rattle.att_policy.specs.declared.standing.Standing.{Standing}
 use Rattle.att_policy.specs.Policy.{first_broken_of}
-use Rattle.att_table.specs.declared.attr.Attr.{Attr}
-use Rattle.att_table.specs.Table.{attribute_at, guard_at, value_at, is_fixed_at}
+use Rattle.att_attributes.specs.declared.attr.Attr.{Attr}
+use Rattle.att_attributes.specs.Attributes.{attribute_at, guard_at, is_fixed_at}
+use Rattle.att_table.specs.Table.{value_at}
 use Rattle.att_writes.specs.Applied.{Stored, after_entries, after_entry, unless_refused}
 use Rattle.att_writes.specs.Entry.{Entry}
 use Rattle.att_writes.specs.Fault.{unless_broken, fault_of}

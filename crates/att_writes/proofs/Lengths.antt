@@ -6,10 +6,11 @@ use Rattle.std.proofs.lemmas.List.{length-set}
 use Rattle.att_numbers.specs.Types.{Handle, Code, Values}
 use Rattle.att_policy.specs.declared.policy.Access.{Access}
 use Rattle.att_policy.specs.declared.standing.Standing.{Standing}
-use Rattle.att_table.specs.declared.attr.Attr.{Attr}
+use Rattle.att_attributes.specs.declared.attr.Attr.{Attr}
 use Rattle.att_values.specs.Cell.{value_with_part}
+use Rattle.att_attributes.specs.Attributes.{attribute_at, is_configuration_at, is_fixed_at}
 use Rattle.att_table.specs.ConfigRow.{with_bits}
-use Rattle.att_table.specs.Table.{attribute_at, is_configuration_at, is_fixed_at, value_at, with_value}
+use Rattle.att_table.specs.Table.{value_at, with_value}
 use Rattle.att_writes.specs.Applied.{Stored, after_entry, after_entries, first_octet, unless_refused}
 use Rattle.att_writes.specs.Entry.{Entry}
 use Rattle.att_writes.specs.Fault.{fault_of}

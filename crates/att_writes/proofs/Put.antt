@@ -7,7 +7,7 @@ use Rattle.std.specs.List.{list_any}
 use Rattle.att_numbers.specs.Types.{Handle, Code, Values}
 use Rattle.att_policy.specs.declared.policy.Access.{Access}
 use Rattle.att_policy.specs.declared.standing.Standing.{Standing}
-use Rattle.att_table.specs.declared.attr.Attr.{Attr}
+use Rattle.att_attributes.specs.declared.attr.Attr.{Attr}
 use Rattle.att_table.specs.Table.{value_at, with_value}
 use Rattle.att_writes.specs.Applied.{Stored, after_entry, after_entries, unless_refused}
 use Rattle.att_writes.specs.Entry.{Entry}

@@ -8,11 +8,12 @@ use Rattle.std.specs.Option.{option_map_or}
 use Rattle.att_numbers.specs.Types.{Row}
 use Rattle.att_policy.specs.declared.policy.Access.{Access}
 use Rattle.att_policy.specs.declared.standing.Standing.{Standing}
-use Rattle.att_table.specs.declared.attr.Attr.{Attr}
+use Rattle.att_attributes.specs.declared.attr.Attr.{Attr}
 use Rattle.att_policy.specs.Policy.{first_broken_of}
 use Rattle.att_values.specs.Cell.{value_with_part}
+use Rattle.att_attributes.specs.Attributes.{attribute_at, guard_at, is_configuration_at, is_fixed_at}
 use Rattle.att_table.specs.ConfigRow.{with_bits}
-use Rattle.att_table.specs.Table.{attribute_at, guard_at, is_configuration_at, is_fixed_at, value_at, with_value}
+use Rattle.att_table.specs.Table.{value_at, with_value}
 use Rattle.att_writes.specs.declared.queue.Place.{Place}
 use Rattle.att_writes.specs.Applied.{Stored, after_entries, after_entry, first_octet}
 use Rattle.att_writes.specs.Entry.{Entry}

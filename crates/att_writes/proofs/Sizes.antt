@@ -4,9 +4,10 @@ use Rattle.std.proofs.lemmas.Bool.Decides.{nat_tests}
 use Rattle.std.proofs.lemmas.Grind.{common_steps}
 use Rattle.std.specs.Prelude.{IsSome}
 use Rattle.att_numbers.specs.Types.{Values}
-use Rattle.att_table.specs.declared.attr.Attr.{Attr}
+use Rattle.att_attributes.specs.declared.attr.Attr.{Attr}
 use Rattle.att_values.specs.Cell.{value_with_part}
-use Rattle.att_table.specs.Table.{attribute_at, is_fixed_at, value_at, with_value}
+use Rattle.att_attributes.specs.Attributes.{attribute_at, is_fixed_at}
+use Rattle.att_table.specs.Table.{value_at, with_value}
 use Rattle.att_writes.specs.declared.queue.Place.{Place}
 use Rattle.att_writes.specs.Entry.{Entry}
 use Rattle.att_writes.specs.Fault.{configuration_fault, value_fault}

@@ -4,10 +4,11 @@ use Rattle.att_numbers.specs.Types.{Code, Values, Row}
 use Rattle.att_policy.specs.Refusal.{Refusal}
 use Rattle.att_policy.specs.declared.policy.Access.{Access}
 use Rattle.att_policy.specs.declared.standing.Standing.{Standing}
-use Rattle.att_table.specs.declared.attr.Attr.{Attr}
+use Rattle.att_attributes.specs.declared.attr.Attr.{Attr}
 use Rattle.att_values.specs.Cell.{value_with_part}
+use Rattle.att_attributes.specs.Attributes.{is_configuration_at, is_fixed_at}
 use Rattle.att_table.specs.ConfigRow.{with_bits}
-use Rattle.att_table.specs.Table.{Contents, is_configuration_at, is_fixed_at, value_at, with_value}
+use Rattle.att_table.specs.Table.{Contents, value_at, with_value}
 use Rattle.att_writes.specs.Entry.{Entry}
 use Rattle.octets.specs.Number.{Octets}
 use Rattle.att_writes.specs.Fault.{fault_of}

@@ -9,8 +9,8 @@ use Rattle.att_policy.specs.declared.policy.Access.{Access}
 use Rattle.att_policy.specs.declared.policy.Rule.{Rule}
 use Rattle.att_policy.specs.declared.standing.Standing.{Standing}
 use Rattle.att_policy.specs.Policy.{first_broken_of}
-use Rattle.att_table.specs.declared.attr.Attr.{Attr}
-use Rattle.att_table.specs.Table.{attribute_at, configuration_bits_at, guard_at, is_configuration_at, is_fixed_at}
+use Rattle.att_attributes.specs.declared.attr.Attr.{Attr}
+use Rattle.att_attributes.specs.Attributes.{attribute_at, configuration_bits_at, guard_at, is_configuration_at, is_fixed_at}
 use Rattle.att_writes.specs.Entry.{Entry}
 use Rattle.octets.specs.Number.{Octets}
 

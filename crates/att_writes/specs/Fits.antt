@@ -1,7 +1,8 @@
 -- That entries can be made, which no policy says.
 use Rattle.std.specs.Prelude.{◌≡◌, List, [], ◌∷◌, length, None, IsSome}
-use Rattle.att_table.specs.declared.attr.Attr.{Attr}
-use Rattle.att_table.specs.Table.{attribute_at, value_at}
+use Rattle.att_attributes.specs.declared.attr.Attr.{Attr}
+use Rattle.att_attributes.specs.Attributes.{attribute_at}
+use Rattle.att_table.specs.Table.{value_at}
 use Rattle.att_writes.specs.Applied.{Stored, after_entry}
 use Rattle.att_writes.specs.Entry.{Entry}
 use Rattle.att_writes.specs.Fault.{form_fault}

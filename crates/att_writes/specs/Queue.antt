@@ -7,8 +7,8 @@ use Rattle.att_policy.specs.declared.policy.Access.TheVariants.{Write}
 use Rattle.att_policy.specs.declared.policy.Rule.{Rule}
 use Rattle.att_policy.specs.declared.standing.Standing.{Standing}
 use Rattle.att_policy.specs.Policy.{first_broken_of}
-use Rattle.att_table.specs.declared.attr.Attr.{Attr}
-use Rattle.att_table.specs.Table.{guard_at}
+use Rattle.att_attributes.specs.declared.attr.Attr.{Attr}
+use Rattle.att_attributes.specs.Attributes.{guard_at}
 use Rattle.att_policy.specs.Refusal.{Refusal}
 use Rattle.att_writes.specs.Applied.{Stored}
 use Rattle.att_writes.specs.declared.outcome.Outcome.{Outcome}

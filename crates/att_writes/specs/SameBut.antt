@@ -3,11 +3,12 @@ use Rattle.std.specs.Prelude.{◌≡◌, ℕ, ◌<◌, Bool, false, ◌==◌, Li
 use Rattle.std.specs.List.{list_any}
 use Rattle.att_numbers.specs.Types.{Handle, Values, Row}
 use Rattle.att_policy.specs.Refusal.{Refusal}
+use Rattle.att_attributes.specs.Attributes.{is_configuration_at}
 use Rattle.att_table.specs.ConfigRow.{bits_at, with_bits}
-use Rattle.att_table.specs.Table.{is_configuration_at, value_at, with_value}
+use Rattle.att_table.specs.Table.{value_at, with_value}
 use Rattle.att_policy.specs.declared.policy.Access.{Access}
 use Rattle.att_policy.specs.declared.standing.Standing.{Standing}
-use Rattle.att_table.specs.declared.attr.Attr.{Attr}
+use Rattle.att_attributes.specs.declared.attr.Attr.{Attr}
 use Rattle.att_writes.specs.Applied.{Stored, after_entries}
 use Rattle.att_writes.specs.Entry.{Entry}
 

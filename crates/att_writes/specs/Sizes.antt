@@ -1,8 +1,9 @@
 -- How long a value is once entries before it are written.
 use Rattle.std.specs.Prelude.{ℕ, ◌+◌, ◌==◌, if◌then◌else◌, List, [], ◌∷◌, length}
 use Rattle.att_numbers.specs.Types.{Handle, Values}
-use Rattle.att_table.specs.declared.attr.Attr.{Attr}
-use Rattle.att_table.specs.Table.{is_fixed_at, value_at}
+use Rattle.att_attributes.specs.declared.attr.Attr.{Attr}
+use Rattle.att_attributes.specs.Attributes.{is_fixed_at}
+use Rattle.att_table.specs.Table.{value_at}
 use Rattle.att_writes.specs.declared.queue.Place.{Place}
 
 -- a variable value ends with the last part of it that is written

@@ -1,7 +1,7 @@
 //! When a write is refused: Core 5.0, Vol 3 Part F, 3.4.1.1.
 
 ghost use Rattle.std.specs.Prelude.{◌≡◌, ◌≤◌, length, Some, IsNone};
-ghost use Rattle.att_table.specs.Table.{attribute_at};
+ghost use Rattle.att_attributes.specs.Attributes.{attribute_at};
 ghost use Rattle.att_writes.specs.Entry.{entry_of};
 ghost use Rattle.att_writes.specs.Fault.{configuration_fault, value_fault, fault_of};
 ghost use Rattle.att_writes.specs.Sizes.{size_with, size_after};

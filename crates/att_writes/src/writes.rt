@@ -2,8 +2,8 @@
 
 ghost use Rattle.std.specs.Prelude.{◌≡◌, [], ◌∷◌};
 ghost use Rattle.att_numbers.specs.declared.opcode.TheConstants.{WRITE_REQUEST, WRITE_COMMAND};
+ghost use Rattle.att_attributes.specs.Attributes.{is_configuration_at};
 ghost use Rattle.att_table.specs.ConfigRow.{IsRowOf, HasRowRoom};
-ghost use Rattle.att_table.specs.Table.{is_configuration_at};
 ghost use Rattle.att_writes.specs.Applied.{after_entry, stored_in, applied_to, written_to};
 ghost use Rattle.att_writes.specs.Entry.{entry_of, whole};
 ghost use Rattle.att_writes.specs.Fits.{Fits};

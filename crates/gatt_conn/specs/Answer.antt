@@ -13,7 +13,7 @@ use Rattle.att_policy.specs.declared.policy.Access.{Access}
 use Rattle.att_policy.specs.declared.policy.Access.TheVariants.{Write, Command}
 use Rattle.att_policy.specs.declared.standing.Standing.{Standing}
 use Rattle.att_reads.specs.Answer.{read_answer}
-use Rattle.att_table.specs.declared.attr.Attr.{Attr}
+use Rattle.att_attributes.specs.declared.attr.Attr.{Attr}
 use Rattle.att_table.specs.Table.{Contents}
 use Rattle.att_policy.specs.Refusal.{Refusal}
 use Rattle.att_writes.specs.Applied.{Stored, stored_in, applied_to, written_to}

@@ -5,9 +5,10 @@ use Rattle.std.specs.Prelude.{◌==◌, nat_le, if◌then◌else◌}
 use Rattle.std.specs.Option.{option_map_or}
 use Rattle.std.proofs.lemmas.Bool.{eqb-true, leb-true}
 use Rattle.att_numbers.specs.Types.{Handle}
-use Rattle.att_table.specs.declared.attr.Attr.{Attr}
+use Rattle.att_attributes.specs.declared.attr.Attr.{Attr}
+use Rattle.att_attributes.specs.Attributes.{attribute_at, is_fixed_at, largest_at}
 use Rattle.att_table.specs.Facts.{IsTable}
-use Rattle.att_table.specs.Table.{Contents, attribute_at, is_fixed_at, largest_at, room_at, value_at}
+use Rattle.att_table.specs.Table.{Contents, room_at, value_at}
 use Rattle.gatt_laws.specs.Calls.{has_length}
 
 has-largest : (largest count : ℕ) (fixed : Bool) → (if fixed then count == largest else nat_le count largest) ≡ true → count ≤ largest

@@ -1,9 +1,10 @@
 -- What a call of the application means to a host, by what it holds.
 use Rattle.std.specs.Prelude.{ℕ, nat_lt, not, length, if◌then◌else◌, Option, Some, None, Result, Ok, Err}
 use Rattle.att_numbers.specs.Types.{Handle}
-use Rattle.att_table.specs.declared.attr.Attr.{Attr}
+use Rattle.att_attributes.specs.declared.attr.Attr.{Attr}
+use Rattle.att_attributes.specs.Attributes.{attribute_at, is_value}
 use Rattle.att_table.specs.Changer.{changer_of}
-use Rattle.att_table.specs.Table.{Contents, attribute_at, is_value}
+use Rattle.att_table.specs.Table.{Contents}
 use Rattle.gatt_host.specs.declared.app.App.{App}
 use Rattle.gatt_host.specs.declared.app.App.TheVariants as app
 use Rattle.gatt_host.specs.declared.app.AppFault.{AppFault}

@@ -1,8 +1,9 @@
 //! What an application asks, as what happens to a host.
 
 ghost use Rattle.std.specs.Prelude.{◌≡◌, ◌≤◌, true, length, Err, IsOk, IsOkAnd, IfOk, IfErr, OnErr};
+ghost use Rattle.att_attributes.specs.Attributes.{attribute_at};
 ghost use Rattle.att_table.specs.Changer.{changer_of};
-ghost use Rattle.att_table.specs.Table.{attribute_at, room_at};
+ghost use Rattle.att_table.specs.Table.{room_at};
 ghost use Rattle.gatt_laws.specs.Calls.{has_length, same_changer, TickCall};
 ghost use Rattle.gatt_host.specs.Asked.{authorize_happening, call_happening, call_of, refused_of, replacement_happening, update_happening};
 ghost use Rattle.gatt_host.specs.Held.{after_replacing};

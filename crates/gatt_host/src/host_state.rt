@@ -1,8 +1,9 @@
 ghost use Rattle.std.specs.Prelude.{◌≡◌, ◌<◌, ◌≤◌, ◌^◌, [], if◌then◌else◌, is_some, length, map, true, Some, IfSome, IsSome, IsOk, IfErr, OnErr};
 ghost use Rattle.std.specs.Bool.{OnFalse, OnTrue};
 ghost use Rattle.std.specs.Option.{option_to_list};
+ghost use Rattle.att_attributes.specs.Attributes.{attribute_at, is_fixed_at};
 ghost use Rattle.att_table.specs.ConfigRow.{IsRowOf};
-ghost use Rattle.att_table.specs.Table.{attribute_at, is_fixed_at, room_at};
+ghost use Rattle.att_table.specs.Table.{room_at};
 ghost use Rattle.gatt_host.specs.Answers.{following_if, stop_of};
 ghost use Rattle.gatt_laws.specs.Packets.{completed_event, status_event, status_of};
 ghost use Rattle.le_acl.specs.Shares.{acl_len, share};

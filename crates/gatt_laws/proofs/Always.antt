@@ -4,9 +4,10 @@ use Rattle.std.specs.Prelude.{Result, Ok, Err, is_none, nat_lt, ◌==◌, ◌&&�
 use Rattle.std.specs.Option.{option_map, option_map_or}
 use Rattle.std.proofs.lemmas.Bool.{ltb-false}
 use Rattle.att_numbers.specs.Types.{Handle}
+use Rattle.att_attributes.specs.declared.attr.Attr.{Attr}
+use Rattle.att_attributes.specs.Attributes.{attribute_at, is_value}
 use Rattle.att_table.specs.Changer.{changer_of}
-use Rattle.att_table.specs.declared.attr.Attr.{Attr}
-use Rattle.att_table.specs.Table.{Contents, attribute_at, is_value}
+use Rattle.att_table.specs.Table.{Contents}
 use Rattle.gatt_laws.specs.Calls.{Call, Refused, UpdateCall, AuthorizeCall, TickCall, NotAValue, BadLength, TimeWentBack, NoServiceChanged, holding, serving, has_length, update_event, authorize_event, call_event, same_changer, replacement_event}
 use Rattle.gatt_laws.specs.Controller.{Controller, has_free, is_ready}
 use Rattle.gatt_laws.specs.Event.{Ordinal, Own, Event, Connected, Gone, KeyAsked, Encrypted, Refreshed, Asks, Signals, Of, Update, Tick, Replaced, Nothing}

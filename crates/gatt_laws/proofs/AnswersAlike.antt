@@ -14,7 +14,7 @@ use Rattle.att_policy.specs.declared.standing.Standing.{Standing}
 use Rattle.att_policy.specs.Refusal.{Refusal}
 use Rattle.att_reads.proofs.Alike.{alike}
 use Rattle.att_reads.specs.Access.{IsAlike}
-use Rattle.att_table.specs.declared.attr.Attr.{Attr}
+use Rattle.att_attributes.specs.declared.attr.Attr.{Attr}
 use Rattle.att_table.specs.Table.{Contents}
 use Rattle.att_writes.proofs.Lengths.{applied_both}
 use Rattle.att_writes.specs.Applied.{Stored, stored_in, applied_to, stored_after as written_after}

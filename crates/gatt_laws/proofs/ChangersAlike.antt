@@ -11,10 +11,11 @@ use Rattle.att_numbers.specs.Types.{Handle, Values}
 use Rattle.att_numbers.specs.declared.attribute_type.TheConstants.{GENERIC_ATTRIBUTE_SERVICE, PRIMARY_SERVICE, SERVICE_CHANGED}
 use Rattle.att_policy.specs.declared.guard.TheConstants.Properties.{INDICATE}
 use Rattle.att_policy.specs.Policy.{has_property}
+use Rattle.att_attributes.specs.declared.attr.Attr.{Attr}
+use Rattle.att_attributes.specs.Attributes.{attribute_at, is_value, type_at, HaveHandlesFrom}
+use Rattle.att_attributes.specs.Group.{is_service_type}
 use Rattle.att_table.specs.Changer.{changer_of, declares_generic_attribute, is_changer, last_service}
-use Rattle.att_table.specs.declared.attr.Attr.{Attr}
-use Rattle.att_table.specs.Group.{is_service_type}
-use Rattle.att_table.specs.Table.{Contents, attribute_at, is_value, type_at, value_at, HaveHandlesFrom}
+use Rattle.att_table.specs.Table.{Contents, value_at}
 use Rattle.att_writes.specs.SameBut.{SameBut}
 use Rattle.gatt_laws.specs.NothingCrosses.{TablesAgree}
 use Rattle.gatt_laws.specs.TwoWorlds.{SameTable}

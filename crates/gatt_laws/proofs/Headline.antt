@@ -8,7 +8,7 @@ use Rattle.att_numbers.specs.declared.opcode.TheConstants.{FIND_INFORMATION_REQU
 use Rattle.att_numbers.specs.AttributeType.{of_16_bits}
 use Rattle.att_pdu.specs.Uuid.{number_of}
 use Rattle.att_pdu.specs.declared.uuid.Uuid.{Uuid}
-use Rattle.att_table.specs.OfType.{handles_of_type}
+use Rattle.att_attributes.specs.OfType.{handles_of_type}
 use Rattle.att_numbers.specs.Types.{Handle, Opcode, Code, Mtu, Row}
 use Rattle.att_pdu.specs.declared.request.ExecuteFlags.TheVariants as flags
 use Rattle.att_pdu.specs.Request.{Asked, ExchangeMtuRequest, FindInformationRequest, FindByTypeValueRequest, ReadByTypeRequest, ReadRequest, ReadBlobRequest, ReadMultipleRequest, ReadByGroupTypeRequest, WriteRequest, PrepareWriteRequest, ExecuteWriteRequest, ConfirmationPdu, WriteCommandPdu}
@@ -27,8 +27,9 @@ use Rattle.att_reads.specs.declared.list.Listing.{Listing}
 use Rattle.att_reads.specs.declared.list.Listing.TheVariants.{Values, Groups}
 use Rattle.att_reads.specs.Listing.{Candidate, is_listed, size_of_first, first_refusal, elements, elements_within}
 use Rattle.att_reads.specs.Refusals.{unless_refused, range_refusal, group_type_refusal, not_found, offset_refusal}
-use Rattle.att_table.specs.declared.attr.Attr.{Attr}
-use Rattle.att_table.specs.Table.{Contents, attributes_in, guard_at, value_at}
+use Rattle.att_attributes.specs.declared.attr.Attr.{Attr}
+use Rattle.att_attributes.specs.Attributes.{attributes_in, guard_at}
+use Rattle.att_table.specs.Table.{Contents, value_at}
 use Rattle.att_writes.specs.Applied.{Stored, after_entry, after_entries, applied_to, stored_in, stored_after as written_after, unless_refused as unless_entry}
 use Rattle.att_writes.specs.Entry.{Entry, whole}
 use Rattle.att_writes.specs.Fault.{fault_of, form_fault, unless_broken}

@@ -4,7 +4,7 @@ use Rattle.std.specs.Prelude.{◌&&◌, not, nat_lt, if◌then◌else◌}
 use Rattle.std.specs.Option.{option_map, option_to_list}
 use Rattle.att_numbers.specs.Types.{Handle, Values}
 use Rattle.att_pdu.specs.Response.{Response}
-use Rattle.att_table.specs.declared.attr.Attr.{Attr}
+use Rattle.att_attributes.specs.declared.attr.Attr.{Attr}
 use Rattle.gatt_laws.specs.Headline.{Each}
 use Rattle.gatt_laws.specs.Heard.{Heard, heard_raised, hearer_after, heard_in_turn}
 use Rattle.gatt_laws.specs.MayBeHeard.{handle_told, handles_told, TellsWhatMayBeHeard}

@@ -4,9 +4,10 @@ use Rattle.std.specs.Prelude.{not, is_some, if◌then◌else◌, Ok, Err}
 use Rattle.std.specs.List.{list_any}
 use Rattle.std.proofs.lemmas.Bool.{eqb-true}
 use Rattle.att_numbers.specs.Types.{Handle}
+use Rattle.att_attributes.specs.Attributes.{HaveHandlesFrom}
 use Rattle.att_table.specs.Changer.{changer_of}
 use Rattle.att_table.specs.Facts.{IsTable}
-use Rattle.att_table.specs.Table.{Contents, HaveHandlesFrom}
+use Rattle.att_table.specs.Table.{Contents}
 use Rattle.gatt_laws.proofs.Always.{always, any_tables}
 use Rattle.gatt_laws.proofs.ChangersAlike.{tables_same}
 use Rattle.gatt_laws.proofs.ItemEvents.{means_its_event, looked_at, kept, same_events, item_kept, table_kept}

@@ -7,7 +7,7 @@ use Rattle.std.proofs.lemmas.List.{length-append, map-append}
 use Rattle.att_numbers.specs.Types.{Handle, Row, Values}
 use Rattle.att_pdu.specs.Grammar.{request_of, is_due}
 use Rattle.att_pdu.specs.Response.{Response}
-use Rattle.att_table.specs.declared.attr.Attr.{Attr}
+use Rattle.att_attributes.specs.declared.attr.Attr.{Attr}
 use Rattle.gatt_conn.proofs.Dues.{answered_where_due}
 use Rattle.gatt_conn.specs.Answer.{Question, answer_to}
 use Rattle.gatt_laws.proofs.Always.{always, any_tables, last-true}

@@ -17,10 +17,11 @@ use Rattle.att_reads.specs.declared.list.Listing.TheVariants.{Values}
 use Rattle.att_reads.specs.List.{candidate_of}
 use Rattle.att_reads.specs.Listing.{Candidate, size_of_first, first_refusal, elements_within}
 use Rattle.att_pdu.specs.Uuid.{number_of}
-use Rattle.att_table.specs.OfType.{handles_of_type}
+use Rattle.att_attributes.specs.OfType.{handles_of_type}
 use Rattle.att_reads.specs.Refusals.{unless_refused, range_refusal, not_found}
-use Rattle.att_table.specs.declared.attr.Attr.{Attr}
-use Rattle.att_table.specs.Table.{Contents, guard_at, value_at}
+use Rattle.att_attributes.specs.declared.attr.Attr.{Attr}
+use Rattle.att_attributes.specs.Attributes.{guard_at}
+use Rattle.att_table.specs.Table.{Contents, value_at}
 use Rattle.att_writes.specs.Applied.{Stored, after_entry, after_entries, unless_refused as unless_entry}
 use Rattle.att_writes.specs.Entry.{Entry}
 use Rattle.att_writes.specs.Fault.{fault_of}

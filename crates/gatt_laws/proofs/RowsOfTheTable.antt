@@ -8,11 +8,12 @@ use Rattle.att_policy.specs.declared.policy.Access.{Access}
 use Rattle.att_policy.specs.declared.standing.KeyFacts.{KeyFacts}
 use Rattle.att_policy.specs.declared.standing.Standing.{Standing}
 use Rattle.att_policy.specs.Refusal.{Refusal}
+use Rattle.att_attributes.specs.declared.attr.Attr.{Attr}
+use Rattle.att_attributes.specs.Attributes.{is_configuration_at}
 use Rattle.att_table.proofs.Configurations.{row_of as set_row}
 use Rattle.att_table.proofs.Kept.{row_of_kept}
-use Rattle.att_table.specs.declared.attr.Attr.{Attr}
 use Rattle.att_table.specs.ConfigRow.{kept_row, IsRowOf}
-use Rattle.att_table.specs.Table.{Contents, is_configuration_at, value_at, with_value}
+use Rattle.att_table.specs.Table.{Contents, value_at, with_value}
 use Rattle.att_writes.specs.Applied.{Stored, first_octet, after_entry, after_entries, stored_in, stored_after as written_after, unless_refused as unless_entry}
 use Rattle.att_writes.specs.Entry.{Entry}
 use Rattle.att_writes.specs.Fault.{fault_of}

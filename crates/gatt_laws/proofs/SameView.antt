@@ -8,12 +8,13 @@ use Rattle.att_numbers.specs.Types.{Handle, Row, Values}
 use Rattle.att_pdu.specs.Grammar.{request_of, is_due}
 use Rattle.att_policy.specs.declared.standing.Standing.{Standing}
 use Rattle.att_policy.specs.Refusal.{Refusal}
+use Rattle.att_attributes.specs.declared.attr.Attr.{Attr}
+use Rattle.att_attributes.specs.declared.attr.Role.{Role}
+use Rattle.att_attributes.specs.declared.attr.Role.TheVariants.{Declaration, Value, Configuration, Descriptor}
+use Rattle.att_attributes.specs.Attributes.{attribute_at, is_configuration, is_value, is_configuration_at, is_value_at}
 use Rattle.att_table.specs.Changer.{changer_of}
 use Rattle.att_table.specs.ConfigRow.{kept_row}
-use Rattle.att_table.specs.declared.attr.Attr.{Attr}
-use Rattle.att_table.specs.declared.attr.Role.{Role}
-use Rattle.att_table.specs.declared.attr.Role.TheVariants.{Declaration, Value, Configuration, Descriptor}
-use Rattle.att_table.specs.Table.{Contents, attribute_at, is_configuration, is_value, is_configuration_at, is_value_at, value_at, with_value}
+use Rattle.att_table.specs.Table.{Contents, value_at, with_value}
 use Rattle.att_writes.specs.Applied.{Stored, applied_to, stored_in}
 use Rattle.gatt_conn.specs.Answer.{Question, Writing, writing_asked, stored_by, handles_by, stored_after, handles_after}
 use Rattle.gatt_conn.specs.Connection.{Connection}

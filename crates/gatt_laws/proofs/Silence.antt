@@ -2,7 +2,7 @@
 use Rattle.std.proofs.Common.{◌≡◌, ℕ, ◌+◌, Bool, true, false, List, [], ◌∷◌, None, refl, ap, ◌∙◌, append-nil}
 use Rattle.std.specs.Prelude.{is_some, nat_lt, length, if◌then◌else◌}
 use Rattle.att_numbers.specs.Types.{Handle, Values}
-use Rattle.att_table.specs.declared.attr.Attr.{Attr}
+use Rattle.att_attributes.specs.declared.attr.Attr.{Attr}
 use Rattle.gatt_laws.specs.Controller.{command_of_init, count_before, without_command}
 use Rattle.gatt_laws.specs.Heard.{Heard, heard_in_turn, hearer_of, with_heard, after_hearing}
 use Rattle.gatt_laws.specs.Part.{Part, is_live, after_giving}

@@ -5,9 +5,9 @@ use Rattle.std.specs.Option.{option_to_list}
 use Rattle.att_numbers.specs.Types.{Handle, Values, Row}
 use Rattle.att_policy.specs.declared.standing.Standing.{Standing}
 use Rattle.att_reads.specs.Access.{refusal_at}
+use Rattle.att_attributes.specs.declared.attr.Attr.{Attr}
 use Rattle.att_table.specs.Changer.{changer_of}
 use Rattle.att_table.specs.ConfigRow.{kept_row}
-use Rattle.att_table.specs.declared.attr.Attr.{Attr}
 use Rattle.att_table.specs.Table.{Contents, value_at, with_value}
 use Rattle.att_writes.proofs.Lengths.{stored_both}
 use Rattle.att_writes.specs.SameBut.{SameBut}

@@ -12,10 +12,11 @@ use Rattle.att_policy.specs.declared.policy.Rule.TheVariants.{HandleExists}
 use Rattle.att_policy.specs.declared.standing.Standing.{Standing}
 use Rattle.att_policy.specs.Policy.{first_broken_of}
 use Rattle.att_policy.specs.Refusal.{Refusal}
+use Rattle.att_attributes.specs.declared.attr.Attr.{Attr}
+use Rattle.att_attributes.specs.Attributes.{attribute_at, guard_at, is_configuration_at, is_fixed_at, is_value_at, largest_at}
 use Rattle.att_table.proofs.Values.{length_stored, stored_alike}
-use Rattle.att_table.specs.declared.attr.Attr.{Attr}
 use Rattle.att_table.specs.Facts.{IsTable}
-use Rattle.att_table.specs.Table.{Contents, attribute_at, guard_at, is_configuration_at, is_fixed_at, is_value_at, largest_at, value_at, with_value}
+use Rattle.att_table.specs.Table.{Contents, value_at, with_value}
 use Rattle.att_values.specs.Cell.{value_with_part}
 use Rattle.att_writes.specs.Applied.{Stored, after_entry, after_entries, stored_in, stored_after as written_after, unless_refused as unless_entry}
 use Rattle.att_writes.specs.Entry.{Entry}

@@ -5,7 +5,7 @@ use Rattle.att_numbers.specs.Types.{Handle, Row}
 use Rattle.att_pdu.specs.Request.{FindInformationRequest, FindByTypeValueRequest, ReadByTypeRequest, ReadRequest, ReadBlobRequest, ReadMultipleRequest, ReadByGroupTypeRequest}
 use Rattle.att_policy.specs.declared.standing.Standing.{Standing}
 use Rattle.att_reads.specs.Access.{refusal_at}
-use Rattle.att_table.specs.declared.attr.Attr.{Attr}
+use Rattle.att_attributes.specs.declared.attr.Attr.{Attr}
 use Rattle.att_writes.specs.SameBut.{SameBut}
 use Rattle.gatt_conn.specs.Answer.{Question}
 use Rattle.gatt_conn.specs.Transcript.{Said, Answered, Dropped}

@@ -1,9 +1,10 @@
 -- The calls of an application: which are accepted, and what they mean. They are this profile's own.
 use Rattle.std.specs.Prelude.{ℕ, ◌==◌, nat_lt, nat_le, Bool, false, ◌&&◌, not, if◌then◌else◌, [], ◌∷◌, length, Option, Some, None, Result, Ok, Err}
 use Rattle.att_numbers.specs.Types.{Handle}
+use Rattle.att_attributes.specs.declared.attr.Attr.{Attr}
+use Rattle.att_attributes.specs.Attributes.{attribute_at, is_value}
 use Rattle.att_table.specs.Changer.{changer_of}
-use Rattle.att_table.specs.declared.attr.Attr.{Attr}
-use Rattle.att_table.specs.Table.{Contents, attribute_at, is_value}
+use Rattle.att_table.specs.Table.{Contents}
 use Rattle.gatt_laws.specs.Controller.{Slots}
 use Rattle.gatt_laws.specs.Event.{Ordinal, Event, Of, Authorized, Update, Tick, Replaced}
 use Rattle.gatt_laws.specs.Part.{is_live}

@@ -8,8 +8,9 @@ use Rattle.att_policy.specs.declared.policy.Access.{Access}
 use Rattle.att_policy.specs.declared.policy.Access.TheVariants.{Read}
 use Rattle.att_policy.specs.declared.standing.Standing.{Standing}
 use Rattle.att_policy.specs.Policy.{IsPermitted}
-use Rattle.att_table.specs.declared.attr.Attr.{Attr}
-use Rattle.att_table.specs.Table.{Contents, guard_at}
+use Rattle.att_attributes.specs.declared.attr.Attr.{Attr}
+use Rattle.att_attributes.specs.Attributes.{guard_at}
+use Rattle.att_table.specs.Table.{Contents}
 use Rattle.att_writes.specs.Applied.{stored_in}
 use Rattle.gatt_conn.specs.Answer.{Question, response_to, answer_to, writing_asked, stored_by, handles_by, conn_after}
 use Rattle.gatt_conn.specs.Connection.{Connection}

@@ -4,7 +4,7 @@ use Rattle.std.specs.Prelude.{ℕ, ◌+◌, List, [], ◌∷◌, ◌++◌, lengt
 use Rattle.std.specs.Option.{option_to_list}
 use Rattle.att_numbers.specs.Types.{Handle, Row, Values}
 use Rattle.att_pdu.specs.Response.{Response, sent}
-use Rattle.att_table.specs.declared.attr.Attr.{Attr}
+use Rattle.att_attributes.specs.declared.attr.Attr.{Attr}
 use Rattle.gatt_laws.specs.Part.{Part, is_live, standing_of, row_of, mtu_of, backlog_of, with_pdus}
 use Rattle.gatt_laws.specs.Room.{Room}
 use Rattle.gatt_subs.specs.Indications.{Indications}

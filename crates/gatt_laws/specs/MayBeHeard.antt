@@ -2,7 +2,7 @@
 use Rattle.std.specs.Prelude.{◌≡◌, ℕ, true, List, [], ◌∷◌, ◌++◌}
 use Rattle.att_numbers.specs.Types.{Handle, Values}
 use Rattle.att_pdu.specs.Response.{Response, HandleValueNotification, HandleValueIndication}
-use Rattle.att_table.specs.declared.attr.Attr.{Attr}
+use Rattle.att_attributes.specs.declared.attr.Attr.{Attr}
 use Rattle.gatt_laws.specs.Headline.{Each}
 use Rattle.gatt_laws.specs.Heard.{heard_in_turn}
 use Rattle.gatt_subs.specs.Hearing.{may_hear_at}

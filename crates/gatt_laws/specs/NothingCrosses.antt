@@ -3,9 +3,10 @@
 use Rattle.std.specs.Prelude.{◌≡◌, Bool, true, false, ◌&&◌, ◌||◌, not, is_some, if◌then◌else◌, List, [], ◌∷◌, ◌++◌, Option, Some, None}
 use Rattle.std.specs.List.{list_any}
 use Rattle.att_numbers.specs.Types.{Handle}
+use Rattle.att_attributes.specs.Attributes.{type_at}
+use Rattle.att_attributes.specs.Group.{is_service_type}
 use Rattle.att_table.specs.Facts.{IsTable}
-use Rattle.att_table.specs.Group.{is_service_type}
-use Rattle.att_table.specs.Table.{Contents, type_at}
+use Rattle.att_table.specs.Table.{Contents}
 use Rattle.att_writes.specs.SameBut.{SameBut}
 use Rattle.gatt_laws.specs.Alike.{is_of, may_read_at}
 use Rattle.gatt_laws.specs.Event.{Ordinal, Event}

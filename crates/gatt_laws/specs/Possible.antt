@@ -1,8 +1,9 @@
 -- Which events may come in a state, since a packet or a call means them.
 use Rattle.std.specs.Prelude.{◌≡◌, ◌≤◌, true, false, List, [], ◌∷◌, length, Some, None}
 use Rattle.att_numbers.specs.Types.{Handle}
-use Rattle.att_table.specs.declared.attr.Attr.{Attr}
-use Rattle.att_table.specs.Table.{Contents, attribute_at}
+use Rattle.att_attributes.specs.declared.attr.Attr.{Attr}
+use Rattle.att_attributes.specs.Attributes.{attribute_at}
+use Rattle.att_table.specs.Table.{Contents}
 use Rattle.gatt_laws.specs.Calls.{has_length}
 use Rattle.gatt_laws.specs.Controller.{has_free, is_ready}
 use Rattle.gatt_laws.specs.Event.{Ordinal, Own, Event, Connected, Of, Completed, Credit, Update, Tick, Replaced, Nothing}

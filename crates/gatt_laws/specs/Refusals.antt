@@ -12,9 +12,10 @@ use Rattle.att_policy.specs.declared.policy.Rule.{Rule}
 use Rattle.att_policy.specs.declared.standing.Standing.{Standing}
 use Rattle.att_policy.specs.Policy.{code_of, first_broken_rule_of}
 use Rattle.att_reads.specs.Refusals.{range_refusal}
-use Rattle.att_table.specs.OfType.{handles_of_type}
-use Rattle.att_table.specs.declared.attr.Attr.{Attr}
-use Rattle.att_table.specs.Table.{Contents, guard_at, value_at}
+use Rattle.att_attributes.specs.declared.attr.Attr.{Attr}
+use Rattle.att_attributes.specs.Attributes.{guard_at}
+use Rattle.att_attributes.specs.OfType.{handles_of_type}
+use Rattle.att_table.specs.Table.{Contents, value_at}
 use Rattle.att_writes.specs.Applied.{Stored, after_entries}
 use Rattle.att_writes.specs.Entry.{Entry}
 use Rattle.att_writes.specs.Fault.{fault_of}

@@ -6,8 +6,8 @@ use Rattle.att_numbers.specs.Types.{Handle, Row, Values}
 use Rattle.att_pdu.specs.Grammar.{request_of, is_due}
 use Rattle.att_pdu.specs.Response.{Response}
 use Rattle.att_policy.specs.declared.standing.KeyFacts.{KeyFacts}
-use Rattle.att_table.specs.declared.attr.Attr.{Attr}
-use Rattle.att_table.specs.Table.{is_value_at}
+use Rattle.att_attributes.specs.declared.attr.Attr.{Attr}
+use Rattle.att_attributes.specs.Attributes.{is_value_at}
 use Rattle.gatt_conn.specs.Answer.{Question, answer_to, stored_by, handles_by, is_confirmation}
 use Rattle.gatt_conn.specs.Transcript.{Answered}
 use Rattle.gatt_laws.specs.Event.{Own, Connected, Gone, KeyAsked, Encrypted, Refreshed, Asks, Signals, Authorized}

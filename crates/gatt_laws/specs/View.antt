@@ -3,9 +3,10 @@ use Rattle.std.specs.Prelude.{ℕ, ◌==◌, Bool, true, false, ◌&&◌, not, i
 use Rattle.std.specs.Option.{option_map_or, option_to_list}
 use Rattle.att_numbers.specs.Types.{Handle, Row, Values}
 use Rattle.att_pdu.specs.Grammar.{request_of, is_due}
-use Rattle.att_table.specs.declared.attr.Attr.{Attr}
+use Rattle.att_attributes.specs.declared.attr.Attr.{Attr}
+use Rattle.att_attributes.specs.Attributes.{is_configuration_at}
 use Rattle.att_table.specs.ConfigRow.{bits_at}
-use Rattle.att_table.specs.Table.{Contents, is_configuration_at, value_at}
+use Rattle.att_table.specs.Table.{Contents, value_at}
 use Rattle.gatt_conn.specs.Answer.{handles_by}
 use Rattle.gatt_laws.specs.Event.{Ordinal, Own, Event, Connected, Asks, Of, Completed, Credit, Update, Tick, Replaced, Nothing}
 use Rattle.gatt_laws.specs.Input.{Item, course}

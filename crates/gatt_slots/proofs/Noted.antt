@@ -11,7 +11,7 @@ use Rattle.std.proofs.lemmas.List.{drop_all, get_or_past, get_or-set_same, get_o
 use Rattle.std.proofs.lemmas.List.Quantifiers.{position-Some}
 use Rattle.std.proofs.Math.Logic.{⊎_elim}
 use Rattle.att_numbers.specs.Types.{Handle, Row}
-use Rattle.att_table.specs.declared.attr.Attr.{Attr}
+use Rattle.att_attributes.specs.declared.attr.Attr.{Attr}
 use Rattle.att_table.specs.ConfigRow.{kept_row}
 use Rattle.att_table.specs.Table.{Contents}
 use Rattle.gatt_laws.specs.Turn.{authentication_failure, channel_answer, lost_encryption, remote_user_terminated}

@@ -2,7 +2,7 @@
 use Rattle.std.specs.Prelude.{ℕ, Bool, true, false, not, ◌==◌, ◌&&◌, is_some, if◌then◌else◌, List, [], Option, Some, None}
 use Rattle.std.specs.Option.{option_map}
 use Rattle.att_numbers.specs.Types.{Mtu}
-use Rattle.att_table.specs.declared.attr.Attr.{Attr}
+use Rattle.att_attributes.specs.declared.attr.Attr.{Attr}
 use Rattle.att_table.specs.ConfigRow.{kept_row}
 use Rattle.gatt_laws.specs.Turn.{authentication_failure, remote_user_terminated, lost_encryption, channel_answer}
 use Rattle.gatt_slots.specs.Kept.{Kept, backlog_of}

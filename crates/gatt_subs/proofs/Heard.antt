@@ -4,7 +4,7 @@ use Rattle.std.specs.Prelude.{not, nat_lt, is_some}
 use Rattle.std.specs.Option.{option_map}
 use Rattle.att_numbers.specs.Types.{Handle, Row}
 use Rattle.att_policy.specs.declared.standing.Standing.{Standing}
-use Rattle.att_table.specs.declared.attr.Attr.{Attr}
+use Rattle.att_attributes.specs.declared.attr.Attr.{Attr}
 use Rattle.gatt_subs.specs.Hearing.{is_indicated, may_hear_at, wants_indications}
 use Rattle.gatt_subs.specs.HeardOnly.{RaisesOnlyWhatIsHeard, IsHeard, ReleasesOnlyWhatIsHeard, ReleasesOnlyWhatWaits}
 use Rattle.gatt_subs.specs.Indications.{Indications, Milliseconds, first_of, from_due, hears, may_indicate, rest_of, unconfirmed_since, with_handle}

@@ -11,9 +11,9 @@ use Rattle.att_numbers.specs.Types.{Handle, Row}
 use Rattle.att_policy.specs.declared.guard.Properties.{Properties}
 use Rattle.att_policy.specs.declared.guard.TheConstants.Properties.{NOTIFY, INDICATE}
 use Rattle.att_policy.specs.Policy.{configuration_bits_of, has_property}
-use Rattle.att_table.specs.declared.attr.Attr.{Attr}
+use Rattle.att_attributes.specs.declared.attr.Attr.{Attr}
+use Rattle.att_attributes.specs.Attributes.{attribute_at, is_configuration_at, configuration_bits_at}
 use Rattle.att_table.specs.ConfigRow.{with_bits, is_supported}
-use Rattle.att_table.specs.Table.{attribute_at, is_configuration_at, configuration_bits_at}
 use Rattle.le_hci.specs.declared.peer.Peer.{Peer}
 use Rattle.le_security.specs.declared.entry.Entry.{Entry}
 use Rattle.le_security.specs.Entry.{same_peer}

@@ -6,7 +6,7 @@ use Rattle.octets.specs.Number.{Octets}
 use Rattle.att_numbers.specs.Types.{Handle, Values}
 use Rattle.att_pdu.specs.Response.{Response}
 use Rattle.att_pdu.specs.Response.Response.{HandleValueNotification, HandleValueIndication}
-use Rattle.att_table.specs.declared.attr.Attr.{Attr}
+use Rattle.att_attributes.specs.declared.attr.Attr.{Attr}
 use Rattle.gatt_subs.specs.declared.pending.TheConstants.{MAX_BACKLOG}
 use Rattle.gatt_subs.specs.Hearing.{may_hear_at, wants_indications}
 use Rattle.gatt_subs.specs.Indications.{Indications, hears, is_notified, released_handle, with_handle}

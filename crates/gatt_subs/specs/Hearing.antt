@@ -6,9 +6,9 @@ use Rattle.att_numbers.specs.Types.{Handle, Row}
 use Rattle.att_policy.specs.declared.standing.Standing.{Standing}
 use Rattle.att_policy.specs.declared.guard.TheConstants.{INDICATION}
 use Rattle.att_policy.specs.Policy.{may_hear_of}
-use Rattle.att_table.specs.declared.attr.Attr.{Attr}
+use Rattle.att_attributes.specs.declared.attr.Attr.{Attr}
+use Rattle.att_attributes.specs.Attributes.{attribute_at, is_value}
 use Rattle.att_table.specs.ConfigRow.{bits_at}
-use Rattle.att_table.specs.Table.{attribute_at, is_value}
 use Rattle.gatt_subs.specs.declared.hearing.Telling.{Telling}
 use Rattle.gatt_subs.specs.declared.hearing.Telling.TheVariants.{Notification, Indication}
 

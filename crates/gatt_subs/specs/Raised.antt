@@ -4,7 +4,8 @@ use Rattle.att_numbers.specs.Types.{Handle}
 use Rattle.att_policy.specs.declared.guard.Guard.{Guard}
 use Rattle.att_policy.specs.declared.standing.Standing.{Standing}
 use Rattle.att_policy.specs.Policy.{first_unmet_rule_of}
-use Rattle.att_table.specs.Table.{Contents, guard_at, is_value_at, value_at}
+use Rattle.att_attributes.specs.Attributes.{guard_at, is_value_at}
+use Rattle.att_table.specs.Table.{Contents, value_at}
 use Rattle.octets.specs.Number.{Octets}
 
 pub record InTable : Type 0 where

@@ -5,7 +5,7 @@ use Rattle.std.specs.Option.{option_and_then, option_map, option_map_or, unwrap_
 use Rattle.octets.specs.Number.{Octets}
 use Rattle.toml_tables.specs.Reading.{◌>>=◌}
 use Rattle.att_numbers.specs.Types.{Handle, Row}
-use Rattle.att_table.specs.declared.attr.Attr.{Attr}
+use Rattle.att_attributes.specs.declared.attr.Attr.{Attr}
 use Rattle.att_table.specs.ConfigRow.{with_bits, kept_row}
 use Rattle.le_hci.specs.declared.peer.Peer.{Peer}
 use Rattle.le_security.specs.Entry.{same_peer}

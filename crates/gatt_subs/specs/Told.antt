@@ -5,7 +5,7 @@ use Rattle.att_numbers.specs.Types.{Handle, Mtu, Row, Values}
 use Rattle.att_pdu.specs.Response.{Response}
 use Rattle.att_pdu.specs.Response.Response.{HandleValueNotification, HandleValueIndication}
 use Rattle.att_policy.specs.declared.standing.Standing.{Standing}
-use Rattle.att_table.specs.declared.attr.Attr.{Attr}
+use Rattle.att_attributes.specs.declared.attr.Attr.{Attr}
 use Rattle.att_table.specs.Table.{value_at}
 use Rattle.octets.specs.Number.{Octets}
 use Rattle.gatt_subs.specs.Hearing.{may_hear_at}

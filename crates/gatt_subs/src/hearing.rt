@@ -5,7 +5,8 @@ ghost use Rattle.std.specs.Bool.{OnTrue};
 ghost use Rattle.att_numbers.specs.Types.{Row};
 ghost use Rattle.att_policy.specs.declared.standing.Standing.{Standing};
 ghost use Rattle.att_policy.specs.Policy.{first_unmet_rule_of, may_hear_of};
-ghost use Rattle.att_table.specs.Table.{is_value_at, value_at};
+ghost use Rattle.att_attributes.specs.Attributes.{is_value_at};
+ghost use Rattle.att_table.specs.Table.{value_at};
 ghost use Rattle.gatt_subs.specs.Hearing.{bits_for, is_indicated, is_indication, may_hear_at, wants_indications};
 
 use att_policy::{Guard, INDICATION, Need, Standing, may_hear};

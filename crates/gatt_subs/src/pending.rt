@@ -1,6 +1,6 @@
 ghost use Rattle.std.specs.Prelude.{◌≡◌, ◌≢◌, ◌<◌, ◌≤◌, true, IfSome, []};
 ghost use Rattle.std.specs.Bool.{OnTrue, OnFalse};
-ghost use Rattle.att_table.specs.Table.{is_value_at};
+ghost use Rattle.att_attributes.specs.Attributes.{is_value_at};
 ghost use Rattle.gatt_subs.specs.Hearing.{is_indicated};
 ghost use Rattle.gatt_subs.specs.HeardOnly.{RaisesOnlyWhatIsHeard, ReleasesOnlyWhatIsHeard, ReleasesOnlyWhatWaits};
 ghost use Rattle.gatt_subs.specs.Indications.{after_confirmation, after_end, after_raise, after_release, after_replacement, after_tick, first_of, from_due, is_notified, is_told, is_waiting, no_indications, released_handle, rest_of, with_handle, HaveOnePlace};

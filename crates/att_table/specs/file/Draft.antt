@@ -1,8 +1,9 @@
 -- What a draft keeps beside its table.
 use Rattle.std.specs.Prelude.{◌≡◌, ℕ, ◌<◌, ◌≤◌, List, [], ◌∷◌, length, IsTrue}
 use Rattle.att_numbers.specs.Types.{Handle}
-use Rattle.att_table.specs.declared.attr.Attr.{Attr}
-use Rattle.att_table.specs.Table.{configurations_of, octets_of}
+use Rattle.att_attributes.specs.declared.attr.Attr.{Attr}
+use Rattle.att_attributes.specs.Attributes.{configurations_of}
+use Rattle.att_table.specs.Table.{octets_of}
 use Rattle.att_table.specs.file.Limits.{is_within}
 
 -- each attribute has a handle from 1 to the last one

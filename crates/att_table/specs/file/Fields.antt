@@ -5,8 +5,8 @@ use Rattle.toml.specs.Data.{Data, Members, as_str}
 use Rattle.toml_tables.specs.Reading.{◌>>=◌, unless, require, each, text_at, integer_at, flag_at, array_at}
 use Rattle.att_numbers.specs.Types.{Handle, AttributeType}
 use Rattle.att_policy.specs.declared.guard.Properties.{Properties}
-use Rattle.att_table.specs.declared.attr.Attr.{Attr}
-use Rattle.att_table.specs.declared.attr.Role.{Role}
+use Rattle.att_attributes.specs.declared.attr.Attr.{Attr}
+use Rattle.att_attributes.specs.declared.attr.Role.{Role}
 use Rattle.att_table.specs.declared.file.placed.Placed.{Placed}
 use Rattle.att_table.specs.declared.table_fault.Name.TheVariants.{Uuid, Properties as PropertiesName, Value}
 use Rattle.att_table.specs.declared.table_fault.TableFault.{TableFault}

@@ -1,7 +1,8 @@
 -- How much a table may have: this profile's own.
 use Rattle.std.specs.Prelude.{ℕ, Bool, ◌&&◌, nat_le, List, length}
-use Rattle.att_table.specs.declared.attr.Attr.{Attr}
-use Rattle.att_table.specs.Table.{configurations_of, octets_of}
+use Rattle.att_attributes.specs.declared.attr.Attr.{Attr}
+use Rattle.att_attributes.specs.Attributes.{configurations_of}
+use Rattle.att_table.specs.Table.{octets_of}
 
 -- at most 1,024 attributes, 64 client characteristic configurations, and 65,536 octets of values
 abbrev pub is_within : ℕ → ℕ → ℕ → Bool

@@ -1,5 +1,5 @@
 -- What a table of needs asks for: this profile's own.
-use Rattle.std.specs.Prelude.{ℕ, false, List, Option, Some, None, Result, Ok, codes}
+use Rattle.std.specs.Prelude.{false, Option, Some, None, Result, Ok, codes}
 use Rattle.octets.specs.Number.{Octets}
 use Rattle.toml.specs.Data.{Members}
 use Rattle.toml_tables.specs.Reading.{◌>>=◌, unless, flag_at, integer_at, table_at}

@@ -1,11 +1,11 @@
 -- Attributes with their values, and how a table grows by them.
-use Rattle.std.specs.Prelude.{ℕ, ◌+◌, true, List, [], ◌∷◌, ◌++◌, length, Result, Ok}
+use Rattle.std.specs.Prelude.{ℕ, ◌+◌, true, [], ◌∷◌, ◌++◌, length, Result, Ok}
 use Rattle.octets.specs.Number.{Octets}
 use Rattle.att_numbers.specs.Types.{Handle, AttributeType}
 use Rattle.att_policy.specs.declared.guard.TheConstants.Properties.{READ}
 use Rattle.toml_tables.specs.Reading.{◌>>=◌, unless}
-use Rattle.att_table.specs.declared.attr.Attr.{Attr}
-use Rattle.att_table.specs.declared.attr.Role.TheVariants.{Declaration}
+use Rattle.att_attributes.specs.declared.attr.Attr.{Attr}
+use Rattle.att_attributes.specs.declared.attr.Role.TheVariants.{Declaration}
 use Rattle.att_table.specs.declared.table_fault.TableFault.{TableFault}
 use Rattle.att_table.specs.declared.table_fault.TableFault.TheVariants.{TooMany}
 use Rattle.att_table.specs.file.Limits.{is_within_limits}

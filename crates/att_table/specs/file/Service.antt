@@ -1,12 +1,12 @@
 -- The services of a table: Core 5.0, Vol 3 Part G, 3.1 and 3.2.
-use Rattle.std.specs.Prelude.{ℕ, ℤ, pos, negsuc, Bool, ◌==◌, if◌then◌else◌, List, [], ◌∷◌, ◌++◌, length, slice_get, Option, Some, None}
+use Rattle.std.specs.Prelude.{ℤ, pos, negsuc, Bool, ◌==◌, if◌then◌else◌, List, [], ◌∷◌, ◌++◌, length, slice_get, Option, Some, None}
 use Rattle.std.specs.List.{list_any}
 use Rattle.std.specs.Option.{option_map, option_to_list}
 use Rattle.octets.specs.Number.{Octets, two_octets}
 use Rattle.att_numbers.specs.Types.{Handle, Values}
-use Rattle.att_table.specs.declared.attr.Attr.{Attr}
+use Rattle.att_attributes.specs.declared.attr.Attr.{Attr}
+use Rattle.att_attributes.specs.Group.{is_service_type, last_before}
 use Rattle.att_table.specs.declared.file.include.ServiceHandles.{ServiceHandles}
-use Rattle.att_table.specs.Group.{is_service_type, last_before}
 use Rattle.att_table.specs.Table.{value_at}
 
 abbrev pub has_service : List Attr → Bool

@@ -1,5 +1,5 @@
 -- Attribute types as texts: this profile's own.
-use Rattle.std.specs.Prelude.{ℕ, Bool, ◌==◌, not, List, [], ◌∷◌, Option}
+use Rattle.std.specs.Prelude.{Bool, ◌==◌, not, List, [], ◌∷◌, Option}
 use Rattle.std.specs.Int.{w16, w128, from_be_bytes}
 use Rattle.std.specs.List.{list_any}
 use Rattle.std.specs.Option.{option_map, option_or}

@@ -3,20 +3,20 @@
 ghost use Rattle.std.specs.Prelude.{◌≡◌, ◌+◌, ◌≤◌, true, length};
 ghost use Rattle.octets.specs.Memory.{Leaves};
 ghost use Rattle.toml.specs.View.{table_view};
-ghost use Rattle.att_table.specs.declared.attr.Role.TheVariants.{Declaration};
+ghost use Rattle.att_attributes.specs.declared.attr.Role.TheVariants.{Declaration};
+ghost use Rattle.att_attributes.specs.Attributes.{is_value};
 ghost use Rattle.att_table.specs.declared.table_fault.TableFault.TheVariants.{OutOfMemory};
-ghost use Rattle.att_table.specs.Table.{is_value, last_role};
+ghost use Rattle.att_table.specs.Table.{last_role};
 ghost use Rattle.att_table.specs.file.Placed.{next_handle};
 ghost use Rattle.att_table.specs.file.TableFile.{is_announced, config_at, configure, characteristic_value, characterize, characteristic_step};
 
-use crate::attr::{Attr, Role};
-use crate::attribute_type;
 use crate::file::descriptor::Descriptor;
 use crate::file::draft::Draft;
 use crate::file::part::Part;
 use crate::file::{keys, needs, part, placed};
 use crate::table_fault::TableFault;
 use arrayvec::ArrayVec;
+use att_attributes::{Attr, Role, type_octets};
 use att_numbers::attribute_type::{CHARACTERISTIC, CLIENT_CHARACTERISTIC_CONFIGURATION};
 use att_policy::{Guard, Need, Properties};
 use bitflags::Flags;
@@ -99,7 +99,7 @@ fn characteristic_value(attr: &Attr) -> ArrayVec<u8, 19>
     octets.push(low);
     octets.push(high);
     octets
-        .try_extend_from_slice(attribute_type::type_octets(attr.kind).as_slice())
+        .try_extend_from_slice(type_octets(attr.kind).as_slice())
         .unwrap();
     octets
 }

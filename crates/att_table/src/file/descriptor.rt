@@ -3,11 +3,11 @@
 ghost use Rattle.std.specs.Prelude.{◌≡◌};
 ghost use Rattle.att_table.specs.file.TableFile.{descriptor_step};
 
-use crate::attr::Role;
 use crate::file::draft::Draft;
 use crate::file::part::Part;
 use crate::file::{keys, placed};
 use crate::table_fault::TableFault;
+use att_attributes::Role;
 use att_policy::Properties;
 use toml::Value;
 

@@ -2,18 +2,19 @@
 
 ghost use Rattle.std.specs.Prelude.{◌≡◌, ◌≢◌, ◌+◌, ◌≤◌, ◌<◌, [], length, OnOk, IfOk, IfSome, IsSome};
 ghost use Rattle.octets.specs.Memory.{Leaves};
-ghost use Rattle.att_table.specs.declared.attr.Role.TheVariants.{Declaration};
+ghost use Rattle.att_attributes.specs.declared.attr.Role.TheVariants.{Declaration};
+ghost use Rattle.att_attributes.specs.Attributes.{attribute_at, is_configuration};
 ghost use Rattle.att_table.specs.declared.table_fault.TableFault.TheVariants.{OutOfMemory};
 ghost use Rattle.att_table.specs.file.Placed.{next_handle, add, declare};
 ghost use Rattle.att_table.specs.file.Service.{earlier_service};
-ghost use Rattle.att_table.specs.Table.{attribute_at, counted_octets, is_configuration, last_role, most_octets, IsNext};
+ghost use Rattle.att_table.specs.Table.{counted_octets, last_role, most_octets, IsNext};
 
-use crate::attr::{Attr, Role};
 use crate::file::include;
 use crate::file::include::ServiceHandles;
 use crate::table::Table;
 use crate::table_builder::TableBuilder;
 use crate::table_fault::TableFault;
+use att_attributes::{Attr, Role};
 use att_policy::{Guard, Need, Properties};
 use std::alloc::{AllocError, Global};
 use std::marker::Model;

@@ -1,18 +1,17 @@
 //! The includes of a service in a table file.
 
 ghost use Rattle.std.specs.Prelude.{◌≡◌, slice_get, IsSome, IfSome};
-ghost use Rattle.att_table.specs.Group.{is_service_type};
+ghost use Rattle.att_attributes.specs.Attributes.{attribute_at};
+ghost use Rattle.att_attributes.specs.Group.{is_service_type};
 ghost use Rattle.att_table.specs.file.Service.{followed_end, followed_service, earlier_services, earlier_service, include_value};
-ghost use Rattle.att_table.specs.Table.{attribute_at};
 ghost use Rattle.att_table.specs.file.TableFile.{include_step};
 
-use crate::attr::Attr;
 use crate::file::draft::Draft;
 use crate::file::part::Part;
-use crate::group;
 use crate::table_builder::TableBuilder;
 use crate::table_fault::TableFault;
 use arrayvec::ArrayVec;
+use att_attributes::{Attr, is_service};
 use att_numbers::attribute_type::INCLUDE;
 use toml::Value;
 
@@ -89,7 +88,7 @@ fn service_at(attributes: &[Attr], position: usize) -> Option<ServiceHandles>
 fn followed_service(attr: Attr, rest: &[Attr]) -> Option<ServiceHandles>
     ensures { result ≡ followed_service attr rest.now }
 {
-    if !group::is_service(attr.kind) {
+    if !is_service(attr.kind) {
         return None;
     }
     let last = followed_end(attr.handle, rest)?;
@@ -105,7 +104,7 @@ fn followed_end(handle: u16, rest: &[Attr]) -> Option<u16>
 {
     let mut last = handle;
     'rest: for attr in rest {
-        if group::is_service(attr.kind) {
+        if is_service(attr.kind) {
             return Some(last);
         }
         last = attr.handle;

@@ -7,10 +7,10 @@ ghost use Rattle.toml.specs.View.{view, items_view, table_view};
 ghost use Rattle.toml_tables.specs.Reading.{each};
 ghost use Rattle.att_table.specs.file.Fields.{type_at, value_type_at, no_properties, property_step, properties_at, value_read_at, placed_of, placed_view};
 
-use crate::attr::{Attr, Role};
 use crate::file::{field, needs, type_text};
 use crate::table_fault::{Name, TableFault};
 use arrayvec::ArrayVec;
+use att_attributes::{Attr, Role};
 use att_policy::{Guard, Properties};
 use bitflags::Flags;
 use toml::{Table, Value};

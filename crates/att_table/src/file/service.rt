@@ -4,13 +4,13 @@ ghost use Rattle.std.specs.Prelude.{◌≡◌};
 ghost use Rattle.toml.specs.View.{table_view};
 ghost use Rattle.att_table.specs.file.TableFile.{service_type_at, service_step};
 
-use crate::attribute_type;
 use crate::file::characteristic::Characteristic;
 use crate::file::draft::Draft;
 use crate::file::include::Include;
 use crate::file::part::Part;
 use crate::file::{keys, part, placed};
 use crate::table_fault::TableFault;
+use att_attributes::type_octets;
 use att_numbers::attribute_type::{PRIMARY_SERVICE, SECONDARY_SERVICE};
 use toml::{Table, Value};
 
@@ -25,7 +25,7 @@ impl Part for Service {
         if !toml_tables::is_shaped(table, &keys::SERVICE) {
             return Err(TableFault::Shape);
         }
-        let uuid = attribute_type::type_octets(placed::read_type(table)?);
+        let uuid = type_octets(placed::read_type(table)?);
         draft.declare(service_type(table), uuid.as_slice())?;
         part::read_all::<Include>(draft, toml_tables::items(table, "include"))?;
         part::read_all::<Characteristic>(draft, toml_tables::items(table, "characteristic"))

@@ -5,9 +5,10 @@ use Rattle.std.specs.List.{position}
 use Rattle.std.specs.Option.{option_map}
 use Rattle.std.proofs.lemmas.Bool.{ltb-false}
 use Rattle.att_numbers.specs.Types.{Handle}
+use Rattle.att_attributes.specs.declared.attr.Attr.{Attr}
+use Rattle.att_attributes.specs.Attributes.{attribute_at, is_value}
 use Rattle.att_table.specs.Changer.{changer_of}
-use Rattle.att_table.specs.declared.attr.Attr.{Attr}
-use Rattle.att_table.specs.Table.{Contents, attribute_at, is_value}
+use Rattle.att_table.specs.Table.{Contents}
 use Rattle.gatt_host.proofs.asking.Led.{KeepsSlots, led_on}
 use Rattle.gatt_host.proofs.standing.ForAll.{time_leads_on, update_leads_on}
 use Rattle.gatt_host.proofs.standing.Holding.{Holds, holds, some-is, were_open}

@@ -4,9 +4,10 @@ use Rattle.std.specs.Prelude.{is_some, is_none, replicate, nat_le, nat_lt, not, 
 use Rattle.std.specs.Option.{option_map}
 use Rattle.std.proofs.lemmas.Bool.{ltb-false}
 use Rattle.att_numbers.specs.Types.{Handle}
+use Rattle.att_attributes.specs.declared.attr.Attr.{Attr}
+use Rattle.att_attributes.specs.Attributes.{attribute_at, is_value}
 use Rattle.att_table.specs.Changer.{changer_of}
-use Rattle.att_table.specs.declared.attr.Attr.{Attr}
-use Rattle.att_table.specs.Table.{Contents, attribute_at, is_value}
+use Rattle.att_table.specs.Table.{Contents}
 use Rattle.gatt_host.proofs.Nexts.{clash}
 use Rattle.gatt_host.proofs.standing.Answered.{answer_leads_on}
 use Rattle.gatt_host.proofs.standing.Comings.{coming_leads_on, going_leads_on}

@@ -4,11 +4,12 @@ use Rattle.std.specs.Prelude.{unwrap_or, ◌&&◌, Result, Ok, Err, OnOk, is_err
 use Rattle.std.specs.Option.{option_map, option_map_or}
 use Rattle.std.proofs.lemmas.List.Elements.{All-nil}
 use Rattle.att_numbers.specs.Types.{Handle, Row}
+use Rattle.att_attributes.specs.declared.attr.Attr.{Attr}
+use Rattle.att_attributes.specs.Attributes.{is_configuration_at}
 use Rattle.att_table.proofs.Configurations.{row_of}
 use Rattle.att_table.specs.Changer.{changer_of}
 use Rattle.att_table.specs.ConfigRow.{with_bits, is_supported, IsRowOf}
-use Rattle.att_table.specs.declared.attr.Attr.{Attr}
-use Rattle.att_table.specs.Table.{Contents, is_configuration_at}
+use Rattle.att_table.specs.Table.{Contents}
 use Rattle.gatt_host.proofs.meaning.Beginning.{stands_in_at_the_start}
 use Rattle.gatt_host.proofs.Nexts.{clash}
 use Rattle.gatt_host.proofs.standing.AtTheStart.{fitted_known}

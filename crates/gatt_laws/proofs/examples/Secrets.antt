@@ -3,8 +3,9 @@
 use Rattle.std.proofs.Common.{◌≡◌, ℕ, Bool, true, false, ◌&&◌, ◌||◌, List, [], ◌∷◌, ◌++◌, map, Option, Some, None, refl, sym, ap, ◌∙◌, arith}
 use Rattle.std.specs.Prelude.{not}
 use Rattle.att_numbers.specs.Types.{Handle}
-use Rattle.att_table.specs.Group.{is_service_type}
-use Rattle.att_table.specs.Table.{Contents, type_at}
+use Rattle.att_attributes.specs.Attributes.{type_at}
+use Rattle.att_attributes.specs.Group.{is_service_type}
+use Rattle.att_table.specs.Table.{Contents}
 use Rattle.att_writes.proofs.Lengths.{stored_both}
 use Rattle.gatt_laws.proofs.NothingCrosses.{HasHandles, crosses_nowhere}
 use Rattle.gatt_laws.proofs.examples.Runs.{host, initialised, connected, asks, frame}

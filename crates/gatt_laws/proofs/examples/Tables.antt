@@ -4,8 +4,8 @@ use Rattle.att_numbers.specs.AttributeType.{of_16_bits}
 use Rattle.att_numbers.specs.Types.{Handle}
 use Rattle.att_policy.specs.declared.guard.Guard.{Guard}
 use Rattle.att_policy.specs.declared.guard.Need.{Need}
-use Rattle.att_table.specs.declared.attr.Attr.{Attr}
-use Rattle.att_table.specs.declared.attr.Role.TheVariants.{Declaration, Value, Configuration}
+use Rattle.att_attributes.specs.declared.attr.Attr.{Attr}
+use Rattle.att_attributes.specs.declared.attr.Role.TheVariants.{Declaration, Value, Configuration}
 use Rattle.att_table.specs.Table.{Contents}
 use Rattle.le_hci.specs.declared.peer.Peer.{Peer}
 use Rattle.le_security.specs.declared.entry.Entry as Key

@@ -5,8 +5,9 @@ use Rattle.std.specs.Option.{option_map, option_map_or, option_to_list}
 use Rattle.std.proofs.lemmas.List.{length-append, length-map, map-append}
 use Rattle.att_numbers.specs.Types.{Handle, Row}
 use Rattle.att_policy.specs.declared.standing.Standing.{Standing}
-use Rattle.att_table.specs.declared.attr.Attr.{Attr}
-use Rattle.att_table.specs.Table.{Contents, attribute_at, is_value, is_value_at}
+use Rattle.att_attributes.specs.declared.attr.Attr.{Attr}
+use Rattle.att_attributes.specs.Attributes.{attribute_at, is_value, is_value_at}
+use Rattle.att_table.specs.Table.{Contents}
 use Rattle.att_policy.specs.Policy.{may_hear_of}
 use Rattle.gatt_laws.proofs.Silence.{only_serves_the_live}
 use Rattle.gatt_laws.specs.Heard.{Heard, att_pdu, heard_in_turn, heard_raised, hearer_after, after_responses, hearer_of as part_hearer, after_hearing as part_hearing}

@@ -8,7 +8,7 @@ use Rattle.att_pdu.specs.declared.grammar.PduFault.TheVariants.{Ignored, Invalid
 use Rattle.att_pdu.specs.Grammar.{request_of, is_due}
 use Rattle.att_pdu.specs.Request.{ExchangeMtuRequest, FindInformationRequest, FindByTypeValueRequest, ReadByTypeRequest, ReadRequest, ReadBlobRequest, ReadMultipleRequest, ReadByGroupTypeRequest, WriteRequest, PrepareWriteRequest, ExecuteWriteRequest, ConfirmationPdu, WriteCommandPdu}
 use Rattle.att_policy.specs.declared.standing.KeyFacts.{KeyFacts}
-use Rattle.att_table.specs.declared.attr.Attr.{Attr}
+use Rattle.att_attributes.specs.declared.attr.Attr.{Attr}
 use Rattle.att_writes.specs.Applied.{Stored}
 use Rattle.gatt_conn.proofs.Transcripts.{asked_next}
 use Rattle.gatt_conn.specs.Answer.{Question, answer_to, stored_by, handles_by, conn_after, is_confirmation}

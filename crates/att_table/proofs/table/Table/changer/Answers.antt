@@ -1,6 +1,6 @@
 use Rattle.std.proofs.Common.{◌≡◌, ℕ, ◌≤◌, List, Option, ap, sym, subst, ◌∙◌}
 use Rattle.std.specs.Option.{IfSome}
-use Rattle.att_table.specs.declared.attr.Attr.{Attr}
+use Rattle.att_attributes.specs.declared.attr.Attr.{Attr}
 use Rattle.att_table.specs.Changer.{changer_of, is_changer}
 use Rattle.att_table.specs.Table.{Contents, values_of}
 use Rattle.att_table.proofs.Changers.{found_within}

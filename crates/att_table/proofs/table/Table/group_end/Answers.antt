@@ -1,9 +1,9 @@
 use Rattle.std.proofs.Common.{◌-◌, ◌<◌, length, ap, ◌∙◌, arith}
 use Rattle.std.proofs.lemmas.Grind.{common_steps}
 use Rattle.std.specs.Prelude.{IsSome}
-use Rattle.att_table.specs.Group.{group_end_at}
-use Rattle.att_table.specs.Table.{attribute_at}
-use Rattle.att_table.proofs.Groups.{end_within, end_found}
+use Rattle.att_attributes.specs.Attributes.{attribute_at}
+use Rattle.att_attributes.specs.Group.{group_end_at}
+use Rattle.att_attributes.proofs.Groups.{end_within, end_found}
 use Rattle.att_table.proofs.table.Table.group_end.Goals as goal
 
 pub index-requires : goal.index-requires

@@ -1,6 +1,6 @@
 use Rattle.std.proofs.Common.{◌≡◌, ap, arith, ◌∙◌}
 use Rattle.std.specs.Prelude.{sum_by}
-use Rattle.att_table.specs.declared.attr.Attr.{Attr}
+use Rattle.att_attributes.specs.declared.attr.Attr.{Attr}
 use Rattle.att_table.proofs.Facts.{sum-largest}
 use Rattle.att_table.proofs.Tables.{octets-kept}
 use Rattle.att_table.proofs.table.Table.octets.Goals as goal

@@ -1,8 +1,9 @@
-use Rattle.std.proofs.Common.{◌≡◌, ◌+◌, ◌-◌, ◌≤◌, length, arith, ap}
+use Rattle.std.proofs.Common.{◌+◌, ◌-◌, ◌≤◌, length, arith, ap}
 use Rattle.att_values.specs.Cell.{cell_at, patched_cell}
 use Rattle.att_table.proofs.Facts.{exact-set, keeps_written}
 use Rattle.att_table.specs.Table.{room_at, value_at}
-use Rattle.att_table.proofs.Tables.{fits_cell, kept-patched, patched_values, place_within, value_at-cell}
+use Rattle.att_attributes.proofs.Places.{place_within}
+use Rattle.att_table.proofs.Tables.{fits_cell, kept-patched, patched_values, value_at-cell}
 use Rattle.att_table.proofs.table.Table.patch.Goals as goal
 
 pub patch_at-requires-clause-fits : goal.patch_at-requires-clause-fits

@@ -1,7 +1,8 @@
 use Rattle.std.proofs.Common.{◌-◌, ap, arith, false}
 use Rattle.att_values.specs.Cell.{cell_at, patched_cell}
 use Rattle.att_table.proofs.Facts.{exact-set, keeps_replaced}
-use Rattle.att_table.proofs.Tables.{fits_cell, kept-patched, place_within, replaced_values}
+use Rattle.att_attributes.proofs.Places.{place_within}
+use Rattle.att_table.proofs.Tables.{fits_cell, kept-patched, replaced_values}
 use Rattle.att_table.proofs.table.Table.set.Goals as goal
 
 pub patch_at-requires-clause-fits : goal.patch_at-requires-clause-fits

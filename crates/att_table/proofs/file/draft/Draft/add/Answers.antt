@@ -1,6 +1,6 @@
 use Rattle.std.proofs.Common.{◌≡◌, ◌+◌, length, ap, ◌∙◌, arith}
 use Rattle.std.proofs.lemmas.Grind.{common_steps}
-use Rattle.att_table.specs.declared.attr.Role.TheVariants.{Declaration}
+use Rattle.att_attributes.specs.declared.attr.Role.TheVariants.{Declaration}
 use Rattle.att_table.specs.Table.{last_role}
 use Rattle.att_table.proofs.Facts.{last-push}
 use Rattle.att_table.proofs.Services.{handles_pushed}

@@ -7,10 +7,10 @@ use Rattle.std.proofs.lemmas.Bool.Decides.{nat_tests}
 use Rattle.std.specs.Prelude.{nat_lt, nat_le, slice_get}
 use Rattle.std.specs.List.{filter, prefix_len, insert}
 use Rattle.std.specs.Option.{option_map_or}
-use Rattle.att_table.specs.declared.attr.Attr.{Attr}
-use Rattle.att_table.specs.TypeIndex.{put, by_type, is_before, place_from, turns_for, comes_before, AllAfter, IsOrdered, AllAbove, IsIndex}
-use Rattle.att_table.specs.OfType.{handles_of_type}
-use Rattle.att_table.specs.Table.{type_at, handles_by_type, HaveHandlesFrom, IsNumbered}
+use Rattle.att_attributes.specs.declared.attr.Attr.{Attr}
+use Rattle.att_attributes.specs.Attributes.{type_at, HaveHandlesFrom, IsNumbered}
+use Rattle.att_attributes.specs.OfType.{handles_of_type, handles_by_type}
+use Rattle.att_attributes.specs.TypeIndex.{put, by_type, is_before, place_from, turns_for, comes_before, AllAfter, IsOrdered, AllAbove, IsIndex}
 
 abbrev pub AllFail : (ℕ → Bool) → List ℕ → Type 0
 AllFail test [] = Unit

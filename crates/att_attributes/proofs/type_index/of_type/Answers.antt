@@ -2,10 +2,10 @@ use Rattle.std.proofs.Common.{◌≡◌, ℕ, ◌+◌, ◌-◌, ◌<◌, ◌≤�
 use Rattle.std.specs.Prelude.{nat_le}
 use Rattle.std.proofs.lemmas.Bool.Decides.{nat_tests}
 use Rattle.std.proofs.lemmas.Grind.{common_steps}
-use Rattle.att_table.specs.TypeIndex.{place_from, turns_for}
-use Rattle.att_table.specs.Table.{type_at}
-use Rattle.att_table.proofs.OfType.{above_at, end_behind, found_between, index_given, length_given, none_at, none_past}
-use Rattle.att_table.proofs.type_index.of_type.Goals as goal
+use Rattle.att_attributes.specs.Attributes.{type_at}
+use Rattle.att_attributes.specs.TypeIndex.{place_from, turns_for}
+use Rattle.att_attributes.proofs.OfType.{above_at, end_behind, found_between, index_given, length_given, none_at, none_past}
+use Rattle.att_attributes.proofs.type_index.of_type.Goals as goal
 
 pub first_from-start-requires-clause-index : goal.first_from-start-requires-clause-index
 first_from-start-requires-clause-index g c = index_given _ _ c.requires.numbered c.requires.index

@@ -2,10 +2,10 @@
 use Rattle.std.proofs.Common.{◌≡◌, ℕ, suc, ◌-◌, ◌<◌, Bool, if◌then◌else◌, List, [], ◌∷◌, length, drop, Option, Some, None, refl, ap, ◌∙◌, arith}
 use Rattle.std.proofs.lemmas.List.{get_or_read}
 use Rattle.std.specs.Prelude.{IsSome, slice_index_or}
-use Rattle.att_table.specs.declared.attr.Attr.{Attr}
-use Rattle.att_table.specs.Group.{is_service_type, is_grouping_type, last_before, group_ends_of, group_end_at}
-use Rattle.att_table.specs.Table.{attribute_at}
-use Rattle.att_table.proofs.Tables.{place_within}
+use Rattle.att_attributes.specs.declared.attr.Attr.{Attr}
+use Rattle.att_attributes.specs.Attributes.{attribute_at}
+use Rattle.att_attributes.specs.Group.{is_service_type, is_grouping_type, last_before, group_ends_of, group_end_at}
+use Rattle.att_attributes.proofs.Places.{place_within}
 
 -- where a group that goes on at the first of these attributes ends
 abbrev pub open_end : (ℕ → Bool) → List Attr → Option ℕ

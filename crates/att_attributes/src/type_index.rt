@@ -2,9 +2,9 @@
 //! types: Core 5.0, Vol 3 Part F, 3.2.1.
 
 ghost use Rattle.std.specs.Prelude.{◌≡◌, ◌+◌, ◌-◌, ◌^◌, ◌<◌, ◌≤◌, ◌==◌, ◌&&◌, min, nat_le, length, IfOk};
-ghost use Rattle.att_table.specs.TypeIndex.{is_before, place_from, turns_for, IsIndex};
-ghost use Rattle.att_table.specs.OfType.{handles_of_type};
-ghost use Rattle.att_table.specs.Table.{type_at, handles_by_type, IsNumbered};
+ghost use Rattle.att_attributes.specs.Attributes.{type_at, IsNumbered};
+ghost use Rattle.att_attributes.specs.OfType.{handles_of_type, handles_by_type};
+ghost use Rattle.att_attributes.specs.TypeIndex.{is_before, place_from, turns_for, IsIndex};
 
 use crate::attr::Attr;
 use std::alloc::{AllocError, Global};

@@ -1,7 +1,7 @@
 //! The groups of a table's attributes: Core 5.0, Vol 3 Part G, 2.5.3.
 
 ghost use Rattle.std.specs.Prelude.{◌≡◌, IfOk};
-ghost use Rattle.att_table.specs.Group.{is_service_type, is_grouping_type, group_ends_of};
+ghost use Rattle.att_attributes.specs.Group.{is_service_type, is_grouping_type, group_ends_of};
 
 use crate::attr::Attr;
 use att_numbers::attribute_type::{CHARACTERISTIC, PRIMARY_SERVICE, SECONDARY_SERVICE};

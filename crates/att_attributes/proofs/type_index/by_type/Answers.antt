@@ -1,7 +1,7 @@
 use Rattle.std.proofs.Common.{◌<◌, ◌≤◌, length, arith}
 use Rattle.std.proofs.lemmas.Grind.{common_steps}
-use Rattle.att_table.proofs.OfType.{index_so_far, length_so_far, one_more}
-use Rattle.att_table.proofs.type_index.by_type.Goals as goal
+use Rattle.att_attributes.proofs.OfType.{index_so_far, length_so_far, one_more}
+use Rattle.att_attributes.proofs.type_index.by_type.Goals as goal
 
 pub first_from-first-requires-clause-index : goal.first_from-first-requires-clause-index
 first_from-first-requires-clause-index c =

@@ -1,9 +1,9 @@
 -- The groups of a table's attributes: Core 5.0, Vol 3 Part G, 2.5.3.
 -- That a characteristic begins a group too, and that the last group ends with the table, is this profile's own.
-use Rattle.std.specs.Prelude.{ℕ, ◌-◌, Bool, ◌==◌, ◌||◌, if◌then◌else◌, List, [], ◌∷◌, slice_index_or}
+use Rattle.std.specs.Prelude.{◌-◌, Bool, ◌==◌, ◌||◌, if◌then◌else◌, List, [], ◌∷◌, slice_index_or}
 use Rattle.att_numbers.specs.Types.{Handle, AttributeType}
 use Rattle.att_numbers.specs.declared.attribute_type.TheConstants.{PRIMARY_SERVICE, SECONDARY_SERVICE, CHARACTERISTIC}
-use Rattle.att_table.specs.declared.attr.Attr.{Attr}
+use Rattle.att_attributes.specs.declared.attr.Attr.{Attr}
 
 -- the types of the attributes that begin a service, and those of the ones that begin a group
 abbrev pub is_service_type : AttributeType → Bool

@@ -1,8 +1,8 @@
 use Rattle.std.proofs.Common.{length, ◌-◌}
-use Rattle.att_table.specs.TypeIndex.{place_from, turns_for}
-use Rattle.att_table.specs.Table.{type_at}
-use Rattle.att_table.proofs.OfType.{IsNarrowed}
-use Rattle.att_table.proofs.type_index.first_from.Given as goal
+use Rattle.att_attributes.specs.Attributes.{type_at}
+use Rattle.att_attributes.specs.TypeIndex.{place_from, turns_for}
+use Rattle.att_attributes.proofs.OfType.{IsNarrowed}
+use Rattle.att_attributes.proofs.type_index.first_from.Given as goal
 
 abbrev pub invariant-loop-low : goal.invariant-loop-low
 invariant-loop-low g l =

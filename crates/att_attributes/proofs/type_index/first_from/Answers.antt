@@ -1,8 +1,8 @@
 use Rattle.std.proofs.Common.{ℕ, Bool, refl, sym, ◌∙◌}
-use Rattle.att_table.specs.TypeIndex.{is_before}
-use Rattle.att_table.specs.Table.{type_at}
-use Rattle.att_table.proofs.OfType.{begin, narrow_low, narrow_high, place_within, place_below, place_at, closed, above_at, middle_within}
-use Rattle.att_table.proofs.type_index.first_from.Goals as goal
+use Rattle.att_attributes.specs.Attributes.{type_at}
+use Rattle.att_attributes.specs.TypeIndex.{is_before}
+use Rattle.att_attributes.proofs.OfType.{begin, narrow_low, narrow_high, place_within, place_below, place_at, closed, above_at, middle_within}
+use Rattle.att_attributes.proofs.type_index.first_from.Goals as goal
 
 pub loop-low-init : goal.loop-low-init
 loop-low-init g c = begin _ _ _ _ c.requires.known (place_within _ c.args.index.now) c.requires.most

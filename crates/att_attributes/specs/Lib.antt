@@ -1,0 +1,4 @@
+pub mod Attributes
+pub mod Group
+pub mod OfType
+pub mod TypeIndex

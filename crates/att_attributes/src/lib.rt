@@ -1,0 +1,12 @@
+//! The attributes of a server, their groups, and the handles of those of one type.
+#![tactic(auto)]
+
+mod attr;
+mod attribute_type;
+mod group;
+mod type_index;
+
+pub use attr::{Attr, Role};
+pub use attribute_type::{is_of_16_bits, type_octets};
+pub use group::{group_ends, is_service};
+pub use type_index::{Counted, Steps, Uncounted, by_type, of_type};

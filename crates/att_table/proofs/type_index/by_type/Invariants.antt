@@ -1,8 +1,0 @@
-use Rattle.std.proofs.Common.{◌≡◌, drop}
-use Rattle.att_table.specs.TypeIndex.{by_type}
-use Rattle.att_table.specs.Table.{type_at}
-use Rattle.att_table.proofs.OfType.{handles_of}
-use Rattle.att_table.proofs.type_index.by_type.Given as goal
-
-abbrev pub invariant-loop-place : goal.invariant-loop-place
-invariant-loop-place l = l.index.items ≡ by_type (type_at l.attributes) (handles_of (drop l.place l.attributes))
