@@ -130,7 +130,7 @@ impl Host {
             → replacing_refusal_of result ≡ replacement_refusal (course start input).intake table }
         ensures given { IfOk result (λ old. old ≡ self.old.held.table) }
         ensures given_back { IfErr result (λ refused. refused.1 ≡ table) }
-        ensures stopped { IsSome self.old.fault → IfErr result (λ refused. refused.0 ≡ AppFault.Stopped) }
+        ensures stopped { IsSome self.old.fault → result ≡ Err (AppFault.Stopped, table) }
         ensures fault { self.new.fault ≡ self.old.fault }
         ensures unchanged { OnErr result (self.new ≡ self.old) }
         // And of all that is taken in, for every start and input:
