@@ -11,6 +11,7 @@ ghost use Rattle.gatt_host.specs.GoingOut.{is_drained};
 ghost use Rattle.gatt_host.specs.Held.{after_out, next_of, open_slots};
 ghost use Rattle.gatt_host.specs.Promises.{KeepsConnectionsApart, KeepsThePolicy};
 ghost use Rattle.gatt_host.specs.Whole.{all_out, is_own, outcome_of, Leads, StandsAt, Takes};
+ghost use Rattle.le_h4.specs.Division.{is_long};
 ghost use Rattle.le_h4.specs.Packet.{seen};
 ghost use Rattle.octets.specs.Number.{Octets};
 
@@ -50,6 +51,9 @@ impl Model for Host {
     ghost invariant = { λ h. IsReached (record { held = h.state; frames = h.frames; stream = h.deframer; fault = h.fault }) };
 }
 
+/// As many octets of data as a kept ACL packet has at most.
+const LONGEST_DATA: usize = 1024;
+
 impl Host {
     /// Whether all is out: nothing is to go to the controller now, or a fault stands.
     pub fn drained(&self) -> bool
@@ -78,8 +82,8 @@ impl Host {
         copy_next(&mut self.state, &mut self.packet, out)
     }
 
-    /// Takes in one whole packet from the controller, once all is out. After a fault it answers that,
-    /// and changes nothing.
+    /// Takes in one whole packet from the controller, once all is out. An ACL packet with more than
+    /// 1,024 octets of data is ignored. After a fault it answers that, and changes nothing.
     #[tactic(auto, using(crate::proofs::Promises::keeps_the_policy, crate::proofs::Promises::keeps_connections_apart))]
     pub fn packet(&mut self, packet: PacketRef<'_>) -> Result<(), HostFault>
         requires drained { all_out self.old ≡ true }
@@ -94,6 +98,9 @@ impl Host {
     {
         if let Some(fault) = self.fault {
             return Err(fault);
+        }
+        if is_long(&packet) {
+            return Ok(());
         }
         let taken = packet::packet(&mut self.state, &mut self.frames, packet);
         self.fault = taken.err();
@@ -172,6 +179,16 @@ fn copy_next(state: &mut HostState, packet: &mut PacketBuf, out: &mut ArrayVec<u
     }
     overwrite(out, packet.as_slice(), &[], &[]);
     true
+}
+
+/// Whether it is an ACL packet with more data than the largest that is kept.
+fn is_long(packet: &PacketRef<'_>) -> bool
+    ensures { result ≡ is_long (seen packet.now) }
+{
+    match packet {
+        PacketRef::Acl { octets, .. } => octets.len() > LONGEST_DATA,
+        _ => false,
+    }
 }
 
 /// Nothing is to go to the controller, or a fault stands.

@@ -222,7 +222,7 @@ module _ (Fine : Contents → Type 0) where
     always old (APacket packet ∷ items) tables is =
         always (unless_stopped old.intake.fault old (taken old (APacket packet))) items tables
         (unless-stopped old (taken old (APacket packet)) old.intake.fault is
-        (packet-keeps old packet (packet_event old.intake.state old.intake.fragments packet) (packet_possible old.intake.state old.intake.fragments packet) is))
+        (long-or-taken old packet old.intake.unfinished (is_long packet) is))
     always old (ACall call ∷ items) tables is =
         always (unless_stopped old.intake.fault old (taken old (ACall call))) items tables
         (unless-stopped old (taken old (ACall call)) old.intake.fault is

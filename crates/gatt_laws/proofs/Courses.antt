@@ -47,7 +47,7 @@ goes-first old octets (NoPacket indicator) = goes-nowhere old
 
 goes-taken : (old : Course) (item : Item) → GoesOn old (taken old item)
 goes-taken old (AnOctet octet) = goes-first old (old.intake.unfinished ++ octet ∷ []) (first_of (old.intake.unfinished ++ octet ∷ []))
-goes-taken old (APacket packet) = goes-packet old packet (packet_event old.intake.state old.intake.fragments packet)
+goes-taken old (APacket packet) = goes-kept old packet old.intake.unfinished (is_long packet)
 goes-taken old (ACall call) = goes-result old (call_event old.intake.state call)
 goes-taken old (ATable table) = goes-result old (replacement_event old.intake.state table)
 goes-taken old TheEnd = goes-nowhere old

@@ -40,7 +40,7 @@ module _ (course : Course) where
 
   taken-means : (item : Item) → (taken course item).intake.state ≡ after_if before (event_taken course.intake item)
   taken-means (AnOctet octet) = first-means (course.intake.unfinished ++ octet ∷ []) (first_of (course.intake.unfinished ++ octet ∷ []))
-  taken-means (APacket packet) = packet-means course.intake.unfinished packet (packet_event before course.intake.fragments packet)
+  taken-means (APacket packet) = first-means [] (FirstPacket packet course.intake.unfinished)
   taken-means (ACall call) = result-means (call_event before call)
   taken-means (ATable table) = result-means (replacement_event before table)
   taken-means TheEnd = refl
@@ -115,7 +115,7 @@ module _ (one other : Course) (looks : looked_at one.intake.state ≡ looked_at 
     events-taken (AnOctet octet) =
         ap (λ (k : Kept). event_of_first one.intake.state one.intake.fragments (first_of (k.unfinished ++ octet ∷ []))) same
         ∙ first-same (first_of (other.intake.unfinished ++ octet ∷ []))
-    events-taken (APacket packet) = ap event_if (packets-same one.intake.fragments other.intake.fragments (ap (λ (k : Kept). k.fragments) same) packet)
+    events-taken (APacket packet) = first-same (FirstPacket packet [])
     events-taken (ACall call) = ap event_if (calls-same call)
     events-taken (ATable table) = ap event_if (replacements-same table)
     events-taken TheEnd = refl
@@ -161,8 +161,8 @@ module _ (one other : Course) (looks : looked_at one.intake.state ≡ looked_at 
         first-kept (one.intake.unfinished ++ octet ∷ []) (first_of (one.intake.unfinished ++ octet ∷ []))
         ∙ ap (λ (k : Kept). let octets = k.unfinished ++ octet ∷ [] in kept (after_first other octets (first_of octets))) same
     taken_kept (APacket packet) =
-        packets-kept one.intake.unfinished packet
-        ∙ ap (λ (k : Kept). kept (after_packet (with_unfinished other k.unfinished) packet)) same
+        first-kept [] (FirstPacket packet one.intake.unfinished)
+        ∙ ap (λ (k : Kept). kept (after_first other [] (FirstPacket packet k.unfinished))) same
     taken_kept (ACall call) = result-kept (call_event one.intake.state call) (call_event other.intake.state call) (calls-same call)
     taken_kept (ATable table) = result-kept (replacement_event one.intake.state table) (replacement_event other.intake.state table) (replacements-same table)
     taken_kept TheEnd = λ i. record (same i) { unfinished = [] }

@@ -28,7 +28,7 @@ packet-led old packet (Err fault) = refl
 
 long-led : (old : Course) (packet : Packet) (rest : Octets) (long : Bool)
     → (if long then with_unfinished old rest else after_packet (with_unfinished old rest) packet).intake.state
-    ≡ led old.intake.state (if long then None else event_of_packet old.intake packet)
+    ≡ led old.intake.state (if long then None else event_if (packet_event old.intake.state old.intake.fragments packet))
 long-led old packet rest true = refl
 long-led old packet rest false = packet-led (with_unfinished old rest) packet (packet_event old.intake.state old.intake.fragments packet)
 
@@ -39,7 +39,7 @@ first-led old octets (NoPacket indicator) = refl
 
 taken-led : (old : Course) (item : Item) → (taken old item).intake.state ≡ led old.intake.state (event_meant old.intake item)
 taken-led old (AnOctet octet) = first-led old (old.intake.unfinished ++ octet ∷ []) (first_of (old.intake.unfinished ++ octet ∷ []))
-taken-led old (APacket packet) = packet-led old packet (packet_event old.intake.state old.intake.fragments packet)
+taken-led old (APacket packet) = long-led old packet old.intake.unfinished (is_long packet)
 taken-led old (ACall call) = result-led old (call_event old.intake.state call)
 taken-led old (ATable table) = result-led old (replacement_event old.intake.state table)
 taken-led old TheEnd = refl
@@ -79,13 +79,11 @@ module _ (Fine : Contents → Type 0) where
   result-possible state (Ok event) possible = possible
   result-possible state (Err refused) possible = tt
 
-  packet-meant : (old : Course) (packet : Packet) → PossibleAny old.intake.state (event_of_packet old.intake packet)
-  packet-meant old packet =
-      result-possible old.intake.state (packet_event old.intake.state old.intake.fragments packet) (packet_possible Fine old.intake.state old.intake.fragments packet)
-
-  long-meant : (old : Course) (packet : Packet) (long : Bool) → PossibleAny old.intake.state (if long then None else event_of_packet old.intake packet)
+  long-meant : (old : Course) (packet : Packet) (long : Bool)
+      → PossibleAny old.intake.state (if long then None else event_if (packet_event old.intake.state old.intake.fragments packet))
   long-meant old packet true = tt
-  long-meant old packet false = packet-meant old packet
+  long-meant old packet false =
+      result-possible old.intake.state (packet_event old.intake.state old.intake.fragments packet) (packet_possible Fine old.intake.state old.intake.fragments packet)
 
   first-meant : (old : Course) (first : First) → PossibleAny old.intake.state (event_of_first old.intake first)
   first-meant old (FirstPacket packet rest) = long-meant old packet (is_long packet)
@@ -98,7 +96,7 @@ module _ (Fine : Contents → Type 0) where
 
   item-possible : (old : Course) (item : Item) (items : List Item) → AllTables Fine (item ∷ items) → PossibleAny old.intake.state (event_meant old.intake item) × AllTables Fine items
   item-possible old (AnOctet octet) items tables = (first-meant old (first_of (old.intake.unfinished ++ octet ∷ [])), tables)
-  item-possible old (APacket packet) items tables = (packet-meant old packet, tables)
+  item-possible old (APacket packet) items tables = (long-meant old packet (is_long packet), tables)
   item-possible old (ACall call) items tables =
       (result-possible old.intake.state (call_event old.intake.state call) (call_possible Fine old.intake.state call), tables)
   item-possible old (ATable table) items tables =

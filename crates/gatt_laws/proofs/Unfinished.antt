@@ -42,7 +42,7 @@ ends-next old octet part =
 part-taken : (old : Course) (item : Item) → IsPart old → IsPart (taken old item)
 part-taken old (AnOctet octet) part =
     let octets : Octets = old.intake.unfinished ++ octet ∷ [] in part-first old octets (first_of octets) part refl (ends-next old octet part)
-part-taken old (APacket packet) part = ap first_of (packet_kept old packet (packet_event old.intake.state old.intake.fragments packet)) ∙ part
+part-taken old (APacket packet) part = ap first_of (left-behind old packet old.intake.unfinished (is_long packet)) ∙ part
 part-taken old (ACall call) part = part-result old (call_event old.intake.state call) part
 part-taken old (ATable table) part = part-result old (replacement_event old.intake.state table) part
 part-taken old TheEnd part = refl

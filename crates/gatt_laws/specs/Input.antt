@@ -56,13 +56,16 @@ abbrev pub after_packet : Course → Packet → Course
 after_packet course packet =
     packet_taken course packet (packet_event course.intake.state course.intake.fragments packet)
 
+-- a packet that is too long is as if it were not there
+abbrev pub after_whole : Course → Packet → Course
+after_whole course packet = if is_long packet then course else after_packet course packet
+
 abbrev pub with_unfinished : Course → Octets → Course
 with_unfinished course octets = record course { intake = record course.intake { unfinished = octets } }
 
--- octets that begin with a whole packet, with less than one, or with none. One that is too long is as if it were not there
+-- octets that begin with a whole packet, with less than one, or with none
 abbrev pub after_first : Course → Octets → First → Course
-after_first course octets (FirstPacket packet rest) =
-    let taken = with_unfinished course rest in if is_long packet then taken else after_packet taken packet
+after_first course octets (FirstPacket packet rest) = after_whole (with_unfinished course rest) packet
 after_first course octets NoneYet = with_unfinished course octets
 after_first course octets (NoPacket indicator) = stopped course (Desync indicator)
 
@@ -71,7 +74,7 @@ after_octets course octets = after_first course octets (first_of octets)
 
 abbrev pub taken : Course → Item → Course
 taken course (AnOctet octet) = after_octets course (course.intake.unfinished ++ octet ∷ [])
-taken course (APacket packet) = after_packet course packet
+taken course (APacket packet) = after_whole course packet
 taken course (ACall call) = after_result course (call_event course.intake.state call)
 taken course (ATable table) = after_result course (replacement_event course.intake.state table)
 taken course TheEnd = with_unfinished course []

@@ -6,21 +6,25 @@ use Rattle.gatt_laws.specs.Input.{Item, AnOctet, APacket, ACall, ATable, TheEnd,
 use Rattle.gatt_laws.specs.Packets.{Fragments, packet_event}
 use Rattle.gatt_laws.specs.State.{State, step}
 use Rattle.le_h4.specs.Division.{is_long}
-use Rattle.le_h4.specs.Packet.{First, FirstPacket, NoneYet, NoPacket, first_of}
+use Rattle.le_h4.specs.Packet.{Packet, First, FirstPacket, NoneYet, NoPacket, first_of}
 
 abbrev pub event_if : {E : Type 0} → Result Event E → Option Event
 event_if (Ok event) = Some event
 event_if (Err fault) = None
 
--- octets that begin with a whole packet, which is not too long
+-- a packet that is too long means none
+abbrev pub event_of_packet : State → Fragments → Packet → Option Event
+event_of_packet state fragments packet = if is_long packet then None else event_if (packet_event state fragments packet)
+
+-- octets that begin with a whole packet
 abbrev pub event_of_first : State → Fragments → First → Option Event
-event_of_first state fragments (FirstPacket packet rest) = if is_long packet then None else event_if (packet_event state fragments packet)
+event_of_first state fragments (FirstPacket packet rest) = event_of_packet state fragments packet
 event_of_first state fragments NoneYet = None
 event_of_first state fragments (NoPacket indicator) = None
 
 abbrev pub event_taken : Intake → Item → Option Event
 event_taken intake (AnOctet octet) = event_of_first intake.state intake.fragments (first_of (intake.unfinished ++ octet ∷ []))
-event_taken intake (APacket packet) = event_if (packet_event intake.state intake.fragments packet)
+event_taken intake (APacket packet) = event_of_packet intake.state intake.fragments packet
 event_taken intake (ACall call) = event_if (call_event intake.state call)
 event_taken intake (ATable table) = event_if (replacement_event intake.state table)
 event_taken intake TheEnd = None

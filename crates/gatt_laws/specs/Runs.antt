@@ -22,11 +22,13 @@ abbrev pub event_if : {E : Type 0} → Result Event E → Option Event
 event_if (Ok event) = Some event
 event_if (Err refused) = None
 
+-- a packet that is too long means none
 abbrev pub event_of_packet : Intake → Packet → Option Event
-event_of_packet intake packet = event_if (packet_event intake.state intake.fragments packet)
+event_of_packet intake packet =
+    if is_long packet then None else event_if (packet_event intake.state intake.fragments packet)
 
 abbrev pub event_of_first : Intake → First → Option Event
-event_of_first intake (FirstPacket packet rest) = if is_long packet then None else event_of_packet intake packet
+event_of_first intake (FirstPacket packet rest) = event_of_packet intake packet
 event_of_first intake NoneYet = None
 event_of_first intake (NoPacket indicator) = None
 

@@ -44,6 +44,17 @@ const PASSED_OVER: &[Step] = &[
     Step::Octets(THIRD, ANSWER),
 ];
 
+/// The same of packets that are handed in whole: one that is too long is as if it were not there.
+const HANDED_IN: &[Step] = &[
+    Step::Connects(0x40, Stranger, "010a200101"),
+    Step::Hands(0x40, 2, "030004000a", 0, &[]),
+    Step::Hands(0x40, 1, "", 1025, &[]),
+    Step::Hands(0x40, 1, "0300", 0, &[(0x40, "0b4c6f636b")]),
+    Step::Hands(0x40, 2, "03000400", 0, &[]),
+    Step::Hands(0x40, 2, "", 1025, &[]),
+    Step::Hands(0x40, 1, "0a0300", 0, &[(0x40, "0b4c6f636b")]),
+];
+
 /// Pairing is refused, and a signalling command is not understood.
 const OTHER_CHANNELS: &[Step] = &[
     Step::Connects(0x40, Stranger, "010a200101"),
@@ -55,5 +66,6 @@ const OTHER_CHANNELS: &[Step] = &[
 fn frames(rt: HostRuntime) {
     play(&rt, rt.alloc(), SETTING, IN_FRAGMENTS);
     play(&rt, rt.alloc(), SETTING, PASSED_OVER);
+    play(&rt, rt.alloc(), SETTING, HANDED_IN);
     play(&rt, rt.alloc(), SETTING, OTHER_CHANNELS);
 }

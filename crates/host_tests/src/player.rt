@@ -25,6 +25,9 @@ pub enum Step {
     Octets(&'static str, &'static str),
     /// The same of octets from the controller that end with so many octets `61`.
     Long(&'static str, usize, &'static str),
+    /// The data of a whole ACL packet that is handed in, of a connection and with these boundary flags,
+    /// ends with so many octets `61`: what goes out then.
+    Hands(u16, u8, &'static str, usize, Pdus),
     /// From here on the controller completes no ACL packet.
     Hold,
     /// A peer connects under a handle, and the host writes these octets.

@@ -8,6 +8,7 @@ use crate::told::{put_event, put_pdus, say};
 use crate::wire::{Octets, Written, spelled};
 use att_table::Table;
 use gatt_host::{Host, HostFault, feed};
+use le_h4::PacketRef;
 use std::alloc::Global;
 use std::process::Abort;
 
@@ -25,9 +26,26 @@ pub fn act(
         Step::Calls(..) | Step::Refuses(..) | Step::Replaces(..) | Step::Keeps(..) => {
             ask(rt, alloc, host, step, written, wanted);
         }
+        Step::Hands(handle, pb, data, more, pdus) => {
+            put_pdus(rt, wanted, pdus);
+            hand(rt, host, handle, pb, spelled(rt, data, more).as_slice());
+            take(rt, host, &[], written);
+        }
         Step::Rows(..) | Step::Value(..) | Step::Stops(..) => check(rt, host, step, written),
         _ => hear(rt, controller, host, step, written, wanted),
     }
+}
+
+/// Hands in a whole ACL packet.
+fn hand(rt: &impl Abort, host: &mut Host, handle: u16, pb: u8, data: &[u8]) {
+    assert!(rt; host.drained());
+    let packet = PacketRef::Acl {
+        handle,
+        pb,
+        bc: 0,
+        octets: data,
+    };
+    assert!(rt; host.packet(packet).is_ok());
 }
 
 /// The same of what the controller tells: at once, or in turn with the host where a link is encrypted.

@@ -1,6 +1,6 @@
 -- A packet leads a host on in its course, or stops it there.
-use Rattle.std.proofs.Common.{◌≡◌, true, false, List, Option, Some, None, Result, Ok, Err, refl, sym, ap, subst, ◌∙◌}
-use Rattle.std.specs.Prelude.{IsOk, IfErr, OnErr}
+use Rattle.std.proofs.Common.{◌≡◌, Bool, true, false, List, Option, Some, None, Result, Ok, Err, refl, sym, ap, subst, ◌∙◌}
+use Rattle.std.specs.Prelude.{if◌then◌else◌, IsOk, IfErr, OnErr}
 use Rattle.std.specs.Result.{result_err}
 use Rattle.gatt_host.proofs.meaning.Arriving.{acl_leads_on, sco_leads_on}
 use Rattle.gatt_host.proofs.meaning.Drained.{all_gone, drained_in}
@@ -14,11 +14,12 @@ use Rattle.gatt_host.specs.Held.{Held, open_slots}
 use Rattle.gatt_host.specs.Meaning.{Frames}
 use Rattle.gatt_host.specs.Packet.{TakesPacket, event_stop, packet_stop}
 use Rattle.gatt_host.specs.Standing.{IsDrainedIn, StandsIn}
-use Rattle.gatt_host.specs.Whole.{is_own, HoldsStream, LeadsBy, SameFault, StandsWith, Takes, Whole}
+use Rattle.gatt_host.specs.Whole.{is_own, HoldsStream, LeadsBy, SameFault, StandsAt, StandsWith, Takes, Whole}
 use Rattle.gatt_laws.specs.Event.{Event}
 use Rattle.gatt_laws.specs.Input.{APacket, Course, after_packet, packet_taken}
 use Rattle.gatt_laws.specs.Packets.{Fault, Desync, BadEventCode, InitFailed, Hardware, completed_event, packet_event, status_event}
 use Rattle.le_h4.specs.Deframer.{Deframing}
+use Rattle.le_h4.specs.Division.{is_long}
 use Rattle.le_h4.specs.Packet.{Packet, AclPacket, EventPacket, ScoPacket}
 use Rattle.le_hci.specs.declared.event.BadEvent.{BadEvent}
 use Rattle.le_hci.specs.Event as event
@@ -99,17 +100,23 @@ stream-kept : (course : Course) (packet : Packet) (stream : Deframing) (result :
 stream-kept course packet stream (Ok event) holds none still_none = holds none
 stream-kept course packet stream (Err fault) holds none still_none = cc still_none
 
-pub takes_packet : (packet : Packet) (old new : Whole) → old.fault ≡ None → new.stream ≡ old.stream
+pub takes_packet : (packet : Packet) (old new : Whole) → is_long packet ≡ false → old.fault ≡ None → new.stream ≡ old.stream
     → LeadsBy packet old.held old.frames new.held new.frames new.fault → Takes (APacket packet) old new
-takes_packet packet old new none stream leads =
+takes_packet packet old new short none stream leads =
     takes_item (APacket packet) old new none (λ course gone no_why is.
     let stands = leads course gone no_why is.stands in
-    record {
+    subst (λ (long : Bool). StandsAt (if long then course else after_packet course packet) gone new) (sym short) (record {
       stands = stands.stands;
       same = stands.same;
       stream = subst (λ (kept : Deframing). HoldsStream (after_packet course packet) kept) (sym stream)
           (stream-kept course packet old.stream (packet_event course.intake.state course.intake.fragments packet) is.stream no_why);
-    })
+    }))
+
+-- one that is too long leaves all as it is
+pub passes_long : (packet : Packet) (whole : Whole) → is_long packet ≡ true → whole.fault ≡ None → Takes (APacket packet) whole whole
+passes_long packet whole long none =
+    takes_item (APacket packet) whole whole none (λ course gone no_why is.
+    subst (λ (long : Bool). StandsAt (if long then course else after_packet course packet) gone whole) (sym long) is)
 
 -- by the result
 pub packet_led : (packet : Packet) (old new : Held) (frames after : Frames) (result : Result Unit HostFault) → is_drained old.controller (open_slots old) ≡ true
