@@ -7,6 +7,7 @@ pub mod Fewer
 pub mod Octets
 pub mod Taking
 pub mod Feeds
+pub mod Due
 pub mod Opened
 pub mod Driving
 pub mod Serving

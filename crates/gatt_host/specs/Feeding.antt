@@ -38,6 +38,16 @@ abbrev pub Feeds : List Item → Whole → Whole → Option Octets → Option Oc
 Feeds items old new before after (Some stop.Write) = BreaksOff items old new before after
 Feeds items old new before after fault = TakesAll items old new before after
 
+-- nothing is owed: all that its course brings has gone out
+abbrev pub IsAllOut : Whole → Type 0
+IsAllOut whole = (start : Start) (input : List Item) (gone : List Octets) → StandsAt (course start input) gone whole
+    → (course start input).gone ≡ gone
+
+-- and so it is whatever fault stands, but for one of the writer
+abbrev pub WritesAllThatIsDue : Option HostFault → Whole → Type 0
+WritesAllThatIsDue (Some stop.Write) whole = Unit
+WritesAllThatIsDue fault whole = IsAllOut whole
+
 -- octets alone stop a host for no fault of a reader and of turns
 abbrev pub comes_of_feeding : HostFault → Bool
 comes_of_feeding stop.Read = false

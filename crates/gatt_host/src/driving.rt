@@ -3,7 +3,7 @@
 ghost use Rattle.std.specs.Prelude.{◌≡◌, ◌∷◌, [], None, IsSome, IsOk, IfErr, IfOk, Some, true, if◌then◌else◌};
 ghost use Rattle.std.specs.Result.{result_err};
 ghost use Rattle.gatt_host.specs.Asked.{call_of};
-ghost use Rattle.gatt_host.specs.Feeding.{comes_of_feeding, input_items, is_write, items_of, CountsRefused, Feeds};
+ghost use Rattle.gatt_host.specs.Feeding.{comes_of_feeding, input_items, is_write, items_of, CountsRefused, Feeds, WritesAllThatIsDue};
 ghost use Rattle.gatt_host.specs.Promises.{KeepsConnectionsApart, KeepsThePolicy};
 ghost use Rattle.gatt_host.specs.Whole.{all_out};
 ghost use Rattle.gatt_laws.specs.Input.{ACall};
@@ -40,6 +40,7 @@ pub fn drive<W: Sink>(
     ensures going_on { IsOk result → host.new.fault ≡ None }
     ensures refused { IfOk result (λ count. CountsRefused count (items_of inputs.now) host.old) }
     ensures out { IsOk result → all_out host.new ≡ true }
+    ensures due { host.old.fault ≡ None → WritesAllThatIsDue host.new.fault host.new }
     ensures failures { host.old.fault ≡ None → CountsIf (is_write host.new.fault) (W.failures out.old) (W.failures out.new) }
     ensures stopped { IsSome host.old.fault → host.new ≡ host.old }
     ensures sink_stopped { IsSome host.old.fault → out.new ≡ out.old }
@@ -65,6 +66,7 @@ fn take_input<W: Sink>(host: &mut Host, input: &Input<'_>, out: &mut W) -> Resul
     ensures fault { host.new.fault ≡ result_err result }
     ensures feeding { IfErr result (λ fault. comes_of_feeding fault ≡ true) }
     ensures out { IsOk result → all_out host.new ≡ true }
+    ensures due { WritesAllThatIsDue host.new.fault host.new }
     ensures failures { CountsIf (is_write host.new.fault) (W.failures out.old) (W.failures out.new) }
     ensures refused { IfOk result (λ refused. CountsRefused (if refused then 1 else 0) (input_items input.now) host.old) }
 {
@@ -85,6 +87,7 @@ fn take_call<W: Sink>(host: &mut Host, call: App<'_>, out: &mut W) -> Result<boo
     ensures fault { host.new.fault ≡ result_err result }
     ensures write { IfErr result (λ fault. fault ≡ HostFault.Write) }
     ensures out { IsOk result → all_out host.new ≡ true }
+    ensures due { WritesAllThatIsDue host.new.fault host.new }
     ensures failures { CountsIf (is_write host.new.fault) (W.failures out.old) (W.failures out.new) }
     ensures refused { IfOk result (λ refused. CountsRefused (if refused then 1 else 0) (ACall (call_of call.entry) ∷ []) host.old) }
 {

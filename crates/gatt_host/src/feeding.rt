@@ -1,8 +1,8 @@
 //! Octets of the stream from a controller go in, and those of what goes back to it come out.
 
-ghost use Rattle.std.specs.Prelude.{◌≡◌, ◌≤◌, ◌<◌, ◌∷◌, [], take, false, true, length, None, Some, IsSome, IsOk, IfOk, IfErr, IfSome, Err};
+ghost use Rattle.std.specs.Prelude.{◌≡◌, ◌≤◌, ◌<◌, ◌∷◌, [], take, false, true, length, None, Some, IsSome, IsOk, IfOk, IfErr, IfSome, Err, OnErr};
 ghost use Rattle.std.specs.Result.{result_err};
-ghost use Rattle.gatt_host.specs.Feeding.{comes_of_feeding, items_taken, octet_items, is_write, Feeds};
+ghost use Rattle.gatt_host.specs.Feeding.{comes_of_feeding, items_taken, octet_items, is_write, Feeds, WritesAllThatIsDue};
 ghost use Rattle.gatt_host.specs.Answers.{lost_fault};
 ghost use Rattle.gatt_host.specs.GoingOut.{is_drained};
 ghost use Rattle.gatt_host.specs.Held.{open_slots};
@@ -30,6 +30,8 @@ pub fn feed<W: Sink>(host: &mut Host, octets: &[u8], out: &mut W) -> Result<(), 
         → Feeds (octet_items octets.now) host.old host.new (W.contents out.old) (W.contents out.new) host.new.fault }
     ensures outcome { result ≡ outcome_of host.new.fault }
     ensures out { IsOk result → all_out host.new ≡ true }
+    // Whatever stops it but the writer, all that was due before is written.
+    ensures due { host.old.fault ≡ None → WritesAllThatIsDue host.new.fault host.new }
     ensures feeding { host.old.fault ≡ None → IfErr result (λ fault. comes_of_feeding fault ≡ true) }
     ensures failures { host.old.fault ≡ None → CountsIf (is_write host.new.fault) (W.failures out.old) (W.failures out.new) }
     ensures stopped { IsSome host.old.fault → host.new ≡ host.old }
@@ -59,6 +61,7 @@ pub(crate) fn write_out<W: Sink>(host: &mut Host, out: &mut W) -> Result<(), Hos
     ensures fault { result ≡ outcome_of host.new.fault }
     ensures write { IfErr result (λ fault. fault ≡ HostFault.Write) }
     ensures out { IsOk result → all_out host.new ≡ true }
+    ensures due { WritesAllThatIsDue host.new.fault host.new }
     ensures failures { CountsIf (is_write host.new.fault) (W.failures out.old) (W.failures out.new) }
 {
     let written = write_owed(&mut host.state, &mut host.packet, out);
@@ -98,6 +101,7 @@ fn take(host: &mut Host, octets: &[u8]) -> Result<usize, HostFault>
     ensures leads { Leads (items_taken octets.now result) [] host.old host.new }
     ensures fault { host.new.fault ≡ result_err result }
     ensures not_own { IfErr result (λ fault. is_own fault ≡ false) }
+    ensures unchanged { OnErr result (host.new.held ≡ host.old.held) }
     ensures within { IfOk result (λ used. used ≤ length octets.now) }
     ensures some { IfOk result (λ used. 0 < length octets.now → 0 < used) }
 {
@@ -129,6 +133,7 @@ fn take_in(
         (record { held = state.old; frames = frames.old; stream = deframer.old; fault = None })
         (record { held = state.new; frames = frames.new; stream = deframer.new; fault = result_err result }) }
     ensures not_own { IfErr result (λ fault. is_own fault ≡ false) }
+    ensures unchanged { OnErr result (state.new ≡ state.old) }
     ensures within { IfOk result (λ used. used ≤ length octets.now) }
     ensures some { IfOk result (λ used. 0 < length octets.now → 0 < used) }
 {

@@ -225,6 +225,7 @@ pub(crate) fn packet(
     requires drained { is_drained state.old.controller (open_slots state.old) ≡ true }
     ensures leads { LeadsBy (seen packet.entry) state.old frames.old state.new frames.new (result_err result) }
     ensures not_own { IfErr result (λ fault. is_own fault ≡ false) }
+    ensures unchanged { OnErr result (state.new ≡ state.old) }
 {
     take_packet(state, frames, packet)
 }

@@ -2,7 +2,7 @@
 
 ghost use Rattle.std.specs.Prelude.{◌≡◌, ◌≤◌, ◌==◌, [], is_ok, length, None, Some, IsSome, IsOk, IfErr, IfOk, OnErr, true};
 ghost use Rattle.std.specs.Io.KnownBytes.{Consumes, IsAtEnd, Keeps};
-ghost use Rattle.gatt_host.specs.Feeding.{is_read, is_write, Reads, Serves};
+ghost use Rattle.gatt_host.specs.Feeding.{is_read, is_write, Reads, Serves, WritesAllThatIsDue};
 ghost use Rattle.gatt_host.specs.Promises.{KeepsConnectionsApart, KeepsThePolicy};
 ghost use Rattle.gatt_host.specs.Whole.{all_out, Takes};
 ghost use Rattle.gatt_laws.specs.Input.{TheEnd};
@@ -39,6 +39,7 @@ pub fn serve<R: Source, W: Sink>(
         → Serves result turns host.old host.new (R.remaining reader.old) (R.remaining reader.new) (W.contents writer.old) (W.contents writer.new) }
     ensures going_on { IsOk result → host.new.fault ≡ None }
     ensures out { IsOk result → all_out host.new ≡ true }
+    ensures due { host.old.fault ≡ None → WritesAllThatIsDue host.new.fault host.new }
     ensures fault { IfErr result (λ fault. host.new.fault ≡ Some fault) }
     ensures reads { host.old.fault ≡ None → Reads result turns (R.reads reader.old) (R.reads reader.new) }
     ensures ends { host.old.fault ≡ None → CountsIf (is_ok result) (R.ends reader.old) (R.ends reader.new) }

@@ -14,42 +14,50 @@ pub const SETTING: &Setting<'static> = &Setting {
     packets: 4,
 };
 
-/// What a controller sends: its answers to the commands of initialisation, a connection, and a Read in
-/// three fragments.
-pub const TOLD: &[&str] = &[
-    "040e0401030c00",
-    "040e0401010c00",
-    "040e0401012000",
-    "040e07010220001b0004",
-    "040e0401062000",
-    "040e0401082000",
-    "040e04010a2000",
-    "043e130100400001010a00000000c018000000480000",
-    "024020010003",
-    "0240100300000400",
-    "02401003000a0300",
+/// What a controller sends, and what the host then writes, at first unasked: the answers to the commands
+/// of initialisation, a connection, and a Read in three fragments.
+const EXCHANGES: &[(&str, &str)] = &[
+    ("", "01030c00"),
+    ("040e0401030c00", "01010c08ffffffffff9f0020"),
+    ("040e0401010c00", "010120081f00000000000000"),
+    ("040e0401012000", "01022000"),
+    (
+        "040e07010220001b0004",
+        "0106200fa000a0000000000000000000000700",
+    ),
+    (
+        "040e0401062000",
+        "010820200302010600000000000000000000000000000000000000000000000000000000",
+    ),
+    ("040e0401082000", "010a200101"),
+    ("040e04010a2000", ""),
+    ("043e130100400001010a00000000c018000000480000", "010a200101"),
+    ("024020010003", ""),
+    ("0240100300000400", ""),
+    ("02401003000a0300", "0240000900050004000b4c6f636b"),
 ];
 
-/// What the host writes.
-pub const WANTED: &[&str] = &[
-    "01030c00",
-    "01010c08ffffffffff9f0020",
-    "010120081f00000000000000",
-    "01022000",
-    "0106200fa000a0000000000000000000000700",
-    "010820200302010600000000000000000000000000000000000000000000000000000000",
-    "010a200101",
-    "010a200101",
-    "0240000900050004000b4c6f636b",
-];
-
-/// The octets of packets.
-pub fn joined(rt: &impl Abort, packets: &[&str]) -> Octets {
-    let mut octets = Octets::new();
-    for packet in packets {
-        spell(rt, &mut octets, packet);
+/// All that the controller sends.
+pub fn all_told(rt: &impl Abort) -> Octets {
+    let mut told = Octets::new();
+    for (octets, _) in EXCHANGES {
+        spell(rt, &mut told, octets);
     }
-    octets
+    told
+}
+
+/// What the host writes once so many octets of that are taken in: what each packet brings that ends in
+/// them.
+pub fn due_after(rt: &impl Abort, count: usize) -> Octets {
+    let mut told = Octets::new();
+    let mut due = Octets::new();
+    for (octets, wanted) in EXCHANGES {
+        spell(rt, &mut told, octets);
+        if told.len() <= count {
+            spell(rt, &mut due, wanted);
+        }
+    }
+    due
 }
 
 /// Takes in two pieces.
@@ -78,19 +86,15 @@ fn is_all(rt: &impl Abort, alloc: Global, pieces: (&[u8], &[u8]), wanted: &[u8])
     written.octets() == wanted
 }
 
-/// Ends the stream at every place: what is written is the front of all that is.
-fn end_everywhere(rt: &impl Abort, alloc: Global, told: &[u8], wanted: &[u8]) {
+/// Ends the stream at every place: all is written that is due there.
+fn end_everywhere(rt: &impl Abort, alloc: Global, told: &[u8]) {
     for place in 0..told.len() {
         let (front, _) = told.split_at(place);
-        assert!(rt; is_front(rt, alloc, front, wanted), "{place}");
+        assert!(rt;
+            is_all(rt, alloc, (front, &[]), due_after(rt, place).as_slice()),
+            "{place}"
+        );
     }
-}
-
-/// Whether the front of this is written where a host takes in one piece.
-fn is_front(rt: &impl Abort, alloc: Global, piece: &[u8], wanted: &[u8]) -> bool {
-    let mut written = Written::new();
-    feed_both(rt, alloc, (piece, &[]), &mut written);
-    wanted.starts_with(written.octets())
 }
 
 /// Takes in octet by octet.
@@ -107,9 +111,9 @@ fn take_each(rt: &impl Abort, host: &mut Host, told: &[u8], wanted: &[u8]) {
 
 #[test]
 fn cut_streams(rt: HostRuntime) {
-    let told = joined(&rt, TOLD);
-    let wanted = joined(&rt, WANTED);
+    let told = all_told(&rt);
+    let wanted = due_after(&rt, told.len());
     feed_each(&rt, rt.alloc(), told.as_slice(), wanted.as_slice());
     cut_everywhere(&rt, rt.alloc(), told.as_slice(), wanted.as_slice());
-    end_everywhere(&rt, rt.alloc(), told.as_slice(), wanted.as_slice());
+    end_everywhere(&rt, rt.alloc(), told.as_slice());
 }

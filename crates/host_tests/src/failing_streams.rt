@@ -1,6 +1,6 @@
 //! A reader that fails, and a writer that does.
 
-use crate::cut_streams::{SETTING, TOLD, WANTED, joined};
+use crate::cut_streams::{SETTING, all_told, due_after};
 use crate::player::opened;
 use crate::wire::Written;
 use arrayvec::ArrayVec;
@@ -82,28 +82,18 @@ fn serve_failing(
     serve(host, &mut reader, written, 1_000)
 }
 
-/// Whether all is written where reading fails after so many reads, or the front of it is, and the host
-/// stops for that. None where neither is so.
+/// Whether the input comes to its end, or reading fails after so many reads and the host stops for that.
+/// None where neither is so, or where not just this is written.
 fn is_whole(host: &mut Host, told: &[u8], wanted: &[u8], reads: usize) -> Option<bool> {
     let mut written = Written::new();
-    match serve_failing(host, told, reads, &mut written) {
-        Ok(_) => {
-            if wanted.starts_with(written.octets()) {
-                Some(written.octets() == wanted)
-            } else {
-                None
-            }
-        }
-        Err(fault) => {
-            if fault == HostFault::Read
-                && wanted.starts_with(written.octets())
-                && has_stopped(host, fault)
-            {
-                Some(false)
-            } else {
-                None
-            }
-        }
+    let served = serve_failing(host, told, reads, &mut written);
+    if written.octets() != wanted {
+        return None;
+    }
+    match served {
+        Ok(_) => Some(true),
+        Err(HostFault::Read) if has_stopped(host, HostFault::Read) => Some(false),
+        Err(_) => None,
     }
 }
 
@@ -123,16 +113,17 @@ fn is_whole_of_new(
 
 #[test]
 fn readers_that_fail(rt: HostRuntime) {
-    let told = joined(&rt, TOLD);
-    let wanted = joined(&rt, WANTED);
-    fail_readers(&rt, rt.alloc(), told.as_slice(), wanted.as_slice());
+    let told = all_told(&rt);
+    fail_readers(&rt, rt.alloc(), told.as_slice());
 }
 
-fn fail_readers(rt: &impl Abort, alloc: Global, told: &[u8], wanted: &[u8]) {
+/// All that was due before the read that fails is written.
+fn fail_readers(rt: &impl Abort, alloc: Global, told: &[u8]) {
     for reads in 0..32 {
         let whole = reads > told.len().div_ceil(16);
+        let wanted = due_after(rt, reads * 16);
         assert!(rt;
-            is_whole_of_new(rt, alloc, told, wanted, reads) == Some(whole),
+            is_whole_of_new(rt, alloc, told, wanted.as_slice(), reads) == Some(whole),
             "{reads}"
         );
     }
@@ -194,8 +185,8 @@ fn fills_by_new(
 
 #[test]
 fn writers_that_fail(rt: HostRuntime) {
-    let told = joined(&rt, TOLD);
-    let wanted = joined(&rt, WANTED);
+    let told = all_told(&rt);
+    let wanted = due_after(&rt, told.len());
     fail_writers(&rt, rt.alloc(), told.as_slice(), wanted.as_slice());
 }
 

@@ -87,29 +87,58 @@ fn initialisation_and_a_connection(rt: HostRuntime) {
     initialise(&rt, rt.alloc(), 1);
 }
 
-/// What the controller sends instead, after so many of those exchanges, and the fault of that.
-const FAULTS: &[(usize, &str, HostFault)] = &[
+/// What the controller sends instead, after so many of those exchanges, what the host writes before it
+/// stops, and its fault.
+const FAULTS: &[(usize, &str, &str, HostFault)] = &[
     (
         1,
         "040e0401030c01",
+        "",
         HostFault::Init(InitFault::Refused(0x0C03, 0x01)),
     ),
     (
         1,
         "040f040c01030c",
+        "",
         HostFault::Init(InitFault::Refused(0x0C03, 0x0C)),
     ),
-    (1, "040e0301030c", HostFault::BadEvent(0x0E)),
-    (4, "040e0601022000001b", HostFault::BadEvent(0x0E)),
+    (1, "040e0301030c", "", HostFault::BadEvent(0x0E)),
+    (4, "040e0601022000001b", "", HostFault::BadEvent(0x0E)),
     (
         4,
         "040e07010220001a0004",
+        "",
         HostFault::Init(InitFault::BadBuffers),
     ),
     (
         4,
         "040e07010220001b0000",
+        "",
         HostFault::Init(InitFault::BadBuffers),
+    ),
+    (
+        1,
+        "040e0401030c0007",
+        "01010c08ffffffffff9f0020",
+        HostFault::Desync(0x07),
+    ),
+    (
+        1,
+        "040e0401030c0004100142",
+        "01010c08ffffffffff9f0020",
+        HostFault::Hardware(0x42),
+    ),
+    (
+        1,
+        "040e0401030c00040503004000",
+        "01010c08ffffffffff9f0020",
+        HostFault::BadEvent(0x05),
+    ),
+    (
+        1,
+        "040e0401030c00040e0401010c01",
+        "01010c08ffffffffff9f0020",
+        HostFault::Init(InitFault::Refused(0x0C01, 0x01)),
     ),
 ];
 
@@ -123,10 +152,11 @@ const WITHOUT_A_FAULT: &[(usize, &str, &str)] = &[
     (1, "0240200700030004000a0300", ""),
 ];
 
-/// What comes after so many exchanges: octets that have a fault, or a further exchange.
+/// What comes after so many exchanges: octets that have a fault, with what is written before, or a
+/// further exchange.
 #[derive(Clone, Copy)]
 enum Last<'a> {
-    Fault(&'a str, HostFault),
+    Fault(&'a str, &'a str, HostFault),
     Exchange(&'a str, &'a str),
 }
 
@@ -140,24 +170,25 @@ fn exchange_with_new(rt: &impl Abort, alloc: Global, count: usize, last: Last<'_
 fn exchange_up_to(rt: &impl Abort, host: &mut Host, count: usize, last: Last<'_>) {
     exchange_all(rt, host, 64, first(rt, count));
     match last {
-        Last::Fault(octets, fault) => stop(rt, host, octets, fault),
+        Last::Fault(octets, wanted, fault) => stop(rt, host, octets, wanted, fault),
         Last::Exchange(octets, wanted) => exchange(rt, host, 64, octets, wanted),
     }
 }
 
-/// Takes in octets that have a fault, before anything goes out.
-fn stop(rt: &impl Abort, host: &mut Host, octets: &str, fault: HostFault) {
+/// Takes in octets that have a fault, in one piece. What is due before it is written.
+fn stop(rt: &impl Abort, host: &mut Host, octets: &str, wanted: &str, fault: HostFault) {
     let mut written = Written::new();
-    let fed = feed(host, spelled(rt, octets, 0).as_slice(), &mut written);
+    let told = spelled(rt, octets, 0);
     assert!(rt;
-        fed == Err(fault) && written.octets().is_empty(),
+        feed(host, told.as_slice(), &mut written) == Err(fault),
         "{octets}"
     );
+    compare(rt, octets, written.octets(), wanted);
 }
 
-fn check_faults(rt: &impl Abort, alloc: Global, cases: &[(usize, &str, HostFault)]) {
-    for (count, octets, fault) in cases {
-        exchange_with_new(rt, alloc, *count, Last::Fault(octets, *fault));
+fn check_faults(rt: &impl Abort, alloc: Global, cases: &[(usize, &str, &str, HostFault)]) {
+    for (count, octets, wanted, fault) in cases {
+        exchange_with_new(rt, alloc, *count, Last::Fault(octets, wanted, *fault));
     }
 }
 

@@ -15,7 +15,8 @@ const SETTING: &Setting<'static> = &Setting {
     packets: 4,
 };
 
-/// Serves the beginning of an event, and then the end of the input, in so many turns.
+/// Serves the beginning of an event, and then the end of the input, in so many turns: Reset, which is
+/// owed from the start, is written whether there is a turn or none.
 fn is_outcome(host: &mut Host, turns: u64, outcome: Result<End, HostFault>) -> bool {
     let mut written = Written::new();
     let mut source = SliceSource::new(&[0x04, 0x0E]);
@@ -27,6 +28,7 @@ fn is_outcome(host: &mut Host, turns: u64, outcome: Result<End, HostFault>) -> b
 const CASES: &[(u64, Result<End, HostFault>)] = &[
     (1_000, Ok(End { turns: 2 })),
     (1, Err(HostFault::Turns)),
+    (0, Err(HostFault::Turns)),
 ];
 
 fn serve_each(rt: &impl Abort, alloc: Global, cases: &[(u64, Result<End, HostFault>)]) {

@@ -2,6 +2,7 @@ use Rattle.std.proofs.Common.{◌≡◌, ℕ, ◌≤◌, ◌+◌, [], drop, Opti
 use Rattle.std.proofs.lemmas.List.{drop_all}
 use Rattle.std.specs.Prelude.{if◌then◌else◌}
 use Rattle.gatt_host.proofs.whole.Driving.{HasDriven, driven_counts, driven_more, driven_stops, past_fault, no_more, one_more}
+use Rattle.gatt_host.proofs.whole.Due.{due_where_out}
 use Rattle.gatt_host.proofs.whole.Feeds.{counts_where_going, fault_answered, going_takes}
 use Rattle.gatt_host.specs.Feeding.{items_of}
 use Rattle.gatt_host.specs.Whole.{Whole}
@@ -56,3 +57,6 @@ pub returns-clause-refused : goal.returns-clause-refused
 returns-clause-refused g c =
     driven_counts c.loop-input.refused c.args.inputs.now (drop c.loop-input.input-index c.args.inputs.now) c.args.host.now c.loop-input.host
     (g.W.Sink.contents c.args.out.now) (g.W.Sink.contents c.loop-input.out) (drop_all c.loop-input.input-index c.args.inputs.now c.loop-input-test.false) c.loop-input.invariant.driven
+
+pub returns-clause-due : goal.returns-clause-due
+returns-clause-due g c = λ none. due_where_out c.loop-input.host c.loop-input.invariant.none c.loop-input.invariant.drained

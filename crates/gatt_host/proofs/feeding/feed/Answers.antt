@@ -1,4 +1,5 @@
 use Rattle.std.proofs.Common.{◌≡◌, [], Option, Some, None, refl, sym, subst, ap, drop, ◌∙◌}
+use Rattle.gatt_host.proofs.whole.Due.{due_where_held, due_where_out}
 use Rattle.gatt_host.proofs.whole.Feeds.{broken_before, counts_where_going, fault_answered, going_takes, none_answered, taken_breaks, taken_silently, taken_stops, taken_then, HasTaken}
 use Rattle.gatt_host.specs.declared.host_fault.HostFault.{HostFault}
 use Rattle.gatt_host.specs.Feeding.{octet_items}
@@ -54,3 +55,10 @@ returns-in_err-write_out-2-clause-feeds g c = λ none.
     (taken_silently c.args.octets.now rest used old c.loop-rest.host mid before between c.loop-rest.invariant.takes c.in_ok-used.ensures.leads)
     (fault_answered new.fault c.in_err-write_out-2.field-0.0 c.in_err-write_out-2.ensures.fault ∙ ap (λ (why : HostFault). Some why) c.in_err-write_out-2.ensures.write)
     c.write_out-in-loop-rest.ensures.feeds
+
+pub returns-in_err-used-clause-due : goal.returns-in_err-used-clause-due
+returns-in_err-used-clause-due g c = λ none.
+    due_where_held c.loop-rest.host c.take.new.host c.take.new.host.fault c.loop-rest.invariant.none c.loop-rest.invariant.drained c.in_err-used.ensures.unchanged
+
+pub returns-clause-due : goal.returns-clause-due
+returns-clause-due g c = λ none. due_where_out c.loop-rest.host c.loop-rest.invariant.none c.loop-rest.invariant.drained

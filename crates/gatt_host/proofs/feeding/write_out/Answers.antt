@@ -1,4 +1,5 @@
 use Rattle.std.proofs.Common.{◌≡◌, [], None, Option, refl, sym, subst, ◌∙◌}
+use Rattle.gatt_host.proofs.whole.Due.{due_where_drained, ok_where}
 use Rattle.gatt_host.proofs.whole.Owed.{feeds_from, no_fault_where, reached_fed}
 use Rattle.gatt_host.specs.contracts.host.Host.{the_view}
 use Rattle.gatt_host.specs.Feeding.{Feeds}
@@ -47,3 +48,7 @@ returns-else-is_err-clause-feeds g c =
     let same = none ∙ sym (no_fault_where c.write_owed-written.result (sym c.is_err.ensures.value ∙ c.if-is_err.false)) in
     subst (λ (whole : Whole). Feeds [] whole new before after new.fault) c.host.view_is
     (feeds_from old new before after _ none same (c.write_owed-written.ensures.feeds old.frames old.stream) refl refl)
+
+pub returns-else-is_err-clause-due : goal.returns-else-is_err-clause-due
+returns-else-is_err-clause-due g c =
+    due_where_drained _ _ (c.write_owed-written.ensures.out (ok_where c.write_owed-written.result (sym c.is_err.ensures.value ∙ c.if-is_err.false)))

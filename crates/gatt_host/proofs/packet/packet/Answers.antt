@@ -7,4 +7,5 @@ returns c = record {
   leads = packet_led (seen c.args.packet) c.args.state.now c.take_packet.new.state c.args.frames.now c.take_packet.new.frames c.take_packet.result c.requires.drained
       c.take_packet.ensures.taken c.take_packet.ensures.stops c.take_packet.ensures.unchanged c.take_packet.ensures.frames_unchanged;
   not_own = result_not_own (seen c.args.packet) c.args.state.now c.take_packet.result c.take_packet.ensures.stops;
+  unchanged = c.take_packet.ensures.unchanged;
 }

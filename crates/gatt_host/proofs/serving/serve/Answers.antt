@@ -2,6 +2,7 @@ use Rattle.std.proofs.Common.{◌≡◌, ◌+◌, [], None, Err, refl, sym, subs
 use Rattle.std.proofs.KnownBytes.{Keeps-refl}
 use Rattle.std.proofs.lemmas.Result.{err_from_is_err_and}
 use Rattle.std.specs.Io.KnownBytes.{Consumes}
+use Rattle.gatt_host.proofs.whole.Due.{due_where_held}
 use Rattle.gatt_host.proofs.whole.Feeds.{counts_where_going, going_takes, none_answered}
 use Rattle.gatt_host.proofs.whole.Serving.{counts_where_none, counts_where_some, empty_where, no_turns, reads_stopped, some_where, kept_where_failed, serves_broken, serves_ended, serves_stopped, served_more}
 use Rattle.gatt_host.specs.declared.host_fault.HostFault.{HostFault}
@@ -83,3 +84,18 @@ returns-clause-serves g c = λ none.
     (g.W.Sink.contents c.args.writer.now) (g.W.Sink.contents c.loop-turn.writer)
     c.stop-2.ensures.fault c.loop-turn.invariant.none c.stop-2.ensures.stopped refl refl (Keeps-refl (g.R.Source.remaining c.loop-turn.reader)) c.loop-turn.invariant.served
     (λ is. omega (arith, c.loop-turn.invariant.few, c.loop-turn-test.false))
+
+pub returns-in_default-clause-due : goal.returns-in_default-clause-due
+returns-in_default-clause-due g c = λ none.
+    due_where_held c.loop-turn.host c.stop.new.host c.stop.new.host.fault c.loop-turn.invariant.none c.loop-turn.invariant.drained
+    (ap (λ (whole : Whole). whole.held) c.stop.ensures.stopped)
+
+pub returns-then-is_empty-clause-due : goal.returns-then-is_empty-clause-due
+returns-then-is_empty-clause-due g c = λ none.
+    due_where_held c.loop-turn.host c.end_stream.new.host c.end_stream.new.host.fault c.loop-turn.invariant.none c.loop-turn.invariant.drained
+    c.end_stream.ensures.held
+
+pub returns-clause-due : goal.returns-clause-due
+returns-clause-due g c = λ none.
+    due_where_held c.loop-turn.host c.stop-2.new.host c.stop-2.new.host.fault c.loop-turn.invariant.none c.loop-turn.invariant.drained
+    (ap (λ (whole : Whole). whole.held) c.stop-2.ensures.stopped)
