@@ -10,6 +10,7 @@ pub mod Owing
 pub mod Packets
 pub mod SlotCommands
 pub mod Readies
+pub mod Refusing
 pub mod Lengths
 pub mod standing
 pub mod asking

@@ -126,19 +126,20 @@ impl Controller {
     }
 
     /// Takes in a Command Status: the status, how many commands the controller takes now, and the
-    /// opcode. Says whether another state of initialisation follows.
-    pub fn status(&mut self, status: u8, allowed: u8, opcode: u16) -> Result<bool, HostFault>
-        ensures event { IfOk result (λ followed. status_event self.old status allowed opcode ≡ Ok (Credit allowed opcode (Some status) (following_if followed self.new))) }
-        ensures after { IfOk result (λ followed. self.new ≡ answered_by self.old allowed opcode (Some status) (following_if followed self.new)) }
+    /// opcode. No state of initialisation follows: a status of 0 only tells that the command is being
+    /// carried out.
+    #[tactic(auto, using(crate::proofs::Refusing::stops_where_refused))]
+    pub fn status(&mut self, status: u8, allowed: u8, opcode: u16) -> Result<(), HostFault>
+        ensures event { IsOk result → status_event self.old status allowed opcode ≡ Ok (Credit allowed opcode (Some status) None) }
+        ensures after { IsOk result → self.new ≡ answered_by self.old allowed opcode (Some status) None }
         ensures stops { IfErr result (λ fault. stop_of (status_event self.old status allowed opcode) ≡ Some fault) }
         ensures unchanged { IfErr result (λ fault. self.new ≡ self.old) }
     {
         if self.awaits(opcode) && status != 0 {
-            self.advance(allowed, &[status])?;
-            return Ok(true);
+            return Err(HostFault::Init(InitFault::Refused(opcode, status)));
         }
         self.credited(allowed, opcode, Some(status));
-        Ok(false)
+        Ok(())
     }
 
     /// Goes on after the command that initialisation awaits.

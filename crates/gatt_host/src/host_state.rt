@@ -258,8 +258,7 @@ impl HostState {
         ensures stops { IfErr result (λ fault. stop_of (status_event self.old.controller status allowed opcode) ≡ Some fault) }
         ensures unchanged { OnErr result (self.new ≡ self.old) }
     {
-        let followed = self.controller.status(status, allowed, opcode)?;
-        self.open_slots(followed);
+        self.controller.status(status, allowed, opcode)?;
         self.nothing();
         Ok(())
     }
