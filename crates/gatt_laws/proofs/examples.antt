@@ -2,6 +2,7 @@ pub mod Authorizations
 pub mod Frames
 pub mod Initialisation
 pub mod Links
+pub mod Notices
 pub mod Queues
 pub mod Replacements
 pub mod Runs

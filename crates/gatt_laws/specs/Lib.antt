@@ -10,6 +10,7 @@ pub mod ItemEvents
 pub mod Laws
 pub mod MayBeHeard
 pub mod NothingCrosses
+pub mod Notice
 pub mod OwnQueues
 pub mod OwnWrites
 pub mod Packets
