@@ -6,9 +6,11 @@ pub mod Ends
 pub mod Given
 pub mod Headline
 pub mod ItemEvents
+pub mod Knowing
 pub mod MayBeHeard
 pub mod NextParts
 pub mod NothingCrosses
+pub mod Notices
 pub mod OwnQueues
 pub mod OwnWrites
 pub mod Places

@@ -138,7 +138,7 @@ LeavesConfigurations attributes old new = (handle : Handle) → is_configuration
 not-first : (attributes : List Attr) (handle : Handle) → is_configuration_at attributes handle ≡ true → 0 < handle
 not-first attributes handle is = grind (arith, nat_tests, common_steps)
 
-other-value : (values : Values) (handle other : Handle) (value : Octets) → 0 < handle → 0 < other → (handle == other) ≡ false
+pub other-value : (values : Values) (handle other : Handle) (value : Octets) → 0 < handle → 0 < other → (handle == other) ≡ false
     → value_at (with_value values handle value) other ≡ value_at values other
 other-value values handle other value is_used other_used differs = grind (arith, nat_tests, common_steps)
 
@@ -166,7 +166,7 @@ leaves-at access attributes standing stored new entry rest None judged is later 
     let fit = fits_unless_refused access attributes standing stored entry judged in
     λ handle of. later is handle of ∙ entry-leaves attributes stored entry (is_configuration_at attributes entry.handle) refl (used attributes entry.handle fit.exists) handle of
 
-leaves-configurations : (access : Access) (attributes : List Attr) (standing : Standing) (entries : List Entry) (stored new : Stored)
+pub leaves-configurations : (access : Access) (attributes : List Attr) (standing : Standing) (entries : List Entry) (stored new : Stored)
     → after_entries access attributes standing stored entries ≡ Ok new → LeavesConfigurations attributes stored new
 unfolding after_entries
 leaves-configurations access attributes standing [] stored new is =

@@ -11,6 +11,7 @@ pub mod Laws
 pub mod MayBeHeard
 pub mod NothingCrosses
 pub mod Notice
+pub mod Notices
 pub mod OwnQueues
 pub mod OwnWrites
 pub mod Packets

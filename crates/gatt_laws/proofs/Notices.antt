@@ -1,0 +1,302 @@
+-- What is not told has not changed.
+use Rattle.std.proofs.Common.{◌≡◌, ℕ, zero, suc, ◌<◌, Bool, true, false, List, [], ◌∷◌, map, Option}
+use Rattle.std.proofs.Common.{Some, None}
+use Rattle.std.proofs.Common.{Result, Ok, Err, refl, sym, ap, ◌∙◌, arith}
+use Rattle.std.specs.Prelude.{◌==◌, ◌&&◌, ◌||◌, ◌++◌, not, if◌then◌else◌}
+use Rattle.std.specs.List.{list_any, filter}
+use Rattle.std.proofs.lemmas.Bool.{eqb-true}
+use Rattle.std.proofs.lemmas.List.Folds.{list_any-append}
+use Rattle.att_numbers.specs.Types.{Handle, Row, Values}
+use Rattle.att_attributes.specs.declared.attr.Attr.{Attr}
+use Rattle.att_attributes.specs.Attributes.{attribute_at, is_configuration_at}
+use Rattle.att_pdu.specs.Grammar.{request_of, is_due}
+use Rattle.att_policy.specs.declared.standing.Standing.{Standing}
+use Rattle.att_policy.specs.Refusal.{Refusal}
+use Rattle.att_table.specs.ConfigRow.{bits_at}
+use Rattle.att_table.specs.Table.{Contents, value_at}
+use Rattle.att_writes.proofs.Untouched.{keeps_others}
+use Rattle.att_writes.specs.Applied.{Stored, stored_in, applied_to, stored_after as kept_or_new}
+use Rattle.att_writes.specs.Entry.{Entry}
+use Rattle.att_writes.specs.Queue.{once_each, touched_by}
+use Rattle.att_writes.specs.SameBut.{is_touched}
+use Rattle.gatt_conn.specs.Answer.{Question, Writing, writing_asked, stored_after, handles_after}
+use Rattle.gatt_conn.specs.Answer.{handles_by, is_confirmation}
+use Rattle.gatt_laws.proofs.Stores.{leaves-configurations, other-value}
+use Rattle.gatt_laws.specs.Event.{Own, Event, Connected, Gone, KeyAsked, Encrypted, Refreshed, Asks}
+use Rattle.gatt_laws.specs.Event.{Signals, Authorized, Of, Completed, Credit, Update, Tick}
+use Rattle.gatt_laws.specs.Event.{Replaced, Nothing}
+use Rattle.gatt_laws.specs.Notice.{Notice, Configured, Written, write_told, end_told, live_told}
+use Rattle.gatt_laws.specs.Notice.{confirmation_told, own_told, noticed}
+use Rattle.gatt_laws.specs.Notices.{tells_value, is_value_told, sets_value, TellsEachValue}
+use Rattle.gatt_laws.specs.Part.{Part, is_live, mtu_of, row_of, connection_of, after_ending}
+use Rattle.gatt_laws.specs.Possible.{Possible}
+use Rattle.gatt_laws.specs.Room.{Room}
+use Rattle.gatt_laws.specs.State.{State, step, change_of}
+use Rattle.gatt_laws.specs.Turn.{Turn, turn_to, turn_of, live_turn, served, is_full}
+use Rattle.gatt_laws.specs.Turn.{remote_user_terminated}
+use Rattle.gatt_laws.specs.View.{handles_written}
+use Rattle.octets.specs.Number.{Octets}
+
+-- Handles that were written, each once.
+
+pub or-first : (one other : Bool) → (one || other) ≡ false → one ≡ false
+or-first false other is = refl
+or-first true other is = cc is
+
+pub or-second : (one other : Bool) → (one || other) ≡ false → other ≡ false
+or-second false other is = is
+or-second true other is = cc is
+
+both-none : (one other : Bool) → one ≡ false → other ≡ false → (one || other) ≡ false
+both-none false other is none = none
+both-none true other is none = cc is
+
+-- whether a handle is among some
+abbrev pub is_among : Handle → List Handle → Bool
+is_among attribute handles = list_any (λ other. other == attribute) handles
+
+kept-none : (attribute handle other : Handle) (rest : List Handle) (same : Bool)
+    → (other == handle) ≡ same
+    → (handle == attribute) ≡ false
+    → is_among attribute (if not same then other ∷ filter (λ one. not (one == handle)) rest
+    else filter (λ one. not (one == handle)) rest) ≡ false
+    → (is_among attribute (filter (λ one. not (one == handle)) rest) ≡ false
+    → is_among attribute rest ≡ false)
+    → is_among attribute (other ∷ rest) ≡ false
+kept-none attribute handle other rest true is differs none later =
+    let equal : other ≡ handle = eqb-true other handle is in
+    both-none (other == attribute) _ (ap (λ (one : Handle). one == attribute) equal ∙ differs)
+    (later none)
+kept-none attribute handle other rest false is differs none later =
+    both-none (other == attribute) _ (or-first (other == attribute) _ none)
+    (later (or-second (other == attribute) _ none))
+
+none-left : (attribute handle : Handle) (handles : List Handle) → (handle == attribute) ≡ false
+    → is_among attribute (filter (λ one. not (one == handle)) handles) ≡ false
+    → is_among attribute handles ≡ false
+none-left attribute handle [] differs none = refl
+none-left attribute handle (other ∷ rest) differs none =
+    kept-none attribute handle other rest (other == handle) refl differs none
+    (none-left attribute handle rest differs)
+
+none-once : (attribute : Handle) (handles : List Handle) → is_among attribute (once_each handles)
+    ≡ false
+    → is_among attribute handles ≡ false
+none-once attribute [] none = refl
+none-once attribute (handle ∷ rest) none =
+    let differs : (handle == attribute) ≡ false = or-first (handle == attribute) _ none in
+    both-none (handle == attribute) _ differs
+    (none-once attribute rest
+    (none-left attribute handle (once_each rest) differs (or-second (handle == attribute) _ none)))
+
+none-touched : (attribute : Handle) (entries : List Entry)
+    → is_among attribute (map (λ (entry : Entry). entry.handle) entries) ≡ false
+    → is_touched entries attribute ≡ false
+none-touched attribute [] none = refl
+none-touched attribute (entry ∷ rest) none =
+    both-none (entry.handle == attribute) _ (or-first (entry.handle == attribute) _ none)
+    (none-touched attribute rest (or-second (entry.handle == attribute) _ none))
+
+-- A value that is written is told.
+
+told-next : (attributes : List Attr) (row : Row) (handle : ℕ) (attribute other : Handle)
+    (configuration : Bool) → is_configuration_at attributes other ≡ configuration
+    → is_configuration_at attributes attribute ≡ false
+    → tells_value attribute (write_told attributes row handle other) ≡ false
+    → (other == attribute) ≡ false
+told-next attributes row handle attribute other true is value none =
+    elim (other == attribute) as (λ same. (other == attribute) ≡ same → same ≡ false) [
+      | true ↦ λ same. absurd (cc (eqb-true other attribute same, is, value))
+      | false ↦ λ differs. refl
+    ] refl
+told-next attributes row handle attribute other false is value none =
+    ap (λ (of : Bool). tells_value attribute
+    (if of then Configured handle other (bits_at row other) else Written handle other)) (sym is)
+    ∙ none
+
+pub value_not_written : (attributes : List Attr) (row : Row) (handle : ℕ) (attribute : Handle)
+    (handles : List Handle) → is_configuration_at attributes attribute ≡ false
+    → is_value_told attribute (map (write_told attributes row handle) handles) ≡ false
+    → is_among attribute handles ≡ false
+value_not_written attributes row handle attribute [] value none = refl
+value_not_written attributes row handle attribute (other ∷ rest) value none =
+    let notice : Notice = write_told attributes row handle other in
+    both-none (other == attribute) _
+    (told-next attributes row handle attribute other
+    (is_configuration_at attributes other) refl value
+    (or-first (tells_value attribute notice) _ none))
+    (value_not_written attributes row handle attribute rest value
+    (or-second (tells_value attribute notice) _ none))
+
+-- what is written leaves a value that is not told
+module _ (table : Contents) (row new_row : Row) (standing : Standing) (handle : ℕ) where
+  abbrev Untold : Handle → List Handle → Type 0
+  Untold attribute handles = is_value_told attribute
+      (map (write_told table.attributes new_row handle) handles) ≡ false
+
+  value-by-kind : (writing : Writing) (new : Stored) (attribute : Handle) (configuration : Bool)
+      → is_configuration_at table.attributes attribute ≡ configuration
+      → applied_to writing.access table row standing writing.entries ≡ Ok new → 0 < attribute
+      → Untold attribute (touched_by writing.entries (Ok new))
+      → value_at new.values attribute ≡ value_at table.values attribute
+  value-by-kind writing new attribute true of is used none =
+      leaves-configurations writing.access table.attributes standing writing.entries
+      (stored_in table row) new is attribute of
+  value-by-kind writing new attribute false of is used none =
+      (keeps_others writing.access table.attributes standing writing.entries
+      (stored_in table row) new is).values attribute used
+      (none-touched attribute writing.entries (none-once attribute _
+      (value_not_written table.attributes new_row handle attribute _ of none)))
+
+  value-if : (writing : Writing) (attribute : Handle) (result : Result Stored Refusal)
+      → applied_to writing.access table row standing writing.entries ≡ result → 0 < attribute
+      → Untold attribute (touched_by writing.entries result)
+      → value_at (kept_or_new (stored_in table row) result).values attribute
+      ≡ value_at table.values attribute
+  value-if writing attribute (Ok new) is used none =
+      value-by-kind writing new attribute
+      (is_configuration_at table.attributes attribute) refl is used none
+  value-if writing attribute (Err refusal) is used none = refl
+
+  value-kept : (writing : Option Writing) (attribute : Handle) → 0 < attribute
+      → Untold attribute (handles_after table row standing writing)
+      → value_at (stored_after table row standing writing).values attribute
+      ≡ value_at table.values attribute
+  value-kept None attribute used none = refl
+  value-kept (Some writing) attribute used none =
+      value-if writing attribute
+      (applied_to writing.access table row standing writing.entries) refl used none
+
+-- One connection.
+
+abbrev UntoldBy : Handle → Room → Row → Bool → Part → Own → Type 0
+UntoldBy attribute room bond owed part own =
+    is_value_told attribute (own_told room bond part own (turn_of room bond owed part own)) ≡ false
+
+none-first : (attribute : Handle) (one other : List Notice)
+    → is_value_told attribute (one ++ other) ≡ false
+    → is_value_told attribute one ≡ false
+none-first attribute one other none =
+    or-first (is_value_told attribute one) (is_value_told attribute other)
+    (sym (list_any-append (tells_value attribute) one other) ∙ none)
+
+-- where there is no room for the answer, nothing is written
+request-values : (room : Room) (bond new_row : Row) (owed : Bool) (part : Part) (pdu : Octets)
+    (attribute : Handle) (full : Bool) → 0 < attribute
+    → is_value_told attribute (map (write_told room.table.attributes new_row part.handle)
+    (if not full then handles_by room.table (row_of bond part) (connection_of room part)
+    (request_of pdu (mtu_of room part)) else [])) ≡ false
+    → value_at (if full then turn_to room bond owed (after_ending part remote_user_terminated)
+    else served room bond owed part pdu (request_of pdu (mtu_of room part))).values attribute
+    ≡ value_at room.table.values attribute
+request-values room bond new_row owed part pdu attribute true used none = refl
+request-values room bond new_row owed part pdu attribute false used none =
+    let conn = connection_of room part in
+    let asked : Question = request_of pdu conn.mtu in
+    value-kept room.table (row_of bond part) new_row conn.standing part.handle
+    (writing_asked conn.queue asked) attribute used none
+
+asks-values : (room : Room) (bond : Row) (owed : Bool) (part : Part) (pdu : Octets)
+    (attribute : Handle)
+    (live : Bool) → is_live part.mark ≡ live → 0 < attribute
+    → is_value_told attribute
+    (if live then live_told room bond part (Asks pdu) (turn_of room bond owed part (Asks pdu))
+    ++ end_told part.handle (turn_of room bond owed part (Asks pdu)).part else []) ≡ false
+    → value_at (if live then live_turn room bond owed part (Asks pdu)
+    else turn_to room bond owed part).values attribute
+    ≡ value_at room.table.values attribute
+unfolding live_turn
+asks-values room bond owed part pdu attribute true is used none =
+    let asked : Question = request_of pdu (mtu_of room part) in
+    let full : Bool = is_due asked && is_full room part in
+    let turn : Turn = turn_of room bond owed part (Asks pdu) in
+    let new_row : Row = row_of turn.bond turn.part in
+    let tells : Handle → Notice = write_told room.table.attributes new_row part.handle in
+    let wrote : List Notice = map tells (handles_written room bond part (Asks pdu)) in
+    let confirmed : List Notice =
+    if is_confirmation pdu then confirmation_told part.handle part.pending.unconfirmed else [] in
+    let before_end = none-first attribute (wrote ++ confirmed)
+    (end_told part.handle turn.part) none in
+    request-values room bond new_row owed part pdu attribute full used
+    (ap (λ (lives : Bool). is_value_told attribute (map tells
+    (if lives && not full then handles_by room.table (row_of bond part)
+    (connection_of room part) asked
+    else []))) (sym is)
+    ∙ none-first attribute wrote confirmed before_end)
+asks-values room bond owed part pdu attribute false is used none = refl
+
+-- all else that happens to it leaves the values
+turn-either : (values : Values) (one other : Turn) (test : Bool) → one.values ≡ values
+    → other.values ≡ values → (if test then one else other).values ≡ values
+turn-either values one other true first second = first
+turn-either values one other false first second = second
+
+abbrev Leaves : Room → Row → Bool → Part → Own → Type 0
+Leaves room bond owed part own =
+    (if is_live part.mark then live_turn room bond owed part own
+    else turn_to room bond owed part).values
+    ≡ room.table.values
+
+leaves : (room : Room) (bond : Row) (owed : Bool) (part : Part) (own : Own)
+    → (live_turn room bond owed part own).values ≡ room.table.values
+    → Leaves room bond owed part own
+leaves room bond owed part own is =
+    turn-either room.table.values (live_turn room bond owed part own) (turn_to room bond owed part)
+    (is_live part.mark) is refl
+
+own-values : (room : Room) (bond : Row) (owed : Bool) (part : Part) (own : Own) (attribute : Handle)
+    → 0 < attribute → UntoldBy attribute room bond owed part own
+    → value_at (turn_of room bond owed part own).values attribute
+    ≡ value_at room.table.values attribute
+unfolding live_turn
+own-values room bond owed part (Connected handle peer) attribute used none = refl
+own-values room bond owed part Gone attribute used none = refl
+own-values room bond owed part (Asks pdu) attribute used none =
+    asks-values room bond owed part pdu attribute (is_live part.mark) refl used none
+own-values room bond owed part (KeyAsked random_number diversifier) attribute used none =
+    ap (λ (of : Values). value_at of attribute)
+    (leaves room bond owed part (KeyAsked random_number diversifier) refl)
+own-values room bond owed part (Encrypted status enabled) attribute used none =
+    ap (λ (of : Values). value_at of attribute)
+    (leaves room bond owed part (Encrypted status enabled) refl)
+own-values room bond owed part (Refreshed status) attribute used none =
+    ap (λ (of : Values). value_at of attribute) (leaves room bond owed part (Refreshed status) refl)
+own-values room bond owed part (Signals channel payload) attribute used none =
+    ap (λ (of : Values). value_at of attribute)
+    (leaves room bond owed part (Signals channel payload) refl)
+own-values room bond owed part (Authorized until) attribute used none =
+    ap (λ (of : Values). value_at of attribute) (leaves room bond owed part (Authorized until) refl)
+
+-- And each event.
+
+used-there : (attributes : List Attr) (handle : Handle) (attr : Attr)
+    → attribute_at attributes handle ≡ Some attr
+    → 0 < handle
+used-there attributes zero attr there = cc there
+used-there attributes (suc handle) attr there = omega arith
+
+change-values : (state : State) (event : Event) (attribute : Handle) → 0 < attribute
+    → Possible (λ table. Unit) state event → sets_value attribute event ≡ false
+    → is_value_told attribute (noticed state event) ≡ false
+    → value_at (change_of state event).state.room.table.values attribute
+    ≡ value_at state.room.table.values attribute
+unfolding change_of noticed
+change-values state (Of ordinal own) attribute used possible sets none =
+    let part : Part = state.parts ordinal in
+    own-values state.room (state.bonds part.peer)
+    (state.owed part.peer) part own attribute used none
+change-values state (Completed entries) attribute used possible sets none = refl
+change-values state (Credit allowed opcode status
+    (Some init)) attribute used possible sets none = refl
+change-values state (Credit allowed opcode status None) attribute used possible sets none = refl
+change-values state (Update handle value) attribute used possible sets none =
+    other-value state.room.table.values handle attribute value
+    (used-there state.room.table.attributes handle possible.attr possible.there) used sets
+change-values state (Tick time) attribute used possible sets none = refl
+change-values state (Replaced table) attribute used possible sets none = cc sets
+change-values state Nothing attribute used possible sets none = refl
+
+pub tells_each_value : TellsEachValue
+unfolding step
+tells_each_value state event attribute used possible sets none =
+    change-values state event attribute used possible sets none
