@@ -1,3 +1,4 @@
+pub mod AllowedNotices
 pub mod Always
 pub mod AnswersAlike
 pub mod ChangersAlike

@@ -1,4 +1,5 @@
 pub mod Alike
+pub mod AllowedNotices
 pub mod Calls
 pub mod Controller
 pub mod Event
