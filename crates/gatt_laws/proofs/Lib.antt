@@ -7,6 +7,7 @@ pub mod Ends
 pub mod Given
 pub mod Headline
 pub mod ItemEvents
+pub mod KeyNotices
 pub mod Knowing
 pub mod MayBeHeard
 pub mod NextParts
@@ -19,12 +20,14 @@ pub mod Preparing
 pub mod Placed
 pub mod Queued
 pub mod Refusals
+pub mod RowNotices
 pub mod RowsOfTheTable
 pub mod Runs
 pub mod SameCourse
 pub mod SameView
 pub mod Settled
 pub mod Silence
+pub mod Steady
 pub mod Stores
 pub mod Streams
 pub mod TurnsAlike

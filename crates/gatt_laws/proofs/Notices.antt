@@ -47,7 +47,7 @@ pub or-second : (one other : Bool) → (one || other) ≡ false → other ≡ fa
 or-second false other is = is
 or-second true other is = cc is
 
-both-none : (one other : Bool) → one ≡ false → other ≡ false → (one || other) ≡ false
+pub both-none : (one other : Bool) → one ≡ false → other ≡ false → (one || other) ≡ false
 both-none false other is none = none
 both-none true other is none = cc is
 
@@ -79,8 +79,8 @@ none-left attribute handle (other ∷ rest) differs none =
     kept-none attribute handle other rest (other == handle) refl differs none
     (none-left attribute handle rest differs)
 
-none-once : (attribute : Handle) (handles : List Handle) → is_among attribute (once_each handles)
-    ≡ false
+pub none-once : (attribute : Handle) (handles : List Handle)
+    → is_among attribute (once_each handles) ≡ false
     → is_among attribute handles ≡ false
 none-once attribute [] none = refl
 none-once attribute (handle ∷ rest) none =
@@ -89,7 +89,7 @@ none-once attribute (handle ∷ rest) none =
     (none-once attribute rest
     (none-left attribute handle (once_each rest) differs (or-second (handle == attribute) _ none)))
 
-none-touched : (attribute : Handle) (entries : List Entry)
+pub none-touched : (attribute : Handle) (entries : List Entry)
     → is_among attribute (map (λ (entry : Entry). entry.handle) entries) ≡ false
     → is_touched entries attribute ≡ false
 none-touched attribute [] none = refl

@@ -23,6 +23,7 @@ pub mod Preparing
 pub mod Queued
 pub mod Refusals
 pub mod Room
+pub mod RowNotices
 pub mod RowsOfTheTable
 pub mod Runs
 pub mod SameView
