@@ -40,6 +40,10 @@ pub last-true : (one other : Bool) → (one && other) ≡ true → other ≡ tru
 last-true true other is = is
 last-true false other is = cc is
 
+pub first-true : (one other : Bool) → (one && other) ≡ true → one ≡ true
+first-true true other is = refl
+first-true false other is = cc is
+
 module _ (Fine : Contents → Type 0) where
   abbrev pub PossibleIfAny : {E : Type 0} → State → Result Event E → Type 0
   PossibleIfAny state (Ok event) = Possible Fine state event

@@ -12,7 +12,7 @@ use Rattle.att_table.specs.ConfigRow.{kept_row}
 use Rattle.att_table.specs.Table.{Contents}
 use Rattle.gatt_conn.specs.Answer.{Question}
 use Rattle.gatt_conn.specs.Transcript.{Dropped}
-use Rattle.gatt_laws.proofs.Always.{last-true}
+use Rattle.gatt_laws.proofs.Always.{first-true, last-true}
 use Rattle.gatt_laws.proofs.Ends.{end_keeps}
 use Rattle.gatt_laws.proofs.Notices.{or-first}
 use Rattle.gatt_laws.proofs.Steady.{completed_steady}
@@ -34,10 +34,6 @@ use Rattle.gatt_subs.specs.Indications.{after_replacement}
 use Rattle.octets.specs.Number.{Octets}
 
 -- Keys of the same facts are worth the same.
-
-first-true : (one other : Bool) → (one && other) ≡ true → one ≡ true
-first-true true other is = refl
-first-true false other is = cc is
 
 both-same : (one other : Bool) → are_both one other ≡ true → one ≡ other
 both-same true true is = refl

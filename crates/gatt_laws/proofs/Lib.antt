@@ -9,7 +9,9 @@ pub mod Headline
 pub mod ItemEvents
 pub mod KeyNotices
 pub mod Knowing
+pub mod KnowingWho
 pub mod MayBeHeard
+pub mod Named
 pub mod NextParts
 pub mod NothingCrosses
 pub mod Notices
@@ -18,6 +20,7 @@ pub mod OwnWrites
 pub mod Places
 pub mod Preparing
 pub mod Placed
+pub mod Present
 pub mod Queued
 pub mod Refusals
 pub mod RowNotices
@@ -30,8 +33,10 @@ pub mod Silence
 pub mod Steady
 pub mod Stores
 pub mod Streams
+pub mod Telling
 pub mod TurnsAlike
 pub mod TwoWorlds
 pub mod Unfinished
+pub mod Unused
 pub mod ValuesOfTheTable
 pub mod examples

@@ -144,7 +144,7 @@ either-true : (one other later : Bool) → (one || other) ≡ true → (other �
 either-true true other later is go = refl
 either-true false other later is go = go is
 
-taken-has : (ordinal other : Ordinal) (slots : Slots) → (other == ordinal) ≡ false → (ordinal == other) ≡ false → has_slot other (with_taken ordinal slots) ≡ true
+pub taken-has : (ordinal other : Ordinal) (slots : Slots) → (other == ordinal) ≡ false → (ordinal == other) ≡ false → has_slot other (with_taken ordinal slots) ≡ true
     → has_slot other slots ≡ true
 taken-has ordinal other [] differs too has = has
 taken-has ordinal other (None ∷ slots) differs too has = or-true (ordinal == other) (has_slot other slots) has too
@@ -160,7 +160,7 @@ freed-slot ordinal other one slots true go has = later (one == other) (go has)
     later false is = is
 freed-slot ordinal other one slots false go has = either-true (one == other) (has_slot other (with_freed ordinal slots)) (has_slot other slots) has go
 
-freed-has : (ordinal other : Ordinal) (slots : Slots) → has_slot other (with_freed ordinal slots) ≡ true → has_slot other slots ≡ true
+pub freed-has : (ordinal other : Ordinal) (slots : Slots) → has_slot other (with_freed ordinal slots) ≡ true → has_slot other slots ≡ true
 freed-has ordinal other [] has = has
 freed-has ordinal other (None ∷ slots) has = freed-has ordinal other slots has
 freed-has ordinal other (Some one ∷ slots) has = freed-slot ordinal other one slots (one == ordinal) (freed-has ordinal other slots) has
@@ -178,7 +178,7 @@ all-free : (ordinal : Ordinal) (count : ℕ) → has_slot ordinal (replicate cou
 all-free ordinal zero = refl
 all-free ordinal (suc count) = all-free ordinal count
 
-init-has : (count : ℕ) (init : Init) (ordinal : Ordinal) (slots : Slots) → has_slot ordinal (slots_for count init slots) ≡ true → has_slot ordinal slots ≡ true
+pub init-has : (count : ℕ) (init : Init) (ordinal : Ordinal) (slots : Slots) → has_slot ordinal (slots_for count init slots) ≡ true → has_slot ordinal slots ≡ true
 init-has count (Ready length packets) ordinal slots has = cc (has, all-free ordinal (usable count packets))
 init-has count (Resetting settings) ordinal slots has = has
 init-has count (Masking settings) ordinal slots has = has

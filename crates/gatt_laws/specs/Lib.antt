@@ -20,6 +20,7 @@ pub mod Part
 pub mod Placed
 pub mod Possible
 pub mod Preparing
+pub mod Present
 pub mod Queued
 pub mod Refusals
 pub mod Room
@@ -31,6 +32,7 @@ pub mod Settled
 pub mod Silence
 pub mod Start
 pub mod State
+pub mod Telling
 pub mod Turn
 pub mod TwoWorlds
 pub mod ValuesOfTheTable

@@ -1,0 +1,384 @@
+-- A listener knows who is there, after each event and in every course.
+use Rattle.std.proofs.Common.{◌≡◌, ℕ, Bool, true, false, List, [], ◌∷◌, Option, Some, None}
+use Rattle.std.proofs.Common.{refl, sym, ap, subst, ◌∙◌, arith}
+use Rattle.std.specs.Prelude.{◌==◌, ◌&&◌, if◌then◌else◌}
+use Rattle.std.specs.Option.{option_map_or}
+use Rattle.std.proofs.lemmas.Bool.{eqb-true, eq-eqb}
+use Rattle.std.proofs.lemmas.Bool.Decides.{nat_tests}
+use Rattle.att_numbers.specs.Types.{Row}
+use Rattle.gatt_laws.proofs.ItemEvents.{means_its_event}
+use Rattle.gatt_laws.proofs.Knowing.{item_possible}
+use Rattle.gatt_laws.proofs.Named.{IsNamedAs, end_named, step_named}
+use Rattle.gatt_laws.proofs.Placed.{taken-has, freed-has, freed_lacks, init-has, stays_placed}
+use Rattle.gatt_laws.proofs.Placed.{placed_at_first}
+use Rattle.gatt_laws.proofs.Present.{present_both, if-live-others, slots-others, peer_at}
+use Rattle.gatt_laws.proofs.Present.{same-peers, none-has, taken-peers, freed-peers, freed-none}
+use Rattle.gatt_laws.proofs.Present.{init-peers}
+use Rattle.gatt_laws.proofs.Unused.{item_unused}
+use Rattle.gatt_laws.proofs.Settled.{none_next, stays_settled, settled_at_first}
+use Rattle.gatt_laws.specs.Calls.{holding}
+use Rattle.gatt_laws.specs.Controller.{with_freed}
+use Rattle.gatt_laws.specs.Event as event
+use Rattle.gatt_laws.specs.Event.{Ordinal, Own, Event, KeyAsked, Encrypted, Refreshed, Asks}
+use Rattle.gatt_laws.specs.Event.{Signals, Authorized, Of, Completed, Credit, Update, Tick}
+use Rattle.gatt_laws.specs.Event.{Replaced, Nothing}
+use Rattle.gatt_laws.specs.Input.{Item, Course, after_item, after_items, at_start, course}
+use Rattle.gatt_laws.specs.ItemEvents.{event_at, after_if}
+use Rattle.gatt_laws.specs.Notice.{Notice, Connected, Disconnected, noticed, notices_of, notices_in}
+use Rattle.gatt_laws.specs.Part.{Part, come, is_there}
+use Rattle.gatt_laws.specs.Possible.{Possible, MayCome}
+use Rattle.gatt_laws.specs.Present.{ComesUnused}
+use Rattle.gatt_laws.specs.Present.{Present, present_in, nobody_present, peers_in, HasOneHandleEach}
+use Rattle.gatt_laws.specs.Present.{AlwaysHasOneHandleEach, IsKnowing, TellsWhoIsThere}
+use Rattle.gatt_laws.specs.Present.{KnowsWhoIsThere}
+use Rattle.gatt_laws.specs.RowNotices.{is_coming_or_going}
+use Rattle.gatt_laws.specs.Settled.{has_slot}
+use Rattle.gatt_laws.specs.Start.{Start, state_at}
+use Rattle.gatt_laws.specs.State.{State, change_of, step}
+use Rattle.gatt_laws.specs.Turn.{turn_of}
+use Rattle.le_hci.specs.declared.peer.Peer.{Peer}
+
+and-false : (test : Bool) → (test && false) ≡ false
+and-false true = refl
+and-false false = refl
+
+-- a connection that has a slot is none that has none
+apart : (state : State) (at ordinal : Ordinal) → has_slot at state.slots ≡ false
+    → has_slot ordinal state.slots ≡ true → (ordinal == at) ≡ false
+apart state at ordinal lacks has =
+    elim (ordinal == at) as (λ (same : Bool). (ordinal == at) ≡ same → same ≡ false) [
+      | true ↦ λ same.
+          let too : has_slot at state.slots ≡ true =
+          ap (λ (one : Ordinal). has_slot one state.slots) (sym (eqb-true ordinal at same)) ∙ has in
+          absurd (cc (too, lacks))
+      | false ↦ λ differs. refl
+    ] refl
+
+module _ (state : State) (at : Ordinal) (handle : ℕ) (peer : Peer) (is : IsKnowing state)
+    (may : MayCome state at) (unused : holding state handle ≡ None) where
+  abbrev coming : Event
+  coming = Of at (event.Connected handle peer)
+
+  lacks : has_slot at state.slots ≡ false
+  lacks = subst (λ (one : Ordinal). has_slot one state.slots ≡ false) (sym may.next)
+      (none_next state.next state.next state.slots (omega arith) is.settled.slots)
+
+  away : is_there (state.parts at).mark ≡ false
+  away = ap (λ (part : Part). is_there part.mark) (is.settled.gone at lacks)
+
+  comes : (change_of state coming).state.parts at ≡ come handle peer
+  unfolding change_of
+  comes =
+      ap (λ (same : Bool). if same
+      then (if is_there (state.parts at).mark then state.parts at else come handle peer)
+      else state.parts at) (eq-eqb at at refl)
+      ∙ ap (λ (there : Bool). if there then state.parts at else come handle peer) away
+
+  came-named : IsNamedAs (come handle peer) ((step state coming).parts at)
+  came-named = subst (λ (part : Part). IsNamedAs part ((step state coming).parts at)) comes
+      (end_named state coming at)
+
+  others-named : (ordinal : Ordinal) → (ordinal == at) ≡ false
+      → IsNamedAs (state.parts ordinal) ((step state coming).parts ordinal)
+  others-named ordinal differs = step_named state coming ordinal
+      (ap (λ (same : Bool). same && true) differs)
+
+  coming-peers : (asked : ℕ) → present_in (peers_in state) (noticed state coming) asked
+      ≡ peers_in (step state coming) asked
+  unfolding step change_of noticed
+  coming-peers asked =
+      ap (λ (there : Bool). present_in (peers_in state)
+      (if there then [] else Connected handle peer ∷ []) asked) away
+      ∙ sym (taken-peers state.parts
+      (step state coming).parts at handle peer came-named state.slots asked may.free unused
+      (λ ordinal has. others-named ordinal (apart state at ordinal lacks has)))
+
+  old-slot : (ordinal : Ordinal) → (ordinal == at) ≡ false
+      → has_slot ordinal (step state coming).slots ≡ true
+      → has_slot ordinal state.slots ≡ true
+  unfolding step change_of
+  old-slot ordinal differs has =
+      let back : (at == ordinal) ≡ false = grind (arith, nat_tests) in
+      taken-has at ordinal state.slots differs back has
+
+  -- it has a handle of its own
+  not-its : (ordinal : Ordinal) → (ordinal == at) ≡ false
+      → has_slot ordinal (step state coming).slots ≡ true
+      → ((step state coming).parts ordinal).handle ≡ handle → ⊥
+  not-its ordinal differs has same =
+      let other = none-has state.parts state.slots handle ordinal unused
+      (old-slot ordinal differs has) in
+      let equal : (state.parts ordinal).handle
+      ≡ handle = sym (others-named ordinal differs).handle ∙ same in
+      cc (eq-eqb (state.parts ordinal).handle handle equal, other)
+
+  its-handle : (ordinal : Ordinal) → (ordinal == at) ≡ true
+      → ((step state coming).parts ordinal).handle ≡ handle
+  its-handle ordinal same =
+      ap (λ (one : Ordinal). ((step state coming).parts one).handle) (eqb-true ordinal at same)
+      ∙ came-named.handle
+
+  coming-alone : HasOneHandleEach (step state coming)
+  coming-alone one other has has_too same = by-both (one == at) (other == at) refl refl
+    where
+      by-both : (first second : Bool) → (one == at) ≡ first → (other == at) ≡ second → one ≡ other
+      by-both true true this that = eqb-true one at this ∙ sym (eqb-true other at that)
+      by-both true false this that =
+          absurd (not-its other that has_too (sym same ∙ its-handle one this))
+      by-both false true this that = absurd (not-its one this has (same ∙ its-handle other that))
+      by-both false false this that =
+          is.handles one other (old-slot one this has) (old-slot other that has_too)
+          (sym (others-named one this).handle ∙ same ∙ (others-named other that).handle)
+
+module _ (state : State) (at : Ordinal) (is : IsKnowing state) where
+  abbrev going : Event
+  going = Of at event.Gone
+
+  stay-named : (ordinal : Ordinal) → (ordinal == at) ≡ false
+      → IsNamedAs (state.parts ordinal) ((step state going).parts ordinal)
+  stay-named ordinal differs = step_named state going ordinal
+      (ap (λ (same : Bool). same && true) differs)
+
+  going-by : (asked : ℕ) (has : Bool) → has_slot at state.slots ≡ has
+      → present_in (peers_in state) (noticed state going) asked ≡ peers_in (step state going) asked
+  unfolding step change_of noticed
+  going-by asked true has =
+      ap (λ (there : Bool). present_in (peers_in state)
+      (if there then Disconnected (state.parts at).handle ∷ [] else []) asked)
+      (is.placed.there at has)
+      ∙ sym (freed-peers state.parts (step state going).parts at state.slots asked
+      (λ ordinal has_too same. is.handles ordinal at has_too has same) stay-named)
+  going-by asked false lacks =
+      ap (λ (part : Part). present_in (peers_in state)
+      (if is_there part.mark then Disconnected part.handle ∷ [] else []) asked)
+      (is.settled.gone at lacks)
+      ∙ sym (ap (λ slots. peer_at (step state going).parts slots asked)
+      (freed-none at state.slots lacks)
+      ∙ same-peers state.parts (step state going).parts state.slots asked
+      (λ ordinal has. stay-named ordinal (apart state at ordinal lacks has)))
+
+-- where nobody comes and nobody goes
+module _ (state : State) (happens : Event)
+    (kind : (ordinal : Ordinal) → is_coming_or_going ordinal happens ≡ false) where
+  still : (asked : ℕ) → peers_in state asked
+      ≡ peer_at (step state happens).parts state.slots asked
+  still asked =
+      sym (same-peers state.parts (step state happens).parts state.slots asked
+      (λ ordinal has. step_named state happens ordinal (kind ordinal)))
+
+pub tells_who_is_there : TellsWhoIsThere
+unfolding step change_of noticed
+tells_who_is_there state (Of at (event.Connected handle peer)) asked is possible unused =
+    coming-peers state at handle peer is possible unused asked
+tells_who_is_there state (Of at event.Gone) asked is possible unused = going-by state at is asked
+    (has_slot at state.slots) refl
+tells_who_is_there state (Of at (KeyAsked random_number diversifier)) asked is possible unused =
+    let part : Part = state.parts at in
+    let bond : Row = state.bonds part.peer in
+    ap (λ (present : Present). present asked)
+    (if-live-others state.room bond part (KeyAsked random_number diversifier)
+    (turn_of state.room bond (state.owed part.peer) part (KeyAsked random_number diversifier))
+    (peers_in state))
+    ∙ still state (Of at (KeyAsked random_number diversifier))
+    (λ ordinal. and-false (ordinal == at)) asked
+tells_who_is_there state (Of at (Encrypted status enabled)) asked is possible unused =
+    let part : Part = state.parts at in
+    let bond : Row = state.bonds part.peer in
+    ap (λ (present : Present). present asked)
+    (if-live-others state.room bond part (Encrypted status enabled)
+    (turn_of state.room bond (state.owed part.peer) part (Encrypted status enabled))
+    (peers_in state))
+    ∙ still state (Of at (Encrypted status enabled)) (λ ordinal. and-false (ordinal == at)) asked
+tells_who_is_there state (Of at (Refreshed status)) asked is possible unused =
+    let part : Part = state.parts at in
+    let bond : Row = state.bonds part.peer in
+    ap (λ (present : Present). present asked)
+    (if-live-others state.room bond part (Refreshed status)
+    (turn_of state.room bond (state.owed part.peer) part (Refreshed status)) (peers_in state))
+    ∙ still state (Of at (Refreshed status)) (λ ordinal. and-false (ordinal == at)) asked
+tells_who_is_there state (Of at (Asks pdu)) asked is possible unused =
+    let part : Part = state.parts at in
+    let bond : Row = state.bonds part.peer in
+    ap (λ (present : Present). present asked)
+    (if-live-others state.room bond part (Asks pdu)
+    (turn_of state.room bond (state.owed part.peer) part (Asks pdu)) (peers_in state))
+    ∙ still state (Of at (Asks pdu)) (λ ordinal. and-false (ordinal == at)) asked
+tells_who_is_there state (Of at (Signals channel payload)) asked is possible unused =
+    let part : Part = state.parts at in
+    let bond : Row = state.bonds part.peer in
+    ap (λ (present : Present). present asked)
+    (if-live-others state.room bond part (Signals channel payload)
+    (turn_of state.room bond (state.owed part.peer) part (Signals channel payload))
+    (peers_in state))
+    ∙ still state (Of at (Signals channel payload)) (λ ordinal. and-false (ordinal == at)) asked
+tells_who_is_there state (Of at (Authorized until)) asked is possible unused =
+    let part : Part = state.parts at in
+    let bond : Row = state.bonds part.peer in
+    ap (λ (present : Present). present asked)
+    (if-live-others state.room bond part (Authorized until)
+    (turn_of state.room bond (state.owed part.peer) part (Authorized until)) (peers_in state))
+    ∙ still state (Of at (Authorized until)) (λ ordinal. and-false (ordinal == at)) asked
+tells_who_is_there state (Completed entries) asked is possible unused = still state
+    (Completed entries)
+    (λ ordinal. refl) asked
+tells_who_is_there state (Credit allowed opcode status (Some init)) asked is possible unused =
+    let happens : Event = Credit allowed opcode status (Some init) in
+    still state happens (λ ordinal. refl) asked
+    ∙ sym (init-peers (step state happens).parts state.room.slots init state.slots asked
+    (is.settled.early possible))
+tells_who_is_there state (Credit allowed opcode status None) asked is possible unused =
+    still state (Credit allowed opcode status None) (λ ordinal. refl) asked
+tells_who_is_there state (Update handle value) asked is possible unused = still state
+    (Update handle value) (λ ordinal. refl) asked
+tells_who_is_there state (Tick time) asked is possible unused =
+    ap (λ (present : Present). present asked) (slots-others state time state.slots (peers_in state))
+    ∙ still state (Tick time) (λ ordinal. refl) asked
+tells_who_is_there state (Replaced table) asked is possible unused = still state (Replaced table)
+    (λ ordinal. refl) asked
+tells_who_is_there state Nothing asked is possible unused = still state Nothing
+    (λ ordinal. refl) asked
+
+-- No two have one handle.
+
+-- where each that has a slot had it, and kept its name
+stay-alone : (state : State) (happens : Event)
+    → ((ordinal : Ordinal) → has_slot ordinal (step state happens).slots ≡ true
+    → (has_slot ordinal state.slots ≡ true) × (is_coming_or_going ordinal happens ≡ false))
+    → HasOneHandleEach state → HasOneHandleEach (step state happens)
+stay-alone state happens back alone one other has has_too same =
+    let first = back one has in
+    let second = back other has_too in
+    alone one other first.0 second.0
+    (sym (step_named state happens one first.1).handle ∙ same
+    ∙ (step_named state happens other second.1).handle)
+
+freed-back : (at ordinal : Ordinal) (state : State) → has_slot ordinal (with_freed at state.slots)
+    ≡ true
+    → (has_slot ordinal state.slots ≡ true) ×
+    (is_coming_or_going ordinal (Of at event.Gone) ≡ false)
+freed-back at ordinal state has = (
+  freed-has at ordinal state.slots has,
+  elim (ordinal == at) as (λ (same : Bool). (ordinal == at) ≡ same → (same && true) ≡ false) [
+    | true ↦ λ same.
+        let too : has_slot at (with_freed at state.slots) ≡ true =
+        ap (λ (one : Ordinal). has_slot one (with_freed at state.slots))
+        (sym (eqb-true ordinal at same)) ∙ has in
+        absurd (cc (too, freed_lacks at state.slots))
+    | false ↦ λ differs. refl
+  ] refl,
+)
+
+keeps-alone : (state : State) (happens : Event) → Possible (λ table. Unit) state happens
+    → ComesUnused state happens
+    → IsKnowing state → HasOneHandleEach (step state happens)
+unfolding step change_of
+keeps-alone state (Of at (event.Connected handle peer)) possible unused is =
+    coming-alone state at handle peer is possible unused
+keeps-alone state (Of at event.Gone) possible unused is =
+    stay-alone state (Of at event.Gone) (λ ordinal has. freed-back at ordinal state has) is.handles
+keeps-alone state (Of at (KeyAsked random_number diversifier)) possible unused is =
+    stay-alone state (Of at (KeyAsked random_number diversifier))
+    (λ ordinal has. (has, and-false (ordinal == at))) is.handles
+keeps-alone state (Of at (Encrypted status enabled)) possible unused is =
+    stay-alone state (Of at (Encrypted status enabled))
+    (λ ordinal has. (has, and-false (ordinal == at))) is.handles
+keeps-alone state (Of at (Refreshed status)) possible unused is =
+    stay-alone state (Of at (Refreshed status))
+    (λ ordinal has. (has, and-false (ordinal == at))) is.handles
+keeps-alone state (Of at (Asks pdu)) possible unused is =
+    stay-alone state (Of at (Asks pdu)) (λ ordinal has. (has, and-false (ordinal == at))) is.handles
+keeps-alone state (Of at (Signals channel payload)) possible unused is =
+    stay-alone state (Of at (Signals channel payload))
+    (λ ordinal has. (has, and-false (ordinal == at))) is.handles
+keeps-alone state (Of at (Authorized until)) possible unused is =
+    stay-alone state (Of at (Authorized until))
+    (λ ordinal has. (has, and-false (ordinal == at))) is.handles
+keeps-alone state (Completed entries) possible unused is = stay-alone state (Completed entries)
+    (λ ordinal has. (has, refl)) is.handles
+keeps-alone state (Credit allowed opcode status (Some init)) possible unused is =
+    stay-alone state (Credit allowed opcode status (Some init))
+    (λ ordinal has. (init-has state.room.slots init ordinal state.slots has, refl)) is.handles
+keeps-alone state (Credit allowed opcode status None) possible unused is =
+    stay-alone state (Credit allowed opcode status None) (λ ordinal has. (has, refl)) is.handles
+keeps-alone state (Update handle value) possible unused is = stay-alone state (Update handle value)
+    (λ ordinal has. (has, refl)) is.handles
+keeps-alone state (Tick time) possible unused is = stay-alone state (Tick time)
+    (λ ordinal has. (has, refl)) is.handles
+keeps-alone state (Replaced table) possible unused is = stay-alone state (Replaced table)
+    (λ ordinal has. (has, refl)) is.handles
+keeps-alone state Nothing possible unused is = stay-alone state Nothing
+    (λ ordinal has. (has, refl)) is.handles
+
+stays-knowing : (state : State) (happens : Event) → Possible (λ table. Unit) state happens
+    → ComesUnused state happens → IsKnowing state → IsKnowing (step state happens)
+stays-knowing state happens possible unused is = record {
+  settled = stays_settled state happens possible is.settled;
+  placed = stays_placed state happens possible is.placed;
+  handles = keeps-alone state happens possible unused is;
+}
+
+knowing-at-first : (start : Start) → IsKnowing (state_at start)
+knowing-at-first start = record {
+  settled = settled_at_first start;
+  placed = placed_at_first start;
+  handles = λ one other has. cc has;
+}
+
+-- In every course.
+
+record Goes (state new : State) (notices : List Notice) : Type 0 where
+  knowing : IsKnowing new
+  present : present_in (peers_in state) notices ≡ peers_in new
+
+event-goes : (state : State) (found : Option Event) → IsKnowing state
+    → ((happens : Event) → found ≡ Some happens → Possible (λ table. Unit) state happens)
+    → ((happens : Event) → found ≡ Some happens → ComesUnused state happens)
+    → Goes state (after_if state found) (option_map_or (noticed state) found [])
+event-goes state None is possible unused = record { knowing = is; present = refl }
+event-goes state (Some happens) is possible unused = record {
+  knowing = stays-knowing state happens (possible happens refl) (unused happens refl) is;
+  present = λ i asked. tells_who_is_there state happens asked is (possible happens refl)
+      (unused happens refl) i;
+}
+
+item-goes : (old : Course) (item : Item) → IsKnowing old.intake.state
+    → Goes old.intake.state (after_item old item).intake.state (notices_of old item)
+item-goes old item is =
+    subst (λ (state : State). Goes old.intake.state state (notices_of old item))
+    (sym (means_its_event old item))
+    (event-goes old.intake.state (event_at old.intake item) is
+    (λ happens found. item_possible old.intake item happens found)
+    (λ happens found. item_unused old.intake item happens found))
+
+record GoesOn (new : Course) (present : Present) (notices : List Notice) : Type 0 where
+  knowing : IsKnowing new.intake.state
+  right : present_in present notices ≡ peers_in new.intake.state
+
+all-present : (old : Course) (items : List Item) (present : Present) → IsKnowing old.intake.state
+    → present ≡ peers_in old.intake.state
+    → GoesOn (after_items old items) present (notices_in old items)
+all-present old [] present is right = record { knowing = is; right = right }
+all-present old (item ∷ items) present is right =
+    let goes = item-goes old item is in
+    let told : Present = present_in present (notices_of old item) in
+    let later = all-present (after_item old item) items told goes.knowing
+    (ap (λ (of : Present). present_in of (notices_of old item)) right ∙ goes.present) in
+    record {
+      knowing = later.knowing;
+      right = present_both present (notices_of old item) (notices_in (after_item old item) items)
+          ∙ later.right;
+    }
+
+in-course : (start : Start) (input : List Item)
+    → GoesOn (after_items (at_start start) input) nobody_present (notices_in (at_start start) input)
+in-course start input =
+    all-present (at_start start) input nobody_present (knowing-at-first start) (λ i asked. None)
+
+pub always_has_one_handle_each : AlwaysHasOneHandleEach
+unfolding course
+always_has_one_handle_each start input = (in-course start input).knowing.handles
+
+pub knows_who_is_there : KnowsWhoIsThere
+unfolding course
+knows_who_is_there start input handle =
+    ap (λ (present : Present). present handle) (in-course start input).right

@@ -1,0 +1,26 @@
+-- What is told keeps its promise.
+use Rattle.gatt_laws.proofs.AllowedNotices.{tells_no_refusals, tells_nothing_ignored}
+use Rattle.gatt_laws.proofs.AllowedNotices.{tells_only_of_the_live, tells_what_was_allowed}
+use Rattle.gatt_laws.proofs.KeyNotices.{tells_each_key}
+use Rattle.gatt_laws.proofs.Knowing.{knows_the_values}
+use Rattle.gatt_laws.proofs.KnowingWho.{always_has_one_handle_each, knows_who_is_there}
+use Rattle.gatt_laws.proofs.KnowingWho.{tells_who_is_there}
+use Rattle.gatt_laws.proofs.Notices.{tells_each_value}
+use Rattle.gatt_laws.proofs.RowNotices.{tells_each_bond, tells_each_own_row}
+use Rattle.gatt_laws.specs.Telling.{TellsTheApplication}
+
+pub tells_the_application : TellsTheApplication
+tells_the_application = record {
+  knows_values = knows_the_values;
+  values = tells_each_value;
+  own_rows = tells_each_own_row;
+  bonds = tells_each_bond;
+  keys = tells_each_key;
+  knows_who = knows_who_is_there;
+  who = tells_who_is_there;
+  handles = always_has_one_handle_each;
+  allowed = tells_what_was_allowed;
+  no_refusals = tells_no_refusals;
+  nothing_ignored = tells_nothing_ignored;
+  only_live = tells_only_of_the_live;
+}
