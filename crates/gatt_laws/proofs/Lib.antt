@@ -34,6 +34,7 @@ pub mod Steady
 pub mod Stores
 pub mod Streams
 pub mod Telling
+pub mod ToldIsSo
 pub mod TurnsAlike
 pub mod TwoWorlds
 pub mod Unfinished

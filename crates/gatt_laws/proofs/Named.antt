@@ -71,7 +71,7 @@ live-named room bond owed part (Authorized until) = steady-named room bond owed 
 live-named room bond owed part (Connected handle peer) = itself part
 live-named room bond owed part Gone = itself part
 
-if-live-named : (room : Room) (bond : Row) (owed : Bool) (part : Part) (own : Own)
+pub if-live-named : (room : Room) (bond : Row) (owed : Bool) (part : Part) (own : Own)
     → IsNamedAs part (if is_live part.mark then live_turn room bond owed part own
     else turn_to room bond owed part).part
 if-live-named room bond owed part own =

@@ -7,11 +7,13 @@ use Rattle.gatt_laws.proofs.KnowingWho.{always_has_one_handle_each, knows_who_is
 use Rattle.gatt_laws.proofs.KnowingWho.{tells_who_is_there}
 use Rattle.gatt_laws.proofs.Notices.{tells_each_value}
 use Rattle.gatt_laws.proofs.RowNotices.{tells_each_bond, tells_each_own_row}
+use Rattle.gatt_laws.proofs.ToldIsSo.{tells_what_is_so}
 use Rattle.gatt_laws.specs.Telling.{TellsTheApplication}
 
 pub tells_the_application : TellsTheApplication
 tells_the_application = record {
   knows_values = knows_the_values;
+  so = tells_what_is_so;
   values = tells_each_value;
   own_rows = tells_each_own_row;
   bonds = tells_each_bond;

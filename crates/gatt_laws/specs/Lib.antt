@@ -33,6 +33,7 @@ pub mod Silence
 pub mod Start
 pub mod State
 pub mod Telling
+pub mod ToldIsSo
 pub mod Turn
 pub mod TwoWorlds
 pub mod ValuesOfTheTable

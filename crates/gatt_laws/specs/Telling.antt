@@ -4,12 +4,15 @@ use Rattle.gatt_laws.specs.AllowedNotices.{TellsWhatWasAllowed}
 use Rattle.gatt_laws.specs.Notices.{KnowsTheValues, TellsEachValue}
 use Rattle.gatt_laws.specs.Present.{AlwaysHasOneHandleEach, KnowsWhoIsThere, TellsWhoIsThere}
 use Rattle.gatt_laws.specs.RowNotices.{TellsEachBond, TellsEachKey, TellsEachOwnRow}
+use Rattle.gatt_laws.specs.ToldIsSo.{TellsWhatIsSo}
 
--- a listener knows each value, and each change of it; what is configured and what keys are worth
--- changes by what is told alone; a listener knows who is there, and no two connections have one
--- handle; and only what was allowed is told, and nothing of what is refused or ignored
+-- a listener knows each value, and each change of it; what is told is so afterwards; what is
+-- configured and what keys are worth changes by what is told alone; a listener knows who is there,
+-- and no two connections have one handle; and only what was allowed is told, and nothing of what is
+-- refused or ignored
 pub record TellsTheApplication : Type 0 where
   pub knows_values : KnowsTheValues
+  pub so : TellsWhatIsSo
   pub values : TellsEachValue
   pub own_rows : TellsEachOwnRow
   pub bonds : TellsEachBond

@@ -1,0 +1,267 @@
+-- What is told is so afterwards.
+use Rattle.std.proofs.Common.{◌≡◌, ℕ, Bool, true, false, List, [], ◌∷◌, map, Option, Some, None}
+use Rattle.std.proofs.Common.{refl, ap, ◌∙◌}
+use Rattle.std.specs.Prelude.{◌++◌, All, is_some, if◌then◌else◌}
+use Rattle.std.specs.List.{flat_map}
+use Rattle.std.specs.Option.{option_to_list}
+use Rattle.std.proofs.lemmas.Bool.{eq-eqb}
+use Rattle.std.proofs.lemmas.List.Elements.{All-nil, All-cons, All-append}
+use Rattle.att_attributes.specs.declared.attr.Attr.{Attr}
+use Rattle.att_attributes.specs.Attributes.{is_configuration_at}
+use Rattle.att_numbers.specs.Types.{Handle, Row}
+use Rattle.att_policy.specs.declared.standing.KeyFacts.{KeyFacts}
+use Rattle.att_table.specs.ConfigRow.{bits_at}
+use Rattle.gatt_conn.specs.Answer.{is_confirmation}
+use Rattle.gatt_laws.proofs.Ends.{end_keeps}
+use Rattle.gatt_laws.proofs.Named.{IsNamedAs, if-live-named, end_named}
+use Rattle.gatt_laws.specs.Controller.{Slots}
+use Rattle.gatt_laws.specs.Event as event
+use Rattle.gatt_laws.specs.Event.{Ordinal, Own, Event, KeyAsked, Encrypted, Refreshed, Asks}
+use Rattle.gatt_laws.specs.Event.{Signals, Authorized, Of, Completed, Credit, Update, Tick}
+use Rattle.gatt_laws.specs.Event.{Replaced, Nothing}
+use Rattle.gatt_laws.specs.Notice.{Notice, Connected, Disconnected, Secured, Unsecured, Written}
+use Rattle.gatt_laws.specs.Notice.{Configured, Confirmed, TimedOut, Ending, are_same_facts}
+use Rattle.gatt_laws.specs.Notice.{link_told, write_told, confirmation_told, end_told, live_told}
+use Rattle.gatt_laws.specs.Notice.{late_told, slot_told, noticed}
+use Rattle.gatt_laws.specs.OwnWrites.{row_in}
+use Rattle.gatt_laws.specs.Part.{Part, come, is_live, is_there, key_of, row_of}
+use Rattle.gatt_laws.specs.State.{State, change_of, step}
+use Rattle.gatt_laws.specs.ToldIsSo.{IsSo, TellsWhatIsSo}
+use Rattle.gatt_laws.specs.Turn.{Turn, turn_to, turn_of, live_turn}
+use Rattle.gatt_laws.specs.View.{handles_written}
+use Rattle.gatt_subs.specs.declared.pending.Unconfirmed.{Unconfirmed}
+use Rattle.le_hci.specs.declared.peer.Peer.{Peer}
+use Rattle.le_security.proofs.Peers.{same_as_itself}
+
+-- Of some lists of notices, in a state.
+
+module _ (new : State) where
+  abbrev AreSo : List Notice → Type 0
+  AreSo notices = All (IsSo new) notices
+
+  none-so : AreSo []
+  none-so = All-nil (IsSo new)
+
+  one-so : (notice : Notice) → IsSo new notice → AreSo (notice ∷ [])
+  one-so notice is = All-cons (IsSo new) notice [] is none-so
+
+  either-so : (one other : List Notice) (test : Bool) → (test ≡ true → AreSo one)
+      → (test ≡ false → AreSo other) → AreSo (if test then one else other)
+  either-so one other true first second = first refl
+  either-so one other false first second = second refl
+
+  both-so : (one other : List Notice) → AreSo one → AreSo other → AreSo (one ++ other)
+  both-so one other first second = All-append (IsSo new) one other first second
+
+  slots-so : (state : State) (time : ℕ) (slots : Slots)
+      → AreSo (flat_map (slot_told state time) slots)
+  slots-so state time [] = none-so
+  slots-so state time (None ∷ slots) = slots-so state time slots
+  slots-so state time (Some ordinal ∷ slots) =
+      let part : Part = state.parts ordinal in
+      both-so (late_told time part) (flat_map (slot_told state time) slots)
+      (either-so (TimedOut part.handle ∷ []) [] _ (λ is. one-so (TimedOut part.handle) tt)
+      (λ is. none-so))
+      (slots-so state time slots)
+
+  -- a connection of a handle, its key and its row in force
+  module _ (ordinal : Ordinal) (handle : ℕ) (named : (new.parts ordinal).handle ≡ handle) where
+    link-so : (old key : Option KeyFacts) → key_of (new.parts ordinal) ≡ key
+        → AreSo (link_told handle old key)
+    link-so None None is = none-so
+    link-so None (Some facts) is =
+        one-so (Secured handle facts) (record { ordinal = ordinal; named = named; holds = is })
+    link-so (Some old) None is =
+        one-so (Unsecured handle) (record { ordinal = ordinal; named = named; holds = is })
+    link-so (Some old) (Some facts) is =
+        either-so [] (Secured handle facts ∷ []) (are_same_facts old facts) (λ same. none-so)
+        (λ differs. one-so (Secured handle facts)
+        (record { ordinal = ordinal; named = named; holds = is }))
+
+    write-so : (row : Row) (attribute : Handle) (configuration : Bool) → row_in new ordinal ≡ row
+        → IsSo new (if configuration then Configured handle attribute (bits_at row attribute)
+        else Written handle attribute)
+    write-so row attribute true is = record {
+      ordinal = ordinal;
+      named = named;
+      holds = ap (λ (of : Row). bits_at of attribute) is;
+    }
+    write-so row attribute false is = tt
+
+    writes-so : (attributes : List Attr) (row : Row) (handles : List Handle) → row_in new ordinal
+        ≡ row
+        → AreSo (map (write_told attributes row handle) handles)
+    writes-so attributes row [] is = none-so
+    writes-so attributes row (attribute ∷ rest) is =
+        All-cons (IsSo new) (write_told attributes row handle attribute)
+        (map (write_told attributes row handle) rest)
+        (write-so row attribute (is_configuration_at attributes attribute) is)
+        (writes-so attributes row rest is)
+
+    confirmation-so : (unconfirmed : Option Unconfirmed)
+        → AreSo (confirmation_told handle unconfirmed)
+    confirmation-so None = none-so
+    confirmation-so (Some unconfirmed) =
+        either-so [] (Confirmed handle unconfirmed.handle ∷ []) unconfirmed.outdated (λ is. none-so)
+        (λ is. one-so (Confirmed handle unconfirmed.handle) tt)
+
+    reason-so : (reason : Option ℕ) → is_live (new.parts ordinal).mark ≡ false
+        → AreSo (map (Ending handle) (option_to_list reason))
+    reason-so None ended = none-so
+    reason-so (Some reason) ended =
+        one-so (Ending handle reason) (record { ordinal = ordinal; named = named; holds = ended })
+
+-- What an event of a connection leaves of it.
+
+module _ (state : State) (at : Ordinal) (own : Own) where
+  abbrev part : Part
+  part = state.parts at
+
+  abbrev turn : Turn
+  turn = turn_of state.room (state.bonds part.peer) (state.owed part.peer) part own
+
+  abbrev new : State
+  new = step state (Of at own)
+
+  own-part : (change_of state (Of at own)).state.parts at ≡ turn.part
+  unfolding change_of
+  own-part = ap (λ (same : Bool). if same then turn.part else part) (eq-eqb at at refl)
+
+  own-mark : (new.parts at).mark ≡ turn.part.mark
+  own-mark =
+      end_keeps (λ (of : Part). of.mark) (λ of pdus pending given reply reason. refl) state
+      (Of at own) at
+      ∙ ap (λ (of : Part). of.mark) own-part
+
+  own-key : key_of (new.parts at) ≡ key_of turn.part
+  own-key =
+      end_keeps key_of (λ of pdus pending given reply reason. refl) state (Of at own) at
+      ∙ ap key_of own-part
+
+  own-handle : (new.parts at).handle ≡ turn.part.handle
+  own-handle = (end_named state (Of at own) at).handle ∙ ap (λ (of : Part). of.handle) own-part
+
+  own-peer : (new.parts at).peer ≡ turn.part.peer
+  own-peer = (end_named state (Of at own) at).peer ∙ ap (λ (of : Part). of.peer) own-part
+
+  own-bond : turn.part.peer ≡ part.peer → new.bonds (new.parts at).peer ≡ turn.bond
+  unfolding step change_of
+  own-bond same =
+      ap new.bonds (own-peer ∙ same)
+      ∙ ap (λ (is : Bool). if is then turn.bond else state.bonds part.peer)
+      (same_as_itself part.peer)
+
+  own-row : turn.part.peer ≡ part.peer → row_in new at ≡ row_of turn.bond turn.part
+  own-row same =
+      let rows : (new.parts at).row ≡ turn.part.row =
+      end_keeps (λ (of : Part). of.row) (λ of pdus pending given reply reason. refl) state
+      (Of at own) at
+      ∙ ap (λ (of : Part). of.row) own-part in
+      let bond = own-bond same in
+      λ i. if is_some (own-key i) then bond i else rows i
+
+  -- of one that served and stays
+  module _ (kept : IsNamedAs part turn.part) where
+    named : (new.parts at).handle ≡ part.handle
+    named = own-handle ∙ kept.handle
+
+    end-so : AreSo new (end_told part.handle turn.part)
+    end-so =
+        either-so new [] (map (Ending part.handle) (option_to_list turn.part.reason))
+        (is_live turn.part.mark)
+        (λ is. none-so new)
+        (λ ended. reason-so new at part.handle named turn.part.reason (ap is_live own-mark ∙ ended))
+
+    told-so : AreSo new (live_told state.room (state.bonds part.peer) part own turn)
+        → AreSo new (if is_live part.mark then live_told state.room
+        (state.bonds part.peer) part own turn
+        ++ end_told part.handle turn.part else [])
+    told-so is =
+        either-so new (live_told state.room (state.bonds part.peer) part own turn
+        ++ end_told part.handle turn.part) []
+        (is_live part.mark)
+        (λ live. both-so new (live_told state.room (state.bonds part.peer) part own turn)
+        (end_told part.handle turn.part) is end-so) (λ idle. none-so new)
+
+    linked-so : AreSo new (link_told part.handle (key_of part) (key_of turn.part))
+    linked-so = link-so new at part.handle named (key_of part) (key_of turn.part) own-key
+
+stays-named : (state : State) (at : Ordinal) (own : Own)
+    → (let part = state.parts at in
+    let room = state.room in
+    let bond = state.bonds part.peer in
+    let owed = state.owed part.peer in
+    IsNamedAs part (if is_live part.mark then live_turn room bond owed part own
+    else turn_to room bond owed part).part)
+stays-named state at own =
+    let part : Part = state.parts at in
+    if-live-named state.room (state.bonds part.peer) (state.owed part.peer) part own
+
+comes-named : (state : State) (at : Ordinal) (handle : ℕ) (peer : Peer)
+    → is_there (state.parts at).mark ≡ false
+    → (turn state at (event.Connected handle peer)).part ≡ come handle peer
+comes-named state at handle peer away =
+    ap (λ (there : Bool). if there then state.parts at else come handle peer) away
+
+pub tells_what_is_so : TellsWhatIsSo
+unfolding noticed
+tells_what_is_so state (Of at (event.Connected handle peer)) =
+    let own : Own = event.Connected handle peer in
+    either-so (step state (Of at own)) [] (Connected handle peer ∷ [])
+    (is_there (state.parts at).mark)
+    (λ there. none-so (step state (Of at own)))
+    (λ away. one-so (step state (Of at own)) (Connected handle peer) (record {
+      ordinal = at;
+      named = own-handle state at own
+          ∙ ap (λ (of : Part). of.handle) (comes-named state at handle peer away);
+      holds = own-peer state at own
+          ∙ ap (λ (of : Part). of.peer) (comes-named state at handle peer away);
+    }))
+tells_what_is_so state (Of at event.Gone) =
+    let part : Part = state.parts at in
+    either-so (step state (Of at event.Gone)) (Disconnected part.handle ∷ []) []
+    (is_there part.mark)
+    (λ there. one-so (step state (Of at event.Gone)) (Disconnected part.handle) tt)
+    (λ away. none-so (step state (Of at event.Gone)))
+tells_what_is_so state (Of at (Asks pdu)) =
+    let own : Own = Asks pdu in
+    let part : Part = state.parts at in
+    let bond : Row = state.bonds part.peer in
+    let after : Turn = turn state at own in
+    let new : State = step state (Of at own) in
+    let kept = stays-named state at own in
+    told-so state at own kept
+    (both-so new (map (write_told state.room.table.attributes
+    (row_of after.bond after.part) part.handle)
+    (handles_written state.room bond part own))
+    (if is_confirmation pdu then confirmation_told part.handle part.pending.unconfirmed else [])
+    (writes-so new at part.handle (named state at own kept) state.room.table.attributes
+    (row_of after.bond after.part) (handles_written state.room bond part own)
+    (own-row state at own kept.peer))
+    (either-so new (confirmation_told part.handle part.pending.unconfirmed) [] (is_confirmation pdu)
+    (λ is. confirmation-so new at part.handle (named state at own kept) part.pending.unconfirmed)
+    (λ is. none-so new)))
+tells_what_is_so state (Of at (Encrypted status enabled)) =
+    let own : Own = Encrypted status enabled in
+    let kept = stays-named state at own in
+    told-so state at own kept (linked-so state at own kept)
+tells_what_is_so state (Of at (Refreshed status)) =
+    let own : Own = Refreshed status in
+    let kept = stays-named state at own in
+    told-so state at own kept (linked-so state at own kept)
+tells_what_is_so state (Of at (KeyAsked random_number diversifier)) =
+    let own : Own = KeyAsked random_number diversifier in
+    told-so state at own (stays-named state at own) (none-so (step state (Of at own)))
+tells_what_is_so state (Of at (Signals channel payload)) =
+    let own : Own = Signals channel payload in
+    told-so state at own (stays-named state at own) (none-so (step state (Of at own)))
+tells_what_is_so state (Of at (Authorized until)) =
+    let own : Own = Authorized until in
+    told-so state at own (stays-named state at own) (none-so (step state (Of at own)))
+tells_what_is_so state (Completed entries) = none-so (step state (Completed entries))
+tells_what_is_so state (Credit allowed opcode status following) =
+    none-so (step state (Credit allowed opcode status following))
+tells_what_is_so state (Update handle value) = none-so (step state (Update handle value))
+tells_what_is_so state (Tick time) = slots-so (step state (Tick time)) state time state.slots
+tells_what_is_so state (Replaced table) = none-so (step state (Replaced table))
+tells_what_is_so state Nothing = none-so (step state Nothing)
