@@ -108,8 +108,12 @@ fn make(
         Step::Release(backlog, now, wanted) => {
             return pending.release(table, row, standing, backlog, now) == wanted;
         }
-        Step::Confirm => pending.confirm(),
-        Step::Tick(now) => pending.tick(now),
+        Step::Confirm => {
+            pending.confirm();
+        }
+        Step::Tick(now) => {
+            pending.tick(now);
+        }
         Step::Replace => pending.replaced(),
         Step::End => pending.end(),
         Step::Told(handle, wanted) => return pending.told(handle) == wanted,

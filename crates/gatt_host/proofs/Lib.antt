@@ -1,5 +1,6 @@
 pub mod WholeFrames
 pub mod Answering
+mod Appended
 pub mod Commands
 pub mod CommandsFirst
 pub mod Entering

@@ -8,6 +8,8 @@ use Rattle.gatt_laws.proofs.OwnWrites.{executes_its_own}
 use Rattle.gatt_laws.proofs.Preparing.{prepares_the_same}
 use Rattle.gatt_laws.proofs.Refusals.{refuses_by_the_first_broken_rule, refuses_the_first_entry, refuses_the_first_handle, refuses_the_first_listed}
 use Rattle.gatt_laws.proofs.SameCourse.{same_view_same_packets}
+use Rattle.gatt_laws.proofs.Telling as laws
+use Rattle.gatt_laws.specs.Telling.{TellsTheApplication}
 
 pub keeps_the_policy : KeepsThePolicy
 keeps_the_policy = record {
@@ -30,3 +32,6 @@ keeps_connections_apart = record {
   leaves = leaves_connections_the_same;
   views = same_view_same_packets;
 }
+
+pub tells_the_application : TellsTheApplication
+tells_the_application = laws.tells_the_application

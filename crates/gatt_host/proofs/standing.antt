@@ -11,4 +11,5 @@ pub mod OneSlot
 pub mod OwnEvents
 pub mod Replacements
 pub mod Requests
+pub mod Told
 pub mod Turned

@@ -12,3 +12,5 @@ pub mod Opened
 pub mod Driving
 pub mod Serving
 pub mod Owed
+pub mod Silence
+pub mod Told

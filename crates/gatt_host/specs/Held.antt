@@ -5,18 +5,21 @@ use Rattle.att_numbers.specs.Types.{Handle, Mtu, Row}
 use Rattle.att_table.specs.Changer.{changer_of}
 use Rattle.att_table.specs.Table.{Contents, with_value}
 use Rattle.gatt_host.specs.Answers.{answered_by}
+use Rattle.gatt_host.specs.declared.last_event.LastEvent.{LastEvent}
+use Rattle.gatt_host.specs.declared.last_event.LastEvent.TheVariants as last
 use Rattle.gatt_host.specs.GoingOut.{controller_then, next_out, slots_then}
 use Rattle.gatt_laws.specs.Controller.{Controller, is_ready}
 use Rattle.gatt_laws.specs.Event.{Event, Connected, Gone, Credit}
 use Rattle.gatt_laws.specs.Packets.{Fault}
 use Rattle.gatt_laws.specs.Room.{share_of, size_of}
 use Rattle.gatt_laws.specs.State.{announced, told_of}
-use Rattle.gatt_laws.specs.Turn.{gained_encryption}
+use Rattle.gatt_laws.specs.Turn.{channel_answer, gained_encryption, remote_user_terminated}
 use Rattle.gatt_slots.specs.Kept.{Kept}
-use Rattle.gatt_slots.specs.Request.{table_after, bond_served, kept_served, handles_of}
-use Rattle.gatt_slots.specs.Slots.{at_place, kept_at as kept_at_place, all_heard, all_after_time, all_after_table, after_entries, slots_at}
+use Rattle.gatt_slots.specs.declared.request.Brought.{Brought}
+use Rattle.gatt_slots.specs.Request.{table_after, bond_served, confirmed_of, kept_served, handles_of, is_full}
+use Rattle.gatt_slots.specs.Slots.{at_place, kept_at as kept_at_place, late_handles, all_heard, all_after_time, all_after_table, after_entries, slots_at}
 use Rattle.gatt_slots.specs.Turn as turn
-use Rattle.gatt_slots.specs.Turn.{after_authorizing, after_key_asked, after_link_step, after_signal}
+use Rattle.gatt_slots.specs.Turn.{after_authorizing, after_key_asked, after_link_step, after_signal, has_no_room}
 use Rattle.gatt_subs.specs.Changes.{with_changes_owed}
 use Rattle.gatt_subs.specs.Rows.{Subscriptions, row_of, owes, kept_bond, ChangesBond}
 use Rattle.le_acl.specs.Shares.{usable}
@@ -31,7 +34,8 @@ use Rattle.le_security.specs.Link.{Step, after_step}
 use Rattle.octets.specs.Number.{Octets}
 
 -- the table with its changer, the keys, and what peers have configured; the largest PDU that is received; the time; the
--- controller; and what each slot keeps
+-- controller; what each slot keeps; and what the application is told of the last event, with the handles that the last
+-- request wrote, and those of the connections that the last time told has timed out
 pub record Held : Type 0 where
   pub table : Contents
   pub changer : Option Handle
@@ -41,14 +45,22 @@ pub record Held : Type 0 where
   pub time : ℕ
   pub controller : Controller
   pub slots : List (Option Kept)
+  pub last : LastEvent
+  pub written : List Handle
+  pub late : List ℕ
 
 -- no connection has a slot before the controller is initialised
 abbrev pub open_slots : Held → List (Option Kept)
 open_slots held = if is_ready held.controller then held.slots else []
 
--- at the end of an event all hear: the connection of a slot of some values, and the others of others
+-- at the end of an event all hear: the connection of a slot of some values, and the others of others. Nothing is told of
+-- the event, but for what is said beside it
 abbrev pub after_end : Option ℕ → List Handle → List Handle → Held → Held
-after_end own here handles held = record held { slots = all_heard held.table held.time held.rows own here handles held.slots }
+after_end own here handles held =
+    record held { slots = all_heard held.table held.time held.rows own here handles held.slots; last = last.Quiet }
+
+abbrev pub with_last : LastEvent → Held → Held
+with_last last held = record held { last = last }
 
 -- nothing happens that counts
 abbrev pub after_nothing : Held → Held
@@ -56,7 +68,9 @@ after_nothing held = after_end None [] [] held
 
 -- time goes by, and a value is written
 abbrev pub after_tick : ℕ → Held → Held
-after_tick now held = after_end None [] [] (record held { time = now; slots = all_after_time now held.slots })
+after_tick now held =
+    with_last last.Ticked
+    (after_end None [] [] (record held { time = now; slots = all_after_time now held.slots; late = late_handles now held.slots }))
 
 abbrev pub after_update : Handle → Octets → Held → Held
 after_update handle value held =
@@ -76,31 +90,46 @@ abbrev pub after_ask_key : ℕ → Octets → ℕ → Held → Held
 after_ask_key place random_number diversifier held =
     after_own place (λ kept. after_key_asked (answer_of held.keys kept.peer random_number diversifier) kept) held
 
+abbrev pub signal_event : ℕ → Octets → Kept → LastEvent
+signal_event channel payload kept =
+    if has_no_room (channel_answer channel payload) kept then last.Ended kept.handle remote_user_terminated else last.Quiet
+
 abbrev pub after_signals : ℕ → ℕ → Octets → Held → Held
-after_signals place channel payload held = after_own place (after_signal channel payload) held
+after_signals place channel payload held =
+    with_last (option_map_or (signal_event channel payload) (kept_at held place) last.Quiet)
+    (after_own place (after_signal channel payload) held)
 
 -- a link that has a key and had none brings its peer what it is owed
 abbrev pub owed_here : Step → Held → Kept → List Handle
 owed_here step held kept =
     if gained_encryption kept.link.key (after_step kept.link step).key && owes held.rows kept.peer then option_to_list held.changer else []
 
+abbrev pub link_event : Step → Kept → LastEvent
+link_event step kept = last.LinkChanged kept.handle kept.link.key (after_step kept.link step).key
+
 abbrev pub after_link : ℕ → Step → Held → Held
 after_link place step held =
-    after_end (Some place) (option_map_or (owed_here step held) (kept_at held place) []) []
-    (record held { slots = slots_at place (after_link_step step) held.slots })
+    with_last (option_map_or (link_event step) (kept_at held place) last.Quiet)
+    (after_end (Some place) (option_map_or (owed_here step held) (kept_at held place) []) []
+    (record held { slots = slots_at place (after_link_step step) held.slots }))
 
 -- a PDU of the Attribute Protocol, of the connection of a slot that is not free
 abbrev pub row_at : Held → Kept → Option Row
 row_at held kept = row_of held.rows kept.peer
 
+abbrev pub brought_by : Octets → Kept → Brought
+brought_by pdu kept = record { confirmed = confirmed_of pdu kept; ended = is_full pdu kept }
+
 abbrev pub after_serving : ℕ → Octets → Held → Subscriptions → Kept → Held
 after_serving place pdu held rows kept =
     let row = row_at held kept in
-    after_end (Some place) [] (handles_of held.table held.time row pdu kept) (record held {
+    let written = handles_of held.table held.time row pdu kept in
+    with_last (last.Served place kept.handle (brought_by pdu kept)) (after_end (Some place) [] written (record held {
       table = table_after held.table held.time row pdu kept;
       rows = rows;
       slots = slots_at place (kept_served held.table held.time row pdu) held.slots;
-    })
+      written = written;
+    }))
 
 -- of the rows the bond of the peer is changed
 pub record Serves (place : ℕ) (pdu : Octets) (kept : Kept) (old new : Held) : Type 0 where
@@ -119,16 +148,19 @@ abbrev pub size_in : Held → ℕ
 size_in held = size_of (told_in held.controller.init)
 
 abbrev pub after_coming : ℕ → ℕ → Peer → Held → Held
-after_coming place handle peer held = after_end None [] [] (record held {
+after_coming place handle peer held = with_last (last.Connected handle peer) (after_end None [] [] (record held {
   controller = told_of (Connected handle peer) held.controller;
   slots = at_place place (λ slot. Some (turn.come handle peer (is_known held.keys peer) held.rx_mtu (share_in held) (size_in held))) held.slots;
-})
+}))
+
+abbrev pub gone_event : Kept → LastEvent
+gone_event kept = last.Disconnected kept.handle
 
 abbrev pub after_going : ℕ → Held → Held
-after_going place held = after_end None [] [] (record held {
+after_going place held = with_last (option_map_or gone_event (kept_at held place) last.Quiet) (after_end None [] [] (record held {
   controller = told_of Gone held.controller;
   slots = at_place place (λ slot. None) held.slots;
-})
+}))
 
 -- a command is answered: once the controller is initialised, slots are opened as far as there are packets for them
 abbrev pub opened : {A : Type 0} → Option Init → List A → List A

@@ -14,3 +14,5 @@ pub mod Feeding
 pub mod Credits
 pub mod Numbers
 pub mod Promises
+pub mod Notices
+pub mod Telling

@@ -5,10 +5,12 @@ use Rattle.att_numbers.specs.Types.{Handle}
 use Rattle.att_table.specs.Changer.{changer_of}
 use Rattle.att_table.specs.Table.{Contents}
 use Rattle.gatt_host.specs.Held.{Held, open_slots, kept_at, after_authorize, after_ask_key, after_coming, after_completing, after_credit, after_going, after_link, after_nothing, after_replacing, after_signals, after_tick, after_update, Serves}
+use Rattle.gatt_host.specs.Notices.{last_notices}
 use Rattle.gatt_host.specs.Owing.{IsOwing}
 use Rattle.gatt_laws.specs.Controller.{has_free, is_ready}
 use Rattle.gatt_laws.specs.Event.{Ordinal, Event, Nothing, Tick, Update, Of, Connected, Gone, Authorized, KeyAsked, Encrypted, Refreshed, Signals, Asks, Completed, Credit, Replaced}
 use Rattle.gatt_laws.specs.Input.{Item, course}
+use Rattle.gatt_laws.specs.Notice.{noticed}
 use Rattle.gatt_laws.specs.Packets.{completed_entries}
 use Rattle.gatt_laws.specs.Part.{Part, is_live, key_of}
 use Rattle.gatt_laws.specs.Room.{Bonds, Owed}
@@ -74,8 +76,10 @@ pub record IsSound (state : State) : Type 0 where
 
 -- Each event leads a host from where it stands to where it stands next, once what was owed is out.
 
-abbrev pub LeadsTo : State → Event → Held → Type 0
-LeadsTo state event new = Stands (step state event) (out state event) new
+-- And what the application is told of it is what the state machine has.
+pub record LeadsTo (state : State) (event : Event) (new : Held) : Type 0 where
+  pub stands : Stands (step state event) (out state event) new
+  pub told : last_notices new ≡ noticed state event
 
 abbrev pub NothingLeadsOn : Type 0
 NothingLeadsOn = (state : State) (held : Held) → IsSound state → Stands state [] held → LeadsTo state Nothing (after_nothing held)

@@ -6,17 +6,30 @@ ghost use Rattle.att_table.specs.Changer.{changer_of};
 ghost use Rattle.att_table.specs.Table.{room_at};
 ghost use Rattle.gatt_laws.specs.Calls.{has_length, same_changer, TickCall};
 ghost use Rattle.gatt_host.specs.Asked.{authorize_happening, call_happening, call_of, refused_of, replacement_happening, update_happening};
-ghost use Rattle.gatt_host.specs.Held.{after_replacing};
+ghost use Rattle.gatt_host.specs.Held.{after_replacing, with_last};
 ghost use Rattle.gatt_host.specs.Meaning.{IsAfter};
 ghost use Rattle.gatt_slots.specs.Slots.{place_serving};
 
 use crate::app::{App, AppFault};
 use crate::host_state::HostState;
+use crate::last_event::LastEvent;
 use att_table::{Attr, Role, Table};
 
 impl HostState {
-    /// Does what the application asks, or refuses it and changes nothing.
+    /// Does what the application asks; or refuses it, and changes nothing but that nothing is told.
     pub(crate) fn app(&mut self, call: App<'_>) -> Result<(), AppFault>
+        ensures after { IsOk result → IsOkAnd (call_happening self.old (call_of call.entry)) (λ happening. IsAfter happening self.old self.new) }
+        ensures refused { IfErr result (λ fault. call_happening self.old (call_of call.entry) ≡ Err (refused_of fault)) }
+        ensures silent { OnErr result (self.new ≡ with_last LastEvent.Quiet self.old) }
+    {
+        let done = self.call(call);
+        if done.is_err() {
+            self.forget();
+        }
+        done
+    }
+
+    fn call(&mut self, call: App<'_>) -> Result<(), AppFault>
         ensures after { IsOk result → IsOkAnd (call_happening self.old (call_of call.entry)) (λ happening. IsAfter happening self.old self.new) }
         ensures refused { IfErr result (λ fault. call_happening self.old (call_of call.entry) ≡ Err (refused_of fault)) }
         ensures unchanged { OnErr result (self.new ≡ self.old) }
@@ -75,15 +88,16 @@ impl HostState {
     }
 
     /// Replaces the table by another, and gives the old one back; or refuses the new one, gives that
-    /// back, and changes nothing.
+    /// back, and changes nothing but that nothing is told.
     pub(crate) fn replace_table(&mut self, table: Table) -> Result<Table, (AppFault, Table)>
         ensures after { IfOk result (λ old. (old ≡ self.old.table) × (self.new ≡ after_replacing table self.old)) }
         ensures accepted { IsOk result → same_changer self.old.changer (changer_of table) ≡ true }
         ensures refused { IfErr result (λ fault. replacement_happening self.old table ≡ Err (refused_of fault.0)) }
         ensures given_back { IfErr result (λ fault. fault.1 ≡ table) }
-        ensures unchanged { OnErr result (self.new ≡ self.old) }
+        ensures silent { OnErr result (self.new ≡ with_last LastEvent.Quiet self.old) }
     {
         if !same_changer(self.changer, table.changer()) {
+            self.forget();
             return Err((AppFault::NoServiceChanged, table));
         }
         Ok(self.replace(table))

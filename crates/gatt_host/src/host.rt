@@ -1,16 +1,20 @@
 //! The host as its caller has it: what it holds, the stream from the controller, and the fault that
 //! stands, if one does.
 
-ghost use Rattle.std.specs.Prelude.{◌≡◌, ◌<◌, ◌∷◌, [], not, false, true, is_some, ◌||◌, List, Some, None, Ok, Err, IsSome, IfOk, IfErr, OnErr};
+ghost use Rattle.std.specs.Prelude.{◌≡◌, ◌<◌, ◌∷◌, [], not, false, true, is_some, slice_get, ◌||◌, List, Some, None, Ok, Err, IsSome, IfOk, IfErr, IfSome, OnErr};
 ghost use Rattle.std.specs.Bool.{OnTrue, OnFalse};
+ghost use Rattle.std.specs.Option.{option_map};
 ghost use Rattle.gatt_laws.specs.Input.{course, call_refusal, replacement_refusal, Item, APacket, ACall, ATable};
 ghost use Rattle.gatt_laws.specs.Start.{Start};
+ghost use Rattle.gatt_laws.specs.Telling.{TellsTheApplication};
 ghost use Rattle.gatt_host.specs.Asked.{call_of, refusal_of, replacing_refusal_of};
 ghost use Rattle.gatt_host.specs.Credits.{most_out};
 ghost use Rattle.gatt_host.specs.GoingOut.{is_drained};
 ghost use Rattle.gatt_host.specs.Held.{after_out, next_of, open_slots};
+ghost use Rattle.gatt_host.specs.Notices.{notice_of, HasTheValue};
 ghost use Rattle.gatt_host.specs.Promises.{KeepsConnectionsApart, KeepsThePolicy};
 ghost use Rattle.gatt_host.specs.Whole.{all_out, is_own, outcome_of, Leads, StandsAt, Takes};
+ghost use Rattle.gatt_host.specs.Telling.{notices_told, silent, TellsOf};
 ghost use Rattle.le_h4.specs.Division.{is_long};
 ghost use Rattle.le_h4.specs.Packet.{seen};
 ghost use Rattle.octets.specs.Number.{Octets};
@@ -18,6 +22,7 @@ ghost use Rattle.octets.specs.Number.{Octets};
 use crate::app::{App, AppFault};
 use crate::host_fault::HostFault;
 use crate::host_state::HostState;
+use crate::notice::Notice;
 use crate::packet;
 use arrayvec::ArrayVec;
 use att_table::Table;
@@ -88,6 +93,7 @@ impl Host {
     pub fn packet(&mut self, packet: PacketRef<'_>) -> Result<(), HostFault>
         requires drained { all_out self.old ≡ true }
         ensures takes { self.old.fault ≡ None → Takes (APacket (seen packet.entry)) self.old self.new }
+        ensures told { TellsOf (APacket (seen packet.entry)) self.old self.new }
         ensures outcome { result ≡ outcome_of self.new.fault }
         // No reader and no writer has a part in it.
         ensures not_own { self.old.fault ≡ None → IfErr result (λ fault. is_own fault ≡ false) }
@@ -100,6 +106,7 @@ impl Host {
             return Err(fault);
         }
         if is_long(&packet) {
+            self.state.forget();
             return Ok(());
         }
         let taken = packet::packet(&mut self.state, &mut self.frames, packet);
@@ -107,16 +114,18 @@ impl Host {
         taken
     }
 
-    /// Does what the application asks, once all is out; or refuses it, and changes nothing.
+    /// Does what the application asks, once all is out; or refuses it, and changes nothing but that no
+    /// notice is there any more.
     #[tactic(auto, using(crate::proofs::Promises::keeps_the_policy, crate::proofs::Promises::keeps_connections_apart))]
     pub fn app(&mut self, call: App<'_>) -> Result<(), AppFault>
         requires drained { all_out self.old ≡ true }
         ensures takes { self.old.fault ≡ None → Takes (ACall (call_of call.entry)) self.old self.new }
+        ensures told { TellsOf (ACall (call_of call.entry)) self.old self.new }
         ensures refused { (start : Start) (input : List Item) (gone : List Octets) → StandsAt (course start input) gone self.old → self.old.fault ≡ None
             → refusal_of result ≡ call_refusal (course start input).intake (call_of call.entry) }
         ensures stopped { IsSome self.old.fault → result ≡ Err AppFault.Stopped }
         ensures fault { self.new.fault ≡ self.old.fault }
-        ensures unchanged { OnErr result (self.new ≡ self.old) }
+        ensures unchanged { OnErr result (self.new ≡ silent self.old) }
         // And of all that is taken in, for every start and input:
         ensures policy { KeepsThePolicy }
         ensures apart { KeepsConnectionsApart }
@@ -128,18 +137,19 @@ impl Host {
     }
 
     /// Replaces the table, once all is out, and gives the old one back with its values as they are; or
-    /// gives the new one back with the fault, and changes nothing.
+    /// gives the new one back with the fault, and changes nothing but that no notice is there any more.
     #[tactic(auto, using(crate::proofs::Promises::keeps_the_policy, crate::proofs::Promises::keeps_connections_apart))]
     pub fn replace(&mut self, table: Table) -> Result<Table, (AppFault, Table)>
         requires drained { all_out self.old ≡ true }
         ensures takes { self.old.fault ≡ None → Takes (ATable table) self.old self.new }
+        ensures told { TellsOf (ATable table) self.old self.new }
         ensures refused { (start : Start) (input : List Item) (gone : List Octets) → StandsAt (course start input) gone self.old → self.old.fault ≡ None
             → replacing_refusal_of result ≡ replacement_refusal (course start input).intake table }
         ensures given { IfOk result (λ old. old ≡ self.old.held.table) }
         ensures given_back { IfErr result (λ refused. refused.1 ≡ table) }
         ensures stopped { IsSome self.old.fault → result ≡ Err (AppFault.Stopped, table) }
         ensures fault { self.new.fault ≡ self.old.fault }
-        ensures unchanged { OnErr result (self.new ≡ self.old) }
+        ensures unchanged { OnErr result (self.new ≡ silent self.old) }
         // And of all that is taken in, for every start and input:
         ensures policy { KeepsThePolicy }
         ensures apart { KeepsConnectionsApart }
@@ -148,6 +158,21 @@ impl Host {
             return Err((AppFault::Stopped, table));
         }
         self.state.replace_table(table)
+    }
+
+    /// What the application is told of the packet, the call or the table that was taken in last: the
+    /// notice at a place, counted from 0, if there are so many. None where a fault stands.
+    #[tactic(auto, using(crate::proofs::Promises::tells_the_application))]
+    pub fn notice(&self, at: usize) -> Option<Notice<'_>>
+        ensures notice { option_map notice_of result ≡ slice_get (notices_told self.now) at }
+        ensures value { IfSome result (HasTheValue self.now.held.table) }
+        // And of all that is told, for every start and input:
+        ensures laws { TellsTheApplication }
+    {
+        if self.fault.is_some() {
+            return None;
+        }
+        self.state.notice(at)
     }
 
     /// What each peer has configured, and who is owed that the table has changed.

@@ -9,7 +9,7 @@ ghost use Rattle.gatt_laws.specs.Packets.{completed_event, status_event, status_
 ghost use Rattle.le_acl.specs.Shares.{acl_len, share};
 ghost use Rattle.le_hci.specs.InitTold.{told_in};
 ghost use Rattle.gatt_host.specs.GoingOut.{is_drained};
-ghost use Rattle.gatt_host.specs.Held.{open_slots, next_of, after_out, after_end, opened, Credits, after_ask_key, after_authorize, after_coming, after_completing, after_going, after_link, after_nothing, after_replacing, after_signals, after_tick, after_update, kept_at, row_at, Serves};
+ghost use Rattle.gatt_host.specs.Held.{open_slots, next_of, after_out, after_end, opened, Credits, after_ask_key, after_authorize, after_coming, after_completing, after_going, after_link, after_nothing, after_replacing, after_signals, after_tick, after_update, kept_at, row_at, with_last, Serves};
 ghost use Rattle.gatt_slots.specs.Slots.{all_heard};
 ghost use Rattle.gatt_slots.specs.Hearing.{row_in_force};
 ghost use Rattle.le_hci.specs.Event.{completed_packets_of};
@@ -18,9 +18,11 @@ ghost use Rattle.le_security.specs.Link.{Encryption, Refresh};
 use crate::controller::Controller;
 use crate::going_out::{init_out, is_drained, is_init_drained, next_out};
 use crate::host_fault::HostFault;
+use crate::last_event::LastEvent;
 use arrayvec::ArrayVec;
+use att_policy::KeyFacts;
 use att_table::Table;
-use gatt_slots::Slots;
+use gatt_slots::{REMOTE_USER_TERMINATED, Slots};
 use gatt_subs::Rows;
 use le_h4::PacketBuf;
 use le_hci::Peer;
@@ -43,8 +45,12 @@ pub(crate) struct HostState {
     pub(crate) controller: Controller,
     /// As many as connections may come to have.
     pub(crate) slots: Slots,
-    /// Room for the handles that a request wrote: what it holds between two events means nothing.
+    /// What the application is told of the last event.
+    pub(crate) last: LastEvent,
+    /// The handles that the last request wrote, each once, in the order of their first writes.
     pub(crate) written: ArrayVec<u16, 32>,
+    /// The handles of the connections that the last time told has timed out.
+    pub(crate) late: ArrayVec<u16, 8>,
 }
 
 impl Model for HostState {
@@ -66,6 +72,9 @@ impl Model for HostState {
       time = h.time;
       controller = h.controller;
       slots = h.slots;
+      last = h.last;
+      written = h.written.items;
+      late = h.late.items;
     } };
 
     ghost invariant = { λ h. (23 ≤ h.rx_mtu) × (h.rx_mtu ≤ 517) };
@@ -77,6 +86,22 @@ impl HostState {
     pub(crate) fn nothing(&mut self)
         ensures { self.new ≡ after_nothing self.old }
     {
+        self.end(LastEvent::Quiet);
+    }
+
+    /// Nothing is told any more of the last event.
+    pub(crate) fn forget(&mut self)
+        ensures { self.new ≡ with_last LastEvent.Quiet self.old }
+    {
+        self.last = LastEvent::Quiet;
+    }
+
+    /// Ends an event that raises nothing: what waits may be released. This is what the application is
+    /// told of it.
+    fn end(&mut self, last: LastEvent)
+        ensures { self.new ≡ with_last last (after_nothing self.old) }
+    {
+        self.last = last;
         self.slots
             .hear(&self.table, &self.rows, None, &[], &[], self.time);
     }
@@ -86,8 +111,8 @@ impl HostState {
         ensures { self.new ≡ after_tick now self.old }
     {
         self.time = now;
-        self.slots.tick(now);
-        self.nothing();
+        self.slots.tick(now, &mut self.late);
+        self.end(LastEvent::Ticked);
     }
 
     /// The application writes a value.
@@ -98,6 +123,7 @@ impl HostState {
         ensures { self.new ≡ after_update handle value.now self.old }
     {
         self.table.set(handle, value);
+        self.last = LastEvent::Quiet;
         self.slots
             .hear(&self.table, &self.rows, None, &[], &[handle], self.time);
     }
@@ -123,11 +149,13 @@ impl HostState {
 
     /// A payload comes on a channel that is not that of the Attribute Protocol.
     pub(crate) fn signal(&mut self, place: usize, channel: u16, payload: &[u8])
-        requires { place < length self.old.slots }
+        requires place { place < length self.old.slots }
+        requires there { IsSome (kept_at self.old place) }
         ensures { self.new ≡ after_signals place channel payload.now self.old }
     {
-        self.slots.signal(place, channel, payload);
-        self.nothing();
+        let handle = self.slots.handle(place);
+        let ended = self.slots.signal(place, channel, payload);
+        self.end(ended_if(ended, handle));
     }
 
     /// Packets are completed.
@@ -140,12 +168,14 @@ impl HostState {
 
     /// A connection goes.
     pub(crate) fn go(&mut self, place: usize)
-        requires { place < length self.old.slots }
+        requires place { place < length self.old.slots }
+        requires there { IsSome (kept_at self.old place) }
         ensures { self.new ≡ after_going place self.old }
     {
+        let handle = self.slots.handle(place);
         self.slots.go(place);
         self.controller.went();
-        self.nothing();
+        self.end(LastEvent::Disconnected { handle });
     }
 
     /// A PDU of the Attribute Protocol comes from the connection of a slot.
@@ -156,7 +186,8 @@ impl HostState {
         requires row { IfSome (kept_at self.old place) (λ kept. IsRowOf self.old.table.attributes (row_in_force (row_at self.old kept) kept)) }
         ensures { IfSome (kept_at self.old place) (λ kept. Serves place pdu.now kept self.old self.new) }
     {
-        self.slots.serve(
+        let handle = self.slots.handle(place);
+        let brought = self.slots.serve(
             place,
             &mut self.table,
             &mut self.rows,
@@ -165,6 +196,11 @@ impl HostState {
             pdu,
             &mut self.written,
         );
+        self.last = LastEvent::Served {
+            place,
+            handle,
+            brought,
+        };
         self.slots.hear(
             &self.table,
             &self.rows,
@@ -181,9 +217,10 @@ impl HostState {
         requires there { IsSome (kept_at self.old place) }
         ensures { self.new ≡ after_link place (Encryption status enabled) self.old }
     {
+        let before = self.slots.key(place);
         let owed = self.slots.is_owed(place, &self.rows);
         let gained = self.slots.encrypt(place, status, enabled);
-        self.hear_changes(place, gained && owed);
+        self.hear_link(place, before, gained && owed);
     }
 
     /// The key of the link of the connection of a slot was refreshed, or could not be.
@@ -192,16 +229,39 @@ impl HostState {
         requires there { IsSome (kept_at self.old place) }
         ensures { self.new ≡ after_link place (Refresh status) self.old }
     {
+        let before = self.slots.key(place);
         let owed = self.slots.is_owed(place, &self.rows);
         let gained = self.slots.refresh(place, status);
-        self.hear_changes(place, gained && owed);
+        self.hear_link(place, before, gained && owed);
+    }
+
+    /// Ends an event that changed the link of the connection of a slot, whose key was worth this
+    /// before.
+    fn hear_link(&mut self, place: usize, before: Option<KeyFacts>, due: bool)
+        requires place { place < length self.old.slots }
+        requires there { IsSome (kept_at self.old place) }
+        ensures { IfSome (kept_at self.old place) (λ kept. self.new ≡ with_last (LastEvent.LinkChanged kept.handle before kept.link.key)
+            (after_end (Some place) (if due then option_to_list self.old.changer else []) [] self.old)) }
+    {
+        let handle = self.slots.handle(place);
+        let after = self.slots.key(place);
+        self.hear_changes(
+            place,
+            due,
+            LastEvent::LinkChanged {
+                handle,
+                before,
+                after,
+            },
+        );
     }
 
     /// Ends an event: the connection of a slot hears that the table was replaced, if it is to, and all
     /// of what is then due.
-    fn hear_changes(&mut self, place: usize, due: bool)
-        ensures { self.new ≡ after_end (Some place) (if due then option_to_list self.old.changer else []) [] self.old }
+    fn hear_changes(&mut self, place: usize, due: bool, last: LastEvent)
+        ensures { self.new ≡ with_last last (after_end (Some place) (if due then option_to_list self.old.changer else []) [] self.old) }
     {
+        self.last = last;
         match self.changer {
             Some(changer) if due => self.slots.hear(
                 &self.table,
@@ -232,7 +292,7 @@ impl HostState {
         let key_known = self.keys.known(&peer);
         self.slots.come(place, handle, peer, key_known, self.rx_mtu, share, acl_len);
         self.controller.came();
-        self.nothing();
+        self.end(LastEvent::Connected { handle, peer });
     }
 
     /// A command is complete.
@@ -288,6 +348,7 @@ impl HostState {
         let old = mem::replace(&mut self.table, table);
         self.changer = self.table.changer();
         self.rows.owe_changes(self.changer);
+        self.last = LastEvent::Quiet;
         match self.changer {
             Some(changer) => {
                 self.table.set(changer, &ALL_CHANGED);
@@ -327,6 +388,20 @@ impl HostState {
         } else {
             is_init_drained(&self.controller)
         }
+    }
+}
+
+/// What is told of a connection that has no room for an answer, where that is so.
+fn ended_if(ended: bool, handle: u16) -> LastEvent
+    ensures { result ≡ (if ended then LastEvent.Ended handle REMOTE_USER_TERMINATED else LastEvent.Quiet) }
+{
+    if ended {
+        LastEvent::Ended {
+            handle,
+            reason: REMOTE_USER_TERMINATED,
+        }
+    } else {
+        LastEvent::Quiet
     }
 }
 

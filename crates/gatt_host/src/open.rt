@@ -11,6 +11,7 @@ use crate::config::{Config, OpenFault};
 use crate::controller::Controller;
 use crate::host::Host;
 use crate::host_state::HostState;
+use crate::last_event::LastEvent;
 use arrayvec::ArrayVec;
 use att_table::Table;
 use gatt_slots::Slots;
@@ -59,7 +60,9 @@ impl Host {
                 time: 0,
                 controller: Controller::new(config.address, config.advertising),
                 slots,
+                last: LastEvent::Quiet,
                 written: ArrayVec::new(),
+                late: ArrayVec::new(),
             },
             frames: array::from_fn(|_| Reassembler::new()),
             deframer: Deframer::new(),

@@ -11,6 +11,7 @@ ghost use Rattle.gatt_host.specs.Whole.{is_own, LeadsBy};
 ghost use Rattle.gatt_host.specs.Meaning.{frame_happening, once_heard, with_fragment, HasRowsOfTheTable, IsAfter};
 ghost use Rattle.le_h4.specs.Packet.{seen};
 ghost use Rattle.gatt_host.specs.Packet.{acl_happening, packet_stop, TakesPacket, event_stop, fragment_happening, fragment_left, frame_given, frames_after_acl, frames_after_event, TakesEvent};
+ghost use Rattle.gatt_host.specs.Telling.{TellsOfPacket};
 ghost use Rattle.gatt_slots.specs.Slots.{IsThere};
 ghost use Rattle.le_acl.specs.Fragment.{fragment_of, Beginning};
 ghost use Rattle.le_acl.specs.Frame.{is_frame};
@@ -224,6 +225,7 @@ pub(crate) fn packet(
     requires rows { HasRowsOfTheTable state.old }
     requires drained { is_drained state.old.controller (open_slots state.old) ≡ true }
     ensures leads { LeadsBy (seen packet.entry) state.old frames.old state.new frames.new (result_err result) }
+    ensures told { IsOk result → TellsOfPacket (seen packet.entry) state.old frames.old state.new }
     ensures not_own { IfErr result (λ fault. is_own fault ≡ false) }
     ensures unchanged { OnErr result (state.new ≡ state.old) }
 {

@@ -1,6 +1,7 @@
 pub mod Quiet
 pub mod Bonds
-pub mod Served
+pub mod Confirming
+mod Served
 pub mod EachSlot
 pub mod parts
 pub mod Found
@@ -8,3 +9,4 @@ pub mod Covering
 pub mod AtPlace
 pub mod InTurn
 pub mod Noted
+mod Late

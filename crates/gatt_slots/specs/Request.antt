@@ -1,5 +1,5 @@
 -- A request of the Attribute Protocol, by what a slot keeps of its connection.
-use Rattle.std.specs.Prelude.{ℕ, Bool, false, ◌==◌, ◌&&◌, not, is_some, if◌then◌else◌, List, [], map, Option}
+use Rattle.std.specs.Prelude.{ℕ, Bool, false, ◌==◌, ◌&&◌, not, is_some, if◌then◌else◌, List, [], map, Option, None}
 use Rattle.std.specs.Option.{option_map_or, option_to_list}
 use Rattle.att_numbers.specs.Types.{Handle, Row}
 use Rattle.att_pdu.specs.Grammar.{request_of, is_due}
@@ -13,7 +13,7 @@ use Rattle.gatt_slots.specs.Hearing.{row_in_force, with_pdus}
 use Rattle.gatt_slots.specs.Kept.{Kept, backlog_of, connection_of}
 use Rattle.gatt_slots.specs.Turn.{after_ending}
 use Rattle.gatt_subs.specs.declared.bond.Bond.{Bond}
-use Rattle.gatt_subs.specs.Indications.{Indications, after_confirmation, is_told}
+use Rattle.gatt_subs.specs.Indications.{Indications, after_confirmation, confirmed_handle, is_told}
 use Rattle.gatt_subs.specs.Rows.{with_row}
 use Rattle.octets.specs.Number.{Octets}
 
@@ -48,6 +48,10 @@ bond_after has_key new bond = if has_key then with_row new bond else bond
 abbrev pub confirms_changes : Option Handle → Octets → Kept → Bool
 confirms_changes changer pdu kept =
     is_confirmation pdu && (is_some kept.link.key && option_map_or (is_told kept.pending) changer false)
+
+-- and the value that is confirmed then, if it is one of the table that stands
+abbrev pub confirmed_of : Octets → Kept → Option Handle
+confirmed_of pdu kept = if is_confirmation pdu then confirmed_handle kept.pending else None
 
 abbrev pub with_owed_after : Bool → Bond → Bond
 with_owed_after confirmed bond = record bond { owed = bond.owed && not confirmed }

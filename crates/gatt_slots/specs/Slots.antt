@@ -1,13 +1,14 @@
 -- All slots of a host, in their order.
 use Rattle.std.specs.Prelude.{ℕ, ◌+◌, ◌==◌, ◌<◌, ◌&&◌, Bool, false, not, is_none, if◌then◌else◌, List, [], ◌∷◌, length, map, set, slice_get, Option, None, IsSome}
-use Rattle.std.specs.List.{position}
+use Rattle.std.specs.List.{flat_map, position}
 use Rattle.std.specs.Option.{option_map, option_map_or}
-use Rattle.att_numbers.specs.Types.{Handle}
+use Rattle.att_numbers.specs.Types.{Handle, Row}
 use Rattle.att_attributes.specs.declared.attr.Attr.{Attr}
 use Rattle.att_table.specs.Table.{Contents}
-use Rattle.gatt_slots.specs.Hearing.{after_hearing, after_raising}
+use Rattle.gatt_slots.specs.Hearing.{after_hearing, after_raising, row_in_force}
 use Rattle.gatt_slots.specs.Kept.{Kept}
 use Rattle.gatt_slots.specs.Turn.{after_completed, after_table, after_time}
+use Rattle.gatt_subs.specs.Indications.{times_out}
 use Rattle.gatt_subs.specs.Rows.{Subscriptions, row_of}
 use Rattle.le_hci.specs.declared.event.CompletedPackets.{CompletedPackets}
 
@@ -41,6 +42,11 @@ at_place place change xs = option_map_or (λ x. set xs place (change x)) (slice_
 
 abbrev pub slots_at : ℕ → (Kept → Kept) → Held → Held
 slots_at place change slots = at_place place (option_map change) slots
+
+-- the row in force of the connection of a slot: none where there is no connection
+abbrev pub row_there : Held → Subscriptions → ℕ → Row
+row_there slots rows place =
+    option_map_or (λ (kept : Kept). row_in_force (row_of rows kept.peer) kept) (kept_at slots place) []
 
 pub record IsThere (slots : Held) (place : ℕ) : Type 0 where
   pub within : place < length slots
@@ -81,6 +87,13 @@ abbrev pub all_raised_in_turn : Contents → ℕ → Subscriptions → Option �
 all_raised_in_turn table now rows own others [] slots = slots
 all_raised_in_turn table now rows own others (handle ∷ handles) slots =
     all_raised_in_turn table now rows own others handles (all_raised table now rows own others handle slots)
+
+-- the handles of the connections that are timed out at a moment, in the order of their slots
+abbrev pub late_handle : ℕ → Kept → List ℕ
+late_handle now kept = if times_out kept.pending now then kept.handle ∷ [] else []
+
+abbrev pub late_handles : ℕ → Held → List ℕ
+late_handles now slots = flat_map (λ (slot : Option Kept). option_map_or (late_handle now) slot []) slots
 
 -- time has gone by for all, and the table is replaced for all
 abbrev pub all_after_time : ℕ → Held → Held

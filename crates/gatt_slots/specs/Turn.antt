@@ -63,6 +63,10 @@ after_link_step step kept =
     if lost_encryption kept.link.key link.key then after_ending authentication_failure new else new
 
 -- a PDU of a channel that is not that of the Attribute Protocol: it is ended where there is no room for an answer
+abbrev pub has_no_room : Option Octets → Kept → Bool
+has_no_room None kept = false
+has_no_room (Some answer) kept = backlog_of kept == 16
+
 abbrev pub with_answer : ℕ → Option Octets → Kept → Kept
 with_answer channel None kept = kept
 with_answer channel (Some answer) kept =

@@ -1,15 +1,16 @@
 //! Which of the slots has a connection, and what an event does to each.
 
-ghost use Rattle.std.specs.Prelude.{◌≡◌, ◌<◌, false, is_none, length, map, IfSome};
-ghost use Rattle.std.specs.Option.{option_map_or};
+ghost use Rattle.std.specs.Prelude.{◌≡◌, ◌<◌, ◌≤◌, ◌++◌, false, is_none, length, map, IfSome};
+ghost use Rattle.std.specs.Option.{option_map_or, option_to_list};
 ghost use Rattle.le_hci.specs.Event.{completed_packets_of};
 ghost use Rattle.gatt_slots.specs.Handles.{AreNoted};
 ghost use Rattle.gatt_slots.specs.Places.{IsMarked};
-ghost use Rattle.gatt_slots.specs.Slots.{after_entries, after_entry, all_after_table, all_after_time, is_serving, place_free, place_serving, IsThere};
+ghost use Rattle.gatt_slots.specs.Slots.{after_entries, after_entry, all_after_table, all_after_time, is_serving, late_handles, place_free, place_serving, IsThere};
 
 use crate::handles::Handles;
 use crate::marks::Marks;
 use crate::slot::{Slot, Use};
+use arrayvec::ArrayVec;
 use att_table::Table;
 use le_hci::CompletedPackets;
 
@@ -48,12 +49,27 @@ impl Slot {
     }
 }
 
-/// Takes in the time, in milliseconds.
-pub(crate) fn tick_all(slots: &mut [Slot], now: u64)
-    ensures { slots.new ≡ all_after_time now slots.old }
+/// Takes in the time, in milliseconds, with the handles of the connections that are timed out by it in
+/// place of what `late` holds.
+pub(crate) fn tick_all(slots: &mut [Slot], now: u64, late: &mut ArrayVec<u16, 8>)
+    requires { length slots.old ≤ 8 }
+    ensures after { slots.new ≡ all_after_time now slots.old }
+    ensures late { late.new.items ≡ late_handles now slots.old }
 {
+    late.clear();
     for place in 0..slots.len() {
-        slots[place].tick(now);
+        let handle = slots[place].tick(now);
+        add(late, handle);
+    }
+}
+
+/// Puts a handle behind others, if there is one.
+fn add(handles: &mut ArrayVec<u16, 8>, handle: Option<u16>)
+    requires { length handles.old.items < 8 }
+    ensures { handles.new.items ≡ handles.old.items ++ option_to_list handle }
+{
+    if let Some(handle) = handle {
+        handles.push(handle);
     }
 }
 

@@ -2,9 +2,11 @@
 
 ghost use Rattle.std.specs.Prelude.{◌≡◌, ◌-◌, ◌≤◌, ◌<◌, true, false, [], ◌∷◌, ◌++◌, length, take, is_some, if◌then◌else◌, unwrap_or, IfSome};
 ghost use Rattle.std.specs.Bool.{OnTrue, OnFalse};
+ghost use Rattle.std.specs.Option.{option_map_or};
 ghost use Rattle.gatt_slots.specs.Commands.{gives};
 ghost use Rattle.gatt_slots.specs.Kept.{standing_with};
-ghost use Rattle.gatt_slots.specs.Hearing.{told_raised, told_released};
+ghost use Rattle.att_table.specs.ConfigRow.{bits_at};
+ghost use Rattle.gatt_slots.specs.Hearing.{row_in_force, told_raised, told_released};
 ghost use Rattle.gatt_slots.specs.Places.{waits};
 ghost use Rattle.gatt_slots.specs.Slots.{heard_by, raised_by};
 ghost use Rattle.gatt_subs.specs.Rows.{owes, row_of};
@@ -105,6 +107,16 @@ fn row_in_force<'a>(link: &Link, peer: &Peer, own: &'a ConfigRow, rows: &'a Rows
 }
 
 impl Slot {
+    /// Which bits the row in force has at a handle: none where no connection has the slot.
+    pub(crate) fn bits(&self, rows: &Rows, handle: u16) -> u8
+        ensures { result ≡ bits_at (option_map_or (λ kept. row_in_force (row_of rows.now kept.peer) kept) self.now []) handle }
+    {
+        if self.used == Use::Free {
+            return 0;
+        }
+        row_in_force(&self.link, &self.peer, &self.row, rows).get(handle)
+    }
+
     /// Tells the connection of a value that was written: whether it is notified. Where it is indicated
     /// the value waits.
     #[inline(always)]

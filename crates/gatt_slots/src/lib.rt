@@ -14,4 +14,6 @@ mod slots;
 mod telling;
 mod turn;
 
+pub use request::Brought;
 pub use slots::Slots;
+pub use turn::{AUTHENTICATION_FAILURE, REMOTE_USER_TERMINATED};

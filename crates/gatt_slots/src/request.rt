@@ -8,8 +8,8 @@ ghost use Rattle.att_table.specs.ConfigRow.{IsRowOf};
 ghost use Rattle.gatt_conn.specs.Answer.{answer_to, stored_by, handles_by, conn_after, is_confirmation};
 ghost use Rattle.gatt_laws.specs.Heard.{att_pdu};
 ghost use Rattle.gatt_slots.specs.Hearing.{row_in_force, with_pdus};
-ghost use Rattle.gatt_slots.specs.Request.{bond_after, bond_served, handles_of, is_full, kept_served, own_row_after, table_after, with_owed_after};
-ghost use Rattle.gatt_subs.specs.Indications.{after_confirmation, is_told};
+ghost use Rattle.gatt_slots.specs.Request.{bond_after, bond_served, confirmed_of, handles_of, is_full, kept_served, own_row_after, table_after, with_owed_after};
+ghost use Rattle.gatt_subs.specs.Indications.{after_confirmation, confirmed_handle, is_told};
 ghost use Rattle.gatt_subs.specs.Rows.{row_of, ChangesBond};
 
 use crate::hearing::standing;
@@ -25,10 +25,18 @@ use le_hci::Peer;
 use le_l2cap::channel::ATT;
 use le_security::Link;
 
+/// What a PDU brought, beside what it wrote.
+#[derive(Clone, Copy)]
+pub struct Brought {
+    /// The handle of the value that it confirms.
+    pub confirmed: Option<u16>,
+    /// The connection is ended, since there is no room for an answer.
+    pub ended: bool,
+}
+
 impl Slot {
     /// Serves a PDU of the Attribute Protocol, with the handles that it wrote in place of what `written`
-    /// holds. Where an answer is due and there is no room for it, the connection is ended, and it says
-    /// so.
+    /// holds. Where an answer is due and there is no room for it, the connection is ended.
     #[inline(always)]
     pub fn serve(
         &mut self,
@@ -38,19 +46,23 @@ impl Slot {
         now: u64,
         pdu: &[u8],
         written: &mut ArrayVec<u16, 32>,
-    ) -> bool
+    ) -> Brought
         requires there { IsSome self.old }
         requires row { IfSome self.old (λ kept. IsRowOf table.old.attributes (row_in_force (row_of rows.old kept.peer) kept)) }
         ensures after { self.new ≡ option_map (λ kept. kept_served table.old now (row_of rows.old kept.peer) pdu.now kept) self.old }
         ensures table { IfSome self.old (λ kept. table.new ≡ table_after table.old now (row_of rows.old kept.peer) pdu.now kept) }
         ensures bond { IfSome self.old (λ kept. ChangesBond (bond_served table.old now changer (row_of rows.old kept.peer) pdu.now kept) kept.peer rows.old rows.new) }
         ensures written { IfSome self.old (λ kept. written.new.items ≡ handles_of table.old now (row_of rows.old kept.peer) pdu.now kept) }
-        ensures ended { IfSome self.old (λ kept. result ≡ is_full pdu.now kept) }
+        ensures ended { IfSome self.old (λ kept. result.ended ≡ is_full pdu.now kept) }
+        ensures confirmed { IfSome self.old (λ kept. result.confirmed ≡ confirmed_of pdu.now kept) }
     {
         if is_full(&self.conn, &self.sender, pdu) {
             self.end(REMOTE_USER_TERMINATED);
             written.clear();
-            return true;
+            return Brought {
+                confirmed: None,
+                ended: true,
+            };
         }
         let has_key = self.link.facts().is_some();
         let standing = standing(&self.link, self.key_known, self.until, now);
@@ -68,8 +80,10 @@ impl Slot {
         );
         let knows_change = knows_change(&self.link, &self.pending, changer);
         owe_unless(served.confirmed, knows_change, &self.peer, rows);
-        take_confirmation(served.confirmed, &mut self.pending);
-        false
+        Brought {
+            confirmed: take_confirmation(served.confirmed, &mut self.pending),
+            ended: false,
+        }
     }
 }
 
@@ -93,13 +107,12 @@ fn knows_change(link: &Link, pending: &Pending, changer: Option<u16>) -> bool
     }
 }
 
-/// Takes in a confirmation, if there is one.
-fn take_confirmation(confirmed: bool, pending: &mut Pending)
-    ensures { pending.new ≡ (if confirmed then after_confirmation pending.old else pending.old) }
+/// Takes in a confirmation, if there is one, and gives the handle of the value that it confirms.
+fn take_confirmation(confirmed: bool, pending: &mut Pending) -> Option<u16>
+    ensures pending { pending.new ≡ (if confirmed then after_confirmation pending.old else pending.old) }
+    ensures confirmed { result ≡ (if confirmed then confirmed_handle pending.old else None) }
 {
-    if confirmed {
-        pending.confirm();
-    }
+    if confirmed { pending.confirm() } else { None }
 }
 
 /// Takes in that a peer is owed nothing more, once it has confirmed that it knows of the change.

@@ -2,13 +2,13 @@
 
 ghost use Rattle.std.specs.Prelude.{◌≡◌, false, ◌<◌, ◌≤◌, ◌^◌, length, map, replicate, take, None, Some, IfOk, IfSome, IsSome};
 ghost use Rattle.std.specs.List.{list_any};
-ghost use Rattle.att_table.specs.ConfigRow.{IsRowOf};
-ghost use Rattle.gatt_laws.specs.Turn.{gained_encryption};
+ghost use Rattle.att_table.specs.ConfigRow.{bits_at, IsRowOf};
+ghost use Rattle.gatt_laws.specs.Turn.{channel_answer, gained_encryption};
 ghost use Rattle.gatt_slots.specs.Hearing.{row_in_force};
 ghost use Rattle.gatt_slots.specs.Places.{CoversHeard};
-ghost use Rattle.gatt_slots.specs.Request.{bond_served, handles_of, kept_served, table_after};
-ghost use Rattle.gatt_slots.specs.Slots.{after_entries, all_after_table, all_after_time, all_heard, at_place, kept_at, place_free, place_holding, place_serving, slots_at, IsThere};
-ghost use Rattle.gatt_slots.specs.Turn.{after_authorizing, after_key_asked, after_link_step, after_signal, come};
+ghost use Rattle.gatt_slots.specs.Request.{bond_served, confirmed_of, handles_of, is_full, kept_served, table_after};
+ghost use Rattle.gatt_slots.specs.Slots.{after_entries, all_after_table, all_after_time, all_heard, at_place, kept_at, late_handles, place_free, place_holding, place_serving, row_there, slots_at, IsThere};
+ghost use Rattle.gatt_slots.specs.Turn.{after_authorizing, after_key_asked, after_link_step, after_signal, come, has_no_room};
 ghost use Rattle.gatt_subs.specs.Rows.{owes, row_of, ChangesBond};
 ghost use Rattle.le_hci.specs.Event.{completed_packets_of};
 ghost use Rattle.le_security.specs.Keys.{answer_of};
@@ -18,9 +18,11 @@ use crate::each::{complete_all, find_free, find_serving, replace_all, tick_all};
 use crate::handles::Handles;
 use crate::marks::Marks;
 use crate::places::Places;
+use crate::request::Brought;
 use crate::slot::Slot;
 use crate::telling::{Heard, hear_all};
 use arrayvec::ArrayVec;
+use att_policy::KeyFacts;
 use att_table::Table;
 use gatt_subs::Rows;
 use le_hci::Peer;
@@ -193,13 +195,43 @@ impl Slots {
         self.slots[place].is_owed(rows)
     }
 
-    /// Takes in a payload on the channel of LE signalling or of the Security Manager.
-    pub fn signal(&mut self, place: usize, channel: u16, payload: &[u8])
+    /// Takes in a payload on the channel of LE signalling or of the Security Manager: `true` where the
+    /// connection is ended, since there is no room for the answer.
+    pub fn signal(&mut self, place: usize, channel: u16, payload: &[u8]) -> bool
         requires { place < length self.old }
-        ensures { self.new ≡ slots_at place (after_signal channel payload.now) self.old }
+        ensures after { self.new ≡ slots_at place (after_signal channel payload.now) self.old }
+        ensures ended { IfSome (kept_at self.old place) (λ kept. result ≡ has_no_room (channel_answer channel payload.now) kept) }
     {
-        self.slots[place].signal(channel, payload);
+        let ended = self.slots[place].signal(channel, payload);
         self.marks.change(place);
+        ended
+    }
+
+    /// The handle of the connection of a slot.
+    pub fn handle(&self, place: usize) -> u16
+        requires { place < length self.now }
+        ensures { IfSome (kept_at self.now place) (λ kept. result ≡ kept.handle) }
+    {
+        self.slots[place].handle
+    }
+
+    /// What is known of the key of the link of a slot, if it has one.
+    pub fn key(&self, place: usize) -> Option<KeyFacts>
+        requires { place < length self.now }
+        ensures { IfSome (kept_at self.now place) (λ kept. result ≡ kept.link.key) }
+    {
+        self.slots[place].link.facts()
+    }
+
+    /// Which bits the row in force of the connection of a slot has at a handle: none where there is no
+    /// connection.
+    pub fn bits(&self, place: usize, rows: &Rows, handle: u16) -> u8
+        ensures { result ≡ bits_at (row_there self.now rows.now place) handle }
+    {
+        match self.slots.get(place) {
+            Some(slot) => slot.bits(rows, handle),
+            None => 0,
+        }
     }
 
     /// Serves a PDU of the Attribute Protocol on the connection of a slot, with the handles that it wrote
@@ -215,7 +247,7 @@ impl Slots {
         now: u64,
         pdu: &[u8],
         written: &mut ArrayVec<u16, 32>,
-    )
+    ) -> Brought
         requires place { place < length self.old }
         requires there { IsSome (kept_at self.old place) }
         requires row { IfSome (kept_at self.old place) (λ kept. IsRowOf table.old.attributes (row_in_force (row_of rows.old kept.peer) kept)) }
@@ -223,9 +255,12 @@ impl Slots {
         ensures table { IfSome (kept_at self.old place) (λ kept. table.new ≡ table_after table.old now (row_of rows.old kept.peer) pdu.now kept) }
         ensures bond { IfSome (kept_at self.old place) (λ kept. ChangesBond (bond_served table.old now changer (row_of rows.old kept.peer) pdu.now kept) kept.peer rows.old rows.new) }
         ensures written { IfSome (kept_at self.old place) (λ kept. written.new.items ≡ handles_of table.old now (row_of rows.old kept.peer) pdu.now kept) }
+        ensures ended { IfSome (kept_at self.old place) (λ kept. result.ended ≡ is_full pdu.now kept) }
+        ensures confirmed { IfSome (kept_at self.old place) (λ kept. result.confirmed ≡ confirmed_of pdu.now kept) }
     {
-        let ended = self.slots[place].serve(table, rows, changer, now, pdu, written);
-        self.marks.serve(place, ended);
+        let brought = self.slots[place].serve(table, rows, changer, now, pdu, written);
+        self.marks.serve(place, brought.ended);
+        brought
     }
 
     /// Counts packets as completed, each entry at most those that are outstanding. Entries of unknown
@@ -241,11 +276,13 @@ impl Slots {
         );
     }
 
-    /// Takes in the time, in milliseconds.
-    pub fn tick(&mut self, now: u64)
-        ensures { self.new ≡ all_after_time now self.old }
+    /// Takes in the time, in milliseconds, with the handles of the connections that are timed out by it
+    /// in place of what `late` holds.
+    pub fn tick(&mut self, now: u64, late: &mut ArrayVec<u16, 8>)
+        ensures after { self.new ≡ all_after_time now self.old }
+        ensures late { late.new.items ≡ late_handles now self.old }
     {
-        tick_all(self.slots.as_mut_slice(), now);
+        tick_all(self.slots.as_mut_slice(), now, late);
         self.marks = Marks::all();
     }
 

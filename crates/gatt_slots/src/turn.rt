@@ -1,9 +1,10 @@
 //! What happens to the connection of a slot, beside requests of the Attribute Protocol.
 
 ghost use Rattle.std.specs.Prelude.{◌≡◌, ◌<◌, ◌≤◌, ◌^◌, ◌==◌, ◌&&◌, not, is_some, [], ◌++◌, length, if◌then◌else◌, Some, None, IfOk, IfSome};
-ghost use Rattle.std.specs.Option.{option_copied, option_map};
-ghost use Rattle.gatt_laws.specs.Turn.{gained_encryption};
-ghost use Rattle.gatt_slots.specs.Turn.{come, after_authorizing, after_completed, after_ending, after_key_asked, after_link_step, after_loss, after_signal, after_table, after_time, with_answer};
+ghost use Rattle.std.specs.Option.{option_copied, option_map, option_map_or, option_to_list};
+ghost use Rattle.gatt_laws.specs.Turn.{channel_answer, gained_encryption};
+ghost use Rattle.gatt_slots.specs.Turn.{come, after_authorizing, after_completed, after_ending, after_key_asked, after_link_step, after_loss, after_signal, after_table, after_time, has_no_room, with_answer};
+ghost use Rattle.gatt_slots.specs.Slots.{late_handle};
 ghost use Rattle.le_security.specs.Keys.{answer_of};
 ghost use Rattle.le_security.specs.Link.{Encryption, Refresh, after_step};
 
@@ -20,9 +21,9 @@ use std::alloc::{AllocError, Global};
 
 /// Why a connection is ended that lost its encryption: Authentication Failure, Core 5.0, Vol 2
 /// Part D, 2.5. Which reason is told is this profile's own.
-const AUTHENTICATION_FAILURE: u8 = 0x05;
+pub const AUTHENTICATION_FAILURE: u8 = 0x05;
 /// Why one is ended that has no room for an answer: Remote User Terminated Connection, 2.19.
-pub(crate) const REMOTE_USER_TERMINATED: u8 = 0x13;
+pub const REMOTE_USER_TERMINATED: u8 = 0x13;
 
 impl Slot {
     /// A free slot, with room for all that it may come to keep.
@@ -139,35 +140,38 @@ impl Slot {
         !had_key && has_key
     }
 
-    /// Takes in a payload on the channel of LE signalling or of the Security Manager.
-    pub fn signal(&mut self, channel: u16, payload: &[u8])
-        ensures { self.new ≡ option_map (after_signal channel payload.now) self.old }
+    /// Takes in a payload on the channel of LE signalling or of the Security Manager: `true` where the
+    /// connection is ended, since there is no room for the answer.
+    pub fn signal(&mut self, channel: u16, payload: &[u8]) -> bool
+        ensures after { self.new ≡ option_map (after_signal channel payload.now) self.old }
+        ensures ended { IfSome self.old (λ kept. result ≡ has_no_room (channel_answer channel payload.now) kept) }
     {
         match channel {
-            LE_SIGNALLING => {
-                if let Some(reject) = signalling(payload) {
-                    self.answer(channel, &reject.octets());
-                }
-            }
-            SECURITY_MANAGER => {
-                if let Some(answer) = security(payload) {
-                    self.answer(channel, &answer);
-                }
-            }
-            _ => {}
+            LE_SIGNALLING => match signalling(payload) {
+                Some(reject) => self.answer(channel, &reject.octets()),
+                None => false,
+            },
+            SECURITY_MANAGER => match security(payload) {
+                Some(answer) => self.answer(channel, &answer),
+                None => false,
+            },
+            _ => false,
         }
     }
 
-    /// Queues an answer, or ends the connection where there is no room for it.
-    fn answer(&mut self, channel: u16, octets: &[u8])
+    /// Queues an answer, or ends the connection where there is no room for it, and says so.
+    fn answer(&mut self, channel: u16, octets: &[u8]) -> bool
         requires { length octets.now ≤ 517 }
-        ensures { self.new ≡ option_map (with_answer channel (Some octets.now)) self.old }
+        ensures after { self.new ≡ option_map (with_answer channel (Some octets.now)) self.old }
+        ensures ended { IfSome self.old (λ kept. result ≡ has_no_room (Some octets.now) kept) }
     {
-        if self.sender.backlog() == MAX_PDUS {
+        let full = self.sender.backlog() == MAX_PDUS;
+        if full {
             self.end(REMOTE_USER_TERMINATED);
         } else {
             self.sender.queue(channel, octets, &[]);
         }
+        full
     }
 
     /// Ends the connection for a reason, which the Disconnect will tell.
@@ -191,11 +195,17 @@ impl Slot {
         self.sender.completed(count);
     }
 
-    /// Takes in the time, in milliseconds.
-    pub fn tick(&mut self, now: u64)
-        ensures { self.new ≡ option_map (after_time now) self.old }
+    /// Takes in the time, in milliseconds, and gives the handle of the connection where that is timed
+    /// out by it.
+    pub fn tick(&mut self, now: u64) -> Option<u16>
+        ensures after { self.new ≡ option_map (after_time now) self.old }
+        ensures late { option_to_list result ≡ option_map_or (late_handle now) self.old [] }
     {
-        self.pending.tick(now);
+        if self.pending.tick(now) && self.used != Use::Free {
+            Some(self.handle)
+        } else {
+            None
+        }
     }
 
     /// Takes in that a table replaces another: what is configured stays where it has its meaning, and

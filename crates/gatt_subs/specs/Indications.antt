@@ -2,7 +2,7 @@
 -- That each value waits once, the bound on the backlog, and what becomes of a connection that never confirms, are this profile's own.
 use Rattle.std.specs.Prelude.{◌≡◌, ℕ, ◌+◌, ◌<◌, ◌≤◌, Bool, true, false, ◌==◌, ◌&&◌, not, nat_lt, nat_le, is_some, if◌then◌else◌, List, [], ◌∷◌, ◌++◌, Option, Some, None}
 use Rattle.std.specs.List.{list_any}
-use Rattle.std.specs.Option.{option_map, option_map_or}
+use Rattle.std.specs.Option.{option_and_then, option_map, option_map_or}
 use Rattle.att_numbers.specs.Types.{Handle, Row}
 use Rattle.att_policy.specs.declared.standing.Standing.{Standing}
 use Rattle.att_attributes.specs.declared.attr.Attr.{Attr}
@@ -90,13 +90,24 @@ after_release pending attributes row standing backlog now =
 abbrev pub after_confirmation : Indications → Indications
 after_confirmation pending = record pending { unconfirmed = None }
 
+-- the handle of the value that a confirmation confirms, if it came now: that of an indication from before a replacement
+-- names a value that is no longer there
+abbrev pub handle_if_current : Unconfirmed → Option Handle
+handle_if_current unconfirmed = if unconfirmed.outdated then None else Some unconfirmed.handle
+
+abbrev pub confirmed_handle : Indications → Option Handle
+confirmed_handle pending = option_and_then handle_if_current pending.unconfirmed
+
 -- 30 seconds without it: nothing more is sent unasked (Core 5.0, Vol 3 Part F, 3.3.3)
 abbrev pub is_late : Milliseconds → Unconfirmed → Bool
 is_late now unconfirmed = nat_le (unconfirmed.since + CONFIRMATION_TIMEOUT) now
 
+abbrev pub times_out : Indications → Milliseconds → Bool
+times_out pending now = option_map_or (is_late now) pending.unconfirmed false
+
 abbrev pub after_tick : Indications → Milliseconds → Indications
 after_tick pending now =
-    if option_map_or (is_late now) pending.unconfirmed false
+    if times_out pending now
     then record { waiting = []; unconfirmed = None; timed_out = true } else pending
 
 -- what a replacement of the table leaves: nothing waits, and what is unconfirmed is from before it

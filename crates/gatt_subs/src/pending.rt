@@ -3,7 +3,7 @@ ghost use Rattle.std.specs.Bool.{OnTrue, OnFalse};
 ghost use Rattle.att_attributes.specs.Attributes.{is_value_at};
 ghost use Rattle.gatt_subs.specs.Hearing.{is_indicated};
 ghost use Rattle.gatt_subs.specs.HeardOnly.{RaisesOnlyWhatIsHeard, ReleasesOnlyWhatIsHeard, ReleasesOnlyWhatWaits};
-ghost use Rattle.gatt_subs.specs.Indications.{after_confirmation, after_end, after_raise, after_release, after_replacement, after_tick, first_of, from_due, is_notified, is_told, is_waiting, no_indications, released_handle, rest_of, with_handle, HaveOnePlace};
+ghost use Rattle.gatt_subs.specs.Indications.{after_confirmation, after_end, after_raise, after_release, after_replacement, after_tick, confirmed_handle, first_of, from_due, is_notified, is_told, is_waiting, no_indications, released_handle, rest_of, times_out, with_handle, HaveOnePlace};
 ghost use Rattle.gatt_subs.specs.Told.{TellsOnlyWhatIsHeard};
 
 use crate::hearing::{Raised, Telling, is_indicated};
@@ -150,17 +150,24 @@ impl Pending {
         !self.waiting.is_empty()
     }
 
-    /// Takes in a confirmation. One with nothing unconfirmed changes nothing.
-    pub fn confirm(&mut self)
-        ensures { self.new ≡ after_confirmation self.old }
+    /// Takes in a confirmation, and gives the handle of the value that it confirms. One with nothing
+    /// unconfirmed confirms none and changes nothing; one of an indication from before a replacement
+    /// confirms none.
+    pub fn confirm(&mut self) -> Option<u16>
+        ensures pending { self.new ≡ after_confirmation self.old }
+        ensures confirmed { result ≡ confirmed_handle self.old }
     {
-        self.unconfirmed = None;
+        match self.unconfirmed.take() {
+            Some(sent) if !sent.outdated => Some(sent.handle),
+            _ => None,
+        }
     }
 
     /// Takes in the time, in milliseconds. A connection that did not confirm an indication within
-    /// 30,000 is told nothing more unasked.
-    pub fn tick(&mut self, now: u64)
-        ensures { self.new ≡ after_tick self.old now }
+    /// 30,000 is told nothing more unasked: `true` where that begins now.
+    pub fn tick(&mut self, now: u64) -> bool
+        ensures pending { self.new ≡ after_tick self.old now }
+        ensures late { result ≡ times_out self.old now }
     {
         let is_late = self.unconfirmed.is_some_and(|sent| now.saturating_sub(sent.since)
             >= CONFIRMATION_TIMEOUT);
@@ -168,6 +175,7 @@ impl Pending {
             self.end();
             self.timed_out = true;
         }
+        is_late
     }
 
     /// Takes in that the table was replaced: nothing waits any more, and an indication that is not
@@ -197,7 +205,7 @@ impl Pending {
         ensures { self.new ≡ after_end self.old }
     {
         self.waiting.clear();
-        self.confirm();
+        self.unconfirmed = None;
     }
 }
 

@@ -81,6 +81,17 @@ pub fn play(rt: &impl Abort, alloc: Global, setting: &Setting<'_>, steps: &[Step
     drop(host);
 }
 
+/// A new host whose controller is initialised.
+pub fn ready(rt: &impl Abort, alloc: Global, setting: &Setting<'_>) -> Host {
+    let mut host = opened(rt, alloc, setting);
+    let controller = Controller {
+        packets: setting.packets,
+        completes: true,
+    };
+    initialise(rt, controller, &mut host);
+    host
+}
+
 fn play_with(rt: &impl Abort, alloc: Global, host: &mut Host, packets: u8, steps: &[Step]) {
     let mut controller = Controller {
         packets,

@@ -9,7 +9,7 @@ use Rattle.att_attributes.specs.declared.attr.Attr.{Attr}
 use Rattle.att_attributes.specs.Attributes.{attribute_at, is_value}
 use Rattle.att_table.specs.Changer.{changer_of}
 use Rattle.att_table.specs.Table.{Contents}
-use Rattle.gatt_host.proofs.asking.Led.{KeepsSlots, led_on}
+use Rattle.gatt_host.proofs.asking.Led.{KeepsSlots, Led, led_on}
 use Rattle.gatt_host.proofs.standing.ForAll.{time_leads_on, update_leads_on}
 use Rattle.gatt_host.proofs.standing.Holding.{Holds, holds, some-is, were_open}
 use Rattle.gatt_host.proofs.standing.OwnEvents.{authorizing_leads_on}
@@ -87,7 +87,7 @@ module _ (state : State) (held : Held) (handle : ℕ) (sound : IsSound state) (s
 
 -- what is asked for means the same to both, or is refused by both
 abbrev Means : Course → Held → Held → Frames → Result Happening Refused → Result Event Refused → Type 0
-Means course held new frames (Ok happening) event = IsAfter happening held new → StandsIn (after_result course event) course.gone new frames
+Means course held new frames (Ok happening) event = IsAfter happening held new → Led course new frames event
 Means course held new frames (Err refused) event = event ≡ Err refused
 
 -- what is refused where a test passes, or where it fails
@@ -197,20 +197,29 @@ module _ (course : Course) (held new : Held) (frames : Frames) (is : IsDrainedIn
       subst (λ (changer : Option Handle). Alike (where_so (may_replace changer) NoServiceChanged (Replaces table)) (replacement_event state table))
       (sym is.stands.changer) (same-alike table (same_changer state.room.changer (changer_of table)))
 
-pub call_leads_on : CallLeadsOn
-call_leads_on course held new frames call happening is means after =
+pub call_led : (course : Course) (held new : Held) (frames : Frames) (call : Call) (happening : Happening) → IsDrainedIn course held frames
+    → call_happening held call ≡ Ok happening → IsAfter happening held new → Led course new frames (call_event course.intake.state call)
+call_led course held new frames call happening is means after =
     subst (λ (result : Result Happening Refused). Means course held new frames result (call_event course.intake.state call)) means
     (call-alike course held new frames is call) after
+
+pub call_leads_on : CallLeadsOn
+call_leads_on course held new frames call happening is means after = (call_led course held new frames call happening is means after).stands
 
 pub call_is_refused : CallIsRefused
 call_is_refused course held frames call refused is refuses =
     subst (λ (result : Result Happening Refused). Means course held held frames result (call_event course.intake.state call)) refuses
     (call-alike course held held frames is call)
 
-pub replacement_leads_on : ReplacementLeadsOn
-replacement_leads_on course held new frames table happening is means after =
+pub replacement_led : (course : Course) (held new : Held) (frames : Frames) (table : Contents) (happening : Happening) → IsDrainedIn course held frames
+    → replacement_happening held table ≡ Ok happening → IsAfter happening held new → Led course new frames (replacement_event course.intake.state table)
+replacement_led course held new frames table happening is means after =
     subst (λ (result : Result Happening Refused). Means course held new frames result (replacement_event course.intake.state table)) means
     (replacement-alike course held new frames is table) after
+
+pub replacement_leads_on : ReplacementLeadsOn
+replacement_leads_on course held new frames table happening is means after =
+    (replacement_led course held new frames table happening is means after).stands
 
 pub replacement_is_refused : ReplacementIsRefused
 replacement_is_refused course held frames table refused is refuses =

@@ -1,14 +1,17 @@
 -- An event that may come, and that leaves every slot with its connection, leads a host on in its course.
-use Rattle.std.proofs.Common.{◌≡◌, ℕ, ◌≤◌, length, slice_get, Some, None, refl, sym, ap, subst, ◌∙◌}
+use Rattle.std.proofs.Common.{◌≡◌, ℕ, ◌≤◌, length, slice_get, Some, None, Result, Ok, refl, sym, ap, subst, ◌∙◌}
 use Rattle.gatt_host.specs.Held.{Held}
 use Rattle.gatt_host.specs.Meaning.{Frames}
+use Rattle.gatt_host.specs.Notices.{last_notices}
 use Rattle.gatt_host.specs.Standing.{IsPutTogether, StandsIn, IsDrainedIn}
 use Rattle.gatt_host.specs.Stands.{IsSound, LeadsTo}
+use Rattle.gatt_host.specs.Telling.{noticed_in}
 use Rattle.gatt_laws.proofs.Placed.{stays_placed}
 use Rattle.gatt_laws.proofs.Queued.{IsKept, stays-kept}
 use Rattle.gatt_laws.specs.Controller.{Slots}
 use Rattle.gatt_laws.specs.Event.{Ordinal, Event, Of, Completed, Credit, Update, Tick, Replaced, Nothing}
-use Rattle.gatt_laws.specs.Input.{Course, after_event}
+use Rattle.gatt_laws.specs.Calls.{Refused}
+use Rattle.gatt_laws.specs.Input.{Course, after_result}
 use Rattle.gatt_laws.specs.Packets.{Fragments}
 use Rattle.gatt_laws.specs.Possible.{Possible}
 use Rattle.gatt_laws.specs.State.{State, change_of, step, out}
@@ -43,15 +46,23 @@ together-then old new fragments frames keeps same is = record {
   room = subst (λ (count : ℕ). count ≤ length frames) (sym same) is.room;
 }
 
+-- where a call, or a table, leads a host, and what is told of it
+pub record Led (course : Course) (new : Held) (frames : Frames) (result : Result Event Refused) : Type 0 where
+  pub stands : StandsIn (after_result course result) course.gone new frames
+  pub told : last_notices new ≡ noticed_in course.intake.state result
+
 pub led_on : (course : Course) (held new : Held) (frames : Frames) (event : Event) → IsDrainedIn course held frames
     → Possible (λ table. Unit) course.intake.state event → KeepsSlots course.intake.state (step course.intake.state event)
-    → LeadsTo course.intake.state event new → StandsIn (after_event course event) course.gone new frames
+    → LeadsTo course.intake.state event new → Led course new frames (Ok event)
 led_on course held new frames event is possible keeps leads =
     let state : State = course.intake.state in
     record {
-      owed = out state event;
-      all = refl;
-      sound = stays_sound state event possible is.sound;
-      stands = leads;
-      together = together-then state (step state event) course.intake.fragments frames keeps (rooms_stay state event) is.together;
+      stands = record {
+        owed = out state event;
+        all = refl;
+        sound = stays_sound state event possible is.sound;
+        stands = leads.stands;
+        together = together-then state (step state event) course.intake.fragments frames keeps (rooms_stay state event) is.together;
+      };
+      told = leads.told;
     }

@@ -10,21 +10,24 @@ use Rattle.gatt_host.proofs.standing.Happenings.{finds}
 use Rattle.gatt_host.proofs.standing.Holding.{has_slot_there}
 use Rattle.gatt_host.proofs.standing.OneSlot.{apart}
 use Rattle.gatt_host.specs.Held.{Held}
-use Rattle.gatt_host.specs.Meaning.{Frames}
-use Rattle.gatt_host.specs.Packet.{frames_with, frames_after_acl}
-use Rattle.gatt_host.specs.Standing.{IsPutTogether, AclLeadsOn, ScoLeadsOn}
+use Rattle.gatt_host.specs.Meaning.{Frames, IsAfter, Passes}
+use Rattle.gatt_host.specs.Notices.{last_notices}
+use Rattle.gatt_host.specs.Packet.{acl_happening, frames_with, frames_after_acl}
+use Rattle.gatt_host.specs.Standing.{IsDrainedIn, IsPutTogether, AclLeadsOn, ScoLeadsOn}
 use Rattle.gatt_host.specs.Stands.{IsSound, LeadsTo}
+use Rattle.gatt_host.specs.Telling.{noticed_in}
 use Rattle.gatt_laws.proofs.Always.{packet_may_come}
 use Rattle.gatt_laws.proofs.Settled.{none_next}
 use Rattle.gatt_laws.specs.Calls.{serving}
 use Rattle.gatt_laws.specs.Event.{Ordinal, Own, Event, Asks, Signals, Nothing}
+use Rattle.gatt_laws.specs.Input.{Course}
 use Rattle.gatt_laws.specs.Packets.{Fragments, Arrival, arrival, arrival_of, arrival_event, frame_event, of_frame, of_octets, packet_event, with_arrival}
 use Rattle.gatt_laws.specs.State.{State, out}
 use Rattle.gatt_slots.proofs.parts.Places.{Finds}
 use Rattle.gatt_slots.specs.Slots.{place_serving}
 use Rattle.le_acl.specs.Fragment.{Fragment, fragment_of}
 use Rattle.le_acl.specs.Frame.{frame_at}
-use Rattle.le_h4.specs.Packet.{AclPacket}
+use Rattle.le_h4.specs.Packet.{AclPacket, ScoPacket}
 use Rattle.le_l2cap.specs.declared.channel.TheConstants.{ATT, LE_SIGNALLING, SECURITY_MANAGER}
 use Rattle.le_l2cap.specs.declared.frame.Skip.{Skip}
 use Rattle.le_l2cap.specs.Frame.{BasicFrame, frame_of}
@@ -90,7 +93,7 @@ acl_leads_on course held new frames handle boundary broadcast octets is after =
       owed = out state event;
       all = refl;
       sound = stays_sound state event possible is.sound;
-      stands = fragments_lead_on state held fragments frames handle boundary broadcast octets is.sound is.stands is.together.there new after;
+      stands = (fragments_lead_on state held fragments frames handle boundary broadcast octets is.sound is.stands is.together.there new after).stands;
       together = together_then state event (with_arrival fragments arrived) (frames_after_acl held handle boundary broadcast octets frames)
           (arrival-other fragments arrived) joined;
     }
@@ -103,6 +106,20 @@ sco_leads_on course held new frames is after =
       owed = out state Nothing;
       all = refl;
       sound = stays_sound state Nothing tt is.sound;
-      stands = subst (λ (held : Held). LeadsTo state Nothing held) (sym after) (nothing_leads_on state held is.sound is.stands);
+      stands = (subst (λ (held : Held). LeadsTo state Nothing held) (sym after) (nothing_leads_on state held is.sound is.stands)).stands;
       together = together_then state Nothing course.intake.fragments frames refl is.together;
     }
+
+-- and what is told of them
+pub acl_told : (course : Course) (held new : Held) (frames : Frames) (handle boundary broadcast : ℕ) (octets : Octets)
+    → IsDrainedIn course held frames → IsAfter (acl_happening held handle boundary broadcast octets frames) held new
+    → last_notices new ≡ noticed_in course.intake.state (packet_event course.intake.state course.intake.fragments (AclPacket handle boundary broadcast octets))
+unfolding packet_event
+acl_told course held new frames handle boundary broadcast octets is after =
+    (fragments_lead_on course.intake.state held course.intake.fragments frames handle boundary broadcast octets is.sound is.stands is.together.there new after).told
+
+pub sco_told : (course : Course) (held new : Held) (frames : Frames) → IsDrainedIn course held frames → IsAfter Passes held new
+    → last_notices new ≡ noticed_in course.intake.state (packet_event course.intake.state course.intake.fragments ScoPacket)
+unfolding packet_event
+sco_told course held new frames is after =
+    (subst (λ (held : Held). LeadsTo course.intake.state Nothing held) (sym after) (nothing_leads_on course.intake.state held is.sound is.stands)).told

@@ -11,10 +11,12 @@ use Rattle.gatt_host.specs.declared.host_fault.HostFault.{HostFault}
 use Rattle.gatt_host.specs.Held as host
 use Rattle.gatt_host.specs.Held.{Held}
 use Rattle.gatt_host.specs.Meaning.{Frames, Happening, At, Passes, at_found, coming, connection_happening, frames_after, reported_happening}
+use Rattle.gatt_host.specs.Notices.{last_notices}
 use Rattle.gatt_host.specs.Owing.{all_given, slot_held, slots_held}
 use Rattle.gatt_host.specs.Packet.{TakesEvent, frames_after_event}
 use Rattle.gatt_host.specs.Standing.{IsDrainedIn, IsPutTogether, StandsIn, EventLeadsOn, EventStops, StopsFor}
 use Rattle.gatt_host.specs.Stands.{IsSound, Stands}
+use Rattle.gatt_host.specs.Telling.{noticed_in}
 use Rattle.gatt_laws.proofs.Always.{packet_may_come}
 use Rattle.gatt_laws.specs.Calls.{holding, serving}
 use Rattle.gatt_laws.specs.Controller.{Controller, has_free, is_ready}
@@ -222,9 +224,21 @@ event_leads_on course held new frames octets is takes =
       owed = out state taken.meant;
       all = refl;
       sound = stays_sound state taken.meant possible is.sound;
-      stands = reports_lead_on state held new (event_of octets) taken.meant is.sound is.stands possible taken.reads takes;
+      stands = (reports_lead_on state held new (event_of octets) taken.meant is.sound is.stands possible taken.reads takes).stands;
       together = taken.joined;
     })
+
+-- and what is told of it
+pub event_told : (course : Course) (held new : Held) (frames : Frames) (octets : Octets) → IsDrainedIn course held frames
+    → TakesEvent (event_of octets) held new
+    → last_notices new ≡ noticed_in course.intake.state (packet_event course.intake.state course.intake.fragments (EventPacket octets))
+unfolding packet_event
+event_told course held new frames octets is takes =
+    let state : State = course.intake.state in
+    let taken = means state held course.intake.fragments frames is.sound is.stands is.together (event_of octets) new takes in
+    let possible = packet_may_come (λ table. Unit) state course.intake.fragments (EventPacket octets) taken.meant taken.reads in
+    subst (λ (result : Result Event Fault). last_notices new ≡ noticed_in state result) (sym taken.reads)
+    (reports_lead_on state held new (event_of octets) taken.meant is.sound is.stands possible taken.reads takes).told
 
 -- the event that it means
 pub event_meant : (course : Course) (held new : Held) (frames : Frames) (octets : Octets) → IsDrainedIn course held frames

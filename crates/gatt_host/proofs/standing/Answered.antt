@@ -7,9 +7,10 @@ use Rattle.gatt_host.proofs.standing.Holding.{Holds, ends, holds}
 use Rattle.gatt_host.specs.Answers.{answered_by}
 use Rattle.gatt_host.specs.Held.{Held, after_credit, opened}
 use Rattle.gatt_host.specs.Owing.{Handed, all_given, slot_held}
-use Rattle.gatt_host.specs.Stands.{AnswerLeadsOn, Stands, IsSound}
+use Rattle.gatt_host.specs.Stands.{AnswerLeadsOn, LeadsTo, Stands, IsSound}
 use Rattle.gatt_laws.specs.Controller.{Controller, Slots, is_ready}
 use Rattle.gatt_laws.specs.Event.{Credit}
+use Rattle.gatt_laws.specs.Notice.{noticed}
 use Rattle.gatt_laws.specs.State.{State, change_of, is_refusal, slots_for, step, out}
 use Rattle.le_acl.specs.Shares.{usable}
 use Rattle.le_hci.specs.declared.init.Init.{Init}
@@ -71,10 +72,10 @@ module _ (state : State) (held : Held) (allowed opcode : ℕ) (status : Option �
             ∙ is.slots ∙ slots_same state new (all_given state) (λ ordinal. refl) state.slots;
       }
 
-  other-leads : Stands (step state (Credit allowed opcode status None)) (out state (Credit allowed opcode status None)) (after_credit allowed opcode status None held)
-  unfolding change_of
+  other-leads : LeadsTo state (Credit allowed opcode status None) (after_credit allowed opcode status None held)
+  unfolding change_of noticed
   other-leads =
-      ends state (Credit allowed opcode status None) sound tt (answered None) other-holds None [] [] (λ place ordinal there found kept. refl)
+      ends state (Credit allowed opcode status None) sound tt (answered None) other-holds None [] [] (λ place ordinal there found kept. refl) refl
 
   -- it was, and another command is awaited then
   module _ (early : is_ready state.controller ≡ false) where
@@ -136,10 +137,10 @@ module _ (state : State) (held : Held) (allowed opcode : ℕ) (status : Option �
     next-holds (Ready told packets) = ready-holds told packets
 
     next-leads : (init : Init)
-        → Stands (step state (Credit allowed opcode status (Some init))) (out state (Credit allowed opcode status (Some init))) (after_credit allowed opcode status (Some init) held)
-    unfolding change_of
+        → LeadsTo state (Credit allowed opcode status (Some init)) (after_credit allowed opcode status (Some init) held)
+    unfolding change_of noticed
     next-leads init =
-        ends state (Credit allowed opcode status (Some init)) sound early (answered (Some init)) (next-holds init) None [] [] (λ place ordinal there found kept. refl)
+        ends state (Credit allowed opcode status (Some init)) sound early (answered (Some init)) (next-holds init) None [] [] (λ place ordinal there found kept. refl) refl
 
 pub answer_leads_on : AnswerLeadsOn
 answer_leads_on state held allowed opcode status None sound stood possible = other-leads state held allowed opcode status sound stood

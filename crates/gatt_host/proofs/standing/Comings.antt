@@ -5,15 +5,19 @@ use Rattle.std.specs.Option.{option_map, option_map_or}
 use Rattle.std.proofs.lemmas.Bool.{eq-eqb, eqb-true}
 use Rattle.std.proofs.lemmas.Option.{slice_get-map}
 use Rattle.gatt_host.proofs.Nexts.{clash}
-use Rattle.gatt_host.proofs.standing.Holding.{Holds, ends, holds, some-is, were_open}
+use Rattle.gatt_host.proofs.standing.Holding.{Holds, ends_with, holds, some-is, were_open}
 use Rattle.gatt_host.proofs.standing.OneSlot.{none_raised_at, ready_where}
+use Rattle.gatt_host.proofs.standing.Told.{gone_told}
 use Rattle.gatt_host.proofs.standing.Turned.{at_own_peer, bonds_alike}
-use Rattle.gatt_host.specs.Held.{Held, after_coming, after_going, share_in, size_in}
+use Rattle.gatt_host.specs.declared.last_event.LastEvent.TheVariants as last
+use Rattle.gatt_host.specs.Held.{Held, kept_at, gone_event, after_coming, after_going, share_in, size_in}
 use Rattle.gatt_host.specs.Owing.{all_given, slot_held}
-use Rattle.gatt_host.specs.Stands.{GoingLeadsOn, ComingLeadsOn, HasKeysOfItsPeer, slots_for, Stands, IsSound}
+use Rattle.gatt_host.specs.Stands.{GoingLeadsOn, ComingLeadsOn, HasKeysOfItsPeer, slots_for, LeadsTo, Stands, IsSound}
 use Rattle.gatt_laws.proofs.Settled.{none_next}
 use Rattle.gatt_laws.specs.Controller.{Controller, Slots, has_free, is_ready, with_freed, with_taken}
 use Rattle.gatt_laws.specs.Event.{Ordinal, Of, Connected, Gone}
+use Rattle.gatt_laws.specs.Notice as notice
+use Rattle.gatt_laws.specs.Notice.{noticed}
 use Rattle.gatt_laws.specs.Part as laws
 use Rattle.gatt_laws.specs.Part.{Part, absent, is_there}
 use Rattle.gatt_laws.specs.Room.{share_of, size_of}
@@ -102,11 +106,12 @@ module _ (state : State) (held : Held) (place : ℕ) (ordinal : Ordinal) (sound 
             ap (λ (same : Bool). kept_if_there state.room (if same then absent else state.parts other) (state.parts other).given) (sym differs));
       }
 
-  going-leads : Stands (step state (Of ordinal Gone)) (out state (Of ordinal Gone)) (after_going place held)
+  going-leads : LeadsTo state (Of ordinal Gone) (after_going place held)
   unfolding change_of
   going-leads =
-      ends state (Of ordinal Gone) sound tt without_it going-holds None [] []
+      ends_with state (Of ordinal Gone) sound tt without_it going-holds None [] []
       (none_raised_at state.room.table state.room.time (with_freed ordinal state.slots) ordinal [] [] refl refl)
+      (option_map_or gone_event (kept_at held place) last.Quiet) (gone_told state held place ordinal sound stands there (after_going place held))
 
 pub going_leads_on : GoingLeadsOn
 going_leads_on state held place ordinal sound stands there = going-leads state held place ordinal sound stands there
@@ -219,11 +224,13 @@ module _ (state : State) (held : Held) (place handle : ℕ) (peer : Peer) (sound
             ap (λ (same : Bool). kept_if_there state.room (if same then coming_part else state.parts other) (state.parts other).given) (sym differs));
       }
 
-  coming-leads : Stands (step state (Of next (Connected handle peer))) (out state (Of next (Connected handle peer))) (after_coming place handle peer held)
-  unfolding change_of
+  coming-leads : LeadsTo state (Of next (Connected handle peer)) (after_coming place handle peer held)
+  unfolding change_of noticed
   coming-leads =
-      ends state (Of next (Connected handle peer)) sound (record { next = refl; free = free }) with_it coming-holds None [] []
+      ends_with state (Of next (Connected handle peer)) sound (record { next = refl; free = free }) with_it coming-holds None [] []
       (none_raised_at state.room.table state.room.time (with_taken next state.slots) next [] [] refl refl)
+      (last.Connected handle peer)
+      (ap (λ (part : Part). if is_there part.mark then [] else notice.Connected handle peer ∷ []) (sym nobody-yet))
 
 pub coming_leads_on : ComingLeadsOn
 coming_leads_on state held place handle peer sound stands free found = coming-leads state held place handle peer sound stands free found

@@ -6,9 +6,10 @@ use Rattle.gatt_host.proofs.standing.ForAll.{each_length}
 use Rattle.gatt_host.proofs.standing.Holding.{Holds, SameLink, ends, holds, keyed_alike, were_open}
 use Rattle.gatt_host.specs.Held.{Held, after_completing}
 use Rattle.gatt_host.specs.Owing.{all_given, slot_held, slots_held}
-use Rattle.gatt_host.specs.Stands.{CompletionLeadsOn, Stands, IsSound}
+use Rattle.gatt_host.specs.Stands.{CompletionLeadsOn, LeadsTo, Stands, IsSound}
 use Rattle.gatt_laws.specs.Controller.{is_ready}
 use Rattle.gatt_laws.specs.Event.{Ordinal, Completed}
+use Rattle.gatt_laws.specs.Notice.{noticed}
 use Rattle.gatt_laws.specs.Packets.{completed_entries}
 use Rattle.gatt_laws.specs.Part.{Part}
 use Rattle.gatt_laws.specs.State.{State, with_completed, after_completed, change_of, step, out}
@@ -66,11 +67,11 @@ module _ (state : State) (held : Held) (entries : List CompletedPackets) (sound 
         slots = ap (λ (open_now : Bool). if open_now then after_entries entries held.slots else []) (ap is_ready is.controller ∙ ready) ∙ counts;
       }
 
-  completion-leads : Stands (step state (Completed counted)) (out state (Completed counted)) (after_completing entries held)
-  unfolding change_of
+  completion-leads : LeadsTo state (Completed counted) (after_completing entries held)
+  unfolding change_of noticed
   completion-leads =
       ends state (Completed counted) sound tt (record held { slots = after_entries entries held.slots }) completion-holds None [] []
-      (λ place ordinal there found kept. refl)
+      (λ place ordinal there found kept. refl) refl
 
 pub completion_leads_on : CompletionLeadsOn
 completion_leads_on state held entries sound stands ready = completion-leads state held entries sound stands ready

@@ -4,17 +4,20 @@ use Rattle.std.specs.Prelude.{replicate, if◌then◌else◌}
 use Rattle.std.specs.Option.{option_map}
 use Rattle.att_numbers.specs.Types.{Handle}
 use Rattle.att_table.specs.Table.{Contents, with_value}
-use Rattle.gatt_host.proofs.standing.Holding.{Holds, ends, holds, keyed_alike}
+use Rattle.gatt_host.proofs.standing.Told.{tick_told}
+use Rattle.gatt_host.proofs.standing.Holding.{ends_with, Holds, ends, holds, keyed_alike}
+use Rattle.gatt_host.specs.declared.last_event.LastEvent.TheVariants as last
 use Rattle.gatt_host.specs.Held.{Held}
 use Rattle.gatt_host.specs.Owing.{Handed, all_given, slot_held}
 use Rattle.gatt_host.specs.Stands.{NothingLeadsOn, TimeLeadsOn, UpdateLeadsOn, Stands}
 use Rattle.gatt_laws.specs.Controller.{Slots, is_ready}
 use Rattle.gatt_laws.specs.Event.{Ordinal, Nothing, Tick, Update}
+use Rattle.gatt_laws.specs.Notice.{noticed}
 use Rattle.gatt_laws.specs.Part.{Part, is_there}
 use Rattle.gatt_laws.specs.Room.{Room}
 use Rattle.gatt_laws.specs.State.{State, change_of}
 use Rattle.gatt_slots.specs.Kept.{Kept, kept_of, kept_if_there}
-use Rattle.gatt_slots.specs.Slots.{all_after_time}
+use Rattle.gatt_slots.specs.Slots.{all_after_time, late_handles}
 use Rattle.gatt_slots.specs.Turn.{after_time}
 use Rattle.gatt_subs.specs.Indications.{after_tick}
 use Rattle.octets.specs.Number.{Octets}
@@ -54,9 +57,9 @@ unfolding change_of
 nothing-holds state held stands = holds state held stands
 
 pub nothing_leads_on : NothingLeadsOn
-unfolding change_of
+unfolding change_of noticed
 nothing_leads_on state held sound stands =
-    ends state Nothing sound tt held (nothing-holds state held stands) None [] [] (λ place ordinal there found kept. refl)
+    ends state Nothing sound tt held (nothing-holds state held stands) None [] [] (λ place ordinal there found kept. refl) refl
 
 -- time goes by
 timed : (old new : Room) (part : Part) (now handed : ℕ) → (new ≡ record old { time = now })
@@ -68,7 +71,7 @@ timed old new part now handed is =
     ∙ ap (λ (room : Room). kept_if_there room later handed) (sym is)
 
 abbrev with_time : ℕ → Held → Held
-with_time now held = record held { time = now; slots = all_after_time now held.slots }
+with_time now held = record held { time = now; slots = all_after_time now held.slots; late = late_handles now held.slots }
 
 tick-holds : (state : State) (held : Held) (now : ℕ) → Stands state [] held → Holds (change_of state (Tick now)).state (all_given state) (with_time now held)
 unfolding change_of
@@ -95,7 +98,8 @@ tick-holds state held now stands =
 pub time_leads_on : TimeLeadsOn
 unfolding change_of
 time_leads_on state held now sound stands later =
-    ends state (Tick now) sound later (with_time now held) (tick-holds state held now stands) None [] [] (λ place ordinal there found kept. refl)
+    ends_with state (Tick now) sound later (with_time now held) (tick-holds state held now stands) None [] [] (λ place ordinal there found kept. refl)
+    last.Ticked (tick_told state held now sound stands)
 
 -- a value is written
 abbrev with_update : Handle → Octets → Held → Held
@@ -123,7 +127,7 @@ update-holds state held handle value stands =
     }
 
 pub update_leads_on : UpdateLeadsOn
-unfolding change_of
+unfolding change_of noticed
 update_leads_on state held handle value sound stands may =
     ends state (Update handle value) sound may (with_update handle value held) (update-holds state held handle value stands) None [] (handle ∷ [])
-    (λ place ordinal there found kept. refl)
+    (λ place ordinal there found kept. refl) refl

@@ -8,13 +8,16 @@ use Rattle.std.proofs.lemmas.Bool.{eq-eqb}
 use Rattle.gatt_host.proofs.Entering.{change-same, owes_what_an_event_brings}
 use Rattle.gatt_host.proofs.Owing.{hands_out_what_is_owed}
 use Rattle.gatt_host.specs.GoingOut.{next_out}
-use Rattle.gatt_host.specs.Held.{Held, open_slots, after_end}
+use Rattle.gatt_host.specs.Held.{Held, open_slots, after_end, with_last}
 use Rattle.gatt_host.specs.Owing.{Handed, all_given, slot_held, slots_held, IsOwing, IsDone, GoesOn}
-use Rattle.gatt_host.specs.Stands.{bond_in, HoldsBonds, HasKeysOfItsPeer, slots_for, Stands, IsSound}
+use Rattle.gatt_host.specs.declared.last_event.LastEvent.{LastEvent}
+use Rattle.gatt_host.specs.Notices.{told_by}
+use Rattle.gatt_host.specs.Stands.{bond_in, HoldsBonds, HasKeysOfItsPeer, slots_for, Stands, IsSound, LeadsTo}
 use Rattle.gatt_laws.proofs.Queued.{change-queued}
 use Rattle.gatt_laws.specs.Controller.{Controller, Slots, is_ready, command_of_init, count_before, without_command}
 use Rattle.gatt_laws.specs.Event.{Ordinal, Event}
 use Rattle.gatt_laws.specs.Heard.{after_hearing as part_heard}
+use Rattle.gatt_laws.specs.Notice.{noticed}
 use Rattle.gatt_laws.specs.Part.{Part, is_live, is_there, key_of}
 use Rattle.gatt_laws.specs.Possible.{Possible}
 use Rattle.gatt_laws.specs.Queued.{IsWithinBounds}
@@ -81,10 +84,44 @@ holds state held stands = record {
   slots = (all_done state held.controller (open_slots held) stands.owing).slots_are;
 }
 
+-- the handles that are noted as written are not among it
+pub holds_with_written : (state : State) (handed : Handed) (held : Held) (written : List Handle) → Holds state handed held
+    → Holds state handed (record held { written = written })
+holds_with_written state handed held written is = record {
+  table = is.table;
+  changer = is.changer;
+  keys = is.keys;
+  rx_mtu = is.rx_mtu;
+  time = is.time;
+  told = is.told;
+  rows = is.rows;
+  keyed = is.keyed;
+  controller = is.controller;
+  free = is.free;
+  ready = is.ready;
+  slots = is.slots;
+}
+
 -- once the controller is initialised, the slots are those of the state
 pub were_open : (state : State) (handed : Handed) (held : Held) → Holds state handed held → is_ready state.controller ≡ true → held.slots ≡ slots_held state handed
 were_open state handed held is ready =
     sym (ap (λ (open_now : Bool). if open_now then held.slots else []) (ap is_ready is.controller ∙ ready)) ∙ is.slots
+
+-- what is told of the last event is not what a host stands by
+pub stands_with_last : (state : State) (owed : List Octets) (held : Held) (last : LastEvent) → Stands state owed held → Stands state owed (with_last last held)
+stands_with_last state owed held last is = record {
+  table = is.table;
+  changer = is.changer;
+  keys = is.keys;
+  rx_mtu = is.rx_mtu;
+  time = is.time;
+  told = is.told;
+  rows = is.rows;
+  keyed = is.keyed;
+  free = is.free;
+  ready = is.ready;
+  owing = is.owing;
+}
 
 -- slots that all hear
 pub heard_free : (hear : ℕ → Option Kept → Option Kept) → ((place : ℕ) → hear place None ≡ None) → (start count : ℕ)
@@ -127,6 +164,27 @@ finished-link room bonds handles part =
     elim (is_live heard.mark) as (λ (live : Bool). SameLink part (if live then record heard { given = given } else heard)) [
       | true ↦ heard-link room (bonds part.peer) handles part
       | false ↦ heard-link room (bonds part.peer) handles part
+    ]
+
+-- so does all that decides which row is in force, and whether it is there
+pub record Stays (old new : Part) : Type 0 where
+  pub mark : new.mark ≡ old.mark
+  pub peer : new.peer ≡ old.peer
+  pub steps : new.steps ≡ old.steps
+  pub row : new.row ≡ old.row
+
+heard-stays : (room : Room) (bond : Row) (handles : List Handle) (part : Part) → Stays part (part_heard room bond handles part)
+unfolding part_heard
+heard-stays room bond handles part = record { mark = refl; peer = refl; steps = refl; row = refl }
+
+pub finished_stays : (room : Room) (bonds : Bonds) (handles : List Handle) (part : Part) → Stays part (finished room bonds handles part)
+finished_stays room bonds handles part =
+    let heard : Part = part_heard room (bonds part.peer) handles part in
+    let given : ℕ = packets_allowed (share_of room.slots room.told) (size_of room.told) heard.pdus heard.done in
+    let stays = heard-stays room (bonds part.peer) handles part in
+    elim (is_live heard.mark) as (λ (live : Bool). Stays part (if live then record heard { given = given } else heard)) [
+      | true ↦ record { mark = stays.mark; peer = stays.peer; steps = stays.steps; row = stays.row }
+      | false ↦ stays
     ]
 
 sent-link : (part : Part) (sent : Bool) → SameLink part (if sent then without_command part else part)
@@ -228,9 +286,12 @@ module _ (state : State) (event : Event) (sound : IsSound state) (possible : Pos
       keyed_alike changed.room.keys new (if sent then without_command new else new) (sent-link new sent)
       (keyed_alike changed.room.keys part new (finished-link changed.room changed.bonds (change.raised ordinal) part) (is.keyed ordinal))
 
-  pub ends : Stands (step state event) (out state event) (after_end own here handles held)
+  pub slots_heard : open_slots (after_end own here handles held) ≡ slots_held (before_commands state event) (all_given state)
+  slots_heard = slots-then
+
+  pub ended : Stands (step state event) (out state event) (after_end own here handles held)
   unfolding step
-  ends = record {
+  ended = record {
     table = is.table;
     changer = is.changer;
     keys = is.keys;
@@ -242,4 +303,16 @@ module _ (state : State) (event : Event) (sound : IsSound state) (possible : Pos
     free = λ early. ap (heard_from 0 hear) (is.free early) ∙ heard_free hear (λ place. refl) 0 changed.room.slots;
     ready = λ ready. heard_length hear 0 held.slots ∙ is.ready ready;
     owing = owing-then;
+  }
+
+  -- an event of which nothing is told, and one of which something is
+  pub ends : [] ≡ noticed state event → LeadsTo state event (after_end own here handles held)
+  ends silent = record { stands = ended; told = silent }
+
+  pub ends_with : (last : LastEvent)
+      → told_by (with_last last (after_end own here handles held)) last ≡ noticed state event
+      → LeadsTo state event (with_last last (after_end own here handles held))
+  ends_with last told = record {
+    stands = stands_with_last (step state event) (out state event) (after_end own here handles held) last ended;
+    told = told;
   }

@@ -4,12 +4,14 @@ use Rattle.std.specs.Prelude.{is_some, if◌then◌else◌, not, ◌&&◌, ◌==
 use Rattle.std.specs.Option.{option_map, option_map_or, option_to_list}
 use Rattle.att_numbers.specs.Types.{Handle}
 use Rattle.att_policy.specs.declared.standing.KeyFacts.{KeyFacts}
-use Rattle.gatt_host.proofs.standing.Holding.{Holds, ends, holds, keyed_alike, HearsRaised}
+use Rattle.gatt_host.proofs.standing.Holding.{Holds, ends_with, holds, keyed_alike, HearsRaised}
 use Rattle.gatt_host.proofs.standing.OneSlot.{raised_at}
+use Rattle.gatt_host.proofs.standing.Told.{encrypted_told, refreshed_told}
 use Rattle.gatt_host.proofs.standing.Turned.{holds_alone, kept_here}
-use Rattle.gatt_host.specs.Held.{Held, kept_at, owed_here, after_link}
+use Rattle.gatt_host.specs.declared.last_event.LastEvent.TheVariants as last
+use Rattle.gatt_host.specs.Held.{Held, kept_at, link_event, owed_here, after_link}
 use Rattle.gatt_host.specs.Owing.{all_given}
-use Rattle.gatt_host.specs.Stands.{bond_in, EncryptionLeadsOn, RefreshLeadsOn, HoldsBonds, HasKeysOfItsPeer, IsServing, Stands, IsSound}
+use Rattle.gatt_host.specs.Stands.{bond_in, EncryptionLeadsOn, RefreshLeadsOn, HoldsBonds, HasKeysOfItsPeer, IsServing, LeadsTo, Stands, IsSound}
 use Rattle.gatt_laws.specs.Event.{Ordinal, Own, Of, Encrypted, Refreshed}
 use Rattle.gatt_laws.specs.Part.{Part, is_live, key_of, after_ending}
 use Rattle.gatt_laws.specs.Room.{Bonds, Owed}
@@ -129,16 +131,17 @@ module _ (state : State) (held : Held) (place : ℕ) (ordinal : Ordinal) (sound 
       (encrypted_kept state.room (state.bonds part.peer) (state.owed part.peer) part serving.live status enabled)
 
   encryption-leads : (status enabled : ℕ)
-      → Stands (step state (Of ordinal (Encrypted status enabled))) (out state (Of ordinal (Encrypted status enabled))) (after_link place (Encryption status enabled) held)
+      → LeadsTo state (Of ordinal (Encrypted status enabled)) (after_link place (Encryption status enabled) held)
   unfolding change_of live_turn
   encryption-leads status enabled =
       let own : Own = Encrypted status enabled in
       let step : Step = Encryption status enabled in
-      ends state (Of ordinal own) sound tt (record held { slots = slots_at place (after_link_step step) held.slots }) (encryption-holds status enabled)
+      ends_with state (Of ordinal own) sound tt (record held { slots = slots_at place (after_link_step step) held.slots }) (encryption-holds status enabled)
       (Some place) (told_here step) []
       (link-raised own step (encryption-keyed state.room.keys part status enabled is-keyed)
       (encrypted_raised state.room (state.bonds part.peer) (state.owed part.peer) part serving.live status enabled)
       (ap (λ (turn : Turn). turn.raised) (turn-is own)))
+      (option_map_or (link_event step) (kept_at held place) last.Quiet) (encrypted_told state held place ordinal sound stands serving status enabled (after_link place step held))
 
   -- its key is refreshed
   refresh-holds : (status : ℕ) → Holds (change_of state (Of ordinal (Refreshed status))).state (all_given state)
@@ -153,16 +156,17 @@ module _ (state : State) (held : Held) (place : ℕ) (ordinal : Ordinal) (sound 
       (refresh-keyed state.room.keys part status is-keyed)))
       (refreshed_kept state.room (state.bonds part.peer) (state.owed part.peer) part serving.live status)
 
-  refresh-leads : (status : ℕ) → Stands (step state (Of ordinal (Refreshed status))) (out state (Of ordinal (Refreshed status))) (after_link place (Refresh status) held)
+  refresh-leads : (status : ℕ) → LeadsTo state (Of ordinal (Refreshed status)) (after_link place (Refresh status) held)
   unfolding change_of live_turn
   refresh-leads status =
       let own : Own = Refreshed status in
       let step : Step = Refresh status in
-      ends state (Of ordinal own) sound tt (record held { slots = slots_at place (after_link_step step) held.slots }) (refresh-holds status)
+      ends_with state (Of ordinal own) sound tt (record held { slots = slots_at place (after_link_step step) held.slots }) (refresh-holds status)
       (Some place) (told_here step) []
       (link-raised own step (refresh-keyed state.room.keys part status is-keyed)
       (refreshed_raised state.room (state.bonds part.peer) (state.owed part.peer) part serving.live status)
       (ap (λ (turn : Turn). turn.raised) (turn-is own)))
+      (option_map_or (link_event step) (kept_at held place) last.Quiet) (refreshed_told state held place ordinal sound stands serving status (after_link place step held))
 
 pub encryption_leads_on : EncryptionLeadsOn
 encryption_leads_on state held place ordinal status enabled sound stands serving = encryption-leads state held place ordinal sound stands serving status enabled

@@ -2,15 +2,17 @@
 use Rattle.std.proofs.Common.{◌≡◌, ℕ, Bool, true, false, List, [], ◌∷◌, Option, Some, None, refl, sym, ap, subst, ◌∙◌}
 use Rattle.std.specs.Prelude.{is_some, if◌then◌else◌, ◌||◌, ◌&&◌}
 use Rattle.std.specs.List.{find}
-use Rattle.std.specs.Option.{option_map}
+use Rattle.std.specs.Option.{option_map, option_map_or}
 use Rattle.gatt_host.proofs.Nexts.{clash}
-use Rattle.gatt_host.proofs.standing.Holding.{Holds, ends, holds, keyed_alike, SameLink}
+use Rattle.gatt_host.proofs.standing.Holding.{Holds, ends, ends_with, holds, keyed_alike, SameLink}
 use Rattle.gatt_host.proofs.standing.OneSlot.{none_raised_at}
+use Rattle.gatt_host.proofs.standing.Told.{authorized_told, key_asked_told, signal_told}
 use Rattle.gatt_host.proofs.standing.Turned.{holds_alone}
-use Rattle.gatt_host.specs.Held.{Held, after_authorize, after_ask_key, after_signals}
+use Rattle.gatt_host.specs.declared.last_event.LastEvent.TheVariants as last
+use Rattle.gatt_host.specs.Held.{Held, kept_at, signal_event, after_authorize, after_ask_key, after_signals}
 use Rattle.gatt_slots.specs.Slots.{slots_at}
 use Rattle.gatt_host.specs.Owing.{all_given}
-use Rattle.gatt_host.specs.Stands.{AuthorizingLeadsOn, AskingAKeyLeadsOn, SignalsLeadOn, HasKeysOfItsPeer, IsServing, Stands, IsSound}
+use Rattle.gatt_host.specs.Stands.{AuthorizingLeadsOn, AskingAKeyLeadsOn, SignalsLeadOn, HasKeysOfItsPeer, IsServing, LeadsTo, Stands, IsSound}
 use Rattle.gatt_laws.specs.Event.{Ordinal, Own, Of, Authorized, KeyAsked, Signals}
 use Rattle.gatt_laws.specs.Part.{Part, is_live, is_there, with_pdus, after_ending}
 use Rattle.gatt_laws.specs.State.{State, change_of, step, out}
@@ -81,13 +83,13 @@ module _ (state : State) (held : Held) (place : ℕ) (ordinal : Ordinal) (sound 
       (keyed-by own (keyed_alike state.room.keys part (live own).part (refl, refl) is-keyed))
       (authorized_kept state.room (state.bonds part.peer) (state.owed part.peer) part serving.live until)
 
-  authorized-leads : (until : ℕ) → Stands (step state (Of ordinal (Authorized until))) (out state (Of ordinal (Authorized until))) (after_authorize place until held)
+  authorized-leads : (until : ℕ) → LeadsTo state (Of ordinal (Authorized until)) (after_authorize place until held)
   unfolding change_of live_turn
   authorized-leads until =
       let own : Own = Authorized until in
       ends state (Of ordinal own) sound tt (record held { slots = slots_at place (after_authorizing until) held.slots }) (authorized-holds until) None [] []
       (none_raised_at (record state.room.table { values = (turn own).values }) state.room.time state.slots ordinal (turn own).raised_here (turn own).raised
-      (ap (λ (turn : Turn). turn.raised_here) (turn-is own)) (ap (λ (turn : Turn). turn.raised) (turn-is own)))
+      (ap (λ (turn : Turn). turn.raised_here) (turn-is own)) (ap (λ (turn : Turn). turn.raised) (turn-is own))) (authorized_told state held place ordinal sound stands serving until)
 
   -- its key is asked for
   abbrev asked_of : List Entry → Octets → ℕ → Kept → Kept
@@ -124,7 +126,7 @@ module _ (state : State) (held : Held) (place : ℕ) (ordinal : Ordinal) (sound 
       ∙ asked-kept random_number diversifier held.keys stands.keys)
 
   key-asked-leads : (random_number : Octets) (diversifier : ℕ)
-      → Stands (step state (Of ordinal (KeyAsked random_number diversifier))) (out state (Of ordinal (KeyAsked random_number diversifier)))
+      → LeadsTo state (Of ordinal (KeyAsked random_number diversifier))
       (after_ask_key place random_number diversifier held)
   unfolding change_of live_turn
   key-asked-leads random_number diversifier =
@@ -132,7 +134,7 @@ module _ (state : State) (held : Held) (place : ℕ) (ordinal : Ordinal) (sound 
       ends state (Of ordinal own) sound tt (record held { slots = slots_at place (asked_of held.keys random_number diversifier) held.slots })
       (key-asked-holds random_number diversifier) None [] []
       (none_raised_at (record state.room.table { values = (turn own).values }) state.room.time state.slots ordinal (turn own).raised_here (turn own).raised
-      (ap (λ (turn : Turn). turn.raised_here) (turn-is own)) (ap (λ (turn : Turn). turn.raised) (turn-is own)))
+      (ap (λ (turn : Turn). turn.raised_here) (turn-is own)) (ap (λ (turn : Turn). turn.raised) (turn-is own))) (key_asked_told state held place ordinal sound stands serving random_number diversifier)
 
   -- a PDU of another channel comes
   channel-link : (channel : ℕ) (answer : Option Octets) → SameLink part (after_channel state.room part channel answer)
@@ -154,13 +156,14 @@ module _ (state : State) (held : Held) (place : ℕ) (ordinal : Ordinal) (sound 
       (signal_kept state.room (state.bonds part.peer) (state.owed part.peer) part serving.live (sound.queued ordinal) channel payload)
 
   signal-leads : (channel : ℕ) (payload : Octets)
-      → Stands (step state (Of ordinal (Signals channel payload))) (out state (Of ordinal (Signals channel payload))) (after_signals place channel payload held)
+      → LeadsTo state (Of ordinal (Signals channel payload)) (after_signals place channel payload held)
   unfolding change_of live_turn
   signal-leads channel payload =
       let own : Own = Signals channel payload in
-      ends state (Of ordinal own) sound tt (record held { slots = slots_at place (after_signal channel payload) held.slots }) (signal-holds channel payload) None [] []
+      ends_with state (Of ordinal own) sound tt (record held { slots = slots_at place (after_signal channel payload) held.slots }) (signal-holds channel payload) None [] []
       (none_raised_at (record state.room.table { values = (turn own).values }) state.room.time state.slots ordinal (turn own).raised_here (turn own).raised
       (ap (λ (turn : Turn). turn.raised_here) (turn-is own)) (ap (λ (turn : Turn). turn.raised) (turn-is own)))
+      (option_map_or (signal_event channel payload) (kept_at held place) last.Quiet) (signal_told state held place ordinal sound stands serving channel payload (after_signals place channel payload held))
 
 pub authorizing_leads_on : AuthorizingLeadsOn
 authorizing_leads_on state held place ordinal until sound stands serving = authorized-leads state held place ordinal sound stands serving until

@@ -11,9 +11,10 @@ use Rattle.gatt_host.proofs.standing.ForAll.{slots_each, open_each, free_each, e
 use Rattle.gatt_host.proofs.standing.Holding.{Holds, SameLink, ends, holds, keyed_alike}
 use Rattle.gatt_host.specs.Held.{Held, after_replacing}
 use Rattle.gatt_host.specs.Owing.{all_given}
-use Rattle.gatt_host.specs.Stands.{bond_in, HoldsBonds, ReplacementLeadsOn, Stands, IsSound}
+use Rattle.gatt_host.specs.Stands.{bond_in, HoldsBonds, LeadsTo, ReplacementLeadsOn, Stands, IsSound}
 use Rattle.gatt_laws.specs.Controller.{is_ready}
 use Rattle.gatt_laws.specs.Event.{Replaced}
+use Rattle.gatt_laws.specs.Notice.{noticed}
 use Rattle.gatt_laws.specs.Part.{Part, is_live}
 use Rattle.gatt_laws.specs.Room.{Bonds, Owed}
 use Rattle.gatt_laws.specs.State.{State, announced, bonds_replaced, owed_by, part_replaced, change_of, step, out}
@@ -109,10 +110,10 @@ module _ (state : State) (held : Held) (table : Contents) (sound : IsSound state
             (λ ordinal. sym (replaced_kept state.room (state.parts ordinal) state.room.table table (state.parts ordinal).given)) state.slots;
       }
 
-  replacement-leads : Stands (step state (Replaced table)) (out state (Replaced table)) (after_replacing table held)
-  unfolding change_of
+  replacement-leads : LeadsTo state (Replaced table) (after_replacing table held)
+  unfolding change_of noticed
   replacement-leads =
-      ends state (Replaced table) sound tt with_table replacement-holds None [] (option_to_list (changer_of table)) (λ place ordinal there found kept. refl)
+      ends state (Replaced table) sound tt with_table replacement-holds None [] (option_to_list (changer_of table)) (λ place ordinal there found kept. refl) refl
 
 pub replacement_leads_on : ReplacementLeadsOn
 replacement_leads_on state held table sound stands = replacement-leads state held table sound stands

@@ -1,37 +1,48 @@
 -- A request of the Attribute Protocol leads a host on.
-use Rattle.std.proofs.Common.{◌≡◌, ℕ, Bool, true, false, List, [], Option, Some, None, refl, sym, ap, subst, ◌∙◌}
-use Rattle.std.specs.Prelude.{is_some, if◌then◌else◌, not, ◌&&◌}
-use Rattle.std.specs.Option.{option_map}
+use Rattle.std.proofs.Common.{◌≡◌, ℕ, Bool, true, false, List, [], ◌∷◌, ◌++◌, map, Option, Some, None, refl, sym, ap, subst, ◌∙◌}
+use Rattle.std.specs.Prelude.{is_some, if◌then◌else◌, not, ◌&&◌, slice_get}
+use Rattle.std.specs.Option.{option_and_then, option_map, option_map_or, option_to_list}
+use Rattle.std.proofs.lemmas.Bool.{eq-eqb}
+use Rattle.std.proofs.lemmas.Option.{slice_get-map}
 use Rattle.att_numbers.specs.Types.{Handle, Row}
 use Rattle.att_pdu.specs.Grammar.{request_of, is_due}
 use Rattle.att_policy.specs.declared.standing.KeyFacts.{KeyFacts}
 use Rattle.att_table.specs.Table.{Contents}
 use Rattle.gatt_host.proofs.Nexts.{clash}
-use Rattle.gatt_host.proofs.standing.Holding.{Holds, ends, holds, has_row, keyed_alike, some-is, HearsRaised, SameLink}
-use Rattle.gatt_host.proofs.standing.OneSlot.{raised_at}
-use Rattle.gatt_host.proofs.standing.Turned.{holds_turned, kept_here}
-use Rattle.gatt_host.specs.Held.{Held, kept_at, after_serving, Serves}
-use Rattle.gatt_host.specs.Owing.{all_given}
-use Rattle.gatt_host.specs.Stands.{bond_in, RequestLeadsOn, HoldsBonds, HasKeysOfItsPeer, IsServing, Stands, IsSound}
+use Rattle.gatt_conn.specs.Answer.{Question, handles_by, is_confirmation}
+use Rattle.gatt_host.proofs.standing.Holding.{Holds, Stays, ends_with, finished_stays, holds, holds_with_written, has_row, keyed_alike, slots_heard, some-is, HearsRaised, SameLink}
+use Rattle.gatt_host.proofs.standing.OneSlot.{raised_at, ready_where}
+use Rattle.gatt_host.proofs.standing.Turned.{holds_turned, kept_here, turned}
+use Rattle.gatt_host.specs.declared.last_event.LastEvent.TheVariants as last
+use Rattle.gatt_host.specs.Held.{Held, brought_by, kept_at, row_at, after_serving, Serves}
+use Rattle.gatt_host.specs.Notices.{row_there, told_by}
+use Rattle.gatt_host.specs.Owing.{all_given, slot_held, slots_held}
+use Rattle.gatt_host.specs.Stands.{bond_in, RequestLeadsOn, HoldsBonds, HasKeysOfItsPeer, IsServing, LeadsTo, Stands, IsSound}
+use Rattle.gatt_laws.specs.Controller.{is_ready}
 use Rattle.gatt_laws.specs.Event.{Ordinal, Of, Asks}
-use Rattle.gatt_laws.specs.Part.{Part, is_live, key_of, mtu_of, after_ending}
-use Rattle.gatt_laws.specs.Room.{Bonds, Owed}
-use Rattle.gatt_laws.specs.State.{State, all_raised, at_ordinal, at_peer, change_of, step, out}
+use Rattle.gatt_laws.specs.Notice.{Confirmed, Ending, confirmation_told, end_told, live_told, noticed, write_told}
+use Rattle.gatt_laws.specs.Part.{Part, connection_of, is_live, is_there, key_of, mtu_of, row_of as part_row, after_ending}
+use Rattle.gatt_laws.specs.Room.{Room, Bonds, Owed}
+use Rattle.gatt_laws.specs.State.{State, all_raised, at_ordinal, at_peer, before_commands, change_of, finished, with_values}
 use Rattle.gatt_laws.specs.Turn.{Turn, live_turn, turn_of, turn_to, served, is_full as part_full, remote_user_terminated}
+use Rattle.gatt_laws.specs.View.{handles_written}
 use Rattle.gatt_slots.proofs.parts.Heard.{hears_of_values}
-use Rattle.gatt_slots.proofs.parts.Kept.{link_key}
+use Rattle.gatt_slots.proofs.parts.Kept.{connection_kept, link_key, live_there, row_kept}
 use Rattle.gatt_slots.proofs.parts.Requests.{served_bond, served_kept, served_owed, served_raised, served_raised_here, served_values}
-use Rattle.gatt_slots.proofs.parts.Turns.{live_turned}
-use Rattle.gatt_slots.specs.Hearing.{after_hearing}
+use Rattle.gatt_slots.proofs.parts.Turns.{full_kept, live_turned}
+use Rattle.gatt_slots.specs.Hearing.{after_hearing, row_in_force}
 use Rattle.gatt_slots.specs.Kept.{Kept, kept_of, kept_if_there}
-use Rattle.gatt_slots.specs.Request.{is_full, bond_after, bond_served, confirms_changes, handles_of, kept_served, stored_of, table_after, with_owed_after}
+use Rattle.gatt_slots.specs.Request.{is_full, bond_after, bond_served, confirmed_of, confirms_changes, handles_of, kept_served, stored_of, table_after, with_owed_after}
 use Rattle.gatt_slots.specs.Slots.{handles_for, slots_at}
 use Rattle.gatt_subs.specs.declared.bond.Bond.{Bond}
+use Rattle.gatt_subs.specs.declared.pending.Unconfirmed.{Unconfirmed}
+use Rattle.gatt_subs.specs.Indications.{confirmed_handle, handle_if_current}
 use Rattle.gatt_subs.specs.Rows.{Subscriptions, bond_of, row_of, ChangesBond}
 use Rattle.le_hci.specs.declared.peer.Peer.{Peer}
 use Rattle.le_security.proofs.Peers.{equal_peers, same_as_itself}
 use Rattle.le_security.specs.Entry.{same_peer}
 use Rattle.le_security.specs.Keys.{is_known}
+use Rattle.le_security.specs.Link.{key_after}
 use Rattle.le_security.specs.declared.entry.Entry.{Entry}
 use Rattle.octets.specs.Number.{Octets}
 
@@ -87,6 +98,18 @@ row-without-key false confirmed new bond = refl
 owed-without-key : (full confirmed : Bool) (new : Row) (bond : Bond) → bond.owed ≡ false → (if full then bond else with_owed_after confirmed (bond_after false new bond)).owed ≡ bond.owed
 owed-without-key true confirmed new bond none = refl
 owed-without-key false confirmed new bond none = ap (λ (owed : Bool). owed && not confirmed) none ∙ sym none
+
+-- what is told of a confirmation
+confirmed-by : (handle : ℕ) (unconfirmed : Option Unconfirmed)
+    → map (Confirmed handle) (option_to_list (option_and_then handle_if_current unconfirmed)) ≡ confirmation_told handle unconfirmed
+confirmed-by handle None = refl
+confirmed-by handle (Some unconfirmed) =
+    elim unconfirmed.outdated as (λ (outdated : Bool). map (Confirmed handle) (option_to_list (if outdated then None else Some unconfirmed.handle))
+    ≡ (if outdated then [] else Confirmed handle unconfirmed.handle ∷ [])) [ true ↦ refl | false ↦ refl ]
+
+unless-full : (full : Bool) (handles : List Handle) → (if full then [] else handles) ≡ (if not full then handles else [])
+unless-full true handles = refl
+unless-full false handles = refl
 
 module _ (state : State) (held new : Held) (place : ℕ) (ordinal : Ordinal) (pdu : Octets) (sound : IsSound state) (stands : Stands state [] held) (serving : IsServing state place ordinal) where
   abbrev part : Part
@@ -195,14 +218,26 @@ module _ (state : State) (held new : Held) (place : ℕ) (ordinal : Ordinal) (pd
       ∙ λ i. option_map (kept_served (sym is.table i) (sym is.time i) found pdu) (kept_if_there state.room part part.given)
 
   abbrev serving_it : Subscriptions → Held
-  serving_it rows = record held { table = table; rows = rows; slots = slots_at place (kept_served held.table held.time found pdu) held.slots }
+  serving_it rows = record held {
+    table = table;
+    rows = rows;
+    slots = slots_at place (kept_served held.table held.time found pdu) held.slots;
+    written = handles_of held.table held.time found pdu kept;
+  }
 
   request-holds : (rows : Subscriptions) → ChangesBond change peer held.rows rows → Holds (change_of state (Of ordinal (Asks pdu))).state (all_given state) (serving_it rows)
   unfolding change_of
   request-holds rows changes =
-      holds_turned state held is sound.settled place ordinal serving.there turn (kept_served held.table held.time found pdu) table rows table-is
+      holds_with_written (turned state ordinal turn) (all_given state) _ (handles_of held.table held.time found pdu kept)
+      (holds_turned state held is sound.settled place ordinal serving.there turn (kept_served held.table held.time found pdu) table rows table-is
       (bonds_changed state.room.keys change peer held.rows rows state.bonds state.owed turn.bond turn.owed is.rows changes change-is row-stays owed-stays)
-      request-keyed kept-is
+      request-keyed kept-is)
+
+  -- there is no room for an answer that is due
+  same-full : (is_due (request_of pdu (mtu_of state.room part)) && part_full state.room part) ≡ is_full pdu kept
+  same-full =
+      ap (λ (full : Bool). is_due (request_of pdu (mtu_of state.room part)) && full)
+      (full_kept state.room (state.bonds peer) (state.owed peer) part serving.live (sound.queued ordinal))
 
   -- what the others hear
   abbrev handles : List Handle
@@ -225,15 +260,123 @@ module _ (state : State) (held new : Held) (place : ℕ) (ordinal : Ordinal) (pd
       (sym (served_raised_here state.room found (state.bonds peer) (state.owed peer) part pdu serving.live (sound.queued ordinal) has))
       (raised-alike state.room.time)
 
-  request-leads : (rows : Subscriptions) → ChangesBond change peer held.rows rows
-      → Stands (step state (Of ordinal (Asks pdu))) (out state (Of ordinal (Asks pdu))) (after_serving place pdu held rows kept)
-  unfolding change_of
-  request-leads rows changes =
-      ends state (Of ordinal (Asks pdu)) sound tt (serving_it rows) (request-holds rows changes) (Some place) [] handles request-raised
+  -- What is told of it: what was written, by the row that is in force then.
+  handles-written : handles ≡ handles_written state.room (state.bonds peer) part (Asks pdu)
+  handles-written =
+      let asked : Question = request_of pdu (mtu_of state.room part) in
+      let those : List Handle = handles_by state.room.table (part_row (state.bonds peer) part) (connection_of state.room part) asked in
+      (λ i. handles_of (is.table i) (is.time i) found pdu kept)
+      ∙ (λ i. if is_full pdu kept then []
+      else handles_by state.room.table (row_kept state.room part part.given found (state.bonds peer) has i) (connection_kept state.room part part.given i) asked)
+      ∙ unless-full (is_full pdu kept) those
+      ∙ ap (λ (full : Bool). if not full then those else []) (sym same-full)
+      ∙ ap (λ (live : Bool). if live && not (is_due asked && part_full state.room part) then those else []) (sym serving.live)
 
-  served-leads : Serves place pdu kept held new → Stands (step state (Of ordinal (Asks pdu))) (out state (Of ordinal (Asks pdu))) new
+  -- the connection afterwards
+  stays-there : is_there turn.part.mark ≡ true
+  unfolding live_turn
+  stays-there =
+      ap (λ (turn : Turn). is_there turn.part.mark) turn-is
+      ∙ elim (is_due (request_of pdu (mtu_of state.room part)) && part_full state.room part) as (λ (full : Bool). is_there
+      (if full then turn_to state.room (state.bonds peer) (state.owed peer) (after_ending part remote_user_terminated)
+      else served state.room (state.bonds peer) (state.owed peer) part pdu (request_of pdu (mtu_of state.room part))).part.mark ≡ true) [
+        | true ↦ refl
+        | false ↦ live_there part.mark serving.live
+      ]
+
+  same-peer : turn.part.peer ≡ peer
+  same-peer = ap (λ (turn : Turn). turn.part.peer) turn-is ∙ request-link.1
+
+  module _ (rows : Subscriptions) (changes : ChangesBond change peer held.rows rows) where
+    abbrev served_held : Held
+    served_held = after_serving place pdu held rows kept
+
+    abbrev room_then : Room
+    room_then = with_values state.room turn.values
+
+    abbrev bonds_then : Bonds
+    bonds_then = at_peer peer turn.bond state.bonds
+
+    abbrev part_then : Part
+    part_then = finished room_then bonds_then (at_ordinal ordinal turn.raised_here (all_raised turn.raised) ordinal) (at_ordinal ordinal turn.part state.parts ordinal)
+
+    part-is : Stays turn.part part_then
+    part-is =
+        subst (λ (part : Part). Stays part part_then) (ap (λ (same : Bool). if same then turn.part else part) (eq-eqb ordinal ordinal refl))
+        (finished_stays room_then bonds_then (at_ordinal ordinal turn.raised_here (all_raised turn.raised) ordinal) (at_ordinal ordinal turn.part state.parts ordinal))
+
+    -- what its slot keeps then
+    slots-then : served_held.slots ≡ slots_held (before_commands state (Of ordinal (Asks pdu))) (all_given state)
+    unfolding change_of
+    slots-then =
+        sym (ap (λ (open_now : Bool). if open_now then served_held.slots else []) (ap is_ready is.controller ∙ ready_where state sound.settled place ordinal serving.there))
+        ∙ slots_heard state (Of ordinal (Asks pdu)) sound tt (serving_it rows) (request-holds rows changes) (Some place) [] handles request-raised
+
+    kept-then : kept_at served_held place ≡ Some (kept_of room_then part_then part.given)
+    unfolding change_of
+    kept-then =
+        let keep : Option Ordinal → Option Kept = slot_held (before_commands state (Of ordinal (Asks pdu))) (all_given state) in
+        ap (λ (slots : List (Option Kept)). option_map_or (λ (slot : Option Kept). slot) (slice_get slots place) None) slots-then
+        ∙ ap (λ found. option_map_or (λ (slot : Option Kept). slot) found None)
+        (slice_get-map keep state.slots place ∙ ap (λ found. option_map keep found) serving.there)
+        ∙ ap (λ (there : Bool). if there then Some (kept_of room_then part_then part.given) else None) (ap is_there part-is.mark ∙ stays-there)
+
+    -- the row in force then
+    bonds-held : HoldsBonds state.room.keys rows bonds_then (at_peer peer turn.owed state.owed)
+    bonds-held = bonds_changed state.room.keys change peer held.rows rows state.bonds state.owed turn.bond turn.owed is.rows changes change-is row-stays owed-stays
+
+    has-then : is_some (key_of part_then) ≡ true → row_of rows part_then.peer ≡ Some (bonds_then part_then.peer)
+    has-then = has_row state.room.keys rows bonds_then (at_peer peer turn.owed state.owed) part_then bonds-held
+        (keyed_alike state.room.keys turn.part part_then (part-is.steps, part-is.peer) request-keyed)
+
+    bond-then : bonds_then part_then.peer ≡ turn.bond
+    bond-then =
+        ap bonds_then (part-is.peer ∙ same-peer) ∙ ap (λ (same : Bool). if same then turn.bond else state.bonds peer) (same_as_itself peer)
+
+    row-then : row_there served_held place ≡ part_row turn.bond turn.part
+    row-then =
+        ap (λ (slot : Option Kept). option_map_or (λ (kept : Kept). row_in_force (row_at served_held kept) kept) slot []) kept-then
+        ∙ row_kept room_then part_then part.given (row_of rows part_then.peer) (bonds_then part_then.peer) has-then
+        ∙ λ i. if is_some (key_after (part-is.steps i)) then bond-then i else part-is.row i
+
+    -- what it confirmed, and that it is ended
+    confirmed-told : map (Confirmed part.handle) (option_to_list (confirmed_of pdu kept))
+        ≡ (if is_confirmation pdu then confirmation_told part.handle part.pending.unconfirmed else [])
+    confirmed-told =
+        elim (is_confirmation pdu) as (λ (is : Bool). map (Confirmed part.handle) (option_to_list (if is then confirmed_handle part.pending else None))
+        ≡ (if is then confirmation_told part.handle part.pending.unconfirmed else [])) [
+          | true ↦ confirmed-by part.handle part.pending.unconfirmed
+          | false ↦ refl
+        ]
+
+    ended-told : (if is_full pdu kept then Ending part.handle remote_user_terminated ∷ [] else []) ≡ end_told part.handle turn.part
+    unfolding live_turn
+    ended-told =
+        let asked : Question = request_of pdu (mtu_of state.room part) in
+        ap (λ (full : Bool). if full then Ending part.handle remote_user_terminated ∷ [] else []) (sym same-full)
+        ∙ elim (is_due asked && part_full state.room part) as (λ (full : Bool). (if full then Ending part.handle remote_user_terminated ∷ [] else [])
+        ≡ end_told part.handle (if full then turn_to state.room (state.bonds peer) (state.owed peer) (after_ending part remote_user_terminated)
+        else served state.room (state.bonds peer) (state.owed peer) part pdu asked).part) [
+          | true ↦ refl
+          | false ↦ sym (ap (λ (live : Bool). if live then [] else map (Ending part.handle) (option_to_list part.reason)) serving.live)
+        ]
+        ∙ sym (ap (λ (turn : Turn). end_told part.handle turn.part) turn-is)
+
+    request-told : told_by served_held (last.Served place part.handle (brought_by pdu kept)) ≡ noticed state (Of ordinal (Asks pdu))
+    unfolding noticed
+    request-told =
+        (λ i. (map (write_told (table-is i).attributes (row-then i) part.handle) (handles-written i) ++ confirmed-told i) ++ ended-told i)
+        ∙ sym (ap (λ (live : Bool). if live then live_told state.room (state.bonds peer) part (Asks pdu) turn ++ end_told part.handle turn.part else []) serving.live)
+
+    request-leads : LeadsTo state (Of ordinal (Asks pdu)) served_held
+    unfolding change_of
+    request-leads =
+        ends_with state (Of ordinal (Asks pdu)) sound tt (serving_it rows) (request-holds rows changes) (Some place) [] handles request-raised
+        (last.Served place part.handle (brought_by pdu kept)) request-told
+
+  served-leads : Serves place pdu kept held new → LeadsTo state (Of ordinal (Asks pdu)) new
   served-leads serves =
-      subst (λ (after : Held). Stands (step state (Of ordinal (Asks pdu))) (out state (Of ordinal (Asks pdu))) after) (sym serves.held)
+      subst (λ (after : Held). LeadsTo state (Of ordinal (Asks pdu)) after) (sym serves.held)
       (request-leads new.rows serves.bond)
 
   kept-found : (kept' : Kept) → kept_at held place ≡ Some kept' → kept' ≡ kept

@@ -14,7 +14,7 @@ use Rattle.gatt_host.specs.Owing.{all_given, slot_held, slots_held}
 use Rattle.gatt_host.specs.Stands.{HoldsBonds, HasKeysOfItsPeer}
 use Rattle.gatt_laws.specs.Controller.{is_ready}
 use Rattle.gatt_laws.specs.Event.{Ordinal}
-use Rattle.gatt_laws.specs.Part.{Part, is_live}
+use Rattle.gatt_laws.specs.Part.{Part, is_live, is_there}
 use Rattle.gatt_laws.specs.Room.{Bonds, Owed}
 use Rattle.gatt_laws.specs.Settled.{IsSettled}
 use Rattle.gatt_laws.specs.State.{State, at_ordinal, at_peer, with_values}
@@ -131,10 +131,13 @@ module _ (state : State) (held : Held) (is : Holds state (all_given state) held)
       keyed same
 
   -- what is kept at its place
-  pub kept_here : is_live part.mark ≡ true → kept_at held place ≡ Some (kept_of state.room part part.given)
-  kept_here live =
+  pub kept_at_place : is_there part.mark ≡ true → kept_at held place ≡ Some (kept_of state.room part part.given)
+  kept_at_place is_there =
       let read : slice_get (slots_held state (all_given state)) place ≡ Some (kept_if_there state.room part part.given) =
       slice_get-map (slot_held state (all_given state)) state.slots place ∙ ap (λ found. option_map (slot_held state (all_given state)) found) there in
       ap (λ (slots : List (Option Kept)). option_map_or (λ (slot : Option Kept). slot) (slice_get slots place) None) were-open
       ∙ ap (λ found. option_map_or (λ (slot : Option Kept). slot) found None) read
-      ∙ kept_there state.room part part.given (live_there part.mark live)
+      ∙ kept_there state.room part part.given is_there
+
+  pub kept_here : is_live part.mark ≡ true → kept_at held place ≡ Some (kept_of state.room part part.given)
+  kept_here live = kept_at_place (live_there part.mark live)

@@ -3,17 +3,21 @@ use Rattle.std.proofs.Common.{◌≡◌, Bool, true, false, List, Option, Some, 
 use Rattle.std.specs.Prelude.{IsOk, IsOkAnd, IfOk, IfErr, OnErr, OnOk, if◌then◌else◌}
 use Rattle.att_table.specs.Changer.{changer_of}
 use Rattle.att_table.specs.Table.{Contents}
-use Rattle.gatt_host.proofs.asking.Calls.{call_is_refused, call_leads_on, replacement_is_refused, replacement_leads_on}
+use Rattle.gatt_host.proofs.asking.Calls.{call_is_refused, call_leads_on, call_led, replacement_is_refused, replacement_leads_on, replacement_led}
 use Rattle.gatt_host.proofs.meaning.Drained.{all_gone, drained_in}
 use Rattle.gatt_host.proofs.standing.Happenings.{calls_lead_on, replacements_lead_on}
+use Rattle.gatt_host.proofs.whole.Silence.{stands_in_silence}
 use Rattle.gatt_host.proofs.whole.Items.{drained_where, no_fault, takes_item}
 use Rattle.gatt_host.specs.Asked.{call_happening, refused_of, refusal_of, replacement_happening, replacing_refusal_of}
 use Rattle.gatt_host.specs.declared.app.AppFault.{AppFault}
 use Rattle.gatt_host.specs.declared.host_fault.HostFault.{HostFault}
-use Rattle.gatt_host.specs.Held.{Held, after_replacing}
+use Rattle.gatt_host.specs.declared.last_event.LastEvent.TheVariants as last
+use Rattle.gatt_host.specs.Held.{Held, after_replacing, with_last}
 use Rattle.gatt_host.specs.Leading.{SameOutcome}
 use Rattle.gatt_host.specs.Meaning.{Frames, Happening, IsAfter, Replaces}
+use Rattle.gatt_host.specs.Notices.{last_notices}
 use Rattle.gatt_host.specs.Standing.{IsDrainedIn, StandsIn}
+use Rattle.gatt_host.specs.Telling.{noticed_in}
 use Rattle.gatt_host.specs.Whole.{HoldsStream, SameFault, StandsAt, Takes, Whole, all_out}
 use Rattle.gatt_laws.specs.Calls.{Call, NoServiceChanged, Refused, call_event, replacement_event, same_changer}
 use Rattle.gatt_laws.specs.Event.{Event}
@@ -55,7 +59,7 @@ accepted (Err refused) P so = absurd so
 
 module _ (call : Call) (old new : Whole) (none : old.fault ≡ None) (out : all_out old ≡ true) where
   call-stands : (result : Result Unit AppFault) → (IsOk result → IsOkAnd (call_happening old.held call) (λ happening. IsAfter happening old.held new.held))
-      → IfErr result (λ fault. call_happening old.held call ≡ Err (refused_of fault)) → OnErr result (new.held ≡ old.held)
+      → IfErr result (λ fault. call_happening old.held call ≡ Err (refused_of fault)) → OnErr result (new.held ≡ with_last last.Quiet old.held)
       → (course : Course) (gone : List Octets) → StandsIn course gone old.held old.frames
       → StandsIn (after_result course (call_event course.intake.state call)) gone new.held old.frames
   call-stands (Ok done) after refused same course gone is =
@@ -68,10 +72,22 @@ module _ (call : Call) (old new : Whole) (none : old.fault ≡ None) (out : all_
       let drained = drained_where old none out in
       let refusal = call_is_refused course old.held old.frames call (refused_of fault) (drained_in course gone old.held old.frames is drained) refused in
       subst (λ (result : Result Event Refused). StandsIn (after_result course result) gone new.held old.frames) (sym refusal)
-      (subst (λ (held : Held). StandsIn course gone held old.frames) (sym same) is)
+      (subst (λ (held : Held). StandsIn course gone held old.frames) (sym same) (stands_in_silence course gone old.held old.frames is))
+
+  -- and what is told of it is what the course has
+  pub call_told : (result : Result Unit AppFault) → (IsOk result → IsOkAnd (call_happening old.held call) (λ happening. IsAfter happening old.held new.held))
+      → IfErr result (λ fault. call_happening old.held call ≡ Err (refused_of fault)) → OnErr result (new.held ≡ with_last last.Quiet old.held)
+      → (course : Course) (gone : List Octets) → StandsIn course gone old.held old.frames
+      → last_notices new.held ≡ noticed_in course.intake.state (call_event course.intake.state call)
+  call_told (Ok done) after refused same course gone is =
+      let meant : Accepted (call_happening old.held call) (λ happening. IsAfter happening old.held new.held) = accepted (call_happening old.held call) _ (after refl) in
+      (call_led course old.held new.held old.frames call meant.happening (drained_in course gone old.held old.frames is (drained_where old none out)) meant.is meant.so).told
+  call_told (Err fault) after refused same course gone is =
+      let refusal = call_is_refused course old.held old.frames call (refused_of fault) (drained_in course gone old.held old.frames is (drained_where old none out)) refused in
+      ap last_notices same ∙ sym (ap (λ (result : Result Event Refused). noticed_in course.intake.state result) refusal)
 
   pub takes_call : (result : Result Unit AppFault) → (IsOk result → IsOkAnd (call_happening old.held call) (λ happening. IsAfter happening old.held new.held))
-      → IfErr result (λ fault. call_happening old.held call ≡ Err (refused_of fault)) → OnErr result (new.held ≡ old.held) → KeepsTheRest old new
+      → IfErr result (λ fault. call_happening old.held call ≡ Err (refused_of fault)) → OnErr result (new.held ≡ with_last last.Quiet old.held) → KeepsTheRest old new
       → Takes (ACall call) old new
   takes_call result after refused same keeps =
       takes_item (ACall call) old new none (λ course gone no_why is.
@@ -108,7 +124,7 @@ if-same false table is = cc is
 module _ {A : Type 0} (table : Contents) (old new : Whole) (none : old.fault ≡ None) (out : all_out old ≡ true) where
   table-stands : (result : Result A (AppFault × Contents)) → OnOk result (new.held ≡ after_replacing table old.held)
       → (IsOk result → same_changer old.held.changer (changer_of table) ≡ true)
-      → IfErr result (λ fault. replacement_happening old.held table ≡ Err (refused_of fault.0)) → OnErr result (new.held ≡ old.held)
+      → IfErr result (λ fault. replacement_happening old.held table ≡ Err (refused_of fault.0)) → OnErr result (new.held ≡ with_last last.Quiet old.held)
       → (course : Course) (gone : List Octets) → StandsIn course gone old.held old.frames
       → StandsIn (after_result course (replacement_event course.intake.state table)) gone new.held old.frames
   table-stands (Ok given) after accepts refused same course gone is =
@@ -121,11 +137,23 @@ module _ {A : Type 0} (table : Contents) (old new : Whole) (none : old.fault ≡
       let drained = drained_where old none out in
       let refusal = replacement_is_refused course old.held old.frames table (refused_of fault.0) (drained_in course gone old.held old.frames is drained) refused in
       subst (λ (result : Result Event Refused). StandsIn (after_result course result) gone new.held old.frames) (sym refusal)
-      (subst (λ (held : Held). StandsIn course gone held old.frames) (sym same) is)
+      (subst (λ (held : Held). StandsIn course gone held old.frames) (sym same) (stands_in_silence course gone old.held old.frames is))
+
+  pub table_told : (result : Result A (AppFault × Contents)) → OnOk result (new.held ≡ after_replacing table old.held)
+      → (IsOk result → same_changer old.held.changer (changer_of table) ≡ true)
+      → IfErr result (λ fault. replacement_happening old.held table ≡ Err (refused_of fault.0)) → OnErr result (new.held ≡ with_last last.Quiet old.held)
+      → (course : Course) (gone : List Octets) → StandsIn course gone old.held old.frames
+      → last_notices new.held ≡ noticed_in course.intake.state (replacement_event course.intake.state table)
+  table_told (Ok given) after accepts refused same course gone is =
+      (replacement_led course old.held new.held old.frames table (Replaces table) (drained_in course gone old.held old.frames is (drained_where old none out))
+      (if-same (same_changer old.held.changer (changer_of table)) table (accepts refl)) after).told
+  table_told (Err fault) after accepts refused same course gone is =
+      let refusal = replacement_is_refused course old.held old.frames table (refused_of fault.0) (drained_in course gone old.held old.frames is (drained_where old none out)) refused in
+      ap last_notices same ∙ sym (ap (λ (result : Result Event Refused). noticed_in course.intake.state result) refusal)
 
   pub takes_table : (result : Result A (AppFault × Contents)) → OnOk result (new.held ≡ after_replacing table old.held)
       → (IsOk result → same_changer old.held.changer (changer_of table) ≡ true)
-      → IfErr result (λ fault. replacement_happening old.held table ≡ Err (refused_of fault.0)) → OnErr result (new.held ≡ old.held) → KeepsTheRest old new
+      → IfErr result (λ fault. replacement_happening old.held table ≡ Err (refused_of fault.0)) → OnErr result (new.held ≡ with_last last.Quiet old.held) → KeepsTheRest old new
       → Takes (ATable table) old new
   takes_table result after accepts refused same keeps =
       takes_item (ATable table) old new none (λ course gone no_why is.

@@ -15,6 +15,7 @@ use Rattle.gatt_host.proofs.Nexts.{clash}
 use Rattle.gatt_host.proofs.standing.AtTheStart.{fitted_known}
 use Rattle.gatt_host.specs.declared.config.Config.{Config}
 use Rattle.gatt_host.specs.declared.host_fault.HostFault.{HostFault}
+use Rattle.gatt_host.specs.declared.last_event.LastEvent.TheVariants as last
 use Rattle.gatt_host.specs.Held.{Held}
 use Rattle.gatt_host.specs.Opening.{is_configured, start_of}
 use Rattle.gatt_host.specs.Stands.{IsOpenedAs}
@@ -78,6 +79,9 @@ held_at_first table keys rows config = record {
   time = 0;
   controller = new_controller (start_of table keys rows config);
   slots = replicate config.slots None;
+  last = last.Quiet;
+  written = [];
+  late = [];
 }
 
 module _ (table : Contents) (keys : List Entry) (old new : Subscriptions) (config : Config) (fitted : HasFittedBonds keys table old new) where

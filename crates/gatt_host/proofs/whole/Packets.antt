@@ -2,18 +2,21 @@
 use Rattle.std.proofs.Common.{◌≡◌, Bool, true, false, List, Option, Some, None, Result, Ok, Err, refl, sym, ap, subst, ◌∙◌}
 use Rattle.std.specs.Prelude.{if◌then◌else◌, IsOk, IfErr, OnErr}
 use Rattle.std.specs.Result.{result_err}
-use Rattle.gatt_host.proofs.meaning.Arriving.{acl_leads_on, sco_leads_on}
+use Rattle.gatt_host.proofs.meaning.Arriving.{acl_leads_on, acl_told, sco_leads_on, sco_told}
 use Rattle.gatt_host.proofs.meaning.Drained.{all_gone, drained_in}
-use Rattle.gatt_host.proofs.meaning.Reported.{event_leads_on, event_meant, event_stops}
+use Rattle.gatt_host.proofs.meaning.Reported.{event_leads_on, event_meant, event_stops, event_told}
 use Rattle.gatt_host.proofs.whole.Items.{takes_item}
+use Rattle.gatt_host.proofs.whole.Silence.{stands_at_in_silence}
 use Rattle.gatt_host.proofs.standing.Holding.{some-is}
 use Rattle.gatt_host.specs.Answers.{stop_of, told_fault}
 use Rattle.gatt_host.specs.declared.host_fault.HostFault.{HostFault}
 use Rattle.gatt_host.specs.GoingOut.{is_drained}
-use Rattle.gatt_host.specs.Held.{Held, open_slots}
+use Rattle.gatt_host.specs.declared.last_event.LastEvent.TheVariants as last
+use Rattle.gatt_host.specs.Held.{Held, open_slots, with_last}
 use Rattle.gatt_host.specs.Meaning.{Frames}
 use Rattle.gatt_host.specs.Packet.{TakesPacket, event_stop, packet_stop}
 use Rattle.gatt_host.specs.Standing.{IsDrainedIn, StandsIn}
+use Rattle.gatt_host.specs.Telling.{TellsOfPacket}
 use Rattle.gatt_host.specs.Whole.{is_own, HoldsStream, LeadsBy, SameFault, StandsAt, StandsWith, Takes, Whole}
 use Rattle.gatt_laws.specs.Event.{Event}
 use Rattle.gatt_laws.specs.Input.{APacket, Course, after_packet, packet_taken}
@@ -72,6 +75,16 @@ packet_leads ScoPacket old new frames after drained takes course gone none is =
       same = same-none course.intake.fault none;
     }
 
+-- and what is told of it is what the course has
+pub packet_told : (packet : Packet) (old new : Held) (frames after : Frames) → is_drained old.controller (open_slots old) ≡ true
+    → TakesPacket packet old frames new after → TellsOfPacket packet old frames new
+packet_told (AclPacket handle boundary broadcast octets) old new frames after drained takes course gone is =
+    acl_told course old new frames handle boundary broadcast octets (drained_in course gone old frames is drained) takes.held
+packet_told (EventPacket octets) old new frames after drained takes course gone is =
+    event_told course old new frames octets (drained_in course gone old frames is drained) takes.held
+packet_told ScoPacket old new frames after drained takes course gone is =
+    sco_told course old new frames (drained_in course gone old frames is drained) takes.held
+
 -- or the host stops, and keeps what it has
 event-stopped : (course : Course) (gone : List Octets) (held : Held) (frames : Frames) (octets : Octets) (why : Fault) (fault : HostFault)
     → packet_event course.intake.state course.intake.fragments (EventPacket octets) ≡ Err why → told_fault why ≡ fault → StandsIn course gone held frames
@@ -112,11 +125,13 @@ takes_packet packet old new short none stream leads =
           (stream-kept course packet old.stream (packet_event course.intake.state course.intake.fragments packet) is.stream no_why);
     }))
 
--- one that is too long leaves all as it is
-pub passes_long : (packet : Packet) (whole : Whole) → is_long packet ≡ true → whole.fault ≡ None → Takes (APacket packet) whole whole
-passes_long packet whole long none =
-    takes_item (APacket packet) whole whole none (λ course gone no_why is.
-    subst (λ (long : Bool). StandsAt (if long then course else after_packet course packet) gone whole) (sym long) is)
+-- one that is too long leaves all as it is, and nothing is told of it
+pub passes_long : (packet : Packet) (old new : Whole) → is_long packet ≡ true → old.fault ≡ None
+    → new ≡ record old { held = with_last last.Quiet old.held } → Takes (APacket packet) old new
+passes_long packet old new long none same =
+    takes_item (APacket packet) old new none (λ course gone no_why is.
+    subst (λ (long : Bool). StandsAt (if long then course else after_packet course packet) gone new) (sym long)
+    (subst (λ (whole : Whole). StandsAt course gone whole) (sym same) (stands_at_in_silence course gone old is)))
 
 -- by the result
 pub packet_led : (packet : Packet) (old new : Held) (frames after : Frames) (result : Result Unit HostFault) → is_drained old.controller (open_slots old) ≡ true

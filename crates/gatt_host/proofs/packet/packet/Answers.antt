@@ -1,4 +1,4 @@
-use Rattle.gatt_host.proofs.whole.Packets.{packet_led, result_not_own}
+use Rattle.gatt_host.proofs.whole.Packets.{packet_led, packet_told, result_not_own}
 use Rattle.gatt_host.proofs.packet.packet.Goals as goal
 use Rattle.le_h4.specs.Packet.{seen}
 
@@ -6,6 +6,8 @@ pub returns : goal.returns
 returns c = record {
   leads = packet_led (seen c.args.packet) c.args.state.now c.take_packet.new.state c.args.frames.now c.take_packet.new.frames c.take_packet.result c.requires.drained
       c.take_packet.ensures.taken c.take_packet.ensures.stops c.take_packet.ensures.unchanged c.take_packet.ensures.frames_unchanged;
+  told = λ ok. packet_told (seen c.args.packet) c.args.state.now c.take_packet.new.state c.args.frames.now c.take_packet.new.frames c.requires.drained
+      (c.take_packet.ensures.taken ok);
   not_own = result_not_own (seen c.args.packet) c.args.state.now c.take_packet.result c.take_packet.ensures.stops;
   unchanged = c.take_packet.ensures.unchanged;
 }

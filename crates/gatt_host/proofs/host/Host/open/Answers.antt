@@ -2,6 +2,7 @@ use Rattle.std.proofs.Common.{◌≡◌, true, None, sym, ◌∙◌}
 use Rattle.gatt_host.proofs.host.Host.open.Goals as goal
 use Rattle.gatt_host.proofs.whole.Opened.{held_at_first, reached_when_opened, stands_when_opened, without_fault}
 use Rattle.gatt_host.specs.contracts.host_state.HostState.{the_view}
+use Rattle.gatt_host.specs.declared.last_event.LastEvent.TheVariants as last
 use Rattle.gatt_host.specs.Held.{Held}
 use Rattle.gatt_host.specs.Opening.{is_configured}
 use Rattle.gatt_host.specs.Whole.{Whole}
@@ -18,9 +19,11 @@ returns-clause-opened c =
       time = 0;
       controller = c.new-2.result;
       slots = c.in-Ok.slots;
+      last = last.Quiet;
       written = c.new-3.result;
+      late = c.new-4.result;
     }) in
-    let whole : Whole = record { held = held; frames = c.from_fn.result; stream = c.new-4.result; fault = None } in
+    let whole : Whole = record { held = held; frames = c.from_fn.result; stream = c.new-5.result; fault = None } in
     let configured : is_configured c.args.config ≡ true = sym c.is_configured.ensures ∙ c.if-not-is_configured.false in
     let fitted : HasFittedBonds c.args.keys c.args.table c.args.rows c.fit.new.self =
     without_fault c.fit.result (sym c.is_err.ensures.value ∙ c.if-is_err.false) c.fit.ensures.each in
@@ -33,9 +36,12 @@ returns-clause-opened c =
       time = 0;
       controller = c.new-2.ensures.new i;
       slots = c.in-Ok.ensures i;
+      last = last.Quiet;
+      written = c.new-3.ensures i;
+      late = c.new-4.ensures i;
     } in
     stands_when_opened c.args.table c.args.keys c.args.rows c.fit.new.self c.args.config fitted whole configured same
-    c.from_fn.ensures.items.long c.new-4.ensures.at_start (λ i. None)
+    c.from_fn.ensures.items.long c.new-5.ensures.at_start (λ i. None)
 
 pub invariant_of-result-2 : goal.invariant_of-result-2
 invariant_of-result-2 c = reached_when_opened c.args.table c.args.keys c.args.rows c.args.config _ (returns-clause-opened c)

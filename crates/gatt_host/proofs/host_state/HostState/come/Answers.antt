@@ -10,7 +10,7 @@ use Rattle.gatt_host.proofs.host_state.HostState.come.Goals as goal
 pub returns : goal.returns
 returns c =
     let old : Held = the_view c.self.inside in
-    c.nothing.ensures ∙ come_then_heard old c.args.self.now c.self.view_is c.args.place c.args.handle c.args.peer c.share-share.result c.acl_len-acl_len.result c.known-key_known.result
+    c.end.ensures ∙ come_then_heard old c.args.self.now c.self.view_is c.args.place c.args.handle c.args.peer c.share-share.result c.acl_len-acl_len.result c.known-key_known.result
     c.came.new.self c.come.new.self
     (c.share-share.ensures.share ∙ ap (λ (count : ℕ). share count c.in-Some.buffers.packets) c.len.ensures.count
     ∙ ap (λ (told : Option Buffers). share_of (length old.slots) told) (sym c.in-Some.is ∙ c.told.ensures.told))

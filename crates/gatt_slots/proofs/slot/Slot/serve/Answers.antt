@@ -1,12 +1,13 @@
 use Rattle.std.proofs.Common.{sym, ◌∙◌, ap, subst, Option}
 use Rattle.std.specs.Option.{option_map}
-use Rattle.std.specs.Prelude.{is_some, IfSome, IsSome}
+use Rattle.std.specs.Prelude.{◌==◌, is_some, length, IfSome, IsSome}
 use Rattle.att_policy.specs.declared.standing.KeyFacts.{KeyFacts}
 use Rattle.att_policy.specs.declared.standing.Standing.{Standing}
 use Rattle.att_table.specs.ConfigRow.{IsRowOf}
 use Rattle.gatt_slots.specs.Hearing.{row_in_force}
 use Rattle.gatt_slots.specs.Kept.{Kept}
 use Rattle.gatt_slots.specs.Request.{bond_served, kept_served}
+use Rattle.gatt_slots.proofs.Confirming.{confirms_nothing}
 use Rattle.gatt_slots.proofs.Served.{bond_of_served, kept_after_serving, row_of_table}
 use Rattle.gatt_subs.specs.Rows.{row_of, ChangesBond}
 use Rattle.gatt_slots.proofs.slot.Slot.serve.Goals as goal
@@ -47,6 +48,10 @@ returns-clause-after c =
     (sym c.is_full.ensures.full ∙ c.if-is_full.false)
     (c.is_some-has_key.ensures ∙ ap (λ (key : Option KeyFacts). is_some key) c.facts.ensures.key)
     (c.stand.ensures ∙ ap (λ (standing : Standing). record inside.conn { standing = standing }) c.standing-standing.ensures)
-    c.answer_by_row-served.ensures.confirmed c.answer_by_row-served.ensures.own c.answer_by_row-served.ensures.conn c.take_confirmation.ensures
+    c.answer_by_row-served.ensures.confirmed c.answer_by_row-served.ensures.own c.answer_by_row-served.ensures.conn c.take_confirmation.ensures.pending
     c.answer_by_row-served.ensures.queued
     ∙ ap (λ (self : Option Kept). option_map (λ kept. kept_served c.args.table.now c.args.now (row_of old kept.peer) c.args.pdu.now kept) self) c.self.view_is
+
+pub returns-then-is_full-clause-confirmed : goal.returns-then-is_full-clause-confirmed
+returns-then-is_full-clause-confirmed c =
+    confirms_nothing c.args.pdu.now c.self.inside.conn.mtu (length c.self.inside.sender.outgoing.queue == 16) (sym c.is_full.ensures.full ∙ c.if-is_full.true) c.args.self.now

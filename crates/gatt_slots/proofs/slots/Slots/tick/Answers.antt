@@ -16,7 +16,7 @@ invariant_of-self c =
     let others = c.tick_all.new.slots in
     let change : Kept → Kept = (after_time c.args.now) in
     let changed : others ≡ map (λ (slot : Option Kept). option_map change slot) slots =
-    c.tick_all.ensures ∙ ap (λ (it : Held). map (λ (slot : Option Kept). option_map change slot) it) c.as_mut_slice.ensures.value in
+    c.tick_all.ensures.after ∙ ap (λ (it : Held). map (λ (slot : Option Kept). option_map change slot) it) c.as_mut_slice.ensures.value in
     let count : length others ≡ length slots = ap (λ (it : Held). length it) changed ∙ length-map slots (λ (slot : Option Kept). option_map change slot) in
     subst (λ (it : Held). IsMarked it c.all-self-inside.result × AreNoted it noted) (sym (written_over c.self.inside.slots.len slots others count (ap (λ (it : Held). length it) (sym c.as_mut_slice.ensures.value) ∙ c.as_mut_slice.ensures.len)))
     (c.all-self-inside.ensures others (omega (arith, c.self.invariant.0.few, count)), each_noted slots others noted change (λ kept. refl) changed c.self.invariant.1)

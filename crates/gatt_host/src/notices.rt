@@ -1,0 +1,150 @@
+//! The notices of the last event, read from what is held.
+
+ghost use Rattle.std.specs.Prelude.{◌≡◌, ◌==◌, [], ◌∷◌, ◌++◌, map, if◌then◌else◌, slice_get, IfSome, IsSome, Some, None};
+ghost use Rattle.std.specs.Option.{option_map, option_to_list};
+ghost use Rattle.att_numbers.specs.Types.{Handle};
+ghost use Rattle.att_attributes.specs.Attributes.{attribute_at};
+ghost use Rattle.att_table.specs.Table.{value_at};
+ghost use Rattle.gatt_laws.specs.Notice.{Confirmed, Ending, write_told};
+ghost use Rattle.gatt_laws.specs.Turn.{remote_user_terminated};
+ghost use Rattle.gatt_host.specs.Notices.{last_notices, link_change_told, notice_of, row_there, served_told, HasTheValue};
+
+use crate::host_state::HostState;
+use crate::last_event::LastEvent;
+use crate::notice::Notice;
+use att_policy::KeyFacts;
+use att_table::{Role, Table};
+use gatt_slots::{AUTHENTICATION_FAILURE, Brought, REMOTE_USER_TERMINATED};
+
+impl HostState {
+    /// The notice at a place among those of the last event, counted from 0, if there are so many.
+    pub(crate) fn notice(&self, at: usize) -> Option<Notice<'_>>
+        ensures notice { option_map notice_of result ≡ slice_get (last_notices self.now) at }
+        ensures value { IfSome result (HasTheValue self.now.table) }
+    {
+        match self.last {
+            LastEvent::Quiet => None,
+            LastEvent::Connected { handle, peer } => only(at, Notice::Connected { handle, peer }),
+            LastEvent::Disconnected { handle } => only(at, Notice::Disconnected { handle }),
+            LastEvent::LinkChanged {
+                handle,
+                before,
+                after,
+            } => link_notice(at, handle, before, after),
+            LastEvent::Served {
+                place,
+                handle,
+                brought,
+            } => self.served_notice(at, place, handle, brought),
+            LastEvent::Ended { handle, reason } => only(at, Notice::Ending { handle, reason }),
+            LastEvent::Ticked => match self.late.get(at) {
+                Some(handle) => Some(Notice::TimedOut { handle: *handle }),
+                None => None,
+            },
+        }
+    }
+
+    /// Of a connection that was served: first what it wrote.
+    fn served_notice(
+        &self,
+        at: usize,
+        place: usize,
+        handle: u16,
+        brought: Brought,
+    ) -> Option<Notice<'_>>
+        ensures notice { option_map notice_of result ≡ slice_get (served_told self.now place handle brought) at }
+        ensures value { IfSome result (HasTheValue self.now.table) }
+    {
+        match self.written.get(at) {
+            Some(attribute) => Some(self.write_notice(place, handle, *attribute)),
+            None => brought_notice(at - self.written.len(), handle, brought),
+        }
+    }
+
+    /// What it wrote at a handle.
+    fn write_notice(&self, place: usize, handle: u16, attribute: u16) -> Notice<'_>
+        ensures notice { notice_of result ≡ write_told self.now.table.attributes (row_there self.now place) handle attribute }
+        ensures value { HasTheValue self.now.table result }
+    {
+        match self.table.get(attribute) {
+            Some(attr) if attr.role == Role::Configuration => Notice::Configured {
+                handle,
+                attribute,
+                bits: self.slots.bits(place, &self.rows, attribute),
+            },
+            _ => Notice::Written {
+                handle,
+                attribute,
+                value: value_at(&self.table, attribute),
+            },
+        }
+    }
+}
+
+/// The value at a handle: no octets where there is no attribute.
+fn value_at(table: &Table, handle: u16) -> &[u8]
+    ensures { IsSome (attribute_at table.now.attributes handle) → result.now ≡ value_at table.now.values handle }
+{
+    match table.get(handle) {
+        Some(_) => table.value(handle),
+        None => &[],
+    }
+}
+
+/// Of one notice the one at a place.
+fn only(at: usize, notice: Notice<'_>) -> Option<Notice<'_>>
+    ensures { result ≡ (if at == 0 then Some notice.entry else None) }
+{
+    if at == 0 { Some(notice) } else { None }
+}
+
+/// Of a link whose key was worth this before, and is worth that now.
+fn link_notice(
+    at: usize,
+    handle: u16,
+    before: Option<KeyFacts>,
+    after: Option<KeyFacts>,
+) -> Option<Notice<'static>>
+    ensures notice { option_map notice_of result ≡ slice_get (link_change_told handle before after) at }
+{
+    match (before, after) {
+        (None, None) => None,
+        (None, Some(facts)) => only(at, Notice::Secured { handle, facts }),
+        (Some(before), Some(facts)) => {
+            if before == facts {
+                None
+            } else {
+                only(at, Notice::Secured { handle, facts })
+            }
+        }
+        (Some(_), None) => match at {
+            0 => Some(Notice::Unsecured { handle }),
+            1 => Some(Notice::Ending {
+                handle,
+                reason: AUTHENTICATION_FAILURE,
+            }),
+            _ => None,
+        },
+    }
+}
+
+/// What a request brought, beside what it wrote.
+fn brought_notice(at: usize, handle: u16, brought: Brought) -> Option<Notice<'static>>
+    ensures notice { option_map notice_of result ≡ slice_get (map (Confirmed handle) (option_to_list brought.confirmed)
+        ++ (if brought.ended then Ending handle remote_user_terminated ∷ [] else [])) at }
+{
+    let ending = Notice::Ending {
+        handle,
+        reason: REMOTE_USER_TERMINATED,
+    };
+    match (brought.confirmed, brought.ended) {
+        (None, false) => None,
+        (None, true) => only(at, ending),
+        (Some(attribute), false) => only(at, Notice::Confirmed { handle, attribute }),
+        (Some(attribute), true) => match at {
+            0 => Some(Notice::Confirmed { handle, attribute }),
+            1 => Some(ending),
+            _ => None,
+        },
+    }
+}
