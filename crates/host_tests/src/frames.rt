@@ -32,13 +32,14 @@ const IN_FRAGMENTS: &[Step] = &[
     Step::Octets(THIRD, ANSWER),
 ];
 
-/// A continuation without a beginning, a packet that is too long, and one of another connection are
-/// passed over.
+/// A continuation without a beginning, a packet that is too long, one of another connection, and the
+/// event of a disconnection that failed are passed over.
 const PASSED_OVER: &[Step] = &[
     Step::Connects(0x40, Stranger, "010a200101"),
     Step::Octets("0240100700030004000a0300", ""),
     Step::Octets("0241200700030004000a0300", ""),
     Step::Long("0240200104", 1025, ""),
+    Step::Octets("04050412400013", ""),
     Step::Octets(FIRST, ""),
     Step::Octets(SECOND, ""),
     Step::Octets(THIRD, ANSWER),
