@@ -1,4 +1,5 @@
 pub mod Appending
+pub mod Doing
 pub mod Exchanging
 pub mod Inputs
 pub mod KeyFiles

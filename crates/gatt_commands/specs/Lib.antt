@@ -1,5 +1,6 @@
 pub mod Att
 pub mod Check
+pub mod Doing
 pub mod Exchange
 pub mod Fault
 pub mod Input

@@ -1,8 +1,11 @@
 //! What a line of a script has phones and the application do.
 
-ghost use Rattle.std.specs.Prelude.{◌≡◌, ◌<◌, ◌≤◌, ℕ, true, IfSome, IsSome, OnErr};
+ghost use Rattle.std.specs.Prelude.{◌≡◌, ◌<◌, ◌≤◌, ℕ, true, IfSome, IsSome};
+ghost use Rattle.gatt_host.specs.Asked.{call_of};
 ghost use Rattle.gatt_host.specs.Whole.{all_out};
 ghost use Rattle.scripts.specs.Phones.{IsOfPhoneBelow};
+ghost use Rattle.sim_controller.specs.Acts.{Does as SimDoes};
+ghost use Rattle.gatt_commands.specs.Doing.{Calls, Does, PhoneActs, ReplacesBy, sim_act, stage_of};
 ghost use Rattle.gatt_commands.specs.Lines.{IsOfPhone};
 
 use arrayvec::ArrayVec;
@@ -32,20 +35,14 @@ pub(crate) fn do_act(
 ) -> Option<Refused>
     requires drained { all_out host.old ≡ true }
     requires phone { IsOfPhoneBelow 8 act.now }
+    ensures does { Does act.now result (stage_of host.old sim.old next.old) (stage_of host.new sim.new next.new) }
     ensures named { (count : ℕ) → IsOfPhoneBelow count act.now → IfSome result (IsOfPhone count) }
-    // What is refused changes nothing.
-    ensures host { IsSome result → host.new ≡ host.old }
+    // What is refused leaves the controller and the table as they are.
     ensures sim { IsSome result → sim.new ≡ sim.old }
     ensures next { IsSome result → next.new ≡ next.old }
 {
     match act {
-        Act::Phone { phone, act } => {
-            let fault = do_phone_act(sim, *phone, act).err()?;
-            Some(Refused::Act {
-                phone: *phone,
-                number: fault.number(),
-            })
-        }
+        Act::Phone { phone, act } => phone_act(sim, *phone, act),
         Act::Authorize { phone, until } => {
             let handle = FIRST_HANDLE + u16::from(*phone);
             call(host, App::Authorize(handle, *until))
@@ -63,18 +60,20 @@ pub(crate) fn do_act(
 /// A call of the application.
 fn call(host: &mut Host, call: App<'_>) -> Option<Refused>
     requires { all_out host.old ≡ true }
+    ensures calls { Calls (call_of call.entry) result host.old host.new }
     ensures named { (count : ℕ) → IfSome result (IsOfPhone count) }
-    ensures unchanged { IsSome result → host.new ≡ host.old }
 {
-    let fault = host.app(call).err()?;
-    Some(Refused::Call(fault.number()))
+    match host.app(call) {
+        Ok(()) => None,
+        Err(fault) => Some(Refused::Call(fault.number())),
+    }
 }
 
 /// The tables change places, where there is another one.
 fn replace(host: &mut Host, next: &mut Option<Table>) -> Option<Refused>
     requires { all_out host.old ≡ true }
+    ensures replaces { ReplacesBy next.old result host.old host.new next.new }
     ensures named { (count : ℕ) → IfSome result (IsOfPhone count) }
-    ensures host { IsSome result → host.new ≡ host.old }
     ensures next { IsSome result → next.new ≡ next.old }
 {
     let table = next.take()?;
@@ -90,10 +89,26 @@ fn replace(host: &mut Host, next: &mut Option<Table>) -> Option<Refused>
     }
 }
 
-/// What a phone does.
+/// What a phone does, unless the controller refuses it.
+fn phone_act(sim: &mut Sim, phone: u8, act: &PhoneAct<'_>) -> Option<Refused>
+    requires { phone < 8 }
+    ensures acts { PhoneActs (sim_act phone act.now) result sim.old sim.new }
+    ensures named { (count : ℕ) → phone < count → IfSome result (IsOfPhone count) }
+    ensures unchanged { IsSome result → sim.new ≡ sim.old }
+{
+    match do_phone_act(sim, phone, act) {
+        Ok(()) => None,
+        Err(fault) => Some(Refused::Act {
+            phone,
+            number: fault.number(),
+        }),
+    }
+}
+
+/// What a phone does to the controller.
 fn do_phone_act(sim: &mut Sim, phone: u8, act: &PhoneAct<'_>) -> Result<(), SimFault>
     requires { phone < 8 }
-    ensures { OnErr result (sim.new ≡ sim.old) }
+    ensures { SimDoes (sim_act phone act.now) sim.old sim.new result }
 {
     match act {
         PhoneAct::Connect { peer } => sim.act(sim_controller::PhoneAct::Connect {

@@ -1,0 +1,121 @@
+-- What a line of a script has phones and the application do: this profile's own.
+use Rattle.std.specs.Prelude.{◌≡◌, ℕ, if◌then◌else◌, is_some, List, Option, Some, None, IsSome}
+use Rattle.std.specs.Option.{option_map}
+use Rattle.att_table.specs.Table.{Contents}
+use Rattle.gatt_host.specs.Telling.{silent}
+use Rattle.gatt_host.specs.Whole.{Takes, Whole, StandsAt}
+use Rattle.gatt_laws.specs.Calls.{Call, UpdateCall, AuthorizeCall, TickCall}
+use Rattle.gatt_laws.specs.Calls as why
+use Rattle.gatt_laws.specs.Input.{Item, ACall, ATable, call_refusal, course, replacement_refusal}
+use Rattle.gatt_laws.specs.Start.{Start}
+use Rattle.octets.specs.Number.{Octets}
+use Rattle.scripts.specs.declared.act.Act.{Act}
+use Rattle.scripts.specs.declared.act.Act.TheVariants as line
+use Rattle.scripts.specs.declared.act.PhoneAct.{PhoneAct}
+use Rattle.scripts.specs.declared.act.PhoneAct.TheVariants as does
+use Rattle.sim_controller.specs.Acts as sim
+use Rattle.sim_controller.specs.Acts.{act_fault, phone_in}
+use Rattle.sim_controller.specs.Calls.{Acts, after_call}
+use Rattle.sim_controller.specs.declared.fault.SimFault.{SimFault}
+use Rattle.sim_controller.specs.Phones.{handle_of_phone}
+use Rattle.sim_controller.specs.SimFault.{number_of}
+use Rattle.sim_controller.specs.Simulated.{Simulated}
+use Rattle.gatt_commands.specs.declared.acts.Refused.{Refused}
+use Rattle.gatt_commands.specs.declared.acts.Refused.TheVariants as refused
+
+-- what stands between two lines: a host, its controller, and the table by which the next replacement replaces
+pub record Stage : Type 0 where
+  pub host : Whole
+  pub sim : Simulated
+  pub next : Option Contents
+
+abbrev pub stage_of : Whole → Simulated → Option Contents → Stage
+stage_of host sim next = record { host = host; sim = sim; next = next }
+
+-- what the phone of a number does to the controller
+abbrev pub sim_act : ℕ → PhoneAct → sim.Act
+sim_act phone (does.Connect peer) = sim.Connect phone peer
+sim_act phone does.Drop = sim.Drop phone
+sim_act phone (does.Encrypt random_number diversifier) = sim.Encrypt phone random_number diversifier
+sim_act phone does.Clear = sim.Clear phone
+sim_act phone (does.Send channel payload) = sim.Send phone channel payload
+sim_act phone does.Hold = sim.Hold phone
+sim_act phone (does.Done packets) = sim.Done phone packets
+
+-- an act that is refused is told with its phone and the number of the fault, and changes nothing
+abbrev pub refused_act : ℕ → SimFault → Refused
+refused_act phone fault = refused.Act phone (number_of fault)
+
+pub record PhoneActs (act : sim.Act) (told : Option Refused) (old new : Simulated) : Type 0 where
+  pub refused : told ≡ option_map (refused_act (phone_in act)) (act_fault old act)
+  pub after : new ≡ after_call old (Acts act)
+
+-- the numbers of refused calls
+abbrev pub number_of_why : why.Refused → ℕ
+number_of_why why.NoSuchHandle = 1
+number_of_why why.NotAValue = 2
+number_of_why why.BadLength = 3
+number_of_why why.NoSuchConnection = 4
+number_of_why why.TimeWentBack = 5
+number_of_why why.Stopped = 6
+number_of_why why.NoServiceChanged = 7
+
+abbrev pub refused_call : why.Refused → Refused
+refused_call reason = refused.Call (number_of_why reason)
+
+-- wherever the host stood, what is told is why the call is refused
+abbrev pub TellsWhy : Call → Option Refused → Whole → Type 0
+TellsWhy call told old = (start : Start) (input : List Item) (gone : List Octets) → StandsAt (course start input) gone old
+    → told ≡ option_map refused_call (call_refusal (course start input).intake call)
+
+-- the host takes in a call of the application, or refuses it, and then only what was told last is forgotten
+pub record Calls (call : Call) (told : Option Refused) (old new : Whole) : Type 0 where
+  pub takes : old.fault ≡ None → Takes (ACall call) old new
+  pub refused : old.fault ≡ None → TellsWhy call told old
+  pub stopped : IsSome old.fault → told ≡ Some (refused_call why.Stopped)
+  pub unchanged : IsSome told → new ≡ silent old
+
+-- the same of a table that replaces the one that stands
+abbrev pub TellsWhyNot : Contents → Option Refused → Whole → Type 0
+TellsWhyNot table told old = (start : Start) (input : List Item) (gone : List Octets) → StandsAt (course start input) gone old
+    → told ≡ option_map refused_call (replacement_refusal (course start input).intake table)
+
+-- the two tables change places, unless the replacement is refused
+pub record Replaces (table : Contents) (told : Option Refused) (old new : Whole) (next : Option Contents) : Type 0 where
+  pub takes : old.fault ≡ None → Takes (ATable table) old new
+  pub refused : old.fault ≡ None → TellsWhyNot table told old
+  pub stopped : IsSome old.fault → told ≡ Some (refused_call why.Stopped)
+  pub unchanged : IsSome told → new ≡ silent old
+  pub next_then : next ≡ Some (if is_some told then table else old.held.table)
+
+-- without another table nothing is done
+pub record ReplacesNone (told : Option Refused) (old new : Whole) (next : Option Contents) : Type 0 where
+  pub not_told : told ≡ None
+  pub same : new ≡ old
+  pub still_none : next ≡ None
+
+abbrev pub ReplacesBy : Option Contents → Option Refused → Whole → Whole → Option Contents → Type 0
+ReplacesBy None told old new next = ReplacesNone told old new next
+ReplacesBy (Some table) told old new next = Replaces table told old new next
+
+-- what one line does, and what is told of it where it is refused
+pub record ByPhone (act : sim.Act) (told : Option Refused) (old new : Stage) : Type 0 where
+  pub acts : PhoneActs act told old.sim new.sim
+  pub host : new.host ≡ old.host
+  pub next : new.next ≡ old.next
+
+pub record ByCall (call : Call) (told : Option Refused) (old new : Stage) : Type 0 where
+  pub calls : Calls call told old.host new.host
+  pub sim : new.sim ≡ old.sim
+  pub next : new.next ≡ old.next
+
+pub record ByReplacing (told : Option Refused) (old new : Stage) : Type 0 where
+  pub replaces : ReplacesBy old.next told old.host new.host new.next
+  pub sim : new.sim ≡ old.sim
+
+abbrev pub Does : Act → Option Refused → Stage → Stage → Type 0
+Does (line.Phone phone act) told old new = ByPhone (sim_act phone act) told old new
+Does (line.Authorize phone until) told old new = ByCall (AuthorizeCall (handle_of_phone phone) until) told old new
+Does (line.Update handle value) told old new = ByCall (UpdateCall handle value) told old new
+Does (line.Tick time) told old new = ByCall (TickCall time) told old new
+Does line.Replace told old new = ByReplacing told old new
