@@ -1,23 +1,23 @@
-//! The program `gatt_shell`: the words of the command line choose a command, and the library
-//! `gatt_commands` carries it out over standard input and standard output.
+//! The program `gatt_shell`: the words of the command line choose a command, as the library
+//! `gatt_words` reads them, and the library `gatt_commands` carries it out over standard input and
+//! standard output.
 #![tactic(auto)]
-
-mod help;
-mod words;
 
 ghost use Rattle.std.specs.Prelude.{◌≡◌, Ok, Err, IfErr, true, false};
 ghost use Rattle.gatt_commands.specs.Check.{IsCheckFault};
 ghost use Rattle.gatt_commands.specs.Fault.{status_of};
 
 use arrayvec::ArrayVec;
-use gatt_commands::{Address, KeysPath, RunPaths, ServePaths, ShellFault, TablePath};
+use gatt_commands::{
+    Address, KeysPath, NextPath, RowsPath, RunPaths, ScriptPath, ServePaths, ShellFault, TablePath,
+};
+use gatt_words::{Choice, Refusal};
 use std::fs::Files;
-use std::io::{ErrorKind, LineWriter, Write};
+use std::io::{LineWriter, Write};
 use std::net::{Net, TcpListener, TcpStream};
 use std::process::ExitCode;
 use std::rt::Env;
-use std::{env, io, str};
-use words::{Choice, Refusal};
+use std::{io, str};
 
 /// Prints the text of a fault on standard error. Where that cannot be written, nobody can be told.
 fn tell(rt: &impl Eprint, fault: &ShellFault) {
@@ -107,21 +107,47 @@ fn run_script(
     outcome_of(ran, writer.flush().is_ok())
 }
 
-/// Serves a controller over the first connection to an address.
-fn serve(
-    rt: &(impl Files + Net<Listener = TcpListener, Stream = TcpStream> + AllocGlobal),
-    paths: ServePaths<'_>,
-    address: Address<'_>,
+/// Carries out the command that the words have chosen.
+fn carry_out(
+    rt: &(impl Files
+        + Net<Listener = TcpListener, Stream = TcpStream>
+        + Input
+        + Print
+        + AllocGlobal),
+    choice: Choice<'_>,
 ) -> Result<(), ShellFault> {
-    gatt_commands::serve_paths(rt.alloc(), rt, paths, address)
-}
-
-/// The words of the command line. One that is no text is not understood.
-fn words_of(rt: &(impl Env + AllocGlobal)) -> Result<Vec<String>, Refusal> {
-    match env::args(rt) {
-        Ok(words) => words.collect(rt.alloc()).map_err(|_| Refusal::Memory),
-        Err(error) if error.kind() == ErrorKind::InvalidData => Err(Refusal::Misunderstood),
-        Err(_) => Err(Refusal::Memory),
+    match choice {
+        Choice::Att => run_att(rt),
+        Choice::Check { table, keys } => run_check(rt, TablePath(table), KeysPath(keys)),
+        Choice::Run {
+            table,
+            next,
+            keys,
+            rows,
+            script,
+        } => {
+            let paths = RunPaths {
+                table: TablePath(table),
+                next: NextPath(next),
+                keys: KeysPath(keys),
+                rows: RowsPath(rows),
+                script: ScriptPath(script),
+            };
+            run_script(rt, paths)
+        }
+        Choice::Serve {
+            table,
+            keys,
+            rows,
+            address,
+        } => {
+            let paths = ServePaths {
+                table: TablePath(table),
+                keys: KeysPath(keys),
+                rows: RowsPath(rows),
+            };
+            gatt_commands::serve_paths(rt.alloc(), rt, paths, Address(address))
+        }
     }
 }
 
@@ -135,11 +161,8 @@ fn run_words(
         + AllocGlobal),
     words: &[String],
 ) -> u8 {
-    match words::chosen(rt.alloc(), words) {
-        Ok(Choice::Att) => exit_status(rt, run_att(rt)),
-        Ok(Choice::Check { table, keys }) => exit_status(rt, run_check(rt, table, keys)),
-        Ok(Choice::Run(paths)) => exit_status(rt, run_script(rt, paths)),
-        Ok(Choice::Serve { paths, address }) => exit_status(rt, serve(rt, paths, address)),
+    match gatt_words::chosen(rt.alloc(), words) {
+        Ok(choice) => exit_status(rt, carry_out(rt, choice)),
         Err(refusal) => refusal_status(rt, &refusal),
     }
 }
@@ -154,7 +177,7 @@ fn run(
         + Eprint
         + AllocGlobal),
 ) -> u8 {
-    match words_of(rt) {
+    match gatt_words::words_of(rt) {
         Ok(words) => run_words(rt, words.as_slice()),
         Err(refusal) => refusal_status(rt, &refusal),
     }

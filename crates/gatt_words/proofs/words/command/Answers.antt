@@ -1,9 +1,9 @@
 use Rattle.std.proofs.Common.{rules, ◌≡◌, []}
 use Rattle.std.proofs.lemmas.Result.{IfOk-weaker}
 use Rattle.clap.specs.Words.{app_of}
-use Rattle.gatt_shell.specs.CommandLine.{program_shape}
-use Rattle.gatt_shell.proofs.CommandLines.{added_to}
-use Rattle.gatt_shell.proofs.words.command.Goals as goal
+use Rattle.gatt_words.specs.CommandLine.{program_shape}
+use Rattle.gatt_words.proofs.CommandLines.{added_to}
+use Rattle.gatt_words.proofs.words.command.Goals as goal
 
 pub returns : goal.returns
 returns c =

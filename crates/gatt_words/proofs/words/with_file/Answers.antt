@@ -1,6 +1,6 @@
 use Rattle.std.proofs.lemmas.Result.{IfOk-weaker}
-use Rattle.gatt_shell.proofs.CommandLines.{stays_local}
-use Rattle.gatt_shell.proofs.words.with_file.Goals as goal
+use Rattle.gatt_words.proofs.CommandLines.{stays_local}
+use Rattle.gatt_words.proofs.words.with_file.Goals as goal
 
 pub returns-clause-local : goal.returns-clause-local
 returns-clause-local c =

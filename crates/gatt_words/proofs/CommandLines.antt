@@ -15,9 +15,9 @@ use Rattle.clap.specs.declared.error.ErrorKind.TheVariants.{InvalidValue, Unknow
 use Rattle.clap.specs.declared.Error.{Error}
 use Rattle.clap.proofs.OnLiterals.{clap_on_literals}
 use Rattle.clap.proofs.WalkLemmas.{first_value-rows}
-use Rattle.gatt_shell.specs.CommandLine.{command_line}
-use Rattle.gatt_shell.specs.Refusal.{ShowsUnlessMemory, refusal_for}
-use Rattle.gatt_shell.specs.declared.words.Refusal.TheVariants.{Shown, Misunderstood, Memory}
+use Rattle.gatt_words.specs.CommandLine.{command_line}
+use Rattle.gatt_words.specs.Refusal.{ShowsUnlessMemory, refusal_for}
+use Rattle.gatt_words.specs.declared.words.Refusal.TheVariants.{Shown, Misunderstood, Memory}
 
 -- the word `att` alone passes
 pub att_taken : (program : List ℕ) → takes command_line (program ∷ codes "att" ∷ []) ≡ true

@@ -4,8 +4,8 @@ use Rattle.clap.specs.Words.{kind_of}
 use Rattle.clap.specs.declared.error.Error.{Error}
 use Rattle.clap.specs.declared.error.kind.ErrorKind.{ErrorKind}
 use Rattle.clap.specs.declared.error.kind.ErrorKind.TheVariants.{DisplayHelp, DisplayVersion, OutOfMemory}
-use Rattle.gatt_shell.specs.declared.words.Refusal.{Refusal}
-use Rattle.gatt_shell.specs.declared.words.Refusal.TheVariants.{Shown, Misunderstood, Memory}
+use Rattle.gatt_words.specs.declared.words.Refusal.{Refusal}
+use Rattle.gatt_words.specs.declared.words.Refusal.TheVariants.{Shown, Misunderstood, Memory}
 
 -- of a parser's error with this kind: its text where help or the version was asked for, that memory
 -- was refused, and else nothing

@@ -1,10 +1,10 @@
 use Rattle.std.proofs.Common.{rules, ◌≡◌, [], ◌∷◌, map, codes, option_map, string_bytes, List, ℕ, Some, true, refl, sym, subst, ap, ◌∙◌}
 use Rattle.clap.specs.Words.{HasKind, Kinds, app_of, fault_of, is_simple, is_simple_and_free, subcommand_name_of, subcommand_of, subcommand_rows_of, takes}
-use Rattle.gatt_shell.specs.CommandLine.{command_line}
-use Rattle.gatt_shell.specs.Refusal.{refusal_for}
-use Rattle.gatt_shell.specs.declared.words.Refusal.TheVariants.{Shown}
-use Rattle.gatt_shell.proofs.CommandLines.{att_taken, att_named, none_faults, help_faults, version_faults, takes_behind, named_behind, missing_refused, help_shown, version_shown, shown_among, name-rows, kinds_at, faulty}
-use Rattle.gatt_shell.proofs.words.chosen.Goals as goal
+use Rattle.gatt_words.specs.CommandLine.{command_line}
+use Rattle.gatt_words.specs.Refusal.{refusal_for}
+use Rattle.gatt_words.specs.declared.words.Refusal.TheVariants.{Shown}
+use Rattle.gatt_words.proofs.CommandLines.{att_taken, att_named, none_faults, help_faults, version_faults, takes_behind, named_behind, missing_refused, help_shown, version_shown, shown_among, name-rows, kinds_at, faulty}
+use Rattle.gatt_words.proofs.words.chosen.Goals as goal
 
 pub returns-in-Ok-try_get_matches_from-clause-att :
     goal.returns-in-Ok-try_get_matches_from-clause-att

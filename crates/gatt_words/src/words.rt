@@ -5,38 +5,50 @@ ghost use Rattle.clap.specs.Words.{IsAmong, app_of, fault_of, kind_of, shape_of,
 ghost use Rattle.clap.specs.declared.builder.Command.TheViews.{out-Command};
 ghost use Rattle.clap.specs.Words.{found_of, rows_of, subcommand_name_of, subcommand_of, subcommand_rows_of};
 ghost use Rattle.clap.specs.Words.{rule_of, IsPlainArg};
-ghost use Rattle.gatt_shell.specs.CommandLine.{att_shape, file_rule, option_rule, check_shape, run_shape, serve_shape, command_line, name_of};
-ghost use Rattle.gatt_shell.specs.CommandLine.{HasFiles, HasFilesOf};
-ghost use Rattle.gatt_shell.specs.Refusal.{ShowsUnlessMemory, refusal_for};
+ghost use Rattle.gatt_words.specs.CommandLine.{att_shape, file_rule, option_rule, check_shape, run_shape, serve_shape, command_line, name_of};
+ghost use Rattle.gatt_words.specs.CommandLine.{HasFiles, HasFilesOf};
+ghost use Rattle.gatt_words.specs.Refusal.{ShowsUnlessMemory, refusal_for};
 
 use crate::help;
 use clap::error::ErrorKind;
 use clap::{Arg, ArgAction, ArgMatches, Command, Error};
-use gatt_commands::{
-    Address, KeysPath, NextPath, RowsPath, RunPaths, ScriptPath, ServePaths, TablePath,
-};
 use std::alloc::{AllocError, Global};
 
-/// The command that the words choose.
+/// The command that the words choose, with the paths of its files.
 #[derive(Clone, Copy)]
 pub enum Choice<'a> {
     /// Answers ATT PDUs from standard input.
     Att,
-    /// Judges files, which are named by their paths.
+    /// Judges files.
     Check {
         /// The table file.
-        table: TablePath<'a>,
+        table: &'a str,
         /// The key file.
-        keys: KeysPath<'a>,
+        keys: &'a str,
     },
     /// Runs a script.
-    Run(RunPaths<'a>),
+    Run {
+        /// The table file.
+        table: &'a str,
+        /// The table file that replaces it.
+        next: Option<&'a str>,
+        /// The key file.
+        keys: &'a str,
+        /// The rows file.
+        rows: Option<&'a str>,
+        /// The script.
+        script: &'a str,
+    },
     /// Serves a controller over a connection.
     Serve {
-        /// The files.
-        paths: ServePaths<'a>,
+        /// The table file.
+        table: &'a str,
+        /// The key file.
+        keys: &'a str,
+        /// The rows file.
+        rows: Option<&'a str>,
         /// Where the connection is accepted.
-        address: Address<'a>,
+        address: &'a str,
     },
 }
 
@@ -91,11 +103,9 @@ fn checking<'a>(arguments: &ArgMatches<'a>) -> Option<Choice<'a>>
     ensures name { IfSome result (λ choice. name_of choice ≡ codes "check") }
     ensures files { IfSome result (HasFilesOf (rows_of (found_of arguments.now))) }
 {
-    let table = arguments.get_str(help::TABLE)?;
-    let keys = arguments.get_str(help::KEYS)?;
     Some(Choice::Check {
-        table: TablePath(table),
-        keys: KeysPath(keys),
+        table: arguments.get_str(help::TABLE)?,
+        keys: arguments.get_str(help::KEYS)?,
     })
 }
 
@@ -105,13 +115,13 @@ fn running<'a>(arguments: &ArgMatches<'a>) -> Option<Choice<'a>>
     ensures name { IfSome result (λ choice. name_of choice ≡ codes "run") }
     ensures files { IfSome result (HasFilesOf (rows_of (found_of arguments.now))) }
 {
-    Some(Choice::Run(RunPaths {
-        table: TablePath(arguments.get_str(help::TABLE)?),
-        next: NextPath(arguments.get_str(help::NEXT)),
-        keys: KeysPath(arguments.get_str(help::KEYS)?),
-        rows: RowsPath(arguments.get_str(help::ROWS)),
-        script: ScriptPath(arguments.get_str(help::SCRIPT)?),
-    }))
+    Some(Choice::Run {
+        table: arguments.get_str(help::TABLE)?,
+        next: arguments.get_str(help::NEXT),
+        keys: arguments.get_str(help::KEYS)?,
+        rows: arguments.get_str(help::ROWS),
+        script: arguments.get_str(help::SCRIPT)?,
+    })
 }
 
 /// The choice of `serve`, with its files and its address.
@@ -120,13 +130,12 @@ fn serving<'a>(arguments: &ArgMatches<'a>) -> Option<Choice<'a>>
     ensures name { IfSome result (λ choice. name_of choice ≡ codes "serve") }
     ensures files { IfSome result (HasFilesOf (rows_of (found_of arguments.now))) }
 {
-    let paths = ServePaths {
-        table: TablePath(arguments.get_str(help::TABLE)?),
-        keys: KeysPath(arguments.get_str(help::KEYS)?),
-        rows: RowsPath(arguments.get_str(help::ROWS)),
-    };
-    let address = Address(arguments.get_str(help::ADDRESS)?);
-    Some(Choice::Serve { paths, address })
+    Some(Choice::Serve {
+        table: arguments.get_str(help::TABLE)?,
+        keys: arguments.get_str(help::KEYS)?,
+        rows: arguments.get_str(help::ROWS),
+        address: arguments.get_str(help::ADDRESS)?,
+    })
 }
 
 /// What is told where the parser refuses the words: its text only where help or the version was

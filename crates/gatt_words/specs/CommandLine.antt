@@ -2,8 +2,8 @@
 use Rattle.std.specs.Prelude.{◌≡◌, ℕ, List, [], codes, true, Option, Some, IfSome, option_map}
 use Rattle.clap.specs.Words.{App, Row, Rule, Shape, Text, first_of, new_app, new_rule, with_rule, with_subcommand}
 use Rattle.clap.specs.declared.builder.action.ArgAction.TheVariants.{Set}
-use Rattle.gatt_shell.specs.declared.words.Choice.{Choice}
-use Rattle.gatt_shell.specs.declared.words.Choice.TheVariants.{Att, Check, Run, Serve}
+use Rattle.gatt_words.specs.declared.words.Choice.{Choice}
+use Rattle.gatt_words.specs.declared.words.Choice.TheVariants.{Att, Check, Run, Serve}
 
 -- the command `att`, which has no argument
 abbrev pub att_shape : Shape
@@ -50,23 +50,30 @@ command_line =
 abbrev pub name_of : Choice → List ℕ
 name_of Att = codes "att"
 name_of (Check table keys) = codes "check"
-name_of (Run paths) = codes "run"
-name_of (Serve paths address) = codes "serve"
+name_of (Run table next keys rows script) = codes "run"
+name_of (Serve table keys rows address) = codes "serve"
+
+-- an argument is a path, and an option is one or is left out
+abbrev pub IsGiven : List ℕ → List Row → List ℕ → Type 0
+IsGiven name arguments path = first_of name arguments ≡ Some path
+
+abbrev pub IsGivenIfAny : List ℕ → List Row → Option (List ℕ) → Type 0
+IsGivenIfAny name arguments path = first_of name arguments ≡ path
 
 -- the files of a choice are those that these arguments of its command give
 abbrev pub HasFilesOf : List Row → Choice → Type 0
 HasFilesOf arguments Att = Unit {0}
 HasFilesOf arguments (Check table keys) =
-    (first_of (codes "TABLE") arguments ≡ Some table.0.now) × (first_of (codes "KEYS") arguments ≡ Some keys.0.now)
-HasFilesOf arguments (Run paths) =
-    (first_of (codes "TABLE") arguments ≡ Some paths.table.0.now) × (first_of (codes "KEYS") arguments ≡ Some paths.keys.0.now)
-    × (first_of (codes "SCRIPT") arguments ≡ Some paths.script.0.now)
-    × (first_of (codes "rows") arguments ≡ option_map (λ path. path.now) paths.rows.0)
-    × (first_of (codes "next") arguments ≡ option_map (λ path. path.now) paths.next.0)
-HasFilesOf arguments (Serve paths address) =
-    (first_of (codes "TABLE") arguments ≡ Some paths.table.0.now) × (first_of (codes "KEYS") arguments ≡ Some paths.keys.0.now)
-    × (first_of (codes "ADDRESS") arguments ≡ Some address.0.now)
-    × (first_of (codes "rows") arguments ≡ option_map (λ path. path.now) paths.rows.0)
+    IsGiven (codes "TABLE") arguments table.now × IsGiven (codes "KEYS") arguments keys.now
+HasFilesOf arguments (Run table next keys rows script) =
+    IsGiven (codes "TABLE") arguments table.now × IsGiven (codes "KEYS") arguments keys.now
+    × IsGiven (codes "SCRIPT") arguments script.now
+    × IsGivenIfAny (codes "rows") arguments (option_map (λ path. path.now) rows)
+    × IsGivenIfAny (codes "next") arguments (option_map (λ path. path.now) next)
+HasFilesOf arguments (Serve table keys rows address) =
+    IsGiven (codes "TABLE") arguments table.now × IsGiven (codes "KEYS") arguments keys.now
+    × IsGiven (codes "ADDRESS") arguments address.now
+    × IsGivenIfAny (codes "rows") arguments (option_map (λ path. path.now) rows)
 
 -- the same of a command that is named with its arguments
 abbrev pub HasFiles : Option (Text × List Row) → Choice → Type 0
