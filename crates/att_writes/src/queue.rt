@@ -89,13 +89,13 @@ impl Queue {
         requires room { IsTrue (has_room self.old entry.part.now) }
         ensures { self.new ≡ self.old ++ entry_of entry.entry ∷ [] }
     {
-        self.places.push_reserved(Place {
+        let place = Place {
             handle: entry.handle,
             offset: entry.offset,
             len: entry.part.len() as u16,
-        });
-        // The room was made with the queue.
-        let _ = self.octets.extend_from_slice(entry.part);
+        };
+        push_place(&mut self.places, place);
+        push_octets(&mut self.octets, entry.part);
     }
 
     /// Where the entries are to be made, and their parts, one behind the other.
@@ -113,5 +113,27 @@ impl Queue {
     {
         self.places.clear();
         self.octets.clear();
+    }
+}
+
+/// Adds a place, for which the room is there.
+fn push_place(places: &mut Vec<Place>, place: Place)
+    requires room { length places.old.items < vec_capacity places.old }
+    ensures items { places.new.items ≡ places.old.items ++ place ∷ [] }
+    // So it takes no memory.
+    ensures capacity { vec_capacity places.new ≡ vec_capacity places.old }
+{
+    places.push_reserved(place);
+}
+
+/// Adds octets, for which the room is there.
+fn push_octets(octets: &mut Vec<u8>, part: &[u8])
+    requires room { length octets.old.items + length part.now ≤ vec_capacity octets.old }
+    ensures items { octets.new.items ≡ octets.old.items ++ part.now }
+    // So it takes no memory.
+    ensures capacity { vec_capacity octets.new ≡ vec_capacity octets.old }
+{
+    for octet in part {
+        octets.push_reserved(*octet);
     }
 }

@@ -47,6 +47,19 @@ unchanged_elsewhere bonds place other change apart =
       | Some bond ↦ get-set_other bonds place other (change bond) apart
     ]
 
+-- and there are as many as before
+count_set : {X : Type 0} (xs : List X) (place : ℕ) (x : X) → length (set xs place x) ≡ length xs
+count_set [] place x = refl
+count_set (y ∷ ys) zero x = refl
+count_set (y ∷ ys) (suc place) x = ap (λ (k : ℕ). suc k) (count_set ys place x)
+
+count_changed : (bonds : List Bond) (place : ℕ) (change : Bond → Bond) → length (bonds_with bonds place change) ≡ length bonds
+count_changed bonds place change =
+    elim (slice_get bonds place) as (λ found. length (option_map_or (λ (bond : Bond). set bonds place (change bond)) found bonds) ≡ length bonds) [
+      | None ↦ refl
+      | Some bond ↦ count_set bonds place (change bond)
+    ]
+
 -- two peers at one place are the same
 same_at : (peers : List Peer) (one other : Peer) (place : ℕ) → place_of peers one ≡ Some place → place_of peers other ≡ Some place → same_peer one other ≡ true
 same_at peers one other place first second =
@@ -76,6 +89,7 @@ changes_bond old peers bonds unfitted peer place change is same at =
           ] refl;
       unfitted = refl;
       peers = refl;
+      count = count_changed bonds place change;
     })
 
 -- nothing changes where a peer has none
@@ -87,6 +101,7 @@ changes_no_bond old peers bonds unfitted peer change is missing =
       others = λ other apart. refl;
       unfitted = refl;
       peers = refl;
+      count = refl;
     })
 
 -- a row that is lent

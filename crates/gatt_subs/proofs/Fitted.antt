@@ -19,13 +19,13 @@ use Rattle.gatt_subs.specs.Rows.{Subscriptions, bond_of, place_of}
 use Rattle.gatt_subs.specs.Unfitted.{Written, has_peer, nothing_written}
 
 -- a peer that is put in its place is there
-has-in_order : (peers : List Peer) (peer other : Peer) → has_peer (in_order rank_of peer peers) other ≡ (same_peer peer other || has_peer peers other)
-has-in_order [] peer other = refl
-has-in_order (first ∷ peers) peer other =
+pub has_in_order : (peers : List Peer) (peer other : Peer) → has_peer (in_order rank_of peer peers) other ≡ (same_peer peer other || has_peer peers other)
+has_in_order [] peer other = refl
+has_in_order (first ∷ peers) peer other =
     elim (nat_lt (rank_of peer) (rank_of first)) as (λ before. has_peer (if before then peer ∷ first ∷ peers else first ∷ in_order rank_of peer peers) other ≡ (same_peer peer other || has_peer (first ∷ peers) other)) [
       | true ↦ refl
       | false ↦
-          ap (λ later. same_peer first other || later) (has-in_order peers peer other)
+          ap (λ later. same_peer first other || later) (has_in_order peers peer other)
           ∙ swapped (same_peer first other) (same_peer peer other) (has_peer peers other)
     ]
   where
@@ -42,7 +42,7 @@ has-with_peer peers peer other =
             | true ↦ λ same. sym (ap (has_peer peers) (equal_peers peer other same)) ∙ has
             | false ↦ λ apart. refl
           ] refl
-      | false ↦ λ lacks. has-in_order peers peer other
+      | false ↦ λ lacks. has_in_order peers peer other
     ] refl
 
 has-peers_with : (peers : List Peer) (keys : List Entry) (other : Peer) → has_peer (peers_with peers keys) other ≡ (is_known keys other || has_peer peers other)
@@ -58,8 +58,8 @@ has-peers_with peers (key ∷ keys) other =
     joined false true z = refl
     joined false false z = refl
 
-has-peers_of : (keys : List Entry) (other : Peer) → has_peer (peers_of keys) other ≡ is_known keys other
-has-peers_of keys other = has-peers_with [] keys other ∙ plain (is_known keys other)
+pub has_peers_of : (keys : List Entry) (other : Peer) → has_peer (peers_of keys) other ≡ is_known keys other
+has_peers_of keys other = has-peers_with [] keys other ∙ plain (is_known keys other)
   where
     plain : (x : Bool) → (x || false) ≡ x
     plain true = refl
@@ -104,7 +104,7 @@ fitted_bonds_each (Err e) keys table old new is = tt
 fitted_bonds_each (Ok x) keys table old new is = λ peer.
     ap (λ (rows : Subscriptions). bond_of rows peer) is
     ∙ bond_made (fitted_bond table old) (peers_of keys) nothing_written peer
-    ∙ ap (λ has. if has then Some (fitted_bond table old peer) else None) (has-peers_of keys peer)
+    ∙ ap (λ has. if has then Some (fitted_bond table old peer) else None) (has_peers_of keys peer)
 
 -- what is kept of each bond
 changed_each : (f : Bond → Bond) (bonds : List Bond) (place : ℕ) → slice_get (map f bonds) place ≡ option_map f (slice_get bonds place)

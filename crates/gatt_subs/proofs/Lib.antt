@@ -3,6 +3,7 @@ pub mod Entries
 pub mod Heard
 pub mod InOrder
 pub mod Lines
+pub mod Listed
 pub mod LinesBack
 pub mod LinesRead
 pub mod RowsRead

@@ -1,5 +1,5 @@
 -- Rows fitted to keys and a table: this profile's own.
-use Rattle.std.specs.Prelude.{◌≡◌, Bool, false, ◌&&◌, if◌then◌else◌, List, [], ◌∷◌, map, filter, Option, Some, None}
+use Rattle.std.specs.Prelude.{◌≡◌, Bool, false, ◌&&◌, if◌then◌else◌, List, [], ◌∷◌, length, map, filter, Option, Some, None}
 use Rattle.std.specs.Option.{option_map_or}
 use Rattle.att_numbers.specs.Types.{Handle, Row}
 use Rattle.att_attributes.specs.declared.attr.Attr.{Attr}
@@ -56,3 +56,13 @@ fitted_rows keys table rows =
 abbrev pub HasFittedBonds : List Entry → Contents → Subscriptions → Subscriptions → Type 0
 HasFittedBonds keys table old new =
     (peer : Peer) → bond_of new peer ≡ (if is_known keys peer then Some (fitted_bond table old peer) else None)
+
+-- rows that have been fitted: those of the peers of the keys, in the order of a rows file, and nothing else
+pub record IsListed (keys : List Entry) (rows : Subscriptions) : Type 0 where
+  pub peers : rows.peers ≡ peers_of keys
+  pub count : length rows.bonds ≡ length rows.peers
+  pub unfitted : rows.unfitted ≡ nothing_written
+
+-- all of them, by the bond of each
+abbrev pub rows_listed : List Entry → (Peer → Bond) → Subscriptions
+rows_listed keys bond = record { peers = peers_of keys; bonds = map bond (peers_of keys); unfitted = nothing_written }

@@ -1,5 +1,5 @@
 -- What the peers that have keys have configured, and which of them are owed: this profile's own.
-use Rattle.std.specs.Prelude.{◌≡◌, ℕ, Bool, false, List, [], map, filter, slice_get, slice_set, Option, Result, Ok}
+use Rattle.std.specs.Prelude.{◌≡◌, ℕ, Bool, false, List, [], length, map, filter, slice_get, slice_set, Option, Result, Ok}
 use Rattle.std.specs.List.{position}
 use Rattle.std.specs.Option.{option_and_then, option_map, option_map_or, unwrap_or}
 use Rattle.octets.specs.Number.{Octets}
@@ -76,6 +76,7 @@ pub record ChangesBond (change : Bond → Bond) (peer : Peer) (old new : Subscri
   pub others : (other : Peer) → same_peer peer other ≡ false → bond_of new other ≡ bond_of old other
   pub unfitted : new.unfitted ≡ old.unfitted
   pub peers : new.peers ≡ old.peers
+  pub count : length new.bonds ≡ length old.bonds
 
 -- what of a bond stays when a table is replaced
 abbrev pub kept_bond : List Attr → List Attr → Bond → Bond
