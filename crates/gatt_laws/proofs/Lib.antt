@@ -33,6 +33,7 @@ pub mod Silence
 pub mod Steady
 pub mod Stores
 pub mod Streams
+pub mod StreamNotices
 pub mod Telling
 pub mod ToldIsSo
 pub mod TurnsAlike

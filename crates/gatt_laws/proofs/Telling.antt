@@ -7,6 +7,7 @@ use Rattle.gatt_laws.proofs.KnowingWho.{always_has_one_handle_each, knows_who_is
 use Rattle.gatt_laws.proofs.KnowingWho.{tells_who_is_there}
 use Rattle.gatt_laws.proofs.Notices.{tells_each_value}
 use Rattle.gatt_laws.proofs.RowNotices.{tells_each_bond, tells_each_own_row}
+use Rattle.gatt_laws.proofs.StreamNotices.{tells_of_the_division}
 use Rattle.gatt_laws.proofs.ToldIsSo.{tells_what_is_so}
 use Rattle.gatt_laws.specs.Telling.{TellsTheApplication}
 
@@ -25,4 +26,5 @@ tells_the_application = record {
   no_refusals = tells_no_refusals;
   nothing_ignored = tells_nothing_ignored;
   only_live = tells_only_of_the_live;
+  division = tells_of_the_division;
 }

@@ -32,6 +32,7 @@ pub mod Settled
 pub mod Silence
 pub mod Start
 pub mod State
+pub mod StreamNotices
 pub mod Telling
 pub mod ToldIsSo
 pub mod Turn

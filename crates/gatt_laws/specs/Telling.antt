@@ -4,12 +4,13 @@ use Rattle.gatt_laws.specs.AllowedNotices.{TellsWhatWasAllowed}
 use Rattle.gatt_laws.specs.Notices.{KnowsTheValues, TellsEachValue}
 use Rattle.gatt_laws.specs.Present.{AlwaysHasOneHandleEach, KnowsWhoIsThere, TellsWhoIsThere}
 use Rattle.gatt_laws.specs.RowNotices.{TellsEachBond, TellsEachKey, TellsEachOwnRow}
+use Rattle.gatt_laws.specs.StreamNotices.{TellsOfTheDivision}
 use Rattle.gatt_laws.specs.ToldIsSo.{TellsWhatIsSo}
 
 -- a listener knows each value, and each change of it; what is told is so afterwards; what is
 -- configured and what keys are worth changes by what is told alone; a listener knows who is there,
 -- and no two connections have one handle; and only what was allowed is told, and nothing of what is
--- refused or ignored
+-- refused or ignored; and it does not matter how octets were cut
 pub record TellsTheApplication : Type 0 where
   pub knows_values : KnowsTheValues
   pub so : TellsWhatIsSo
@@ -24,3 +25,4 @@ pub record TellsTheApplication : Type 0 where
   pub no_refusals : TellsNoRefusals
   pub nothing_ignored : TellsNothingIgnored
   pub only_live : TellsOnlyOfTheLive
+  pub division : TellsOfTheDivision
