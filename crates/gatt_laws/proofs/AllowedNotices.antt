@@ -41,7 +41,7 @@ use Rattle.gatt_laws.specs.AllowedNotices.{is_writing, MayWrite, WasAllowed, Tel
 use Rattle.gatt_laws.specs.AllowedNotices.{TellsNoRefusals, TellsNothingIgnored, TellsOnlyOfTheLive}
 use Rattle.gatt_laws.specs.Controller.{Slots}
 use Rattle.gatt_laws.specs.Event.{Ordinal, Own, Event, KeyAsked, Encrypted, Refreshed, Asks}
-use Rattle.gatt_laws.specs.Event.{Signals, Authorized, Of, Completed, Credit, Update, Tick}
+use Rattle.gatt_laws.specs.Event.{Signals, Authorized, Ended, Of, Completed, Credit, Update, Tick}
 use Rattle.gatt_laws.specs.Event.{Replaced, Nothing}
 use Rattle.gatt_laws.specs.Event as event
 use Rattle.gatt_laws.specs.Headline.{Each, MayUse}
@@ -226,6 +226,7 @@ module _ (state : State) where
     live-allowed bond (KeyAsked random_number diversifier) turn = none-allowed
     live-allowed bond (Signals channel payload) turn = none-allowed
     live-allowed bond (Authorized until) turn = none-allowed
+    live-allowed bond Ended turn = none-allowed
 
   module _ (ordinal : Ordinal) (bond : Row) (turn : Turn) where
     abbrev told-part : Part
@@ -258,6 +259,8 @@ module _ (state : State) where
         (is_live told-part.mark) refl
     own-allowed (Authorized until) = if-live-allowed (Authorized until)
         (is_live told-part.mark) refl
+    own-allowed Ended = if-live-allowed Ended
+        (is_live told-part.mark) refl
 
 pub tells_what_was_allowed : TellsWhatWasAllowed
 unfolding noticed
@@ -282,6 +285,7 @@ tells_only_of_the_live state ordinal (Refreshed status) is kind = rw is refl
 tells_only_of_the_live state ordinal (Asks pdu) is kind = rw is refl
 tells_only_of_the_live state ordinal (Signals channel payload) is kind = rw is refl
 tells_only_of_the_live state ordinal (Authorized until) is kind = rw is refl
+tells_only_of_the_live state ordinal Ended is kind = rw is refl
 tells_only_of_the_live state ordinal (event.Connected handle peer) is kind = cc kind
 tells_only_of_the_live state ordinal event.Gone is kind = cc kind
 

@@ -8,7 +8,7 @@ use Rattle.att_attributes.specs.declared.attr.Attr.{Attr}
 use Rattle.att_attributes.specs.Attributes.{attribute_at, is_value}
 use Rattle.att_table.specs.Changer.{changer_of}
 use Rattle.att_table.specs.Table.{Contents}
-use Rattle.gatt_laws.specs.Calls.{Call, Refused, UpdateCall, AuthorizeCall, TickCall, NotAValue, BadLength, TimeWentBack, NoServiceChanged, holding, serving, has_length, update_event, authorize_event, call_event, same_changer, replacement_event}
+use Rattle.gatt_laws.specs.Calls.{Call, Refused, UpdateCall, AuthorizeCall, DisconnectCall, TickCall, NotAValue, BadLength, TimeWentBack, NoServiceChanged, holding, serving, has_length, update_event, authorize_event, disconnect_event, call_event, same_changer, replacement_event}
 use Rattle.gatt_laws.specs.Controller.{Controller, has_free, is_ready}
 use Rattle.gatt_laws.specs.Event.{Ordinal, Own, Event, Connected, Gone, KeyAsked, Encrypted, Refreshed, Asks, Signals, Of, Update, Tick, Replaced, Nothing}
 use Rattle.gatt_laws.specs.Input.{Item, AnOctet, APacket, ACall, ATable, TheEnd, Course, after_result, packet_taken, after_packet, with_unfinished, after_first, taken, unless_stopped, after_item, after_items, course}
@@ -164,9 +164,14 @@ module _ (Fine : Contents → Type 0) where
   authorize-possible state until None = tt
   authorize-possible state until (Some ordinal) = tt
 
+  disconnect-possible : (state : State) (found : Option Ordinal) → PossibleIfAny state (disconnect_event found)
+  disconnect-possible state None = tt
+  disconnect-possible state (Some ordinal) = tt
+
   pub call_possible : (state : State) (call : Call) → PossibleIfAny state (call_event state call)
   call_possible state (UpdateCall handle value) = update-possible state handle value (attribute_at state.room.table.attributes handle) refl
   call_possible state (AuthorizeCall handle until) = authorize-possible state until (serving state handle)
+  call_possible state (DisconnectCall handle) = disconnect-possible state (serving state handle)
   call_possible state (TickCall time) =
       elim (nat_lt time state.room.time) as (λ back. nat_lt time state.room.time ≡ back → PossibleIfAny state (if back then Err TimeWentBack else Ok (Tick time))) [
         | true ↦ λ is. tt

@@ -23,7 +23,7 @@ use Rattle.gatt_laws.specs.Runs.{after_events, events_of, ArePossible}
 use Rattle.gatt_laws.specs.SameView.{packets_at, packets_in}
 use Rattle.le_hci.specs.declared.peer.Peer.{Peer}
 use Rattle.gatt_laws.specs.Controller.{Slots, is_ready, command_of_init, count_before, without_command}
-use Rattle.gatt_laws.specs.Event.{Ordinal, Own, Event, Connected, Gone, KeyAsked, Encrypted, Refreshed, Asks, Signals, Authorized, Of, Completed, Credit, Update, Tick, Replaced, Nothing}
+use Rattle.gatt_laws.specs.Event.{Ordinal, Own, Event, Connected, Gone, KeyAsked, Encrypted, Refreshed, Asks, Signals, Authorized, Ended, Of, Completed, Credit, Update, Tick, Replaced, Nothing}
 use Rattle.gatt_laws.proofs.Always.{any_tables}
 use Rattle.gatt_laws.proofs.Runs.{is_where_events_lead, means_possible_events}
 use Rattle.gatt_laws.proofs.Settled.{stays_settled, settled_at_first}
@@ -99,6 +99,7 @@ live-grows room bond owed part (Encrypted status enabled) live =
 live-grows room bond owed part (Refreshed status) live =
     link-grows part (Refresh status) (lost_encryption (key_of part) (key_of (with_step part (Refresh status)))) live
 live-grows room bond owed part (Authorized until) live = stays part (record part { until = until }) refl refl refl refl (λ is. live)
+live-grows room bond owed part Ended live = stays part (after_ending part remote_user_terminated) refl refl refl refl (λ is. live)
 live-grows room bond owed part (Connected handle peer) live = stays part part refl refl refl refl (λ is. live)
 live-grows room bond owed part Gone live = stays part part refl refl refl refl (λ is. live)
 
@@ -117,6 +118,7 @@ turn-grows room bond owed part (Refreshed status) there after = if-live-grows ro
 turn-grows room bond owed part (Asks pdu) there after = if-live-grows room bond owed part (Asks pdu) (is_live part.mark) refl
 turn-grows room bond owed part (Signals channel payload) there after = if-live-grows room bond owed part (Signals channel payload) (is_live part.mark) refl
 turn-grows room bond owed part (Authorized until) there after = if-live-grows room bond owed part (Authorized until) (is_live part.mark) refl
+turn-grows room bond owed part Ended there after = if-live-grows room bond owed part Ended (is_live part.mark) refl
 
 completed-grows : (ordinal : Ordinal) (entries : List (Ordinal × ℕ)) (old part : Part) → Grows old part → Grows old (after_completed ordinal entries part)
 completed-grows ordinal [] old part grows = grows
@@ -255,6 +257,7 @@ absent-turn room bond owed (Refreshed status) there = cc there
 absent-turn room bond owed (Asks pdu) there = cc there
 absent-turn room bond owed (Signals channel payload) there = cc there
 absent-turn room bond owed (Authorized until) there = cc there
+absent-turn room bond owed Ended there = cc there
 
 abbrev ServesIfThere : Part → Type 0
 ServesIfThere part = is_there part.mark ≡ true → is_live part.mark ≡ true

@@ -3,7 +3,7 @@ use Rattle.std.proofs.Common.{◌≡◌, Bool, true, false, [], ◌∷◌, ◌++
 use Rattle.std.specs.Prelude.{Result, Ok, Err, is_some, if◌then◌else◌}
 use Rattle.att_table.specs.Table.{Contents}
 use Rattle.gatt_laws.specs.Alike.{erased}
-use Rattle.gatt_laws.specs.Calls.{Call, UpdateCall, AuthorizeCall, TickCall, call_event, replacement_event}
+use Rattle.gatt_laws.specs.Calls.{Call, UpdateCall, AuthorizeCall, DisconnectCall, TickCall, call_event, replacement_event}
 use Rattle.gatt_laws.specs.Event.{Event}
 use Rattle.gatt_laws.specs.Input.{Item, AnOctet, APacket, ACall, ATable, TheEnd, Course, after_result, packet_taken, after_packet, with_unfinished, after_first, taken, unless_stopped, after_item}
 use Rattle.gatt_laws.specs.ItemEvents.{event_if, event_of_first, event_taken, event_at, after_if, MeansItsEvent}
@@ -78,6 +78,7 @@ arrival-looks state ScoPacket = refl
 call-looks : (state : State) (call : Call) → call_event (looked_at state) call ≡ call_event state call
 call-looks state (UpdateCall handle value) = refl
 call-looks state (AuthorizeCall handle until) = refl
+call-looks state (DisconnectCall handle) = refl
 call-looks state (TickCall time) = refl
 
 -- what an intake keeps beside the state

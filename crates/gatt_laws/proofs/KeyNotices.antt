@@ -17,7 +17,7 @@ use Rattle.gatt_laws.proofs.Ends.{end_keeps}
 use Rattle.gatt_laws.proofs.Notices.{or-first}
 use Rattle.gatt_laws.proofs.Steady.{completed_steady}
 use Rattle.gatt_laws.specs.Event.{Ordinal, Own, Event, Connected, Gone, KeyAsked, Encrypted}
-use Rattle.gatt_laws.specs.Event.{Refreshed, Asks, Signals, Authorized, Of, Completed, Credit}
+use Rattle.gatt_laws.specs.Event.{Refreshed, Asks, Signals, Authorized, Ended, Of, Completed, Credit}
 use Rattle.gatt_laws.specs.Event.{Update, Tick, Replaced, Nothing}
 use Rattle.gatt_laws.specs.Notice.{Notice, Disconnected, Secured, are_both, are_same_facts}
 use Rattle.gatt_laws.specs.Notice.{link_told}
@@ -148,6 +148,7 @@ module _ (room : Room) (bond : Row) (owed : Bool) (part : Part) where
       if-live-keeps (Signals channel payload)
       (channel-key room part channel (channel_answer channel payload))
   own-key (Authorized until) there none = if-live-keeps (Authorized until) refl
+  own-key Ended there none = if-live-keeps Ended refl
 
 -- And each event.
 

@@ -20,7 +20,7 @@ use Rattle.gatt_laws.specs.Calls.{holding}
 use Rattle.gatt_laws.specs.Controller.{with_freed}
 use Rattle.gatt_laws.specs.Event as event
 use Rattle.gatt_laws.specs.Event.{Ordinal, Own, Event, KeyAsked, Encrypted, Refreshed, Asks}
-use Rattle.gatt_laws.specs.Event.{Signals, Authorized, Of, Completed, Credit, Update, Tick}
+use Rattle.gatt_laws.specs.Event.{Signals, Authorized, Ended, Of, Completed, Credit, Update, Tick}
 use Rattle.gatt_laws.specs.Event.{Replaced, Nothing}
 use Rattle.gatt_laws.specs.Input.{Item, Course, after_item, after_items, at_start, course}
 use Rattle.gatt_laws.specs.ItemEvents.{event_at, after_if}
@@ -218,6 +218,13 @@ tells_who_is_there state (Of at (Authorized until)) asked is possible unused =
     (if-live-others state.room bond part (Authorized until)
     (turn_of state.room bond (state.owed part.peer) part (Authorized until)) (peers_in state))
     ∙ still state (Of at (Authorized until)) (λ ordinal. and-false (ordinal == at)) asked
+tells_who_is_there state (Of at Ended) asked is possible unused =
+    let part : Part = state.parts at in
+    let bond : Row = state.bonds part.peer in
+    ap (λ (present : Present). present asked)
+    (if-live-others state.room bond part Ended
+    (turn_of state.room bond (state.owed part.peer) part Ended) (peers_in state))
+    ∙ still state (Of at Ended) (λ ordinal. and-false (ordinal == at)) asked
 tells_who_is_there state (Completed entries) asked is possible unused = still state
     (Completed entries)
     (λ ordinal. refl) asked
@@ -292,6 +299,9 @@ keeps-alone state (Of at (Signals channel payload)) possible unused is =
     (λ ordinal has. (has, and-false (ordinal == at))) is.handles
 keeps-alone state (Of at (Authorized until)) possible unused is =
     stay-alone state (Of at (Authorized until))
+    (λ ordinal has. (has, and-false (ordinal == at))) is.handles
+keeps-alone state (Of at Ended) possible unused is =
+    stay-alone state (Of at Ended)
     (λ ordinal has. (has, and-false (ordinal == at))) is.handles
 keeps-alone state (Completed entries) possible unused is = stay-alone state (Completed entries)
     (λ ordinal has. (has, refl)) is.handles

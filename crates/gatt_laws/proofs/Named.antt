@@ -12,7 +12,7 @@ use Rattle.gatt_conn.specs.Transcript.{Dropped}
 use Rattle.gatt_laws.proofs.Ends.{end_keeps}
 use Rattle.gatt_laws.proofs.Steady.{is_asking, live_steady, completed_steady}
 use Rattle.gatt_laws.specs.Event.{Ordinal, Own, Event, Connected, Gone, KeyAsked, Encrypted}
-use Rattle.gatt_laws.specs.Event.{Refreshed, Asks, Signals, Authorized, Of, Completed, Credit}
+use Rattle.gatt_laws.specs.Event.{Refreshed, Asks, Signals, Authorized, Ended, Of, Completed, Credit}
 use Rattle.gatt_laws.specs.Event.{Update, Tick, Replaced, Nothing}
 use Rattle.gatt_laws.specs.Part.{Part, is_live, mtu_of, after_ending}
 use Rattle.gatt_laws.specs.Room.{Room}
@@ -68,6 +68,8 @@ live-named room bond owed part (Signals channel payload) =
     steady-named room bond owed part (Signals channel payload) refl
 live-named room bond owed part (Authorized until) = steady-named room bond owed part
     (Authorized until) refl
+live-named room bond owed part Ended = steady-named room bond owed part
+    Ended refl
 live-named room bond owed part (Connected handle peer) = itself part
 live-named room bond owed part Gone = itself part
 
@@ -95,6 +97,8 @@ turn-named room bond owed part (Signals channel payload) kind =
     if-live-named room bond owed part (Signals channel payload)
 turn-named room bond owed part (Authorized until) kind = if-live-named room bond owed part
     (Authorized until)
+turn-named room bond owed part Ended kind = if-live-named room bond owed part
+    Ended
 
 of-named : (state : State) (at ordinal : Ordinal) (own : Own) (same : Bool) → (ordinal == at) ≡ same
     → (same && is_for_all own) ≡ false

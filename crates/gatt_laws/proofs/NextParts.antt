@@ -7,7 +7,7 @@ use Rattle.att_numbers.specs.Types.{Handle, Row}
 use Rattle.att_pdu.specs.Grammar.{request_of, is_due}
 use Rattle.gatt_conn.specs.Transcript.{Dropped}
 use Rattle.gatt_laws.proofs.Silence.{only_serves_the_live}
-use Rattle.gatt_laws.specs.Event.{Ordinal, Own, Event, Connected, Gone, KeyAsked, Encrypted, Refreshed, Asks, Signals, Authorized, Of, Completed, Credit, Update, Tick, Replaced, Nothing}
+use Rattle.gatt_laws.specs.Event.{Ordinal, Own, Event, Connected, Gone, KeyAsked, Encrypted, Refreshed, Asks, Signals, Authorized, Ended, Of, Completed, Credit, Update, Tick, Replaced, Nothing}
 use Rattle.gatt_laws.specs.Heard.{after_hearing}
 use Rattle.gatt_laws.specs.Part.{Part, Mark, Absent, Live, Ending, absent, come, is_live, is_there, key_of, mtu_of, with_pdus, after_ending}
 use Rattle.gatt_laws.specs.Room.{Room, size_of}
@@ -78,6 +78,7 @@ live-stays room bond owed part (KeyAsked random_number diversifier) = record { p
 live-stays room bond owed part (Encrypted status enabled) = link-stays room bond owed part (Encryption status enabled)
 live-stays room bond owed part (Refreshed status) = link-stays room bond owed part (Refresh status)
 live-stays room bond owed part (Authorized until) = record { peer = refl; given = refl; live = λ is. is }
+live-stays room bond owed part Ended = stays-ending part remote_user_terminated
 live-stays room bond owed part (Connected handle peer) = stays part
 live-stays room bond owed part Gone = stays part
 
@@ -100,6 +101,7 @@ turn-becomes room bond owed part (Refreshed status) = Stayed (live-or-stays room
 turn-becomes room bond owed part (Asks pdu) = Stayed (live-or-stays room bond owed part (Asks pdu))
 turn-becomes room bond owed part (Signals channel payload) = Stayed (live-or-stays room bond owed part (Signals channel payload))
 turn-becomes room bond owed part (Authorized until) = Stayed (live-or-stays room bond owed part (Authorized until))
+turn-becomes room bond owed part Ended = Stayed (live-or-stays room bond owed part Ended)
 
 completed-stays : (ordinal : Ordinal) (entries : List (Ordinal × ℕ)) (old part : Part) → Stays old part → Stays old (after_completed ordinal entries part)
 completed-stays ordinal [] old part is = is

@@ -23,7 +23,7 @@ use Rattle.gatt_conn.specs.Answer.{Question, Writing, writing_asked, stored_afte
 use Rattle.gatt_conn.specs.Answer.{handles_by, is_confirmation}
 use Rattle.gatt_laws.proofs.Stores.{leaves-configurations, other-value}
 use Rattle.gatt_laws.specs.Event.{Own, Event, Connected, Gone, KeyAsked, Encrypted, Refreshed, Asks}
-use Rattle.gatt_laws.specs.Event.{Signals, Authorized, Of, Completed, Credit, Update, Tick}
+use Rattle.gatt_laws.specs.Event.{Signals, Authorized, Ended, Of, Completed, Credit, Update, Tick}
 use Rattle.gatt_laws.specs.Event.{Replaced, Nothing}
 use Rattle.gatt_laws.specs.Notice.{Notice, Configured, Written, write_told, end_told, live_told}
 use Rattle.gatt_laws.specs.Notice.{confirmation_told, own_told, noticed}
@@ -266,6 +266,8 @@ own-values room bond owed part (Signals channel payload) attribute used none =
     (leaves room bond owed part (Signals channel payload) refl)
 own-values room bond owed part (Authorized until) attribute used none =
     ap (λ (of : Values). value_at of attribute) (leaves room bond owed part (Authorized until) refl)
+own-values room bond owed part Ended attribute used none =
+    ap (λ (of : Values). value_at of attribute) (leaves room bond owed part Ended refl)
 
 -- And each event.
 

@@ -10,7 +10,7 @@ use Rattle.gatt_conn.specs.Answer.{Question}
 use Rattle.gatt_conn.specs.Transcript.{Dropped}
 use Rattle.gatt_laws.proofs.Always.{always, any_tables}
 use Rattle.gatt_laws.specs.Controller.{Slots, with_taken, with_freed, command_of_init, count_before, without_command}
-use Rattle.gatt_laws.specs.Event.{Ordinal, Own, Event, Connected, Gone, KeyAsked, Encrypted, Refreshed, Asks, Signals, Authorized, Of, Completed, Credit, Update, Tick, Replaced, Nothing}
+use Rattle.gatt_laws.specs.Event.{Ordinal, Own, Event, Connected, Gone, KeyAsked, Encrypted, Refreshed, Asks, Signals, Authorized, Ended, Of, Completed, Credit, Update, Tick, Replaced, Nothing}
 use Rattle.gatt_laws.specs.Heard.{after_hearing}
 use Rattle.gatt_laws.specs.Input.{at_start, course}
 use Rattle.gatt_laws.specs.Part.{Part, absent, come, is_live, is_there, key_of, mtu_of, with_pdus, after_ending, after_giving}
@@ -81,6 +81,7 @@ live-keeps room bond owed part (Encrypted status enabled) live =
 live-keeps room bond owed part (Refreshed status) live =
     link-keeps part (Refresh status) (lost_encryption (key_of part) (key_of (with_step part (Refresh status))))
 live-keeps room bond owed part (Authorized until) live = record { there = λ there. there; once = λ once. record { serving = once.serving; others = once.others } }
+live-keeps room bond owed part Ended live = ending part remote_user_terminated
 live-keeps room bond owed part (Connected handle peer) live = keeps-same part
 live-keeps room bond owed part Gone live = keeps-same part
 
@@ -208,6 +209,7 @@ turn-once room bond owed part (Refreshed status) once = (if-live room bond owed 
 turn-once room bond owed part (Asks pdu) once = (if-live room bond owed part (Asks pdu) (is_live part.mark) refl).once once
 turn-once room bond owed part (Signals channel payload) once = (if-live room bond owed part (Signals channel payload) (is_live part.mark) refl).once once
 turn-once room bond owed part (Authorized until) once = (if-live room bond owed part (Authorized until) (is_live part.mark) refl).once once
+turn-once room bond owed part Ended once = (if-live room bond owed part Ended (is_live part.mark) refl).once once
 
 -- who has a slot then
 come-there : (part : Part) (handle : ℕ) (peer : _) (there : Bool) → is_there part.mark ≡ there → is_there (if there then part else come handle peer).mark ≡ true
@@ -225,6 +227,7 @@ turn-there room bond owed part (Refreshed status) at slots there has = (if-live 
 turn-there room bond owed part (Asks pdu) at slots there has = (if-live room bond owed part (Asks pdu) (is_live part.mark) refl).there (there has)
 turn-there room bond owed part (Signals channel payload) at slots there has = (if-live room bond owed part (Signals channel payload) (is_live part.mark) refl).there (there has)
 turn-there room bond owed part (Authorized until) at slots there has = (if-live room bond owed part (Authorized until) (is_live part.mark) refl).there (there has)
+turn-there room bond owed part Ended at slots there has = (if-live room bond owed part Ended (is_live part.mark) refl).there (there has)
 
 other-has : (own : Own) (at other : Ordinal) (slots : Slots) → (other == at) ≡ false → has_slot other (slots_after own at slots) ≡ true → has_slot other slots ≡ true
 other-has (Connected handle peer) at other slots differs has = taken-has at other slots differs (same-too other at differs) has
@@ -235,6 +238,7 @@ other-has (Refreshed status) at other slots differs has = has
 other-has (Asks pdu) at other slots differs has = has
 other-has (Signals channel payload) at other slots differs has = has
 other-has (Authorized until) at other slots differs has = has
+other-has Ended at other slots differs has = has
 
 own-placed : (state : State) (at : Ordinal) (own : Own) → IsPlaced state → IsPlaced (own_change state at own).state
 own-placed state at own placed =

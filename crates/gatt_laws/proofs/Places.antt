@@ -12,7 +12,7 @@ use Rattle.gatt_conn.specs.Transcript.{Dropped}
 use Rattle.gatt_laws.proofs.Ends.{end_keeps}
 use Rattle.gatt_laws.proofs.Silence.{only_serves_the_live}
 use Rattle.gatt_laws.specs.Controller.{Controller, command_of_init, count_before, without_command, is_ready}
-use Rattle.gatt_laws.specs.Event.{Ordinal, Own, Event, Connected, Gone, KeyAsked, Encrypted, Refreshed, Asks, Signals, Authorized, Of, Completed, Credit, Update, Tick, Replaced, Nothing}
+use Rattle.gatt_laws.specs.Event.{Ordinal, Own, Event, Connected, Gone, KeyAsked, Encrypted, Refreshed, Asks, Signals, Authorized, Ended, Of, Completed, Credit, Update, Tick, Replaced, Nothing}
 use Rattle.gatt_laws.specs.Part.{Mark, Absent, Live, Ending, Part, absent, come, is_live, is_there, key_of, mtu_of, with_pdus, after_ending}
 use Rattle.gatt_laws.specs.Possible.{Possible}
 use Rattle.gatt_laws.specs.Room.{Room}
@@ -97,6 +97,7 @@ live-stays room bond owed part (Encrypted status enabled) there =
 live-stays room bond owed part (Refreshed status) there =
     link-stays part (Refresh status) (lost_encryption (key_of part) (key_of (with_step part (Refresh status)))) there
 live-stays room bond owed part (Authorized until) there = record { there = refl; peer = refl }
+live-stays room bond owed part Ended there = ending-stays part remote_user_terminated there
 live-stays room bond owed part (Connected handle peer) there = stays-itself part
 live-stays room bond owed part Gone there = stays-itself part
 
@@ -129,6 +130,7 @@ turn-place peer room bond owed part (Refreshed status) from place = if-live-plac
 turn-place peer room bond owed part (Asks pdu) from place = if-live-place peer room bond owed part (Asks pdu) (is_live part.mark) refl place
 turn-place peer room bond owed part (Signals channel payload) from place = if-live-place peer room bond owed part (Signals channel payload) (is_live part.mark) refl place
 turn-place peer room bond owed part (Authorized until) from place = if-live-place peer room bond owed part (Authorized until) (is_live part.mark) refl place
+turn-place peer room bond owed part Ended from place = if-live-place peer room bond owed part Ended (is_live part.mark) refl place
 
 completed-stays : (ordinal : Ordinal) (entries : List (Ordinal × ℕ)) (old part : Part) → StaysWith old part → StaysWith old (after_completed ordinal entries part)
 completed-stays ordinal [] old part stays = stays
@@ -225,6 +227,7 @@ told-ready (Refreshed status) controller = refl
 told-ready (Asks pdu) controller = refl
 told-ready (Signals channel payload) controller = refl
 told-ready (Authorized until) controller = refl
+told-ready Ended controller = refl
 
 refused-ready : (controller : Controller) (allowed : ℕ) (refused : Bool)
     → is_ready (if refused then record controller { credit = allowed; advertising = false; refused = true } else record controller { credit = allowed }) ≡ is_ready controller
@@ -272,6 +275,7 @@ next-own (Refreshed status) ordinal next below = below
 next-own (Asks pdu) ordinal next below = below
 next-own (Signals channel payload) ordinal next below = below
 next-own (Authorized until) ordinal next below = below
+next-own Ended ordinal next below = below
 
 pub next_grows : (state : State) (event : Event) (ordinal : Ordinal) → ordinal < state.next → ordinal < (step state event).next
 unfolding step change_of
@@ -295,6 +299,7 @@ came-own state at ordinal (Refreshed status) peer true is may found = cc found
 came-own state at ordinal (Asks pdu) peer true is may found = cc found
 came-own state at ordinal (Signals channel payload) peer true is may found = cc found
 came-own state at ordinal (Authorized until) peer true is may found = cc found
+came-own state at ordinal Ended peer true is may found = cc found
 came-own state at ordinal own peer false is may found = absurd (cc found)
 
 record Comes (state : State) (event : Event) (ordinal : Ordinal) : Type 0 where

@@ -14,7 +14,7 @@ use Rattle.gatt_conn.specs.Answer.{Question, answer_to}
 use Rattle.gatt_conn.specs.Connection.{Connection}
 use Rattle.gatt_conn.specs.Transcript.{is_exchange, exchange_asked, first_exchange, prepared_in}
 use Rattle.gatt_laws.proofs.Ends.{end_keeps}
-use Rattle.gatt_laws.specs.Event.{Ordinal, Own, Event, Connected, Gone, KeyAsked, Encrypted, Refreshed, Asks, Signals, Authorized, Of, Completed, Credit, Update, Tick, Replaced, Nothing}
+use Rattle.gatt_laws.specs.Event.{Ordinal, Own, Event, Connected, Gone, KeyAsked, Encrypted, Refreshed, Asks, Signals, Authorized, Ended, Of, Completed, Credit, Update, Tick, Replaced, Nothing}
 use Rattle.gatt_laws.specs.Part.{Mark, Absent, Live, Ending, Part, absent, come, is_live, is_there, key_of, row_of, mtu_of, connection_of, prepared_of, after_ending}
 use Rattle.gatt_laws.specs.Preparing.{Preparing, preparing, preparing_in, Concern, Happens, concern_of, after_asking, while_serving, prepares_nothing, after_own, after_concern, after_any, is_ending, concerns_of, IsNeverEnded, PreparesByItself, PreparesTheSame}
 use Rattle.gatt_laws.proofs.Runs.{is_where_events_lead}
@@ -106,6 +106,7 @@ live-next room bond owed part (Encrypted status enabled) lasts =
 live-next room bond owed part (Refreshed status) lasts =
     link-next room part (Refresh status) (lost_encryption (key_of part) (key_of (with_step part (Refresh status)))) lasts
 live-next room bond owed part (Authorized until) lasts = refl
+live-next room bond owed part Ended lasts = absurd (cc lasts)
 live-next room bond owed part (Connected handle peer) lasts = refl
 live-next room bond owed part Gone lasts = refl
 
@@ -128,6 +129,7 @@ own-next room bond owed part (Refreshed status) lasts = if-live room bond owed p
 own-next room bond owed part (Asks pdu) lasts = if-live room bond owed part (Asks pdu) (is_live part.mark) lasts
 own-next room bond owed part (Signals channel payload) lasts = if-live room bond owed part (Signals channel payload) (is_live part.mark) lasts
 own-next room bond owed part (Authorized until) lasts = if-live room bond owed part (Authorized until) (is_live part.mark) lasts
+own-next room bond owed part Ended lasts = if-live room bond owed part Ended (is_live part.mark) lasts
 
 -- and each event
 

@@ -17,7 +17,7 @@ use Rattle.gatt_laws.specs.Calls.{ordinal_where}
 use Rattle.gatt_laws.specs.Controller.{Slots, has_free, with_taken, with_freed}
 use Rattle.gatt_laws.specs.Event as event
 use Rattle.gatt_laws.specs.Event.{Ordinal, Own, Event, KeyAsked, Encrypted, Refreshed, Asks}
-use Rattle.gatt_laws.specs.Event.{Signals, Authorized, Of, Completed, Credit, Update, Tick}
+use Rattle.gatt_laws.specs.Event.{Signals, Authorized, Ended, Of, Completed, Credit, Update, Tick}
 use Rattle.gatt_laws.specs.Event.{Replaced, Nothing}
 use Rattle.gatt_laws.specs.Notice.{Notice, Secured, Written}
 use Rattle.gatt_laws.specs.Notice.{Configured, Confirmed, TimedOut, Ending, are_same_facts}
@@ -118,6 +118,7 @@ live-others room bond part (Refreshed status) turn =
 live-others room bond part (KeyAsked random_number diversifier) turn = λ present. refl
 live-others room bond part (Signals channel payload) turn = λ present. refl
 live-others room bond part (Authorized until) turn = λ present. refl
+live-others room bond part Ended turn = λ present. refl
 live-others room bond part (event.Connected handle peer) turn = λ present. refl
 live-others room bond part event.Gone turn = λ present. refl
 

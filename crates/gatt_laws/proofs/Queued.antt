@@ -28,7 +28,7 @@ use Rattle.gatt_subs.specs.Indications.{after_replacement}
 use Rattle.le_acl.specs.History.{packets_allowed}
 use Rattle.le_security.specs.Link.{Step, Encryption, Refresh}
 use Rattle.octets.specs.Number.{Octets}
-use Rattle.gatt_laws.specs.Event.{Ordinal, Own, Event, Connected, Gone, KeyAsked, Encrypted, Refreshed, Asks, Signals, Authorized, Of, Completed, Credit, Update, Tick, Replaced, Nothing}
+use Rattle.gatt_laws.specs.Event.{Ordinal, Own, Event, Connected, Gone, KeyAsked, Encrypted, Refreshed, Asks, Signals, Authorized, Ended, Of, Completed, Credit, Update, Tick, Replaced, Nothing}
 use Rattle.gatt_laws.specs.Heard.{Heard, hearer_of, after_hearing, heard_raised, hearer_after, heard_in_turn, att_pdu}
 use Rattle.gatt_laws.specs.Part.{Part, absent, come, is_live, is_there, key_of, row_of, mtu_of, connection_of, backlog_of, with_pdus, after_ending}
 use Rattle.gatt_laws.specs.Queued.{IsWithinBounds, HasBoundedQueues, AlwaysHasBoundedQueues}
@@ -229,6 +229,7 @@ module _ (share size : ℕ) where
     live-within bond owed part (Refreshed status) is =
         link-within part (Refresh status) (lost_encryption (key_of part) (key_of (with_step part (Refresh status)))) is
     live-within bond owed part (Authorized until) is = record { few = is.few; given = is.given; within = is.within; done = is.done }
+    live-within bond owed part Ended is = record { few = is.few; given = is.given; within = is.within; done = is.done }
     live-within bond owed part (Connected handle peer) is = is
     live-within bond owed part Gone is = is
 
@@ -247,6 +248,7 @@ module _ (share size : ℕ) where
     turn-within bond owed part (Asks pdu) is = if-live bond owed part (Asks pdu) (is_live part.mark) is
     turn-within bond owed part (Signals channel payload) is = if-live bond owed part (Signals channel payload) (is_live part.mark) is
     turn-within bond owed part (Authorized until) is = if-live bond owed part (Authorized until) (is_live part.mark) is
+    turn-within bond owed part Ended is = if-live bond owed part Ended (is_live part.mark) is
 
     -- and at the end of an event
     pub heard-within : (bond : Row) (handles : List Handle) (part : Part) → Within part → Within (after_hearing room bond handles part)

@@ -25,7 +25,7 @@ use Rattle.gatt_laws.proofs.Notices.{none-touched}
 use Rattle.gatt_laws.proofs.Steady.{is_asking, live_steady, completed_steady}
 use Rattle.gatt_laws.proofs.Stores.{set_bits, sets_written}
 use Rattle.gatt_laws.specs.Event.{Ordinal, Own, Event, Connected, Gone, KeyAsked, Encrypted}
-use Rattle.gatt_laws.specs.Event.{Refreshed, Asks, Signals, Authorized, Of, Completed, Credit}
+use Rattle.gatt_laws.specs.Event.{Refreshed, Asks, Signals, Authorized, Ended, Of, Completed, Credit}
 use Rattle.gatt_laws.specs.Event.{Update, Tick, Replaced, Nothing}
 use Rattle.gatt_laws.specs.Notice.{Notice, Configured, Written, write_told, confirmation_told}
 use Rattle.gatt_laws.specs.Notice.{end_told, own_told, noticed}
@@ -290,6 +290,7 @@ module _ (room : Room) (bond : Row) (owed : Bool) (part : Part) (attribute : Han
   own-row (Refreshed status) kind untold = other-own (Refreshed status) refl
   own-row (Signals channel payload) kind untold = other-own (Signals channel payload) refl
   own-row (Authorized until) kind untold = other-own (Authorized until) refl
+  own-row Ended kind untold = other-own Ended refl
 
   either-bond : (one other : Turn) (test : Bool) → one.bond ≡ bond → other.bond ≡ bond
       → (if test then one else other).bond ≡ bond
@@ -321,6 +322,7 @@ module _ (room : Room) (bond : Row) (owed : Bool) (part : Part) (attribute : Han
   own-bond (Refreshed status) untold = other-bond (Refreshed status) refl
   own-bond (Signals channel payload) untold = other-bond (Signals channel payload) refl
   own-bond (Authorized until) untold = other-bond (Authorized until) refl
+  own-bond Ended untold = other-bond Ended refl
 
 -- And each event.
 

@@ -21,7 +21,7 @@ use Rattle.gatt_conn.specs.Answer.{Question, Writing, stored_after, stored_by, w
 use Rattle.att_pdu.specs.Grammar.{request_of, is_due}
 use Rattle.att_table.specs.Changer.{changer_of}
 use Rattle.gatt_laws.specs.Controller.{command_of_init, count_before, without_command}
-use Rattle.gatt_laws.specs.Event.{Ordinal, Own, Event, Connected, Gone, KeyAsked, Encrypted, Refreshed, Asks, Signals, Authorized, Of, Completed, Credit, Update, Tick, Replaced, Nothing}
+use Rattle.gatt_laws.specs.Event.{Ordinal, Own, Event, Connected, Gone, KeyAsked, Encrypted, Refreshed, Asks, Signals, Authorized, Ended, Of, Completed, Credit, Update, Tick, Replaced, Nothing}
 use Rattle.gatt_laws.specs.Heard.{after_hearing}
 use Rattle.gatt_laws.proofs.Always.{always, any_tables}
 use Rattle.gatt_laws.specs.Input.{at_start, course}
@@ -125,6 +125,7 @@ live-rows room bond owed part (Encrypted status enabled) rows =
 live-rows room bond owed part (Refreshed status) rows =
     link-rows room bond owed part (Refresh status) (lost_encryption (key_of part) (key_of (with_step part (Refresh status)))) rows
 live-rows room bond owed part (Authorized until) rows = record { bond = rows.bond; own = rows.own }
+live-rows room bond owed part Ended rows = record { bond = rows.bond; own = rows.own }
 live-rows room bond owed part (Connected handle peer) rows = rows
 live-rows room bond owed part Gone rows = rows
 
@@ -148,6 +149,7 @@ turn-rows room bond owed part (Refreshed status) rows = if-live room bond owed p
 turn-rows room bond owed part (Asks pdu) rows = if-live room bond owed part (Asks pdu) (is_live part.mark) rows
 turn-rows room bond owed part (Signals channel payload) rows = if-live room bond owed part (Signals channel payload) (is_live part.mark) rows
 turn-rows room bond owed part (Authorized until) rows = if-live room bond owed part (Authorized until) (is_live part.mark) rows
+turn-rows room bond owed part Ended rows = if-live room bond owed part Ended (is_live part.mark) rows
 
 -- what an event changes
 either-row : (attributes : List Attr) (test : Bool) (one other : Row) → IsRowOf attributes one → IsRowOf attributes other → IsRowOf attributes (if test then one else other)

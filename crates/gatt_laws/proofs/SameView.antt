@@ -23,7 +23,7 @@ use Rattle.gatt_laws.proofs.Ends.{end_keeps}
 use Rattle.gatt_laws.proofs.Silence.{only_serves_the_live}
 use Rattle.gatt_laws.proofs.Stores.{store, set_bits, stores_written, sets_written}
 use Rattle.gatt_laws.specs.Controller.{command_of_init, count_before, without_command}
-use Rattle.gatt_laws.specs.Event.{Ordinal, Own, Event, Connected, Gone, KeyAsked, Encrypted, Refreshed, Asks, Signals, Authorized, Of, Completed, Credit, Update, Tick, Replaced, Nothing}
+use Rattle.gatt_laws.specs.Event.{Ordinal, Own, Event, Connected, Gone, KeyAsked, Encrypted, Refreshed, Asks, Signals, Authorized, Ended, Of, Completed, Credit, Update, Tick, Replaced, Nothing}
 use Rattle.gatt_laws.specs.Heard.{Heard, heard_in_turn, hearer_of, with_heard, after_hearing}
 use Rattle.gatt_laws.specs.Part.{Mark, Absent, Live, Ending, Part, absent, come, is_live, is_there, key_of, row_of, mtu_of, connection_of, with_pdus, after_giving, after_ending}
 use Rattle.gatt_laws.specs.Room.{Room, Bonds, share_of, size_of}
@@ -221,6 +221,7 @@ live-silent room bond owed part (Refreshed status) =
     let same = link-silent part (Refresh status) (lost_encryption (key_of part) (key_of (with_step part (Refresh status)))) in
     λ i. record (link_turn room bond owed part (Refresh status)) { part = same i }
 live-silent room bond owed part (Authorized until) = refl
+live-silent room bond owed part Ended = refl
 live-silent room bond owed part (Connected handle peer) = refl
 live-silent room bond owed part Gone = refl
 
@@ -244,6 +245,7 @@ turn-silent room bond owed part (Refreshed status) = if-live-silent room bond ow
 turn-silent room bond owed part (Asks pdu) = if-live-silent room bond owed part (Asks pdu) (is_live part.mark)
 turn-silent room bond owed part (Signals channel payload) = if-live-silent room bond owed part (Signals channel payload) (is_live part.mark)
 turn-silent room bond owed part (Authorized until) = if-live-silent room bond owed part (Authorized until) (is_live part.mark)
+turn-silent room bond owed part Ended = if-live-silent room bond owed part Ended (is_live part.mark)
 
 -- who does not serve comes or goes, and else stays
 idle_part : Part → Own → Part
@@ -262,6 +264,7 @@ turn-idle room bond owed part (Refreshed status) is = rw is refl
 turn-idle room bond owed part (Asks pdu) is = rw is refl
 turn-idle room bond owed part (Signals channel payload) is = rw is refl
 turn-idle room bond owed part (Authorized until) is = rw is refl
+turn-idle room bond owed part Ended is = rw is refl
 
 -- what a turn leaves to be seen, where it is the connection's own
 seen_turn : Room → Turn → Seen
@@ -454,6 +457,7 @@ turn-writes room bond owed part (Asks pdu) =
 turn-writes room bond owed part (Signals channel payload) =
     if-writes-nothing room bond owed part (after_channel room part channel (channel_answer channel payload)) (is_live part.mark)
 turn-writes room bond owed part (Authorized until) = if-writes-nothing room bond owed part (record part { until = until }) (is_live part.mark)
+turn-writes room bond owed part Ended = if-writes-nothing room bond owed part (after_ending part remote_user_terminated) (is_live part.mark)
 
 -- only values are raised, and they are among what is seen
 handles_of_values : List (Handle × Octets) → List Handle

@@ -7,7 +7,7 @@ use Rattle.att_numbers.specs.Types.{Handle}
 use Rattle.gatt_laws.proofs.Always.{always, any_tables}
 use Rattle.gatt_laws.proofs.Silence.{only_serves_the_live}
 use Rattle.gatt_laws.specs.Controller.{Controller, Slots, has_free, with_taken, with_freed, command_of_init, count_before, without_command, is_ready}
-use Rattle.gatt_laws.specs.Event.{Ordinal, Own, Event, Connected, Gone, KeyAsked, Encrypted, Refreshed, Asks, Signals, Authorized, Of, Completed, Credit, Update, Tick, Replaced, Nothing}
+use Rattle.gatt_laws.specs.Event.{Ordinal, Own, Event, Connected, Gone, KeyAsked, Encrypted, Refreshed, Asks, Signals, Authorized, Ended, Of, Completed, Credit, Update, Tick, Replaced, Nothing}
 use Rattle.gatt_laws.specs.Input.{at_start, course}
 use Rattle.gatt_laws.specs.Part.{Part, absent}
 use Rattle.gatt_laws.specs.Possible.{Possible}
@@ -183,6 +183,7 @@ own-gone state at ordinal (Refreshed status) settled may = same-slots state at o
 own-gone state at ordinal (Asks pdu) settled may = same-slots state at ordinal (Asks pdu) settled refl refl
 own-gone state at ordinal (Signals channel payload) settled may = same-slots state at ordinal (Signals channel payload) settled refl refl
 own-gone state at ordinal (Authorized until) settled may = same-slots state at ordinal (Authorized until) settled refl refl
+own-gone state at ordinal Ended settled may = same-slots state at ordinal Ended settled refl refl
 
 credit-gone : (state : State) (allowed opcode : ℕ) (status : Option ℕ) (init : Init) (ordinal : Ordinal) → IsSettled state → is_ready state.controller ≡ false
     → IsGone (after_credit state allowed opcode status (Some init)) ordinal
@@ -210,6 +211,7 @@ early-own (Refreshed status) at slots is = is
 early-own (Asks pdu) at slots is = is
 early-own (Signals channel payload) at slots is = is
 early-own (Authorized until) at slots is = is
+early-own Ended at slots is = is
 
 own-slots : (state : State) (at : Ordinal) (own : Own) → HaveOneSlotEach state.next state.slots → Possible (λ table. Unit) state (Of at own)
     → HaveOneSlotEach (own_change state at own).state.next (slots_after own at state.slots)
@@ -222,6 +224,7 @@ own-slots state at (Refreshed status) each may = each
 own-slots state at (Asks pdu) each may = each
 own-slots state at (Signals channel payload) each may = each
 own-slots state at (Authorized until) each may = each
+own-slots state at Ended each may = each
 
 init-slots : (next count : ℕ) (init : Init) (slots : Slots) → HaveOneSlotEach next slots → HaveOneSlotEach next (slots_for count init slots)
 init-slots next count (Ready length packets) slots each = all-free next (usable count packets)
@@ -257,6 +260,7 @@ told-early (Refreshed status) controller = refl
 told-early (Asks pdu) controller = refl
 told-early (Signals channel payload) controller = refl
 told-early (Authorized until) controller = refl
+told-early Ended controller = refl
 
 refused-early : (controller : Controller) (allowed : ℕ) (refused : Bool)
     → is_ready (if refused then record controller { credit = allowed; advertising = false; refused = true } else record controller { credit = allowed }) ≡ is_ready controller

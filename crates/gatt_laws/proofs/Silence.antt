@@ -7,7 +7,7 @@ use Rattle.gatt_laws.specs.Controller.{command_of_init, count_before, without_co
 use Rattle.gatt_laws.specs.Heard.{Heard, heard_in_turn, hearer_of, with_heard, after_hearing}
 use Rattle.gatt_laws.specs.Part.{Part, is_live, after_giving}
 use Rattle.gatt_laws.specs.Room.{Room, share_of, size_of}
-use Rattle.gatt_laws.specs.Event.{Connected, Gone, KeyAsked, Encrypted, Refreshed, Asks, Signals, Authorized}
+use Rattle.gatt_laws.specs.Event.{Connected, Gone, KeyAsked, Encrypted, Refreshed, Asks, Signals, Authorized, Ended}
 use Rattle.gatt_laws.specs.Silence.{OnlyServesTheLive, OnlyTheLiveAct, IsAllGiven, GivesAllThatItMay}
 use Rattle.gatt_laws.specs.State.{Change, parts_finished, step, change_of}
 use Rattle.gatt_subs.specs.Told.{Hearer}
@@ -66,5 +66,6 @@ only_the_live_act room bond owed part (Refreshed status) is kind = rw is refl
 only_the_live_act room bond owed part (Asks pdu) is kind = rw is refl
 only_the_live_act room bond owed part (Signals channel payload) is kind = rw is refl
 only_the_live_act room bond owed part (Authorized until) is kind = rw is refl
+only_the_live_act room bond owed part Ended is kind = rw is refl
 only_the_live_act room bond owed part (Connected handle peer) is kind = cc kind
 only_the_live_act room bond owed part Gone is kind = cc kind

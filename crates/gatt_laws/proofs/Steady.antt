@@ -6,7 +6,7 @@ use Rattle.std.specs.Prelude.{◌==◌, if◌then◌else◌}
 use Rattle.att_numbers.specs.Types.{Row}
 use Rattle.gatt_conn.specs.Transcript.{Said, Dropped}
 use Rattle.gatt_laws.specs.Event.{Ordinal, Own, Connected, Gone, KeyAsked, Encrypted, Refreshed}
-use Rattle.gatt_laws.specs.Event.{Asks, Signals, Authorized}
+use Rattle.gatt_laws.specs.Event.{Asks, Signals, Authorized, Ended}
 use Rattle.gatt_laws.specs.Part.{Mark, Ending, Part, KeyReply, key_of, with_pdus, after_ending}
 use Rattle.gatt_laws.specs.Room.{Room}
 use Rattle.gatt_laws.specs.State.{with_completed, after_completed}
@@ -91,6 +91,9 @@ module _ {A : Type 0} (fact : Part → A) (steady : IsSteady fact) where
       (lost_encryption (key_of part) (key_of (with_step part (Refresh status))))
   live_steady room bond owed part (Authorized until) kind =
       steady part part.mark until part.steps part.said part.pending part.pdus part.reply part.reason
+  live_steady room bond owed part Ended kind =
+      steady part Ending part.until part.steps (Dropped ∷ part.said) (after_end part.pending) part.pdus None
+      (Some remote_user_terminated)
   live_steady room bond owed part (Connected handle peer) kind = refl
   live_steady room bond owed part Gone kind = refl
 

@@ -17,7 +17,7 @@ use Rattle.gatt_laws.proofs.Named.{IsNamedAs, if-live-named, end_named}
 use Rattle.gatt_laws.specs.Controller.{Slots}
 use Rattle.gatt_laws.specs.Event as event
 use Rattle.gatt_laws.specs.Event.{Ordinal, Own, Event, KeyAsked, Encrypted, Refreshed, Asks}
-use Rattle.gatt_laws.specs.Event.{Signals, Authorized, Of, Completed, Credit, Update, Tick}
+use Rattle.gatt_laws.specs.Event.{Signals, Authorized, Ended, Of, Completed, Credit, Update, Tick}
 use Rattle.gatt_laws.specs.Event.{Replaced, Nothing}
 use Rattle.gatt_laws.specs.Notice.{Notice, Connected, Disconnected, Secured, Unsecured, Written}
 use Rattle.gatt_laws.specs.Notice.{Configured, Confirmed, TimedOut, Ending, are_same_facts}
@@ -257,6 +257,9 @@ tells_what_is_so state (Of at (Signals channel payload)) =
     told-so state at own (stays-named state at own) (none-so (step state (Of at own)))
 tells_what_is_so state (Of at (Authorized until)) =
     let own : Own = Authorized until in
+    told-so state at own (stays-named state at own) (none-so (step state (Of at own)))
+tells_what_is_so state (Of at Ended) =
+    let own : Own = Ended in
     told-so state at own (stays-named state at own) (none-so (step state (Of at own)))
 tells_what_is_so state (Completed entries) = none-so (step state (Completed entries))
 tells_what_is_so state (Credit allowed opcode status following) =

@@ -12,7 +12,7 @@ use Rattle.gatt_conn.specs.Connection.{Connection, mtu_between}
 use Rattle.gatt_conn.specs.Transcript.{Answered, first_exchange, prepared_in}
 use Rattle.gatt_laws.proofs.AnswersAlike.{SameStored, same_stored, same_handles, same_but_reading, same_answer, same_exchange, same_prepared}
 use Rattle.gatt_laws.specs.Alike.{without_reading, erased, is_of}
-use Rattle.gatt_laws.specs.Event.{Own, Connected, Gone, KeyAsked, Encrypted, Refreshed, Asks, Signals, Authorized}
+use Rattle.gatt_laws.specs.Event.{Own, Connected, Gone, KeyAsked, Encrypted, Refreshed, Asks, Signals, Authorized, Ended}
 use Rattle.gatt_laws.specs.Part.{Part, absent, come, is_live, is_there, key_of, row_of, standing_of, mtu_of, connection_of, with_pdus, after_ending}
 use Rattle.gatt_laws.specs.Room.{Room}
 use Rattle.gatt_laws.specs.State.{with_values}
@@ -150,6 +150,7 @@ module _ (hidden : Handle → Bool) (room : Room) (ys : Values) (same : SameBut 
   live-own bond owed part (Encrypted status enabled) readable = link-own bond owed part (Encryption status enabled)
   live-own bond owed part (Refreshed status) readable = link-own bond owed part (Refresh status)
   live-own bond owed part (Authorized until) readable = nothing-changed bond owed (record part { until = until })
+  live-own bond owed part Ended readable = nothing-changed bond owed (after_ending part remote_user_terminated)
   live-own bond owed part (Connected handle peer) readable = nothing-changed bond owed part
   live-own bond owed part Gone readable = nothing-changed bond owed part
 
@@ -171,6 +172,7 @@ module _ (hidden : Handle → Bool) (room : Room) (ys : Values) (same : SameBut 
   own_turn bond owed part (Asks pdu) readable = live-or-not bond owed part (Asks pdu) readable
   own_turn bond owed part (Signals channel payload) readable = live-or-not bond owed part (Signals channel payload) readable
   own_turn bond owed part (Authorized until) readable = live-or-not bond owed part (Authorized until) readable
+  own_turn bond owed part Ended readable = live-or-not bond owed part Ended readable
 
   -- Connections of other peers.
   module _ (peer : Peer) (bond : Row) (owed its : Bool) (part other : Part) (parts : erased part ≡ erased other) (foreign : is_of peer part ≡ false) where
@@ -275,6 +277,9 @@ module _ (hidden : Handle → Bool) (room : Room) (ys : Values) (same : SameBut 
     live-other (Encrypted status enabled) spared spared_too = link-other (Encryption status enabled)
     live-other (Refreshed status) spared spared_too = link-other (Refresh status)
     live-other (Authorized until) spared spared_too = to-part (record part { until = until }) (record other { until = until }) (λ i. record (parts i) { until = until }) foreign
+    live-other Ended spared spared_too =
+        to-part (after_ending part remote_user_terminated) (after_ending other remote_user_terminated)
+        (λ i. after_ending (parts i) remote_user_terminated) foreign
     live-other (Connected handle other_peer) spared spared_too = kept
     live-other Gone spared spared_too = kept
 
@@ -318,3 +323,4 @@ module _ (hidden : Handle → Bool) (room : Room) (ys : Values) (same : SameBut 
     other_turn (Asks pdu) spared spared_too = live-or-kept (Asks pdu) spared spared_too
     other_turn (Signals channel payload) spared spared_too = live-or-kept (Signals channel payload) spared spared_too
     other_turn (Authorized until) spared spared_too = live-or-kept (Authorized until) spared spared_too
+    other_turn Ended spared spared_too = live-or-kept Ended spared spared_too

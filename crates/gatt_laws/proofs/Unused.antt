@@ -9,9 +9,9 @@ use Rattle.att_numbers.specs.Types.{Handle}
 use Rattle.att_table.specs.Changer.{changer_of}
 use Rattle.att_table.specs.Table.{Contents}
 use Rattle.gatt_laws.proofs.Always.{first-true, last-true}
-use Rattle.gatt_laws.specs.Calls.{Call, UpdateCall, AuthorizeCall, TickCall, NotAValue}
+use Rattle.gatt_laws.specs.Calls.{Call, UpdateCall, AuthorizeCall, DisconnectCall, TickCall, NotAValue}
 use Rattle.gatt_laws.specs.Calls.{BadLength, TimeWentBack, NoServiceChanged, holding, serving}
-use Rattle.gatt_laws.specs.Calls.{has_length, update_event, authorize_event, call_event}
+use Rattle.gatt_laws.specs.Calls.{has_length, update_event, authorize_event, disconnect_event, call_event}
 use Rattle.gatt_laws.specs.Calls.{same_changer, replacement_event}
 use Rattle.gatt_laws.specs.Controller.{has_free, is_ready}
 use Rattle.gatt_laws.specs.Event.{Ordinal, Own, Event, Connected, Gone, KeyAsked, Encrypted}
@@ -174,10 +174,16 @@ authorize-unused : (state : State) (until : ℕ) (found : Option Ordinal)
 authorize-unused state until None = tt
 authorize-unused state until (Some ordinal) = tt
 
+disconnect-unused : (state : State) (found : Option Ordinal)
+    → UnusedIfAny state (disconnect_event found)
+disconnect-unused state None = tt
+disconnect-unused state (Some ordinal) = tt
+
 call-unused : (state : State) (call : Call) → UnusedIfAny state (call_event state call)
 call-unused state (UpdateCall handle value) =
     update-unused state handle value (attribute_at state.room.table.attributes handle)
 call-unused state (AuthorizeCall handle until) = authorize-unused state until (serving state handle)
+call-unused state (DisconnectCall handle) = disconnect-unused state (serving state handle)
 call-unused state (TickCall time) =
     elim (nat_lt time state.room.time) as (λ back. UnusedIfAny state
     (if back then Err TimeWentBack else Ok (Tick time))) [ true ↦ tt | false ↦ tt ]

@@ -28,7 +28,7 @@ use Rattle.att_pdu.specs.Grammar.{request_of, is_due}
 use Rattle.att_table.proofs.ServiceBefore.{of_a_changer}
 use Rattle.att_table.specs.Changer.{is_changer}
 use Rattle.gatt_conn.specs.Answer.{writing_asked}
-use Rattle.gatt_laws.specs.Event.{Ordinal, Own, Event, Connected, Gone, KeyAsked, Encrypted, Refreshed, Asks, Signals, Authorized, Of, Completed, Credit, Update, Tick, Replaced, Nothing}
+use Rattle.gatt_laws.specs.Event.{Ordinal, Own, Event, Connected, Gone, KeyAsked, Encrypted, Refreshed, Asks, Signals, Authorized, Ended, Of, Completed, Credit, Update, Tick, Replaced, Nothing}
 use Rattle.gatt_laws.specs.Headline.{MayUse}
 use Rattle.gatt_laws.proofs.Always.{always}
 use Rattle.gatt_laws.specs.Calls.{has_length}
@@ -175,6 +175,7 @@ turn-table room bond owed part (Encrypted status enabled) true is = is
 turn-table room bond owed part (Refreshed status) true is = is
 turn-table room bond owed part (Signals channel payload) true is = is
 turn-table room bond owed part (Authorized until) true is = is
+turn-table room bond owed part Ended true is = is
 turn-table room bond owed part own false is = is
 
 own-table : (state : State) (ordinal : Ordinal) (own : Own) → IsTable state.room.table → IsTable (own_change state ordinal own).state.room.table
@@ -192,6 +193,8 @@ own-table state ordinal (Signals channel payload) is =
     let part = state.parts ordinal in turn-table state.room (state.bonds part.peer) (state.owed part.peer) part (Signals channel payload) (is_live part.mark) is
 own-table state ordinal (Authorized until) is =
     let part = state.parts ordinal in turn-table state.room (state.bonds part.peer) (state.owed part.peer) part (Authorized until) (is_live part.mark) is
+own-table state ordinal Ended is =
+    let part = state.parts ordinal in turn-table state.room (state.bonds part.peer) (state.owed part.peer) part Ended (is_live part.mark) is
 
 -- the changer of a table that replaces another has four octets, as what is written there
 announced-table : (table : Contents) (changer : Option Attr) → find (is_changer table) table.attributes ≡ changer → IsTable table

@@ -6,15 +6,16 @@ use Rattle.att_attributes.specs.Attributes.{attribute_at, is_value}
 use Rattle.att_table.specs.Changer.{changer_of}
 use Rattle.att_table.specs.Table.{Contents}
 use Rattle.gatt_laws.specs.Controller.{Slots}
-use Rattle.gatt_laws.specs.Event.{Ordinal, Event, Of, Authorized, Update, Tick, Replaced}
+use Rattle.gatt_laws.specs.Event.{Ordinal, Event, Of, Authorized, Ended, Update, Tick, Replaced}
 use Rattle.gatt_laws.specs.Part.{is_live}
 use Rattle.gatt_laws.specs.State.{State}
 use Rattle.octets.specs.Number.{Octets}
 
--- a value is written, a connection is authorized up to a moment, or the time is told
+-- a value is written, a connection is authorized up to a moment, or ended, or the time is told
 pub data Call : Type 0 where
   UpdateCall : (handle : Handle) (value : Octets) → Call
   AuthorizeCall : (handle : ℕ) (until : ℕ) → Call
+  DisconnectCall : (handle : ℕ) → Call
   TickCall : (time : ℕ) → Call
 
 -- why a call is refused, or a table: first that the host has stopped, and then in this order
@@ -56,10 +57,15 @@ abbrev pub authorize_event : ℕ → Option Ordinal → Result Event Refused
 authorize_event until None = Err NoSuchConnection
 authorize_event until (Some ordinal) = Ok (Of ordinal (Authorized until))
 
+abbrev pub disconnect_event : Option Ordinal → Result Event Refused
+disconnect_event None = Err NoSuchConnection
+disconnect_event (Some ordinal) = Ok (Of ordinal Ended)
+
 -- what a call means, or why it is refused
 abbrev pub call_event : State → Call → Result Event Refused
 call_event state (UpdateCall handle value) = update_event handle value (attribute_at state.room.table.attributes handle)
 call_event state (AuthorizeCall handle until) = authorize_event until (serving state handle)
+call_event state (DisconnectCall handle) = disconnect_event (serving state handle)
 call_event state (TickCall time) = if nat_lt time state.room.time then Err TimeWentBack else Ok (Tick time)
 
 -- a table may replace another where both have a value that tells of changes, at the same handle

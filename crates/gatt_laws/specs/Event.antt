@@ -11,7 +11,8 @@ abbrev pub Ordinal : Type 0
 Ordinal = ℕ
 
 -- what happens to one connection: it comes, and goes; its key is asked for, its link is encrypted, or its key refreshed;
--- a PDU of the Attribute Protocol or of another channel comes from it; or the application authorizes it up to a moment
+-- a PDU of the Attribute Protocol or of another channel comes from it; or the application authorizes it up to a moment, or
+-- ends it
 pub data Own : Type 0 where
   Connected : (handle : ℕ) (peer : Peer) → Own
   Gone : Own
@@ -21,6 +22,7 @@ pub data Own : Type 0 where
   Asks : (pdu : Octets) → Own
   Signals : (channel : ℕ) (payload : Octets) → Own
   Authorized : (until : ℕ) → Own
+  Ended : Own
 
 -- what happens: to one connection; packets of connections are completed; a command is answered, with the commands that
 -- the controller takes now, with the status if there is one, and with the state of initialisation that follows where it

@@ -10,7 +10,7 @@ use Rattle.att_attributes.specs.declared.attr.Attr.{Attr}
 use Rattle.att_attributes.specs.Attributes.{is_value_at}
 use Rattle.gatt_conn.specs.Answer.{Question, answer_to, stored_by, handles_by, is_confirmation}
 use Rattle.gatt_conn.specs.Transcript.{Answered}
-use Rattle.gatt_laws.specs.Event.{Own, Connected, Gone, KeyAsked, Encrypted, Refreshed, Asks, Signals, Authorized}
+use Rattle.gatt_laws.specs.Event.{Own, Connected, Gone, KeyAsked, Encrypted, Refreshed, Asks, Signals, Authorized, Ended}
 use Rattle.gatt_laws.specs.Heard.{att_pdu}
 use Rattle.gatt_laws.specs.Part.{Part, absent, come, is_live, is_there, key_of, row_of, mtu_of, connection_of, backlog_of, most_pdus, with_pdus, after_ending}
 use Rattle.gatt_laws.specs.Room.{Room}
@@ -39,7 +39,8 @@ turn_to room bond owed part =
     record { values = room.table.values; bond = bond; owed = owed; raised = []; raised_here = []; part = part }
 
 -- Why a Disconnect is sent: Authentication Failure, where a link lost its encryption, and Remote User Terminated
--- Connection, where there is no room for an answer (Core 5.0, Vol 2 Part D, 2; which of them is this profile's own).
+-- Connection, where there is no room for an answer or the application ends the connection (Core 5.0, Vol 2 Part D, 2; which
+-- of them is this profile's own).
 abbrev pub authentication_failure : ℕ
 authentication_failure = 0x05
 
@@ -149,6 +150,7 @@ live_turn room bond owed part (KeyAsked random_number diversifier) =
 live_turn room bond owed part (Encrypted status enabled) = link_turn room bond owed part (Encryption status enabled)
 live_turn room bond owed part (Refreshed status) = link_turn room bond owed part (Refresh status)
 live_turn room bond owed part (Authorized until) = turn_to room bond owed (record part { until = until })
+live_turn room bond owed part Ended = turn_to room bond owed (after_ending part remote_user_terminated)
 live_turn room bond owed part (Connected handle peer) = turn_to room bond owed part
 live_turn room bond owed part Gone = turn_to room bond owed part
 

@@ -8,7 +8,7 @@ use Rattle.att_table.specs.Table.{Contents}
 use Rattle.att_writes.specs.Applied.{after_entries}
 use Rattle.gatt_laws.proofs.examples.Runs.{host, stream, initialised, connected, disconnected}
 use Rattle.gatt_laws.proofs.examples.Runs.{key_asked, encryption, encrypted_with, command_complete}
-use Rattle.gatt_laws.proofs.examples.Runs.{asks, asks_on, update, tick}
+use Rattle.gatt_laws.proofs.examples.Runs.{asks, asks_on, update, end_connection, tick}
 use Rattle.gatt_laws.proofs.examples.Tables.{door, bell, porch, new_porch, phone, tablet, owner}
 use Rattle.gatt_laws.proofs.examples.Views.{comes, sends}
 use Rattle.gatt_laws.specs.Controller.{commands_due}
@@ -125,6 +125,15 @@ goes : told_of door tablet (stream (encrypted_with 0x01 ++ disconnected))
 unfolding course noticed after_item packet_event step change_of live_turn after_hearing
     commands_due frame_at form_of pieces after_entries value_answer tablet_facts
 goes = refl
+
+-- the application ends a connection, which is told once; what it still sends is ignored, and then
+-- it is gone
+ends : told_of door phone (end_connection ++ end_connection
+    ++ stream (asks (0x12 ∷ 0x15 ∷ 0x00 ∷ 0x61 ∷ []) ++ disconnected) ++ end_connection)
+    ≡ Ending 0x40 0x13 ∷ Disconnected 0x40 ∷ []
+unfolding course noticed after_item packet_event step change_of live_turn after_hearing
+    commands_due frame_at form_of pieces after_entries value_answer
+ends = refl
 
 -- a confirmation of an indication, and one of none; what is configured a second time
 subscribes : Octets

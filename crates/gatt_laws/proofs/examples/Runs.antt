@@ -1,7 +1,7 @@
 -- The words of the examples: what the controller sends, and what the host sends.
 use Rattle.std.specs.Prelude.{ℕ, ◌+◌, false, List, [], ◌∷◌, ◌++◌, length, map, drop, replicate, None}
 use Rattle.att_table.specs.Table.{Contents}
-use Rattle.gatt_laws.specs.Calls.{UpdateCall, AuthorizeCall, TickCall}
+use Rattle.gatt_laws.specs.Calls.{UpdateCall, AuthorizeCall, DisconnectCall, TickCall}
 use Rattle.gatt_laws.specs.Input.{Item, AnOctet, ACall, course}
 use Rattle.gatt_laws.specs.Start.{Start}
 use Rattle.gatt_laws.proofs.examples.Tables.{keys}
@@ -76,6 +76,9 @@ update handle value = ACall (UpdateCall handle value) ∷ []
 
 abbrev pub authorize : ℕ → List Item
 authorize until = ACall (AuthorizeCall 0x0040 until) ∷ []
+
+abbrev pub end_connection : List Item
+end_connection = ACall (DisconnectCall 0x0040) ∷ []
 
 abbrev pub tick : ℕ → List Item
 tick time = ACall (TickCall time) ∷ []

@@ -1,7 +1,7 @@
 -- Who hears of a value, and when.
 use Rattle.std.specs.Prelude.{◌≡◌, refl, ℕ, List, [], ◌∷◌, ◌++◌, replicate, Option, Some, None}
 use Rattle.std.specs.List.{flat_map}
-use Rattle.gatt_laws.proofs.examples.Runs.{stream, connected, disconnected, encrypted_with, completed, command_complete, asks, asks_on, told, update, tick, sent_to, enable}
+use Rattle.gatt_laws.proofs.examples.Runs.{stream, connected, disconnected, encrypted_with, completed, command_complete, asks, asks_on, told, update, end_connection, tick, sent_to, enable, disconnect}
 use Rattle.gatt_laws.proofs.examples.Tables.{door, bell, phone, tablet, owner, tablet_key}
 use Rattle.gatt_laws.specs.Controller.{commands_due}
 use Rattle.gatt_laws.specs.Heard.{after_hearing}
@@ -28,6 +28,13 @@ own_row : sent_to door 2 4 tablet
     ≡ enable ∷ told (0x13 ∷ []) ∷ told (0x1B ∷ 0x06 ∷ 0x00 ∷ 0x41 ∷ []) ∷ (0x01 ∷ 0x1A ∷ 0x20 ∷ 0x12 ∷ 0x40 ∷ 0x00 ∷ tablet_key) ∷ told (0x0B ∷ 0x00 ∷ 0x00 ∷ []) ∷ []
 unfolding course after_item packet_event step change_of live_turn after_hearing commands_due out frame_at form_of pieces after_entries value_answer
 own_row = refl
+
+-- a connection that the application ends hears of nothing more, and nothing that waited for it goes out
+ended : sent_to door 2 4 phone
+    (stream (command_complete 0x200A) ++ stream (asks_on (0x12 ∷ 0x07 ∷ 0x00 ∷ 0x01 ∷ 0x00 ∷ [])) ++ update 6 (0x01 ∷ []) ++ update 6 (0x02 ∷ []) ++ update 6 (0x03 ∷ []) ++ end_connection ++ update 6 (0x04 ∷ []) ++ stream (completed 2))
+    ≡ enable ∷ told (0x13 ∷ []) ∷ told (0x1B ∷ 0x06 ∷ 0x00 ∷ 0x01 ∷ []) ∷ told (0x1B ∷ 0x06 ∷ 0x00 ∷ 0x02 ∷ []) ∷ disconnect 0x13 ∷ []
+unfolding course after_item packet_event step change_of live_turn after_hearing commands_due out frame_at form_of pieces after_entries value_answer
+ended = refl
 
 -- one indication at a time, with the value of its release; one that is not confirmed for 30 seconds is the last, and requests are still answered
 indications : sent_to bell 2 4 phone
