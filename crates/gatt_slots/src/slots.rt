@@ -8,7 +8,7 @@ ghost use Rattle.gatt_slots.specs.Hearing.{row_in_force};
 ghost use Rattle.gatt_slots.specs.Places.{CoversHeard};
 ghost use Rattle.gatt_slots.specs.Request.{bond_served, confirmed_of, handles_of, is_full, kept_served, table_after};
 ghost use Rattle.gatt_slots.specs.Slots.{after_entries, all_after_table, all_after_time, all_heard, at_place, kept_at, late_handles, place_free, place_holding, place_serving, row_there, slots_at, IsThere};
-ghost use Rattle.gatt_slots.specs.Turn.{after_authorizing, after_key_asked, after_link_step, after_signal, come, has_no_room};
+ghost use Rattle.gatt_slots.specs.Turn.{after_authorizing, after_ending, after_key_asked, after_link_step, after_signal, come, has_no_room};
 ghost use Rattle.gatt_subs.specs.Rows.{owes, row_of, ChangesBond};
 ghost use Rattle.le_hci.specs.Event.{completed_packets_of};
 ghost use Rattle.le_security.specs.Keys.{answer_of};
@@ -116,6 +116,15 @@ impl Slots {
         ensures { self.new ≡ slots_at place (after_authorizing until) self.old }
     {
         self.slots[place].authorize(until);
+        self.marks.change(place);
+    }
+
+    /// Ends the connection of a slot for a reason, which the Disconnect will tell.
+    pub fn end(&mut self, place: usize, reason: u8)
+        requires place { place < length self.old }
+        ensures ended { self.new ≡ slots_at place (after_ending reason) self.old }
+    {
+        self.slots[place].end(reason);
         self.marks.change(place);
     }
 

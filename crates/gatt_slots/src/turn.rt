@@ -22,7 +22,8 @@ use std::alloc::{AllocError, Global};
 /// Why a connection is ended that lost its encryption: Authentication Failure, Core 5.0, Vol 2
 /// Part D, 2.5. Which reason is told is this profile's own.
 pub const AUTHENTICATION_FAILURE: u8 = 0x05;
-/// Why one is ended that has no room for an answer: Remote User Terminated Connection, 2.19.
+/// Why one is ended that has no room for an answer, or that the application ends: Remote User
+/// Terminated Connection, 2.19.
 pub const REMOTE_USER_TERMINATED: u8 = 0x13;
 
 impl Slot {

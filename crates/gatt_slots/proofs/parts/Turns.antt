@@ -6,7 +6,7 @@ use Rattle.std.proofs.lemmas.Bool.{eq-eqb, ne_eqb, leb-true}
 use Rattle.att_numbers.specs.Types.{Mtu, Row}
 use Rattle.gatt_conn.specs.Connection.{mtu_between}
 use Rattle.gatt_conn.specs.Transcript.{first_exchange}
-use Rattle.gatt_laws.specs.Event.{Own, KeyAsked, Encrypted, Refreshed, Signals, Authorized}
+use Rattle.gatt_laws.specs.Event.{Own, KeyAsked, Encrypted, Refreshed, Signals, Authorized, Ended}
 use Rattle.gatt_laws.specs.Part.{Part, is_live, is_there, key_of, with_pdus as part_with, after_ending as part_ending, backlog_of as part_backlog}
 use Rattle.gatt_laws.specs.Queued.{IsWithinBounds}
 use Rattle.gatt_laws.specs.Room.{Room, share_of, size_of}
@@ -77,6 +77,12 @@ module _ (room : Room) (bond : Row) (owed : Bool) (part : Part) (is : is_live pa
       → kept_if_there room (turn_of room bond owed part (Authorized until)).part part.given ≡ option_map (after_authorizing until) (kept_if_there room part part.given)
   unfolding live_turn
   authorized_kept until = turned (Authorized until) (after_authorizing until) there refl
+
+  -- ended by the application
+  pub disconnected_kept : kept_if_there room (turn_of room bond owed part Ended).part part.given
+      ≡ option_map (after_ending remote_user_terminated) (kept_if_there room part part.given)
+  unfolding live_turn
+  disconnected_kept = turned Ended (after_ending remote_user_terminated) refl (ended_kept room part remote_user_terminated part.given)
 
   pub key_asked_kept : (random_number : Octets) (diversifier : ℕ)
       → kept_if_there room (turn_of room bond owed part (KeyAsked random_number diversifier)).part part.given
