@@ -14,7 +14,7 @@ use Rattle.gatt_laws.proofs.Placed.{freed_lacks, placed_before_commands}
 use Rattle.gatt_laws.proofs.Queued.{change-queued, heard-within}
 use Rattle.gatt_laws.proofs.Settled.{none_next, settled_before_commands}
 use Rattle.gatt_laws.specs.Controller.{Slots}
-use Rattle.gatt_laws.specs.Event.{Ordinal, Own, Event, Connected, Gone, KeyAsked, Encrypted, Refreshed, Asks, Signals, Authorized, Of, Completed, Credit, Update, Tick, Replaced, Nothing}
+use Rattle.gatt_laws.specs.Event.{Ordinal, Own, Event, Connected, Gone, KeyAsked, Encrypted, Refreshed, Asks, Signals, Authorized, Ended, Of, Completed, Credit, Update, Tick, Replaced, Nothing}
 use Rattle.gatt_laws.specs.Heard.{after_hearing}
 use Rattle.gatt_laws.specs.Part.{Part, come, is_live, is_there, key_of, mtu_of, with_pdus, after_ending}
 use Rattle.gatt_laws.specs.Possible.{Possible}
@@ -57,6 +57,7 @@ live-same room bond owed part (Encrypted status enabled) =
     link-same part (Encryption status enabled) (lost_encryption (key_of part) (key_of (with_step part (Encryption status enabled))))
 live-same room bond owed part (Refreshed status) = link-same part (Refresh status) (lost_encryption (key_of part) (key_of (with_step part (Refresh status))))
 live-same room bond owed part (Authorized until) = refl
+live-same room bond owed part Ended = refl
 live-same room bond owed part (Connected handle peer) = refl
 live-same room bond owed part Gone = refl
 
@@ -80,6 +81,7 @@ own-same state at (Refreshed status) settled may has = if-live _ _ _ (state.part
 own-same state at (Asks pdu) settled may has = if-live _ _ _ (state.parts at) (Asks pdu) (is_live (state.parts at).mark)
 own-same state at (Signals channel payload) settled may has = if-live _ _ _ (state.parts at) (Signals channel payload) (is_live (state.parts at).mark)
 own-same state at (Authorized until) settled may has = if-live _ _ _ (state.parts at) (Authorized until) (is_live (state.parts at).mark)
+own-same state at Ended settled may has = if-live _ _ _ (state.parts at) Ended (is_live (state.parts at).mark)
 
 completed-same : (ordinal : Ordinal) (entries : List (Ordinal × ℕ)) (part : Part) → Same part (after_completed ordinal entries part)
 completed-same ordinal [] part = refl

@@ -11,8 +11,8 @@ use Rattle.gatt_host.specs.declared.app.AppFault.{AppFault}
 use Rattle.gatt_host.specs.declared.app.AppFault.TheVariants as fault
 use Rattle.gatt_host.specs.Held.{Held}
 use Rattle.gatt_host.specs.Meaning.{Happening, At, Updates, Ticks, Replaces}
-use Rattle.gatt_laws.specs.Calls.{Call, UpdateCall, AuthorizeCall, TickCall, Refused, NoSuchHandle, NotAValue, BadLength, NoSuchConnection, TimeWentBack, Stopped, NoServiceChanged, has_length, same_changer}
-use Rattle.gatt_laws.specs.Event.{Authorized}
+use Rattle.gatt_laws.specs.Calls.{Call, UpdateCall, AuthorizeCall, DisconnectCall, TickCall, Refused, NoSuchHandle, NotAValue, BadLength, NoSuchConnection, TimeWentBack, Stopped, NoServiceChanged, has_length, same_changer}
+use Rattle.gatt_laws.specs.Event.{Authorized, Ended}
 use Rattle.gatt_slots.specs.Slots.{place_serving}
 use Rattle.octets.specs.Number.{Octets}
 
@@ -20,6 +20,7 @@ use Rattle.octets.specs.Number.{Octets}
 abbrev pub call_of : App → Call
 call_of (app.Update handle value) = UpdateCall handle value.now
 call_of (app.Authorize handle until) = AuthorizeCall handle until
+call_of (app.Disconnect handle) = DisconnectCall handle
 call_of (app.Tick time) = TickCall time
 
 abbrev pub refused_of : AppFault → Refused
@@ -43,9 +44,14 @@ abbrev pub authorize_happening : ℕ → Option ℕ → Result Happening Refused
 authorize_happening until None = Err NoSuchConnection
 authorize_happening until (Some place) = Ok (At place (Authorized until))
 
+abbrev pub disconnect_happening : Option ℕ → Result Happening Refused
+disconnect_happening None = Err NoSuchConnection
+disconnect_happening (Some place) = Ok (At place Ended)
+
 abbrev pub call_happening : Held → Call → Result Happening Refused
 call_happening held (UpdateCall handle value) = update_happening handle value (attribute_at held.table.attributes handle)
 call_happening held (AuthorizeCall handle until) = authorize_happening until (place_serving held.slots handle)
+call_happening held (DisconnectCall handle) = disconnect_happening (place_serving held.slots handle)
 call_happening held (TickCall time) = if nat_lt time held.time then Err TimeWentBack else Ok (Ticks time)
 
 -- a table may replace another where both have a changer at the same handle

@@ -19,7 +19,7 @@ use Rattle.gatt_slots.specs.declared.request.Brought.{Brought}
 use Rattle.gatt_slots.specs.Request.{table_after, bond_served, confirmed_of, kept_served, handles_of, is_full}
 use Rattle.gatt_slots.specs.Slots.{at_place, kept_at as kept_at_place, late_handles, all_heard, all_after_time, all_after_table, after_entries, slots_at}
 use Rattle.gatt_slots.specs.Turn as turn
-use Rattle.gatt_slots.specs.Turn.{after_authorizing, after_key_asked, after_link_step, after_signal, has_no_room}
+use Rattle.gatt_slots.specs.Turn.{after_authorizing, after_ending, after_key_asked, after_link_step, after_signal, has_no_room}
 use Rattle.gatt_subs.specs.Changes.{with_changes_owed}
 use Rattle.gatt_subs.specs.Rows.{Subscriptions, row_of, owes, kept_bond, ChangesBond}
 use Rattle.le_acl.specs.Shares.{usable}
@@ -85,6 +85,14 @@ after_own place change held = after_end None [] [] (record held { slots = slots_
 
 abbrev pub after_authorize : ℕ → ℕ → Held → Held
 after_authorize place until held = after_own place (after_authorizing until) held
+
+abbrev pub end_event : Kept → LastEvent
+end_event kept = last.Ended kept.handle remote_user_terminated
+
+abbrev pub after_disconnect : ℕ → Held → Held
+after_disconnect place held =
+    with_last (option_map_or end_event (kept_at held place) last.Quiet)
+    (after_own place (after_ending remote_user_terminated) held)
 
 abbrev pub after_ask_key : ℕ → Octets → ℕ → Held → Held
 after_ask_key place random_number diversifier held =

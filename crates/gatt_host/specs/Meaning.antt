@@ -3,9 +3,9 @@ use Rattle.std.specs.Prelude.{◌≡◌, ℕ, ◌==◌, nat_le, ◌&&◌, is_non
 use Rattle.att_numbers.specs.Types.{Handle}
 use Rattle.att_table.specs.ConfigRow.{IsRowOf}
 use Rattle.att_table.specs.Table.{Contents}
-use Rattle.gatt_host.specs.Held.{Held, Serves, after_ask_key, after_authorize, after_coming, after_completing, after_credit, after_going, after_link, after_nothing, after_replacing, after_signals, after_tick, after_update, kept_at, row_at}
+use Rattle.gatt_host.specs.Held.{Held, Serves, after_ask_key, after_authorize, after_coming, after_completing, after_credit, after_disconnect, after_going, after_link, after_nothing, after_replacing, after_signals, after_tick, after_update, kept_at, row_at}
 use Rattle.gatt_laws.specs.Controller.{is_ready}
-use Rattle.gatt_laws.specs.Event.{Own, Connected, Gone, KeyAsked, Encrypted, Refreshed, Asks, Signals, Authorized}
+use Rattle.gatt_laws.specs.Event.{Own, Connected, Gone, KeyAsked, Encrypted, Refreshed, Asks, Signals, Authorized, Ended}
 use Rattle.gatt_laws.specs.Packets.{of_octets, peripheral, last_connection_handle}
 use Rattle.gatt_slots.specs.Hearing.{row_in_force}
 use Rattle.gatt_slots.specs.Kept.{Kept}
@@ -41,6 +41,7 @@ IsAfterOwn place (Refreshed status) old new = new ≡ after_link place (Refresh 
 IsAfterOwn place (Asks pdu) old new = IfSome (kept_at old place) (λ kept. Serves place pdu kept old new)
 IsAfterOwn place (Signals channel payload) old new = new ≡ after_signals place channel payload old
 IsAfterOwn place (Authorized until) old new = new ≡ after_authorize place until old
+IsAfterOwn place Ended old new = new ≡ after_disconnect place old
 
 abbrev pub IsAfter : Happening → Held → Held → Type 0
 IsAfter (At place own) old new = IsAfterOwn place own old new

@@ -4,11 +4,11 @@ use Rattle.std.specs.Option.{option_map_or}
 use Rattle.att_numbers.specs.Types.{Handle}
 use Rattle.att_table.specs.Changer.{changer_of}
 use Rattle.att_table.specs.Table.{Contents}
-use Rattle.gatt_host.specs.Held.{Held, open_slots, kept_at, after_authorize, after_ask_key, after_coming, after_completing, after_credit, after_going, after_link, after_nothing, after_replacing, after_signals, after_tick, after_update, Serves}
+use Rattle.gatt_host.specs.Held.{Held, open_slots, kept_at, after_authorize, after_ask_key, after_coming, after_completing, after_credit, after_disconnect, after_going, after_link, after_nothing, after_replacing, after_signals, after_tick, after_update, Serves}
 use Rattle.gatt_host.specs.Notices.{last_notices}
 use Rattle.gatt_host.specs.Owing.{IsOwing}
 use Rattle.gatt_laws.specs.Controller.{has_free, is_ready}
-use Rattle.gatt_laws.specs.Event.{Ordinal, Event, Nothing, Tick, Update, Of, Connected, Gone, Authorized, KeyAsked, Encrypted, Refreshed, Signals, Asks, Completed, Credit, Replaced}
+use Rattle.gatt_laws.specs.Event.{Ordinal, Event, Nothing, Tick, Update, Of, Connected, Gone, Authorized, Ended, KeyAsked, Encrypted, Refreshed, Signals, Asks, Completed, Credit, Replaced}
 use Rattle.gatt_laws.specs.Input.{Item, course}
 use Rattle.gatt_laws.specs.Notice.{noticed}
 use Rattle.gatt_laws.specs.Packets.{completed_entries}
@@ -100,6 +100,10 @@ pub record IsServing (state : State) (place : ℕ) (ordinal : Ordinal) : Type 0 
 abbrev pub AuthorizingLeadsOn : Type 0
 AuthorizingLeadsOn = (state : State) (held : Held) (place : ℕ) (ordinal : Ordinal) (until : ℕ) → IsSound state → Stands state [] held →
     IsServing state place ordinal → LeadsTo state (Of ordinal (Authorized until)) (after_authorize place until held)
+
+abbrev pub DisconnectingLeadsOn : Type 0
+DisconnectingLeadsOn = (state : State) (held : Held) (place : ℕ) (ordinal : Ordinal) → IsSound state → Stands state [] held →
+    IsServing state place ordinal → LeadsTo state (Of ordinal Ended) (after_disconnect place held)
 
 abbrev pub AskingAKeyLeadsOn : Type 0
 AskingAKeyLeadsOn = (state : State) (held : Held) (place : ℕ) (ordinal : Ordinal) (random_number : Octets) (diversifier : ℕ) → IsSound state →

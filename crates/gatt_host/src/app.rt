@@ -9,6 +9,9 @@ pub enum App<'a> {
     /// Authorize the connection with a handle while the time is below a moment, in milliseconds: 0
     /// withdraws it.
     Authorize(u16, u64),
+    /// End the connection with a handle: the peer is told Remote User Terminated Connection (13
+    /// hexadecimal), and nothing more is sent to it.
+    Disconnect(u16),
     /// Take in the time, in milliseconds.
     Tick(u64),
 }

@@ -5,7 +5,7 @@ ghost use Rattle.att_attributes.specs.Attributes.{attribute_at};
 ghost use Rattle.att_table.specs.Changer.{changer_of};
 ghost use Rattle.att_table.specs.Table.{room_at};
 ghost use Rattle.gatt_laws.specs.Calls.{has_length, same_changer, TickCall};
-ghost use Rattle.gatt_host.specs.Asked.{authorize_happening, call_happening, call_of, refused_of, replacement_happening, update_happening};
+ghost use Rattle.gatt_host.specs.Asked.{authorize_happening, call_happening, call_of, disconnect_happening, refused_of, replacement_happening, update_happening};
 ghost use Rattle.gatt_host.specs.Held.{after_replacing, with_last};
 ghost use Rattle.gatt_host.specs.Meaning.{IsAfter};
 ghost use Rattle.gatt_slots.specs.Slots.{place_serving};
@@ -37,6 +37,7 @@ impl HostState {
         match call {
             App::Update(handle, value) => self.update_value(handle, value),
             App::Authorize(handle, until) => self.authorize_connection(handle, until),
+            App::Disconnect(handle) => self.end_connection(handle),
             App::Tick(time) => self.tick_on(time),
         }
     }
@@ -73,6 +74,20 @@ impl HostState {
         };
         self.authorize(place, until);
         Ok(())
+    }
+
+    fn end_connection(&mut self, handle: u16) -> Result<(), AppFault>
+        ensures after { IsOk result → IsOkAnd (disconnect_happening (place_serving self.old.slots handle)) (λ happening. IsAfter happening self.old self.new) }
+        ensures refused { IfErr result (λ fault. disconnect_happening (place_serving self.old.slots handle) ≡ Err (refused_of fault)) }
+        ensures unchanged { OnErr result (self.new ≡ self.old) }
+    {
+        match self.slots.find_serving(handle) {
+            Some(place) => {
+                self.disconnect(place);
+                Ok(())
+            }
+            None => Err(AppFault::NoSuchConnection),
+        }
     }
 
     fn tick_on(&mut self, time: u64) -> Result<(), AppFault>

@@ -9,7 +9,7 @@ ghost use Rattle.gatt_laws.specs.Packets.{completed_event, status_event, status_
 ghost use Rattle.le_acl.specs.Shares.{acl_len, share};
 ghost use Rattle.le_hci.specs.InitTold.{told_in};
 ghost use Rattle.gatt_host.specs.GoingOut.{is_drained};
-ghost use Rattle.gatt_host.specs.Held.{open_slots, next_of, after_out, after_end, opened, Credits, after_ask_key, after_authorize, after_coming, after_completing, after_going, after_link, after_nothing, after_replacing, after_signals, after_tick, after_update, kept_at, row_at, with_last, Serves};
+ghost use Rattle.gatt_host.specs.Held.{open_slots, next_of, after_out, after_end, opened, Credits, after_ask_key, after_authorize, after_coming, after_completing, after_disconnect, after_going, after_link, after_nothing, after_replacing, after_signals, after_tick, after_update, kept_at, row_at, with_last, Serves};
 ghost use Rattle.gatt_slots.specs.Slots.{all_heard};
 ghost use Rattle.gatt_slots.specs.Hearing.{row_in_force};
 ghost use Rattle.le_hci.specs.Event.{completed_packets_of};
@@ -135,6 +135,20 @@ impl HostState {
     {
         self.slots.authorize(place, until);
         self.nothing();
+    }
+
+    /// The application ends the connection of a slot.
+    pub(crate) fn disconnect(&mut self, place: usize)
+        requires place { place < length self.old.slots }
+        requires there { IsSome (kept_at self.old place) }
+        ensures ended { self.new ≡ after_disconnect place self.old }
+    {
+        let handle = self.slots.handle(place);
+        self.slots.end(place, REMOTE_USER_TERMINATED);
+        self.end(LastEvent::Ended {
+            handle,
+            reason: REMOTE_USER_TERMINATED,
+        });
     }
 
     /// The controller asks for the key of the connection of a slot.

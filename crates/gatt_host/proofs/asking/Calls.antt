@@ -12,17 +12,17 @@ use Rattle.att_table.specs.Table.{Contents}
 use Rattle.gatt_host.proofs.asking.Led.{KeepsSlots, Led, led_on}
 use Rattle.gatt_host.proofs.standing.ForAll.{time_leads_on, update_leads_on}
 use Rattle.gatt_host.proofs.standing.Holding.{Holds, holds, some-is, were_open}
-use Rattle.gatt_host.proofs.standing.OwnEvents.{authorizing_leads_on}
+use Rattle.gatt_host.proofs.standing.OwnEvents.{authorizing_leads_on, disconnecting_leads_on}
 use Rattle.gatt_host.proofs.standing.Replacements.{replacement_leads_on as table_leads_on}
-use Rattle.gatt_host.specs.Asked.{update_happening, authorize_happening, call_happening, replacement_happening}
+use Rattle.gatt_host.specs.Asked.{update_happening, authorize_happening, disconnect_happening, call_happening, replacement_happening}
 use Rattle.gatt_host.specs.Held.{Held}
 use Rattle.gatt_host.specs.Meaning.{Frames, Happening, Updates, Ticks, Replaces, IsAfter}
 use Rattle.gatt_host.specs.Owing.{all_given, slot_held}
 use Rattle.gatt_host.specs.Standing.{StandsIn, IsDrainedIn, CallLeadsOn, CallIsRefused, ReplacementLeadsOn, ReplacementIsRefused}
 use Rattle.gatt_host.specs.Stands.{Stands, IsSound, LeadsTo}
-use Rattle.gatt_laws.specs.Calls.{Call, UpdateCall, AuthorizeCall, TickCall, Refused, NotAValue, BadLength, TimeWentBack, NoServiceChanged, ordinal_where, serving, has_length, update_event, authorize_event, call_event, same_changer, replacement_event}
+use Rattle.gatt_laws.specs.Calls.{Call, UpdateCall, AuthorizeCall, DisconnectCall, TickCall, Refused, NotAValue, BadLength, TimeWentBack, NoServiceChanged, ordinal_where, serving, has_length, update_event, authorize_event, disconnect_event, call_event, same_changer, replacement_event}
 use Rattle.gatt_laws.specs.Controller.{Slots, is_ready}
-use Rattle.gatt_laws.specs.Event.{Ordinal, Event, Of, Authorized, Update, Tick, Replaced}
+use Rattle.gatt_laws.specs.Event.{Ordinal, Event, Of, Authorized, Ended, Update, Tick, Replaced}
 use Rattle.gatt_laws.specs.Input.{Course, after_result}
 use Rattle.gatt_laws.specs.Part.{is_live}
 use Rattle.gatt_laws.specs.Possible.{MayBeUpdated}
@@ -147,6 +147,22 @@ module _ (course : Course) (held new : Held) (frames : Frames) (is : IsDrainedIn
       (authorizing_leads_on state held found.at ordinal until is.sound is.stands
       (record { there = found.has; live = found-live state handle ordinal is_found }))))
 
+  -- a connection is ended
+  disconnect-keeps : (ordinal : Ordinal) → KeepsSlots state (step state (Of ordinal Ended))
+  unfolding step change_of
+  disconnect-keeps ordinal = record { slots = refl; next = refl }
+
+  disconnect-alike : (handle : ℕ) (found : Option Ordinal) (place : Option ℕ) → serving state handle ≡ found
+      → Finds state.slots found place → Alike (disconnect_happening place) (disconnect_event found)
+  disconnect-alike handle None place is_found none =
+      subst (λ (place : Option ℕ). Alike (disconnect_happening place) (disconnect_event None)) (sym none) refl
+  disconnect-alike handle (Some ordinal) place is_found found =
+      subst (λ (place : Option ℕ). Alike (disconnect_happening place) (disconnect_event (Some ordinal))) (sym found.is)
+      (λ after. led_on course held new frames (Of ordinal Ended) is tt (disconnect-keeps ordinal)
+      (subst (λ (new : Held). LeadsTo state (Of ordinal Ended) new) (sym after)
+      (disconnecting_leads_on state held found.at ordinal is.sound is.stands
+      (record { there = found.has; live = found-live state handle ordinal is_found }))))
+
   -- the time is told
   tick-keeps : (time : ℕ) → KeepsSlots state (step state (Tick time))
   unfolding step change_of
@@ -172,6 +188,9 @@ module _ (course : Course) (held new : Held) (frames : Frames) (is : IsDrainedIn
       (sym is.stands.table) (update-alike handle value (attribute_at state.room.table.attributes handle) refl)
   call-alike (AuthorizeCall handle until) =
       authorize-alike until handle (serving state handle) (place_serving held.slots handle) refl
+      (finds state held handle is.sound is.stands)
+  call-alike (DisconnectCall handle) =
+      disconnect-alike handle (serving state handle) (place_serving held.slots handle) refl
       (finds state held handle is.sound is.stands)
   call-alike (TickCall time) =
       let event : Result Event Refused = unless (nat_lt time state.room.time) TimeWentBack (Tick time) in

@@ -20,7 +20,7 @@ use Rattle.gatt_host.specs.Telling.{noticed_in}
 use Rattle.gatt_laws.proofs.Always.{packet_may_come}
 use Rattle.gatt_laws.specs.Calls.{holding, serving}
 use Rattle.gatt_laws.specs.Controller.{Controller, has_free, is_ready}
-use Rattle.gatt_laws.specs.Event.{Ordinal, Own, Event, Connected, Gone, KeyAsked, Encrypted, Refreshed, Asks, Signals, Authorized, Of, Completed, Credit, Nothing}
+use Rattle.gatt_laws.specs.Event.{Ordinal, Own, Event, Connected, Gone, KeyAsked, Encrypted, Refreshed, Asks, Signals, Authorized, Ended, Of, Completed, Credit, Nothing}
 use Rattle.gatt_laws.specs.Input.{Course, packet_taken}
 use Rattle.gatt_laws.specs.Packets.{Fault, Fragments, own_event, peripheral, last_connection_handle, is_accepted, completed_entries, connection_event, completed_event, status_event, status_of, event_or_bad, packet_event}
 use Rattle.gatt_laws.specs.Settled.{has_slot}
@@ -58,6 +58,7 @@ module _ (state : State) (held : Held) (fragments : Fragments) (frames : Frames)
   same-frames place (Asks pdu) other = refl
   same-frames place (Signals channel payload) other = refl
   same-frames place (Authorized until) other = refl
+  same-frames place Ended other = refl
 
   found-frames : (place : Option ℕ) (own : Own) → is_coming_own own ≡ false → frames_after (at_found place own) frames ≡ frames
   found-frames None own other = refl

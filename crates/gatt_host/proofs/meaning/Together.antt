@@ -14,7 +14,7 @@ use Rattle.gatt_host.specs.Owing.{all_given, slot_held}
 use Rattle.gatt_host.specs.Standing.{IsPutTogether}
 use Rattle.gatt_host.specs.Stands.{IsSound, Stands, slots_for as slots_opened}
 use Rattle.gatt_laws.specs.Controller.{Slots, has_free, is_ready, with_freed, with_taken}
-use Rattle.gatt_laws.specs.Event.{Ordinal, Own, Event, Connected, Gone, KeyAsked, Encrypted, Refreshed, Asks, Signals, Authorized, Of, Completed, Credit, Update, Tick, Replaced, Nothing}
+use Rattle.gatt_laws.specs.Event.{Ordinal, Own, Event, Connected, Gone, KeyAsked, Encrypted, Refreshed, Asks, Signals, Authorized, Ended, Of, Completed, Credit, Update, Tick, Replaced, Nothing}
 use Rattle.gatt_laws.specs.Packets.{Fragments}
 use Rattle.gatt_laws.specs.Settled.{has_slot}
 use Rattle.gatt_laws.specs.State.{State, change_of, slots_for, step}
@@ -107,6 +107,7 @@ keeps_or_frees state (Of own (Refreshed status)) other = record { there = λ pla
 keeps_or_frees state (Of own (Asks pdu)) other = record { there = λ place ordinal is. is; next = refl }
 keeps_or_frees state (Of own (Signals channel payload)) other = record { there = λ place ordinal is. is; next = refl }
 keeps_or_frees state (Of own (Authorized until)) other = record { there = λ place ordinal is. is; next = refl }
+keeps_or_frees state (Of own Ended) other = record { there = λ place ordinal is. is; next = refl }
 keeps_or_frees state (Completed entries) other = record { there = λ place ordinal is. is; next = refl }
 keeps_or_frees state (Credit allowed opcode status (Some init)) other =
     record { there = λ place ordinal is. opened-before state.room.slots init state.slots place ordinal is; next = refl }

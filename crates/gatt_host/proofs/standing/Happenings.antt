@@ -15,12 +15,12 @@ use Rattle.gatt_host.proofs.standing.Completions.{completion_leads_on}
 use Rattle.gatt_host.proofs.standing.ForAll.{nothing_leads_on, time_leads_on, update_leads_on}
 use Rattle.gatt_host.proofs.standing.Holding.{Holds, holds, some-is, were_open}
 use Rattle.gatt_host.proofs.standing.Links.{encryption_leads_on, refresh_leads_on}
-use Rattle.gatt_host.proofs.standing.OwnEvents.{asking_a_key_leads_on, authorizing_leads_on, signals_lead_on}
+use Rattle.gatt_host.proofs.standing.OwnEvents.{asking_a_key_leads_on, authorizing_leads_on, disconnecting_leads_on, signals_lead_on}
 use Rattle.gatt_host.proofs.standing.Replacements.{replacement_leads_on}
 use Rattle.gatt_host.proofs.standing.Requests.{request_leads_on}
 use Rattle.gatt_host.proofs.standing.Turned.{kept_here}
 use Rattle.gatt_host.specs.Answers.{stop_of}
-use Rattle.gatt_host.specs.Asked.{update_happening, authorize_happening, call_happening, replacement_happening}
+use Rattle.gatt_host.specs.Asked.{update_happening, authorize_happening, disconnect_happening, call_happening, replacement_happening}
 use Rattle.gatt_host.specs.Held as host
 use Rattle.gatt_host.specs.Held.{Held, Serves, after_nothing, kept_at}
 use Rattle.gatt_host.specs.Leading.{LeadsWith, ReportsLeadOn, SameOutcome, CallsLeadOn, ReplacementsLeadOn, StopsForTheSame}
@@ -28,9 +28,9 @@ use Rattle.gatt_host.specs.Meaning.{Happening, At, Updates, Ticks, Replaces, Pas
 use Rattle.gatt_host.specs.Owing.{all_given, slot_held, slots_held}
 use Rattle.gatt_host.specs.Packet.{TakesEvent}
 use Rattle.gatt_host.specs.Stands.{IsServing, IsSound, LeadsTo, Stands}
-use Rattle.gatt_laws.specs.Calls.{Call, UpdateCall, AuthorizeCall, TickCall, Refused, NotAValue, BadLength, NoSuchConnection, TimeWentBack, NoServiceChanged, has_length, ordinal_where, serving, holding, update_event, authorize_event, call_event, replacement_event, same_changer}
+use Rattle.gatt_laws.specs.Calls.{Call, UpdateCall, AuthorizeCall, DisconnectCall, TickCall, Refused, NotAValue, BadLength, NoSuchConnection, TimeWentBack, NoServiceChanged, has_length, ordinal_where, serving, holding, update_event, authorize_event, disconnect_event, call_event, replacement_event, same_changer}
 use Rattle.gatt_laws.specs.Controller.{Controller, Slots, has_free, is_ready}
-use Rattle.gatt_laws.specs.Event.{Ordinal, Own, Event, Of, Connected, Gone, KeyAsked, Encrypted, Refreshed, Asks, Signals, Authorized, Completed, Credit, Update, Tick, Replaced, Nothing}
+use Rattle.gatt_laws.specs.Event.{Ordinal, Own, Event, Of, Connected, Gone, KeyAsked, Encrypted, Refreshed, Asks, Signals, Authorized, Ended, Completed, Credit, Update, Tick, Replaced, Nothing}
 use Rattle.gatt_laws.specs.Packets.{Fault, own_event, peripheral, last_connection_handle, is_accepted, completed_entries, connection_event, completed_event, status_event, status_of, event_or_bad}
 use Rattle.gatt_laws.specs.Part.{Part, is_live}
 use Rattle.gatt_laws.specs.Possible.{Possible}
@@ -117,6 +117,8 @@ module _ (state : State) (held : Held) (sound : IsSound state) (stands : Stands 
       (signals_lead_on state held place ordinal channel payload sound stands serves)
   own_leads place ordinal (Authorized until) one serves = λ new after.
       subst (λ (held : Held). LeadsTo state (Of ordinal (Authorized until)) held) (sym after) (authorizing_leads_on state held place ordinal until sound stands serves)
+  own_leads place ordinal Ended one serves = λ new after.
+      subst (λ (held : Held). LeadsTo state (Of ordinal Ended) held) (sym after) (disconnecting_leads_on state held place ordinal sound stands serves)
 
   -- the one of a handle that serves
   pub finds : (handle : ℕ) → Finds state.slots (serving state handle) (place_serving held.slots handle)
@@ -295,6 +297,13 @@ module _ (state : State) (held : Held) (sound : IsSound state) (stands : Stands 
       subst (λ (place : Option ℕ). Same (Ok (Of ordinal (Authorized until))) (authorize_happening until place)) (sym found.is)
       (own_leads found.at ordinal (Authorized until) refl (serves-at handle found.at ordinal by found.has))
 
+  disconnect-leads : (handle : ℕ) (found : Option Ordinal) (place : Option ℕ) → serving state handle ≡ found → Finds state.slots found place
+      → Same (disconnect_event found) (disconnect_happening place)
+  disconnect-leads handle None place by none = subst (λ (place : Option ℕ). Same (Err NoSuchConnection) (disconnect_happening place)) (sym none) refl
+  disconnect-leads handle (Some ordinal) place by found =
+      subst (λ (place : Option ℕ). Same (Ok (Of ordinal Ended)) (disconnect_happening place)) (sym found.is)
+      (own_leads found.at ordinal Ended refl (serves-at handle found.at ordinal by found.has))
+
   tick-leads : (time : ℕ) (back : Bool) → nat_lt time state.room.time ≡ back → Same (if back then Err TimeWentBack else Ok (Tick time)) (if back then Err TimeWentBack else Ok (Ticks time))
   tick-leads time true is_back = refl
   tick-leads time false not_back = λ new after.
@@ -306,6 +315,7 @@ module _ (state : State) (held : Held) (sound : IsSound state) (stands : Stands 
       subst (λ (table : Contents). Same (update_event handle value (attribute_at state.room.table.attributes handle)) (update_happening handle value (attribute_at table.attributes handle)))
       (sym is.table) (update-leads handle value (attribute_at state.room.table.attributes handle) refl)
   call-leads (AuthorizeCall handle until) = authorize-leads handle until (serving state handle) (place_serving held.slots handle) refl (finds handle)
+  call-leads (DisconnectCall handle) = disconnect-leads handle (serving state handle) (place_serving held.slots handle) refl (finds handle)
   call-leads (TickCall time) =
       subst (λ (now : ℕ). Same (if nat_lt time state.room.time then Err TimeWentBack else Ok (Tick time)) (if nat_lt time now then Err TimeWentBack else Ok (Ticks time)))
       (sym is.time) (tick-leads time (nat_lt time state.room.time) refl)

@@ -1,4 +1,5 @@
--- What happens to one connection leads a host on: it is authorized, its key is asked for, or a PDU of another channel comes.
+-- What happens to one connection leads a host on: it is authorized, or ended by the application, its key is asked for, or a
+-- PDU of another channel comes.
 use Rattle.std.proofs.Common.{◌≡◌, ℕ, Bool, true, false, List, [], ◌∷◌, Option, Some, None, refl, sym, ap, subst, ◌∙◌}
 use Rattle.std.specs.Prelude.{is_some, if◌then◌else◌, ◌||◌, ◌&&◌}
 use Rattle.std.specs.List.{find}
@@ -6,20 +7,20 @@ use Rattle.std.specs.Option.{option_map, option_map_or}
 use Rattle.gatt_host.proofs.Nexts.{clash}
 use Rattle.gatt_host.proofs.standing.Holding.{Holds, ends, ends_with, holds, keyed_alike, SameLink}
 use Rattle.gatt_host.proofs.standing.OneSlot.{none_raised_at}
-use Rattle.gatt_host.proofs.standing.Told.{authorized_told, key_asked_told, signal_told}
+use Rattle.gatt_host.proofs.standing.Told.{authorized_told, disconnected_told, key_asked_told, signal_told}
 use Rattle.gatt_host.proofs.standing.Turned.{holds_alone}
 use Rattle.gatt_host.specs.declared.last_event.LastEvent.TheVariants as last
-use Rattle.gatt_host.specs.Held.{Held, kept_at, signal_event, after_authorize, after_ask_key, after_signals}
+use Rattle.gatt_host.specs.Held.{Held, kept_at, end_event, signal_event, after_authorize, after_ask_key, after_disconnect, after_signals}
 use Rattle.gatt_slots.specs.Slots.{slots_at}
 use Rattle.gatt_host.specs.Owing.{all_given}
-use Rattle.gatt_host.specs.Stands.{AuthorizingLeadsOn, AskingAKeyLeadsOn, SignalsLeadOn, HasKeysOfItsPeer, IsServing, LeadsTo, Stands, IsSound}
-use Rattle.gatt_laws.specs.Event.{Ordinal, Own, Of, Authorized, KeyAsked, Signals}
+use Rattle.gatt_host.specs.Stands.{AuthorizingLeadsOn, DisconnectingLeadsOn, AskingAKeyLeadsOn, SignalsLeadOn, HasKeysOfItsPeer, IsServing, LeadsTo, Stands, IsSound}
+use Rattle.gatt_laws.specs.Event.{Ordinal, Own, Of, Authorized, Ended, KeyAsked, Signals}
 use Rattle.gatt_laws.specs.Part.{Part, is_live, is_there, with_pdus, after_ending}
 use Rattle.gatt_laws.specs.State.{State, change_of, step, out}
 use Rattle.gatt_laws.specs.Turn.{Turn, live_turn, turn_of, turn_to, with_key_asked, after_channel, channel_answer, is_full, remote_user_terminated}
-use Rattle.gatt_slots.proofs.parts.Turns.{authorized_kept, key_asked_kept, live_turned, signal_kept}
+use Rattle.gatt_slots.proofs.parts.Turns.{authorized_kept, disconnected_kept, key_asked_kept, live_turned, signal_kept}
 use Rattle.gatt_slots.specs.Kept.{Kept, kept_of, kept_if_there}
-use Rattle.gatt_slots.specs.Turn.{after_authorizing, after_key_asked, after_signal}
+use Rattle.gatt_slots.specs.Turn.{after_authorizing, after_ending as slot_ending, after_key_asked, after_signal}
 use Rattle.le_hci.specs.declared.peer.Peer.{Peer}
 use Rattle.le_security.specs.Entry.{is_for, same_peer}
 use Rattle.le_security.specs.Keys.{answer_of, is_known}
@@ -90,6 +91,26 @@ module _ (state : State) (held : Held) (place : ℕ) (ordinal : Ordinal) (sound 
       ends state (Of ordinal own) sound tt (record held { slots = slots_at place (after_authorizing until) held.slots }) (authorized-holds until) None [] []
       (none_raised_at (record state.room.table { values = (turn own).values }) state.room.time state.slots ordinal (turn own).raised_here (turn own).raised
       (ap (λ (turn : Turn). turn.raised_here) (turn-is own)) (ap (λ (turn : Turn). turn.raised) (turn-is own))) (authorized_told state held place ordinal sound stands serving until)
+
+  -- the application ends it
+  disconnected-holds : Holds (change_of state (Of ordinal Ended)).state (all_given state)
+      (record held { slots = slots_at place (slot_ending remote_user_terminated) held.slots })
+  unfolding change_of live_turn
+  disconnected-holds =
+      let own : Own = Ended in
+      holds_alone state held (holds state held stands) sound.settled place ordinal serving.there (turn own) (slot_ending remote_user_terminated)
+      (ap (λ (turn : Turn). turn.values) (turn-is own)) (ap (λ (turn : Turn). turn.bond) (turn-is own)) (ap (λ (turn : Turn). turn.owed) (turn-is own))
+      (keyed-by own (keyed_alike state.room.keys part (live own).part (refl, refl) is-keyed))
+      (disconnected_kept state.room (state.bonds part.peer) (state.owed part.peer) part serving.live)
+
+  disconnected-leads : LeadsTo state (Of ordinal Ended) (after_disconnect place held)
+  unfolding change_of live_turn
+  disconnected-leads =
+      let own : Own = Ended in
+      ends_with state (Of ordinal own) sound tt (record held { slots = slots_at place (slot_ending remote_user_terminated) held.slots }) disconnected-holds None [] []
+      (none_raised_at (record state.room.table { values = (turn own).values }) state.room.time state.slots ordinal (turn own).raised_here (turn own).raised
+      (ap (λ (turn : Turn). turn.raised_here) (turn-is own)) (ap (λ (turn : Turn). turn.raised) (turn-is own)))
+      (option_map_or end_event (kept_at held place) last.Quiet) (disconnected_told state held place ordinal sound stands serving (after_disconnect place held))
 
   -- its key is asked for
   abbrev asked_of : List Entry → Octets → ℕ → Kept → Kept
@@ -167,6 +188,9 @@ module _ (state : State) (held : Held) (place : ℕ) (ordinal : Ordinal) (sound 
 
 pub authorizing_leads_on : AuthorizingLeadsOn
 authorizing_leads_on state held place ordinal until sound stands serving = authorized-leads state held place ordinal sound stands serving until
+
+pub disconnecting_leads_on : DisconnectingLeadsOn
+disconnecting_leads_on state held place ordinal sound stands serving = disconnected-leads state held place ordinal sound stands serving
 
 pub asking_a_key_leads_on : AskingAKeyLeadsOn
 asking_a_key_leads_on state held place ordinal random_number diversifier sound stands serving =

@@ -10,12 +10,12 @@ use Rattle.gatt_host.proofs.standing.Holding.{Holds, has_slot_there, holds, were
 use Rattle.gatt_host.proofs.standing.Turned.{kept_at_place}
 use Rattle.gatt_host.specs.declared.last_event.LastEvent.{LastEvent}
 use Rattle.gatt_host.specs.declared.last_event.LastEvent.TheVariants as last
-use Rattle.gatt_host.specs.Held.{Held, gone_event, kept_at, link_event, signal_event}
+use Rattle.gatt_host.specs.Held.{Held, end_event, gone_event, kept_at, link_event, signal_event}
 use Rattle.gatt_host.specs.Notices.{link_change_told, told_by}
 use Rattle.gatt_host.specs.Owing.{all_given, slot_held}
 use Rattle.gatt_host.specs.Stands.{IsServing, IsSound, Stands}
 use Rattle.gatt_laws.specs.Controller.{Slots, is_ready}
-use Rattle.gatt_laws.specs.Event.{Ordinal, Own, Of, Gone, Authorized, KeyAsked, Encrypted, Refreshed, Signals, Tick}
+use Rattle.gatt_laws.specs.Event.{Ordinal, Own, Of, Gone, Authorized, Ended, KeyAsked, Encrypted, Refreshed, Signals, Tick}
 use Rattle.gatt_laws.specs.Notice.{Notice, Disconnected, TimedOut, Ending, end_told, late_told, link_told, noticed, slot_told}
 use Rattle.gatt_laws.specs.Part.{Part, is_live, is_there, key_of, after_ending, with_pdus}
 use Rattle.gatt_laws.specs.Settled.{has_slot, is_slot_of}
@@ -72,6 +72,13 @@ module _ (state : State) (held : Held) (place : ℕ) (ordinal : Ordinal) (sound 
   authorized_told until =
       let own : Own = Authorized until in
       sym (if-live (end_told part.handle (turn own).part) ∙ end-is (turn own) (live own) (turn-is own) ∙ serves-on part.handle (live own).part serving.live)
+
+  pub disconnected_told : (any : Held)
+      → told_by any (option_map_or end_event (kept_at held place) last.Quiet) ≡ noticed state (Of ordinal Ended)
+  unfolding noticed live_turn
+  disconnected_told any =
+      ap (told_by any) (event-is end_event)
+      ∙ sym (if-live (end_told part.handle (turn Ended).part) ∙ end-is (turn Ended) (live Ended) (turn-is Ended))
 
   pub key_asked_told : (random_number : Octets) (diversifier : ℕ) → [] ≡ noticed state (Of ordinal (KeyAsked random_number diversifier))
   unfolding noticed live_turn
