@@ -3,7 +3,7 @@
 use crate::controller::take;
 use crate::player::{Step, read_table};
 use crate::told::put_pdus;
-use crate::wire::{Octets, Written};
+use crate::wire::{Octets, Written, spell};
 use att_table::Table;
 use gatt_host::{App, AppFault, Host, Input, drive};
 use std::alloc::Global;
@@ -21,6 +21,10 @@ pub fn ask(
     match step {
         Step::Calls(call, pdus) => {
             put_pdus(rt, wanted, pdus);
+            make_call(rt, host, call, written);
+        }
+        Step::Commands(call, octets) => {
+            spell(rt, wanted, octets);
             make_call(rt, host, call, written);
         }
         Step::Refuses(call, fault) => refuse(rt, host, call, fault),

@@ -1,8 +1,9 @@
-//! Keys of links, as a controller asks for them.
+//! Keys of links, as a controller asks for them, and links that the application ends.
 
 use crate::peers::Who::{Phone, Stranger, Tablet, Watch};
 use crate::player::{Setting, Step, play};
 use att_table::examples::DOOR;
+use gatt_host::{App, AppFault};
 
 const SETTING: &Setting<'static> = &Setting {
     table: DOOR,
@@ -33,7 +34,32 @@ const KEYS_GIVEN: &[Step] = &[
     Step::HasNoKey(0x40, Phone),
 ];
 
+/// The application ends the connection that it names, once. What waits for it is dropped, nothing more
+/// is sent to it, and another may have its handle once it is gone.
+const ENDED: &[Step] = &[
+    Step::Refuses(App::Disconnect(0x40), AppFault::NoSuchConnection),
+    Step::Connects(0x41, Phone, "010a200101"),
+    Step::Connects(0x40, Stranger, ""),
+    Step::Asks(0x41, "1207000100", "13"),
+    Step::Asks(0x40, "1207000100", "13"),
+    Step::Refuses(App::Disconnect(0x42), AppFault::NoSuchConnection),
+    Step::Commands(App::Disconnect(0x40), "01060403400013"),
+    Step::Refuses(App::Disconnect(0x40), AppFault::NoSuchConnection),
+    Step::Calls(App::Update(6, &[0x01]), &[(0x41, "1b060001")]),
+    Step::Asks(0x40, "0a0300", ""),
+    Step::Leaves(0x40, "010a200101"),
+    Step::Refuses(App::Disconnect(0x40), AppFault::NoSuchConnection),
+    Step::Connects(0x40, Stranger, ""),
+    Step::Asks(0x40, "0a0300", "0b4c6f636b"),
+    Step::Commands(App::Disconnect(0x40), "01060403400013"),
+];
+
 #[test]
 fn keys_of_links(rt: HostRuntime) {
     play(&rt, rt.alloc(), SETTING, KEYS_GIVEN);
+}
+
+#[test]
+fn ended_by_the_application(rt: HostRuntime) {
+    play(&rt, rt.alloc(), SETTING, ENDED);
 }

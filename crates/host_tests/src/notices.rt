@@ -248,6 +248,33 @@ const A_FULL_QUEUE: &[Case] = &[
     (GOES, &[Notice::Disconnected { handle: 0x40 }]),
 ];
 
+/// The application ends a connection, which is told as an end of the host's own.
+const AN_END: &[Case] = &[
+    (COMES, &[STRANGER]),
+    (
+        Taken::Pdu("1207000100"),
+        &[Notice::Configured {
+            handle: 0x40,
+            attribute: 7,
+            bits: 1,
+        }],
+    ),
+    (Taken::Refused(App::Disconnect(0x41)), &[]),
+    (
+        Taken::Call(App::Disconnect(0x40)),
+        &[Notice::Ending {
+            handle: 0x40,
+            reason: 0x13,
+        }],
+    ),
+    (Taken::Refused(App::Disconnect(0x40)), &[]),
+    (Taken::Call(App::Update(6, &[0x63])), &[]),
+    // What it still sends is ignored.
+    (Taken::Pdu("12150061"), &[]),
+    (GOES, &[Notice::Disconnected { handle: 0x40 }]),
+    (Taken::Refused(App::Disconnect(0x40)), &[]),
+];
+
 #[test]
 fn writes_are_told(rt: HostRuntime) {
     play(&rt, rt.alloc(), &at(DOOR), WRITES);
@@ -271,6 +298,11 @@ fn a_replacement_is_no_confirmation(rt: HostRuntime) {
 #[test]
 fn a_full_queue_is_told(rt: HostRuntime) {
     play(&rt, rt.alloc(), &at(DOOR), A_FULL_QUEUE);
+}
+
+#[test]
+fn an_end_is_told(rt: HostRuntime) {
+    play(&rt, rt.alloc(), &at(DOOR), AN_END);
 }
 
 /// Takes in each in turn, and compares what is told of it.

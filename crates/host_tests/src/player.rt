@@ -51,6 +51,8 @@ pub enum Step {
     AsksOn(u16, u8, &'static str, &'static str),
     /// A call of the application, and what goes out then.
     Calls(App<'static>, Pdus),
+    /// The same of a call that brings a command: the octets that go out then.
+    Commands(App<'static>, &'static str),
     /// The same, refused.
     Refuses(App<'static>, AppFault),
     /// Another table, and what goes out then.

@@ -23,7 +23,11 @@ pub fn act(
     wanted: &mut Octets,
 ) {
     match step {
-        Step::Calls(..) | Step::Refuses(..) | Step::Replaces(..) | Step::Keeps(..) => {
+        Step::Calls(..)
+        | Step::Commands(..)
+        | Step::Refuses(..)
+        | Step::Replaces(..)
+        | Step::Keeps(..) => {
             ask(rt, alloc, host, step, written, wanted);
         }
         Step::Hands(handle, pb, data, more, pdus) => {
