@@ -13,6 +13,7 @@ pub mod SlotCommands
 pub mod Readies
 pub mod Refusing
 pub mod Lengths
+pub mod Untold
 pub mod standing
 pub mod asking
 pub mod meaning

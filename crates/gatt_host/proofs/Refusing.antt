@@ -1,11 +1,10 @@
 -- A Command Status that refuses the command that initialisation awaits stops the host.
-use Rattle.std.proofs.Common.{◌≡◌, ℕ, Bool, true, false, [], ◌∷◌, Option, Some, None, Result, Ok, Err, refl, sym, ap, ◌∙◌}
+use Rattle.std.proofs.Common.{◌≡◌, ℕ, Bool, true, false, [], ◌∷◌, Option, Some, None, Result, Ok, Err, sym, ap, ◌∙◌}
 use Rattle.std.proofs.lemmas.Bool.{eqb-true}
 use Rattle.std.specs.Prelude.{◌==◌, ◌&&◌, not, if◌then◌else◌}
 use Rattle.std.specs.Option.{option_map_or}
 use Rattle.gatt_host.proofs.Nexts.{clash}
 use Rattle.gatt_host.specs.Answers.{stop_of}
-use Rattle.gatt_host.specs.declared.host_fault.HostFault.{HostFault}
 use Rattle.gatt_host.specs.declared.host_fault.HostFault.TheVariants as stop
 use Rattle.gatt_laws.specs.Controller.{Controller}
 use Rattle.gatt_laws.specs.Packets.{Fault, InitFailed, answered, following_of, is_awaited, status_event}

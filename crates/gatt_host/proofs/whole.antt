@@ -14,3 +14,7 @@ pub mod Serving
 pub mod Owed
 pub mod Silence
 pub mod Told
+pub mod StreamTold
+pub mod Hearing
+pub mod HearingTurns
+pub mod Rows

@@ -1,5 +1,5 @@
 -- What one call takes in from a stream, and what it writes.
-use Rattle.std.specs.Prelude.{◌≡◌, ℕ, ◌+◌, ◌-◌, ◌*◌, ◌<◌, ◌≤◌, length, IsOk, IfOk, Bool, true, false, is_some, List, [], ◌∷◌, ◌++◌, map, take, if◌then◌else◌, Option, Some, Result, Ok, Err}
+use Rattle.std.specs.Prelude.{◌≡◌, ℕ, ◌+◌, ◌-◌, ◌*◌, ◌<◌, ◌≤◌, length, IsOk, IfOk, Bool, true, false, is_some, List, [], ◌∷◌, ◌++◌, map, take, if◌then◌else◌, Option, Some, None, Result, Ok, Err}
 use Rattle.std.specs.Io.KnownBytes.{Appends, Consumes, IsAtEnd}
 use Rattle.std.specs.List.{flat_map}
 use Rattle.gatt_host.specs.Asked.{call_of}
@@ -11,6 +11,8 @@ use Rattle.gatt_host.specs.declared.serving.End.{End}
 use Rattle.gatt_host.specs.Whole.{Leads, StandsAt, Whole}
 use Rattle.gatt_laws.specs.Input.{Course, Item, AnOctet, ACall, TheEnd, after_item, call_refusal, course}
 use Rattle.gatt_laws.specs.Start.{Start}
+use Rattle.le_h4.specs.Division.{division}
+use Rattle.le_h4.specs.Packet.{Packet}
 use Rattle.octets.specs.Number.{Octets}
 use Rattle.octets.specs.Stream.{CountsMany, WritesFront}
 
@@ -78,6 +80,16 @@ items_of inputs = flat_map input_items inputs
 abbrev pub items_taken : Octets → Result ℕ HostFault → List Item
 items_taken octets (Ok used) = octet_items (take used octets)
 items_taken octets (Err fault) = octet_items octets
+
+-- so many octets end a packet; or they are all that there are, and end none
+abbrev pub IsUpToAPacket : Octets → ℕ → List Packet → Type 0
+IsUpToAPacket octets used [] = used ≡ length octets
+IsUpToAPacket octets used (packet ∷ packets) = packets ≡ []
+
+-- wherever the host stood, behind what was unfinished there
+abbrev pub TakesUpToAPacket : Octets → ℕ → Whole → Type 0
+TakesUpToAPacket octets used whole = (start : Start) (input : List Item) (gone : List Octets) → StandsAt (course start input) gone whole
+    → whole.fault ≡ None → IsUpToAPacket octets used (division ((course start input).intake.unfinished ++ take used octets)).packets
 
 -- how many calls are refused on the way
 abbrev pub refused_at : Course → Item → ℕ

@@ -16,3 +16,4 @@ pub mod Numbers
 pub mod Promises
 pub mod Notices
 pub mod Telling
+pub mod Listening

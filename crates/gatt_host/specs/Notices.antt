@@ -1,7 +1,7 @@
 -- What the application is told of the last event, by what is held after it.
 use Rattle.std.specs.Prelude.{◌≡◌, ℕ, List, [], ◌∷◌, ◌++◌, map, if◌then◌else◌, Option, IsSome}
-use Rattle.std.specs.Option.{option_map_or, option_to_list}
-use Rattle.att_numbers.specs.Types.{Handle, Row}
+use Rattle.std.specs.Option.{option_to_list}
+use Rattle.att_numbers.specs.Types.{Row}
 use Rattle.att_policy.specs.declared.standing.KeyFacts.{KeyFacts}
 use Rattle.gatt_host.specs.declared.last_event.LastEvent.{LastEvent}
 use Rattle.gatt_host.specs.declared.last_event.LastEvent.TheVariants as last

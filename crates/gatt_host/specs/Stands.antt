@@ -23,6 +23,7 @@ use Rattle.gatt_laws.specs.State.{State, step, out}
 use Rattle.gatt_slots.specs.Kept.{Kept}
 use Rattle.gatt_slots.specs.Slots.{place_free}
 use Rattle.gatt_subs.specs.declared.bond.Bond.{Bond}
+use Rattle.gatt_subs.specs.Fit.{IsListed, rows_listed}
 use Rattle.gatt_subs.specs.Rows.{Subscriptions, bond_of, row_of}
 use Rattle.le_acl.specs.Shares.{usable}
 use Rattle.le_hci.specs.declared.buffers.Buffers.{Buffers}
@@ -43,6 +44,11 @@ pub record HoldsBonds (keys : List Entry) (rows : Subscriptions) (bonds : Bonds)
   pub known : (peer : Peer) → bond_of rows peer ≡ (if is_known keys peer then Some (bond_in bonds owed peer) else None)
   pub row : (peer : Peer) → is_known keys peer ≡ false → bonds peer ≡ []
   pub owing : (peer : Peer) → is_known keys peer ≡ false → owed peer ≡ false
+  pub listed : IsListed keys rows
+
+-- so they are this list
+abbrev pub rows_of : State → Subscriptions
+rows_of state = rows_listed state.room.keys (bond_in state.bonds state.owed)
 
 -- a link has a key, or was answered with one, only where its peer is known
 pub record HasKeysOfItsPeer (keys : List Entry) (part : Part) : Type 0 where
@@ -172,6 +178,7 @@ pub record IsOpenedAs (start : Start) (held : Held) : Type 0 where
   pub rows : (peer : Peer) → is_some (bond_of held.rows peer) ≡ is_known start.keys peer
   pub bonds : start.bonds ≡ bonds_of held.rows
   pub owed : start.owed ≡ owed_of held.rows
+  pub listed : IsListed start.keys held.rows
 
 abbrev pub StandsAtTheStart : Type 0
 StandsAtTheStart = (start : Start) (held : Held) → IsOpenedAs start held → Stands (state_at start) (first_out start) held

@@ -4,15 +4,17 @@ ghost use Rattle.std.specs.Prelude.{◌≡◌, ◌∷◌, [], None, IsSome, IsOk
 ghost use Rattle.std.specs.Result.{result_err};
 ghost use Rattle.gatt_host.specs.Asked.{call_of};
 ghost use Rattle.gatt_host.specs.Feeding.{comes_of_feeding, input_items, is_write, items_of, CountsRefused, Feeds, WritesAllThatIsDue};
+ghost use Rattle.gatt_host.specs.Listening.{Listens};
 ghost use Rattle.gatt_host.specs.Promises.{KeepsConnectionsApart, KeepsThePolicy};
 ghost use Rattle.gatt_host.specs.Whole.{all_out};
 ghost use Rattle.gatt_laws.specs.Input.{ACall};
 ghost use Rattle.octets.specs.Stream.{CountsIf};
 
 use crate::app::App;
-use crate::feeding::{feed, write_out};
+use crate::feeding::{feed, feed_to, write_out};
 use crate::host::Host;
 use crate::host_fault::HostFault;
+use crate::listener::{Listener, Nobody, tell};
 use octets::Sink;
 
 /// What a host is handed: octets of the stream from its controller, or a call of the application.
@@ -48,10 +50,42 @@ pub fn drive<W: Sink>(
     ensures policy { KeepsThePolicy }
     ensures apart { KeepsConnectionsApart }
 {
+    drive_to(host, inputs, out, &mut Nobody)
+}
+
+/// Takes in octets and calls in their order, and writes what goes back: first what was owed, and then
+/// what each packet and each call brings, before the next. Says how many of the calls were refused.
+/// After a fault it answers that, and changes nothing. What each packet and each call tells is heard
+/// before what it brings is written.
+#[tactic(auto, using(crate::proofs::Promises::keeps_the_policy, crate::proofs::Promises::keeps_connections_apart))]
+pub fn drive_to<W: Sink, L: Listener>(
+    host: &mut Host,
+    inputs: &[Input<'_>],
+    out: &mut W,
+    listener: &mut L,
+) -> Result<usize, HostFault>
+    ensures feeds { host.old.fault ≡ None
+        → Feeds (items_of inputs.now) host.old host.new (W.contents out.old) (W.contents out.new) host.new.fault }
+    ensures heard { host.old.fault ≡ None
+        → Listens (items_of inputs.now) host.old host.new host.new.fault (L.heard listener.old) (L.heard listener.new) }
+    ensures outcome { IfErr result (λ fault. host.new.fault ≡ Some fault) }
+    ensures feeding { host.old.fault ≡ None → IfErr result (λ fault. comes_of_feeding fault ≡ true) }
+    ensures going_on { IsOk result → host.new.fault ≡ None }
+    ensures refused { IfOk result (λ count. CountsRefused count (items_of inputs.now) host.old) }
+    ensures out { IsOk result → all_out host.new ≡ true }
+    ensures due { host.old.fault ≡ None → WritesAllThatIsDue host.new.fault host.new }
+    ensures failures { host.old.fault ≡ None → CountsIf (is_write host.new.fault) (W.failures out.old) (W.failures out.new) }
+    ensures stopped { IsSome host.old.fault → host.new ≡ host.old }
+    ensures sink_stopped { IsSome host.old.fault → out.new ≡ out.old }
+    ensures listener_stopped { IsSome host.old.fault → listener.new ≡ listener.old }
+    // And of all that is taken in, for every start and input:
+    ensures policy { KeepsThePolicy }
+    ensures apart { KeepsConnectionsApart }
+{
     feed(host, &[], out)?;
     let mut refused = 0;
     for input in inputs {
-        if take_input(host, input, out)? {
+        if take_input(host, input, out, listener)? {
             refused += 1;
         }
     }
@@ -59,10 +93,16 @@ pub fn drive<W: Sink>(
 }
 
 /// Takes in one of them, and writes what goes back. Says whether it is a call that is refused.
-fn take_input<W: Sink>(host: &mut Host, input: &Input<'_>, out: &mut W) -> Result<bool, HostFault>
+fn take_input<W: Sink, L: Listener>(
+    host: &mut Host,
+    input: &Input<'_>,
+    out: &mut W,
+    listener: &mut L,
+) -> Result<bool, HostFault>
     requires none { host.old.fault ≡ None }
     requires drained { all_out host.old ≡ true }
     ensures feeds { Feeds (input_items input.now) host.old host.new (W.contents out.old) (W.contents out.new) host.new.fault }
+    ensures heard { Listens (input_items input.now) host.old host.new host.new.fault (L.heard listener.old) (L.heard listener.new) }
     ensures fault { host.new.fault ≡ result_err result }
     ensures feeding { IfErr result (λ fault. comes_of_feeding fault ≡ true) }
     ensures out { IsOk result → all_out host.new ≡ true }
@@ -72,18 +112,24 @@ fn take_input<W: Sink>(host: &mut Host, input: &Input<'_>, out: &mut W) -> Resul
 {
     match input {
         Input::Bytes(octets) => {
-            feed(host, octets, out)?;
+            feed_to(host, octets, out, listener)?;
             Ok(false)
         }
-        Input::Call(call) => take_call(host, *call, out),
+        Input::Call(call) => take_call(host, *call, out, listener),
     }
 }
 
 /// The same of a call.
-fn take_call<W: Sink>(host: &mut Host, call: App<'_>, out: &mut W) -> Result<bool, HostFault>
+fn take_call<W: Sink, L: Listener>(
+    host: &mut Host,
+    call: App<'_>,
+    out: &mut W,
+    listener: &mut L,
+) -> Result<bool, HostFault>
     requires none { host.old.fault ≡ None }
     requires drained { all_out host.old ≡ true }
     ensures feeds { Feeds (ACall (call_of call.entry) ∷ []) host.old host.new (W.contents out.old) (W.contents out.new) host.new.fault }
+    ensures heard { Listens (ACall (call_of call.entry) ∷ []) host.old host.new host.new.fault (L.heard listener.old) (L.heard listener.new) }
     ensures fault { host.new.fault ≡ result_err result }
     ensures write { IfErr result (λ fault. fault ≡ HostFault.Write) }
     ensures out { IsOk result → all_out host.new ≡ true }
@@ -92,6 +138,7 @@ fn take_call<W: Sink>(host: &mut Host, call: App<'_>, out: &mut W) -> Result<boo
     ensures refused { IfOk result (λ refused. CountsRefused (if refused then 1 else 0) (ACall (call_of call.entry) ∷ []) host.old) }
 {
     let refused = host.app(call).is_err();
+    tell(host, listener);
     write_out(host, out)?;
     Ok(refused)
 }

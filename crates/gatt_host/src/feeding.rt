@@ -1,24 +1,23 @@
 //! Octets of the stream from a controller go in, and those of what goes back to it come out.
 
-ghost use Rattle.std.specs.Prelude.{◌≡◌, ◌≤◌, ◌<◌, ◌∷◌, [], take, false, true, length, None, Some, IsSome, IsOk, IfOk, IfErr, IfSome, Err, OnErr};
+ghost use Rattle.std.specs.Prelude.{◌≡◌, [], true, None, Some, IsSome, IsOk, IfErr, Err};
 ghost use Rattle.std.specs.Result.{result_err};
-ghost use Rattle.gatt_host.specs.Feeding.{comes_of_feeding, items_taken, octet_items, is_write, Feeds, WritesAllThatIsDue};
-ghost use Rattle.gatt_host.specs.Answers.{lost_fault};
+ghost use Rattle.gatt_host.specs.Feeding.{comes_of_feeding, octet_items, is_write, Feeds, WritesAllThatIsDue};
 ghost use Rattle.gatt_host.specs.GoingOut.{is_drained};
 ghost use Rattle.gatt_host.specs.Held.{open_slots};
-ghost use Rattle.gatt_host.specs.Meaning.{Frames, HasRowsOfTheTable};
+ghost use Rattle.gatt_host.specs.Meaning.{Frames};
+ghost use Rattle.gatt_host.specs.Listening.{Listens};
 ghost use Rattle.gatt_host.specs.Promises.{KeepsConnectionsApart, KeepsThePolicy};
-ghost use Rattle.gatt_host.specs.Whole.{all_out, going, is_own, outcome_of, IsHeldByOne, Leads};
+ghost use Rattle.gatt_host.specs.Whole.{all_out, going, is_own, outcome_of, IsHeldByOne};
 ghost use Rattle.le_h4.specs.Deframer.{Deframing};
-ghost use Rattle.le_h4.specs.Packet.{seen};
 ghost use Rattle.octets.specs.Stream.{CountsIf};
 
 use crate::host::Host;
 use crate::host_fault::HostFault;
 use crate::host_state::HostState;
-use crate::packet::packet;
-use le_acl::Reassembler;
-use le_h4::{Deframer, H4Fault, PacketBuf, WholePacket};
+use crate::listener::{Listener, Nobody, tell};
+use crate::taking::take;
+use le_h4::PacketBuf;
 use octets::{Sink, write_all};
 
 /// Takes in octets of the stream from the controller, which may begin and end anywhere in its packets,
@@ -40,6 +39,37 @@ pub fn feed<W: Sink>(host: &mut Host, octets: &[u8], out: &mut W) -> Result<(), 
     ensures policy { KeepsThePolicy }
     ensures apart { KeepsConnectionsApart }
 {
+    feed_to(host, octets, out, &mut Nobody)
+}
+
+/// Takes in octets of the stream from the controller, which may begin and end anywhere in its packets,
+/// and writes what goes back: first what was owed, and then what each packet brings, before the next is
+/// taken in. After a fault it answers that, and changes nothing. What each packet tells is heard before
+/// what it brings is written.
+#[tactic(auto, using(crate::proofs::Promises::keeps_the_policy, crate::proofs::Promises::keeps_connections_apart))]
+pub fn feed_to<W: Sink, L: Listener>(
+    host: &mut Host,
+    octets: &[u8],
+    out: &mut W,
+    listener: &mut L,
+) -> Result<(), HostFault>
+    ensures feeds { host.old.fault ≡ None
+        → Feeds (octet_items octets.now) host.old host.new (W.contents out.old) (W.contents out.new) host.new.fault }
+    ensures heard { host.old.fault ≡ None
+        → Listens (octet_items octets.now) host.old host.new host.new.fault (L.heard listener.old) (L.heard listener.new) }
+    ensures outcome { result ≡ outcome_of host.new.fault }
+    ensures out { IsOk result → all_out host.new ≡ true }
+    // Whatever stops it but the writer, all that was due before is written.
+    ensures due { host.old.fault ≡ None → WritesAllThatIsDue host.new.fault host.new }
+    ensures feeding { host.old.fault ≡ None → IfErr result (λ fault. comes_of_feeding fault ≡ true) }
+    ensures failures { host.old.fault ≡ None → CountsIf (is_write host.new.fault) (W.failures out.old) (W.failures out.new) }
+    ensures stopped { IsSome host.old.fault → host.new ≡ host.old }
+    ensures sink_stopped { IsSome host.old.fault → out.new ≡ out.old }
+    ensures listener_stopped { IsSome host.old.fault → listener.new ≡ listener.old }
+    // And of all that is taken in, for every start and input:
+    ensures policy { KeepsThePolicy }
+    ensures apart { KeepsConnectionsApart }
+{
     if let Some(fault) = host.fault {
         return Err(fault);
     }
@@ -48,6 +78,7 @@ pub fn feed<W: Sink>(host: &mut Host, octets: &[u8], out: &mut W) -> Result<(), 
     while !rest.is_empty() {
         let used = take(host, rest)?;
         rest = rest.split_at(used).1;
+        tell(host, listener);
         write_out(host, out)?;
     }
     Ok(())
@@ -91,100 +122,6 @@ fn write_owed<W: Sink>(
         }
     }
     Ok(())
-}
-
-/// Takes in octets up to the end of the next packet, which is one, and that packet; or all of them,
-/// where none ends in them. Says how many.
-fn take(host: &mut Host, octets: &[u8]) -> Result<usize, HostFault>
-    requires no_fault { host.old.fault ≡ None }
-    requires drained { all_out host.old ≡ true }
-    ensures leads { Leads (items_taken octets.now result) [] host.old host.new }
-    ensures fault { host.new.fault ≡ result_err result }
-    ensures not_own { IfErr result (λ fault. is_own fault ≡ false) }
-    ensures unchanged { OnErr result (host.new.held ≡ host.old.held) }
-    ensures within { IfOk result (λ used. used ≤ length octets.now) }
-    ensures some { IfOk result (λ used. 0 < length octets.now → 0 < used) }
-{
-    match take_in(
-        &mut host.state,
-        &mut host.frames,
-        &mut host.deframer,
-        octets,
-    ) {
-        Ok(used) => Ok(used),
-        Err(fault) => {
-            host.fault = Some(fault);
-            Err(fault)
-        }
-    }
-}
-
-/// The same by the parts of a host. Most packets lie whole in what is fed, and are heard where they lie.
-#[inline(always)]
-fn take_in(
-    state: &mut HostState,
-    frames: &mut [Reassembler; 8],
-    deframer: &mut Deframer,
-    octets: &[u8],
-) -> Result<usize, HostFault>
-    requires rows { HasRowsOfTheTable state.old }
-    requires drained { is_drained state.old.controller (open_slots state.old) ≡ true }
-    ensures leads { Leads (items_taken octets.now result) []
-        (record { held = state.old; frames = frames.old; stream = deframer.old; fault = None })
-        (record { held = state.new; frames = frames.new; stream = deframer.new; fault = result_err result }) }
-    ensures not_own { IfErr result (λ fault. is_own fault ≡ false) }
-    ensures unchanged { OnErr result (state.new ≡ state.old) }
-    ensures within { IfOk result (λ used. used ≤ length octets.now) }
-    ensures some { IfOk result (λ used. 0 < length octets.now → 0 < used) }
-{
-    let lent = deframer.whole_packet(octets);
-    let mut used = 0;
-    if lent.is_none() {
-        let fed = match deframer.feed(octets) {
-            Ok(fed) => fed,
-            Err(fault) => return Err(lost_fault(fault)),
-        };
-        if !fed.packet {
-            return Ok(fed.used);
-        }
-        used = fed.used;
-    }
-    // One call hears either, so that it stands here inlined.
-    let whole = lent_or_marked(lent, deframer, used);
-    packet(state, frames, whole.packet)?;
-    Ok(whole.used)
-}
-
-/// The packet that is lent, or else the one that the deframer has marked, which ends behind so many
-/// octets.
-#[inline(always)]
-fn lent_or_marked<'a>(
-    lent: Option<WholePacket<'a>>,
-    deframer: &'a Deframer,
-    used: usize,
-) -> WholePacket<'a>
-    requires { lent ≡ None → IsSome deframer.now.marked }
-    ensures lent { IfSome lent.entry (λ whole. seen result.packet ≡ seen whole.packet) }
-    ensures lent_used { IfSome lent.entry (λ whole. result.used ≡ whole.used) }
-    ensures marked { lent.entry ≡ None → deframer.now.marked ≡ Some (seen result.packet) }
-    ensures marked_used { lent.entry ≡ None → result.used ≡ used }
-{
-    match lent {
-        Some(whole) => whole,
-        None => WholePacket {
-            packet: deframer.packet(),
-            used,
-        },
-    }
-}
-
-/// Why a host stops whose stream cannot be divided any further.
-fn lost_fault(fault: H4Fault) -> HostFault
-    ensures { result ≡ lost_fault fault }
-{
-    match fault {
-        H4Fault::Desync(indicator) => HostFault::Desync(indicator),
-    }
 }
 
 /// Stops for good: its reader or its writer fails, or its turns are over.

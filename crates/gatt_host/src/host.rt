@@ -1,20 +1,23 @@
 //! The host as its caller has it: what it holds, the stream from the controller, and the fault that
 //! stands, if one does.
 
-ghost use Rattle.std.specs.Prelude.{◌≡◌, ◌<◌, ◌∷◌, [], not, false, true, is_some, slice_get, ◌||◌, List, Some, None, Ok, Err, IsSome, IfOk, IfErr, IfSome, OnErr};
+ghost use Rattle.std.specs.Prelude.{◌≡◌, ◌<◌, ◌≤◌, ◌∷◌, [], length, not, false, true, is_some, slice_get, ◌||◌, List, Some, None, Ok, Err, IsSome, IfOk, IfErr, IfSome, OnErr};
 ghost use Rattle.std.specs.Bool.{OnTrue, OnFalse};
 ghost use Rattle.std.specs.Option.{option_map};
+ghost use Rattle.std.specs.Result.{result_err};
 ghost use Rattle.gatt_laws.specs.Input.{course, call_refusal, replacement_refusal, Item, APacket, ACall, ATable};
 ghost use Rattle.gatt_laws.specs.Start.{Start};
 ghost use Rattle.gatt_laws.specs.Telling.{TellsTheApplication};
 ghost use Rattle.gatt_host.specs.Asked.{call_of, refusal_of, replacing_refusal_of};
 ghost use Rattle.gatt_host.specs.Credits.{most_out};
+ghost use Rattle.gatt_host.specs.Feeding.{items_taken, TakesUpToAPacket};
 ghost use Rattle.gatt_host.specs.GoingOut.{is_drained};
 ghost use Rattle.gatt_host.specs.Held.{after_out, next_of, open_slots};
 ghost use Rattle.gatt_host.specs.Notices.{notice_of, HasTheValue};
+ghost use Rattle.gatt_host.specs.Stands.{rows_of};
 ghost use Rattle.gatt_host.specs.Promises.{KeepsConnectionsApart, KeepsThePolicy};
 ghost use Rattle.gatt_host.specs.Whole.{all_out, is_own, outcome_of, Leads, StandsAt, Takes};
-ghost use Rattle.gatt_host.specs.Telling.{notices_told, silent, TellsOf};
+ghost use Rattle.gatt_host.specs.Telling.{notices_told, silent, TellsOf, TellsOfAll};
 ghost use Rattle.le_h4.specs.Division.{is_long};
 ghost use Rattle.le_h4.specs.Packet.{seen};
 ghost use Rattle.octets.specs.Number.{Octets};
@@ -22,8 +25,9 @@ ghost use Rattle.octets.specs.Number.{Octets};
 use crate::app::{App, AppFault};
 use crate::host_fault::HostFault;
 use crate::host_state::HostState;
+use crate::iter::Notices;
 use crate::notice::Notice;
-use crate::packet;
+use crate::{packet, taking};
 use arrayvec::ArrayVec;
 use att_table::Table;
 use gatt_subs::Rows;
@@ -114,6 +118,32 @@ impl Host {
         taken
     }
 
+    /// Takes in octets of the stream from the controller, once all is out: up to the end of the next
+    /// packet, which is taken in with them, or all of them, where none ends in them. Says how many.
+    /// After a fault it answers that, and changes nothing.
+    #[tactic(auto, using(crate::proofs::Promises::keeps_the_policy, crate::proofs::Promises::keeps_connections_apart))]
+    pub fn take(&mut self, octets: &[u8]) -> Result<usize, HostFault>
+        requires drained { all_out self.old ≡ true }
+        ensures takes { self.old.fault ≡ None → Leads (items_taken octets.now result) [] self.old self.new }
+        ensures told { TellsOfAll (items_taken octets.now result) self.old self.new }
+        ensures up_to { IfOk result (λ used. TakesUpToAPacket octets.now used self.old) }
+        ensures within { IfOk result (λ used. used ≤ length octets.now) }
+        ensures some { IfOk result (λ used. 0 < length octets.now → 0 < used) }
+        ensures outcome { result_err result ≡ self.new.fault }
+        // No reader and no writer has a part in it.
+        ensures not_own { self.old.fault ≡ None → IfErr result (λ fault. is_own fault ≡ false) }
+        ensures held { OnErr result (self.new.held ≡ self.old.held) }
+        ensures stopped { IsSome self.old.fault → self.new ≡ self.old }
+        // And of all that is taken in, for every start and input:
+        ensures policy { KeepsThePolicy }
+        ensures apart { KeepsConnectionsApart }
+    {
+        if let Some(fault) = self.fault {
+            return Err(fault);
+        }
+        taking::take(self, octets)
+    }
+
     /// Does what the application asks, once all is out; or refuses it, and changes nothing but that no
     /// notice is there any more.
     #[tactic(auto, using(crate::proofs::Promises::keeps_the_policy, crate::proofs::Promises::keeps_connections_apart))]
@@ -160,14 +190,26 @@ impl Host {
         self.state.replace_table(table)
     }
 
-    /// What the application is told of the packet, the call or the table that was taken in last: the
-    /// notice at a place, counted from 0, if there are so many. None where a fault stands.
+    /// What the application is told of what was taken in last: a packet, a call, a table, or octets up
+    /// to the end of a packet. Nothing where a fault stands.
     #[tactic(auto, using(crate::proofs::Promises::tells_the_application))]
-    pub fn notice(&self, at: usize) -> Option<Notice<'_>>
-        ensures notice { option_map notice_of result ≡ slice_get (notices_told self.now) at }
-        ensures value { IfSome result (HasTheValue self.now.held.table) }
+    pub fn notices(&self) -> Notices<'_>
+        ensures told { result.notices ≡ notices_told self.now }
+        ensures table { result.table ≡ self.now.held.table }
         // And of all that is told, for every start and input:
         ensures laws { TellsTheApplication }
+    {
+        Notices {
+            host: self,
+            given: 0,
+        }
+    }
+
+    /// The notice at a place, counted from 0, if there are so many.
+    pub(crate) fn notice(&self, at: usize) -> Option<Notice<'_>>
+        ensures notice { option_map notice_of result ≡ slice_get (notices_told self.now) at }
+        ensures value { IfSome result (HasTheValue self.now.held.table) }
+        ensures few { IsSome result → at < 34 }
     {
         if self.fault.is_some() {
             return None;
@@ -176,15 +218,21 @@ impl Host {
     }
 
     /// What each peer has configured, and who is owed that the table has changed.
+    #[tactic(auto, using(crate::proofs::whole::Rows::rows_where))]
     pub fn rows(&self) -> &Rows
-        ensures { result.now ≡ self.now.held.rows }
+        ensures held { result.now ≡ self.now.held.rows }
+        // As a list: the bond of each peer of the keys, and nothing else.
+        ensures course { (start : Start) (input : List Item) (gone : List Octets) → StandsAt (course start input) gone self.now
+            → result.now ≡ rows_of (course start input).intake.state }
     {
         &self.state.rows
     }
 
     /// The table that stands, with its values.
     pub fn table(&self) -> &Table
-        ensures { result.now ≡ self.now.held.table }
+        ensures held { result.now ≡ self.now.held.table }
+        ensures course { (start : Start) (input : List Item) (gone : List Octets) → StandsAt (course start input) gone self.now
+            → result.now ≡ (course start input).intake.state.room.table }
     {
         &self.state.table
     }

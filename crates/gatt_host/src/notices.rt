@@ -1,11 +1,11 @@
 //! The notices of the last event, read from what is held.
 
-ghost use Rattle.std.specs.Prelude.{◌≡◌, ◌==◌, [], ◌∷◌, ◌++◌, map, if◌then◌else◌, slice_get, IfSome, IsSome, Some, None};
+ghost use Rattle.std.specs.Prelude.{◌≡◌, ◌<◌, ◌==◌, [], ◌∷◌, ◌++◌, map, if◌then◌else◌, slice_get, IfSome, IsSome, Some, None};
 ghost use Rattle.std.specs.Option.{option_map, option_to_list};
 ghost use Rattle.att_numbers.specs.Types.{Handle};
 ghost use Rattle.att_attributes.specs.Attributes.{attribute_at};
 ghost use Rattle.att_table.specs.Table.{value_at};
-ghost use Rattle.gatt_laws.specs.Notice.{Confirmed, Ending, write_told};
+ghost use Rattle.gatt_laws.specs.Notice.{Confirmed, Ending, TimedOut, write_told};
 ghost use Rattle.gatt_laws.specs.Turn.{remote_user_terminated};
 ghost use Rattle.gatt_host.specs.Notices.{last_notices, link_change_told, notice_of, row_there, served_told, HasTheValue};
 
@@ -21,6 +21,7 @@ impl HostState {
     pub(crate) fn notice(&self, at: usize) -> Option<Notice<'_>>
         ensures notice { option_map notice_of result ≡ slice_get (last_notices self.now) at }
         ensures value { IfSome result (HasTheValue self.now.table) }
+        ensures few { IsSome result → at < 34 }
     {
         match self.last {
             LastEvent::Quiet => None,
@@ -37,10 +38,20 @@ impl HostState {
                 brought,
             } => self.served_notice(at, place, handle, brought),
             LastEvent::Ended { handle, reason } => only(at, Notice::Ending { handle, reason }),
-            LastEvent::Ticked => match self.late.get(at) {
-                Some(handle) => Some(Notice::TimedOut { handle: *handle }),
-                None => None,
-            },
+            LastEvent::Ticked => self.late_notice(at),
+        }
+    }
+
+    /// Of the connections that were timed out.
+    fn late_notice(&self, at: usize) -> Option<Notice<'_>>
+        ensures notice { option_map notice_of result ≡ slice_get (map TimedOut self.now.late) at }
+        ensures value { IfSome result (HasTheValue self.now.table) }
+        ensures few { IsSome result → at < 34 }
+    {
+        let _few = self.late.len();
+        match self.late.get(at) {
+            Some(handle) => Some(Notice::TimedOut { handle: *handle }),
+            None => None,
         }
     }
 
@@ -54,7 +65,9 @@ impl HostState {
     ) -> Option<Notice<'_>>
         ensures notice { option_map notice_of result ≡ slice_get (served_told self.now place handle brought) at }
         ensures value { IfSome result (HasTheValue self.now.table) }
+        ensures few { IsSome result → at < 34 }
     {
+        let _few = self.written.len();
         match self.written.get(at) {
             Some(attribute) => Some(self.write_notice(place, handle, *attribute)),
             None => brought_notice(at - self.written.len(), handle, brought),
@@ -93,7 +106,8 @@ fn value_at(table: &Table, handle: u16) -> &[u8]
 
 /// Of one notice the one at a place.
 fn only(at: usize, notice: Notice<'_>) -> Option<Notice<'_>>
-    ensures { result ≡ (if at == 0 then Some notice.entry else None) }
+    ensures notice { result ≡ (if at == 0 then Some notice.entry else None) }
+    ensures few { IsSome result → at < 1 }
 {
     if at == 0 { Some(notice) } else { None }
 }
@@ -106,6 +120,7 @@ fn link_notice(
     after: Option<KeyFacts>,
 ) -> Option<Notice<'static>>
     ensures notice { option_map notice_of result ≡ slice_get (link_change_told handle before after) at }
+    ensures few { IsSome result → at < 2 }
 {
     match (before, after) {
         (None, None) => None,
@@ -132,6 +147,7 @@ fn link_notice(
 fn brought_notice(at: usize, handle: u16, brought: Brought) -> Option<Notice<'static>>
     ensures notice { option_map notice_of result ≡ slice_get (map (Confirmed handle) (option_to_list brought.confirmed)
         ++ (if brought.ended then Ending handle remote_user_terminated ∷ [] else [])) at }
+    ensures few { IsSome result → at < 2 }
 {
     let ending = Notice::Ending {
         handle,

@@ -3,14 +3,18 @@
 ghost use Rattle.std.specs.Prelude.{◌≡◌, ◌≤◌, ◌==◌, [], is_ok, length, None, Some, IsSome, IsOk, IfErr, IfOk, OnErr, true};
 ghost use Rattle.std.specs.Io.KnownBytes.{Consumes, IsAtEnd, Keeps};
 ghost use Rattle.gatt_host.specs.Feeding.{is_read, is_write, Reads, Serves, WritesAllThatIsDue};
+ghost use Rattle.gatt_host.specs.Held.{with_last};
+ghost use Rattle.gatt_host.specs.Listening.{ListensServing};
 ghost use Rattle.gatt_host.specs.Promises.{KeepsConnectionsApart, KeepsThePolicy};
 ghost use Rattle.gatt_host.specs.Whole.{all_out, Takes};
 ghost use Rattle.gatt_laws.specs.Input.{TheEnd};
 ghost use Rattle.octets.specs.Stream.{CountsFailure, CountsIf, CountsNone, CountsOne};
 
-use crate::feeding::{feed, stop};
+use crate::feeding::{feed, feed_to, stop};
 use crate::host::Host;
 use crate::host_fault::HostFault;
+use crate::last_event::LastEvent;
+use crate::listener::{Listener, Nobody};
 use le_h4::Deframer;
 use octets::{Failed, Sink, Source};
 
@@ -52,6 +56,41 @@ pub fn serve<R: Source, W: Sink>(
     ensures policy { KeepsThePolicy }
     ensures apart { KeepsConnectionsApart }
 {
+    serve_to(host, reader, writer, turns, &mut Nobody)
+}
+
+/// Serves a controller: writes what is owed, and then reads at most 512 octets a turn and writes what
+/// goes back, until the reader is at its end or as many turns are over as there may be. The octets of a
+/// packet that is unfinished at the end are dropped. After a fault it answers that, and changes
+/// nothing. What each packet tells is heard before what it brings is written.
+#[tactic(auto, using(crate::proofs::Promises::keeps_the_policy, crate::proofs::Promises::keeps_connections_apart))]
+pub fn serve_to<R: Source, W: Sink, L: Listener>(
+    host: &mut Host,
+    reader: &mut R,
+    writer: &mut W,
+    turns: u64,
+    listener: &mut L,
+) -> Result<End, HostFault>
+    ensures serves { host.old.fault ≡ None
+        → Serves result turns host.old host.new (R.remaining reader.old) (R.remaining reader.new) (W.contents writer.old) (W.contents writer.new) }
+    ensures heard { host.old.fault ≡ None
+        → ListensServing host.old host.new (R.remaining reader.old) (R.remaining reader.new) (L.heard listener.old) (L.heard listener.new) }
+    ensures going_on { IsOk result → host.new.fault ≡ None }
+    ensures out { IsOk result → all_out host.new ≡ true }
+    ensures due { host.old.fault ≡ None → WritesAllThatIsDue host.new.fault host.new }
+    ensures fault { IfErr result (λ fault. host.new.fault ≡ Some fault) }
+    ensures reads { host.old.fault ≡ None → Reads result turns (R.reads reader.old) (R.reads reader.new) }
+    ensures ends { host.old.fault ≡ None → CountsIf (is_ok result) (R.ends reader.old) (R.ends reader.new) }
+    ensures read_failures { host.old.fault ≡ None → CountsIf (is_read host.new.fault) (R.failures reader.old) (R.failures reader.new) }
+    ensures write_failures { host.old.fault ≡ None → CountsIf (is_write host.new.fault) (W.failures writer.old) (W.failures writer.new) }
+    ensures stopped { IsSome host.old.fault → host.new ≡ host.old }
+    ensures reader_stopped { IsSome host.old.fault → reader.new ≡ reader.old }
+    ensures writer_stopped { IsSome host.old.fault → writer.new ≡ writer.old }
+    ensures listener_stopped { IsSome host.old.fault → listener.new ≡ listener.old }
+    // And of all that is taken in, for every start and input:
+    ensures policy { KeepsThePolicy }
+    ensures apart { KeepsConnectionsApart }
+{
     feed(host, &[], writer)?;
     let mut octets = [0; TURN];
     for turn in 0..turns {
@@ -62,7 +101,7 @@ pub fn serve<R: Source, W: Sink>(
             end_stream(host);
             return Ok(End { turns: turn + 1 });
         }
-        feed(host, read, writer)?;
+        feed_to(host, read, writer, listener)?;
     }
     stop(host, HostFault::Turns)
 }
@@ -82,12 +121,13 @@ fn read_turn<'a, R: Source>(reader: &mut R, octets: &'a mut [u8; TURN]) -> Resul
     Ok(octets.split_at(count).0)
 }
 
-/// The stream ends: the octets of a packet that is unfinished are dropped.
+/// The stream ends: the octets of a packet that is unfinished are dropped, and nothing is told.
 fn end_stream(host: &mut Host)
     requires none { host.old.fault ≡ None }
     ensures takes { Takes TheEnd host.old host.new }
-    ensures held { host.new.held ≡ host.old.held }
+    ensures held { host.new.held ≡ with_last LastEvent.Quiet host.old.held }
     ensures fault { host.new.fault ≡ None }
 {
     host.deframer = Deframer::new();
+    host.state.forget();
 }

@@ -27,6 +27,7 @@ changes-as f g peer old new same changes = record {
   others = changes.others;
   unfitted = changes.unfitted;
   peers = changes.peers;
+  count = changes.count;
 }
 
 pub changes-twice : (f g : Bond → Bond) (peer : Peer) (old mid new : Subscriptions) → ChangesBond f peer old mid → ChangesBond g peer mid new
@@ -36,6 +37,7 @@ changes-twice f g peer old mid new first second = record {
   others = λ other apart. second.others other apart ∙ first.others other apart;
   unfitted = second.unfitted ∙ first.unfitted;
   peers = second.peers ∙ first.peers;
+  count = second.count ∙ first.count;
 }
 
 pub changes-nothing : (f : Bond → Bond) (peer : Peer) (rows : Subscriptions) → ((bond : Bond) → f bond ≡ bond) → ChangesBond f peer rows rows
@@ -44,6 +46,7 @@ changes-nothing f peer rows same = record {
   others = λ other apart. refl;
   unfitted = refl;
   peers = refl;
+  count = refl;
 }
 
 and-false : (test : Bool) → (test && false) ≡ false

@@ -3,6 +3,8 @@
 #![tactic(auto)]
 
 #[cfg(test)]
+mod a_lock;
+#[cfg(test)]
 mod calls;
 #[cfg(test)]
 mod changed_tables;
@@ -22,6 +24,8 @@ mod initialisation;
 mod isolation;
 #[cfg(test)]
 mod links;
+#[cfg(test)]
+mod listening;
 #[cfg(test)]
 mod notices;
 #[cfg(test)]

@@ -365,11 +365,9 @@ fn settle(rt: &impl Abort, host: &mut Host, taken: Taken) {
 }
 
 fn compare(rt: &impl Abort, host: &Host, place: usize, notices: &[Notice<'_>]) {
+    let mut told = host.notices();
     for (number, notice) in notices.iter().enumerate() {
-        assert!(rt;
-            host.notice(number) == Some(*notice),
-            "notice {number} of {place}"
-        );
+        assert!(rt; told.next() == Some(*notice), "notice {number} of {place}");
     }
-    assert!(rt; host.notice(notices.len()).is_none(), "more at {place}");
+    assert!(rt; told.next().is_none(), "more at {place}");
 }

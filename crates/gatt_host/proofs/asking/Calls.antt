@@ -18,12 +18,12 @@ use Rattle.gatt_host.specs.Asked.{update_happening, authorize_happening, disconn
 use Rattle.gatt_host.specs.Held.{Held}
 use Rattle.gatt_host.specs.Meaning.{Frames, Happening, Updates, Ticks, Replaces, IsAfter}
 use Rattle.gatt_host.specs.Owing.{all_given, slot_held}
-use Rattle.gatt_host.specs.Standing.{StandsIn, IsDrainedIn, CallLeadsOn, CallIsRefused, ReplacementLeadsOn, ReplacementIsRefused}
+use Rattle.gatt_host.specs.Standing.{IsDrainedIn, CallLeadsOn, CallIsRefused, ReplacementLeadsOn, ReplacementIsRefused}
 use Rattle.gatt_host.specs.Stands.{Stands, IsSound, LeadsTo}
 use Rattle.gatt_laws.specs.Calls.{Call, UpdateCall, AuthorizeCall, DisconnectCall, TickCall, Refused, NotAValue, BadLength, TimeWentBack, NoServiceChanged, ordinal_where, serving, has_length, update_event, authorize_event, disconnect_event, call_event, same_changer, replacement_event}
 use Rattle.gatt_laws.specs.Controller.{Slots, is_ready}
 use Rattle.gatt_laws.specs.Event.{Ordinal, Event, Of, Authorized, Ended, Update, Tick, Replaced}
-use Rattle.gatt_laws.specs.Input.{Course, after_result}
+use Rattle.gatt_laws.specs.Input.{Course}
 use Rattle.gatt_laws.specs.Part.{is_live}
 use Rattle.gatt_laws.specs.Possible.{MayBeUpdated}
 use Rattle.gatt_laws.specs.State.{State, change_of, step}

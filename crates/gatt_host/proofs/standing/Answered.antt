@@ -11,7 +11,7 @@ use Rattle.gatt_host.specs.Stands.{AnswerLeadsOn, LeadsTo, Stands, IsSound}
 use Rattle.gatt_laws.specs.Controller.{Controller, Slots, is_ready}
 use Rattle.gatt_laws.specs.Event.{Credit}
 use Rattle.gatt_laws.specs.Notice.{noticed}
-use Rattle.gatt_laws.specs.State.{State, change_of, is_refusal, slots_for, step, out}
+use Rattle.gatt_laws.specs.State.{State, change_of, is_refusal, slots_for}
 use Rattle.le_acl.specs.Shares.{usable}
 use Rattle.le_hci.specs.declared.init.Init.{Init}
 use Rattle.le_hci.specs.declared.init.Init.TheVariants.{Resetting, Masking, LeMasking, Sizing, SharedSizing, Addressing, Describing, Filling, Enabling, Ready}

@@ -19,7 +19,7 @@ use Rattle.gatt_laws.specs.Start.{before_first_command, state_at, first_out}
 use Rattle.gatt_laws.specs.State.{State}
 use Rattle.gatt_slots.specs.Kept.{Kept}
 use Rattle.gatt_subs.specs.declared.bond.Bond.{Bond}
-use Rattle.gatt_subs.specs.Fit.{fitted_bond, HasFittedBonds}
+use Rattle.gatt_subs.specs.Fit.{fitted_bond, HasFittedBonds, IsListed}
 use Rattle.gatt_subs.specs.Rows.{Subscriptions, bond_of}
 use Rattle.le_hci.specs.declared.peer.Peer.{Peer}
 use Rattle.le_security.specs.Keys.{is_known}
@@ -39,11 +39,13 @@ not-owed : (found : Option Bond) → is_some found ≡ false → option_map_or (
 not-owed None is = refl
 not-owed (Some bond) is = absurd (clash (sym is))
 
-bonds-held : (keys : List Entry) (rows : Subscriptions) → ((peer : Peer) → is_some (bond_of rows peer) ≡ is_known keys peer) → HoldsBonds keys rows (bonds_of rows) (owed_of rows)
-bonds-held keys rows each = record {
+bonds-held : (keys : List Entry) (rows : Subscriptions) → ((peer : Peer) → is_some (bond_of rows peer) ≡ is_known keys peer) → IsListed keys rows
+    → HoldsBonds keys rows (bonds_of rows) (owed_of rows)
+bonds-held keys rows each listed = record {
   known = λ peer. known-by (bond_of rows peer) (is_known keys peer) (each peer);
   row = λ peer unknown. no-row (bond_of rows peer) (each peer ∙ unknown);
   owing = λ peer unknown. not-owed (bond_of rows peer) (each peer ∙ unknown);
+  listed = listed;
 }
 
 -- rows that are fitted have a bond of each peer that has a key
@@ -74,7 +76,7 @@ stands_at_the_start start held is =
       time = is.time;
       told = refl;
       rows = subst (λ (bonds : Bonds). HoldsBonds start.keys held.rows bonds start.owed) (sym is.bonds)
-          (subst (λ (owed : Owed). HoldsBonds start.keys held.rows (bonds_of held.rows) owed) (sym is.owed) (bonds-held start.keys held.rows is.rows));
+          (subst (λ (owed : Owed). HoldsBonds start.keys held.rows (bonds_of held.rows) owed) (sym is.owed) (bonds-held start.keys held.rows is.rows is.listed));
       keyed = λ ordinal.
           let sent : Bool = nat_lt (length (command_of_init old.controller) + count_before ordinal old.parts old.slots) old.controller.credit in
           keyed_anew start.keys (if sent then without_command absent else absent) (sent-anew sent);

@@ -22,7 +22,7 @@ use Rattle.gatt_laws.specs.Part as laws
 use Rattle.gatt_laws.specs.Part.{Part, absent, is_there}
 use Rattle.gatt_laws.specs.Room.{share_of, size_of}
 use Rattle.gatt_laws.specs.Settled.{has_slot}
-use Rattle.gatt_laws.specs.State.{State, change_of, told_of, step, out}
+use Rattle.gatt_laws.specs.State.{State, change_of, told_of}
 use Rattle.gatt_slots.proofs.parts.Kept.{kept_there}
 use Rattle.gatt_slots.proofs.parts.Places.{one_freed, takes_the_first}
 use Rattle.gatt_slots.specs.Kept.{Kept, kept_if_there}

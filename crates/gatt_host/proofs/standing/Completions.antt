@@ -12,7 +12,7 @@ use Rattle.gatt_laws.specs.Event.{Ordinal, Completed}
 use Rattle.gatt_laws.specs.Notice.{noticed}
 use Rattle.gatt_laws.specs.Packets.{completed_entries}
 use Rattle.gatt_laws.specs.Part.{Part}
-use Rattle.gatt_laws.specs.State.{State, with_completed, after_completed, change_of, step, out}
+use Rattle.gatt_laws.specs.State.{State, with_completed, after_completed, change_of}
 use Rattle.gatt_slots.proofs.parts.Found.{all_completed}
 use Rattle.gatt_slots.specs.Kept.{Kept}
 use Rattle.gatt_slots.specs.Slots.{after_entries}

@@ -15,7 +15,7 @@ use Rattle.gatt_host.specs.Stands.{bond_in, EncryptionLeadsOn, RefreshLeadsOn, H
 use Rattle.gatt_laws.specs.Event.{Ordinal, Own, Of, Encrypted, Refreshed}
 use Rattle.gatt_laws.specs.Part.{Part, is_live, key_of, after_ending}
 use Rattle.gatt_laws.specs.Room.{Bonds, Owed}
-use Rattle.gatt_laws.specs.State.{State, all_raised, at_ordinal, change_of, step, out}
+use Rattle.gatt_laws.specs.State.{State, all_raised, at_ordinal, change_of, step}
 use Rattle.gatt_laws.specs.Turn.{Turn, live_turn, turn_of, turn_to, with_step, lost_encryption, gained_encryption, authentication_failure}
 use Rattle.gatt_slots.proofs.parts.Turns.{encrypted_kept, encrypted_raised, refreshed_kept, refreshed_raised, live_turned}
 use Rattle.gatt_slots.specs.Hearing.{after_hearing}

@@ -16,7 +16,7 @@ use Rattle.gatt_host.specs.Owing.{all_given}
 use Rattle.gatt_host.specs.Stands.{AuthorizingLeadsOn, DisconnectingLeadsOn, AskingAKeyLeadsOn, SignalsLeadOn, HasKeysOfItsPeer, IsServing, LeadsTo, Stands, IsSound}
 use Rattle.gatt_laws.specs.Event.{Ordinal, Own, Of, Authorized, Ended, KeyAsked, Signals}
 use Rattle.gatt_laws.specs.Part.{Part, is_live, is_there, with_pdus, after_ending}
-use Rattle.gatt_laws.specs.State.{State, change_of, step, out}
+use Rattle.gatt_laws.specs.State.{State, change_of}
 use Rattle.gatt_laws.specs.Turn.{Turn, live_turn, turn_of, turn_to, with_key_asked, after_channel, channel_answer, is_full, remote_user_terminated}
 use Rattle.gatt_slots.proofs.parts.Turns.{authorized_kept, disconnected_kept, key_asked_kept, live_turned, signal_kept}
 use Rattle.gatt_slots.specs.Kept.{Kept, kept_of, kept_if_there}

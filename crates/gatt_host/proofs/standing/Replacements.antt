@@ -1,6 +1,7 @@
 -- A table that replaces another leads a host on.
 use Rattle.std.proofs.Common.{◌≡◌, Bool, true, false, List, [], ◌∷◌, map, Option, Some, None, refl, sym, ap, subst, ◌∙◌}
 use Rattle.std.specs.Prelude.{if◌then◌else◌}
+use Rattle.std.proofs.lemmas.List.{length-map}
 use Rattle.std.specs.Option.{option_map, option_to_list}
 use Rattle.att_numbers.specs.Types.{Handle, Row}
 use Rattle.att_table.specs.Changer.{changer_of}
@@ -17,7 +18,7 @@ use Rattle.gatt_laws.specs.Event.{Replaced}
 use Rattle.gatt_laws.specs.Notice.{noticed}
 use Rattle.gatt_laws.specs.Part.{Part, is_live}
 use Rattle.gatt_laws.specs.Room.{Bonds, Owed}
-use Rattle.gatt_laws.specs.State.{State, announced, bonds_replaced, owed_by, part_replaced, change_of, step, out}
+use Rattle.gatt_laws.specs.State.{State, announced, bonds_replaced, owed_by, part_replaced, change_of}
 use Rattle.gatt_slots.proofs.parts.Events.{replaced_kept}
 use Rattle.gatt_slots.specs.Kept.{Kept}
 use Rattle.gatt_slots.specs.Turn.{after_table}
@@ -59,6 +60,11 @@ bonds-replaced keys rows bonds owed old new holds =
           ∙ mapped-twice (is_known keys peer) keep owe (bond_in bonds owed peer);
       row = none;
       owing = λ peer unknown. ap (wants_changes (changer_of new)) (none peer unknown) ∙ wants-none (changer_of new);
+      listed = record {
+        peers = holds.listed.peers;
+        count = length-map (map keep rows.bonds) owe ∙ length-map rows.bonds keep ∙ holds.listed.count;
+        unfitted = holds.listed.unfitted;
+      };
     }
 
 -- the link of a connection

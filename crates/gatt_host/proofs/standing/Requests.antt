@@ -1,5 +1,5 @@
 -- A request of the Attribute Protocol leads a host on.
-use Rattle.std.proofs.Common.{◌≡◌, ℕ, Bool, true, false, List, [], ◌∷◌, ◌++◌, map, Option, Some, None, refl, sym, ap, subst, ◌∙◌}
+use Rattle.std.proofs.Common.{◌≡◌, ℕ, Bool, true, false, List, [], ◌∷◌, ◌++◌, length, map, Option, Some, None, refl, sym, ap, subst, ◌∙◌}
 use Rattle.std.specs.Prelude.{is_some, if◌then◌else◌, not, ◌&&◌, slice_get}
 use Rattle.std.specs.Option.{option_and_then, option_map, option_map_or, option_to_list}
 use Rattle.std.proofs.lemmas.Bool.{eq-eqb}
@@ -88,6 +88,11 @@ bonds_changed keys change peer old new bonds owed row owes holds changes is row-
             owed-stays not-known ∙ holds.owing peer not-known
         | false ↦ λ differs. holds.owing other unknown
       ] refl;
+  listed = record {
+    peers = changes.peers ∙ holds.listed.peers;
+    count = changes.count ∙ holds.listed.count ∙ sym (ap length changes.peers);
+    unfitted = changes.unfitted ∙ holds.listed.unfitted;
+  };
 }
 
 -- what a request leaves of the bond of a peer that has no key

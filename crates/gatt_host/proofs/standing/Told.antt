@@ -1,11 +1,9 @@
 -- What a host tells of an event is what the state machine has, kind by kind.
-use Rattle.std.proofs.Common.{◌≡◌, ℕ, zero, suc, Bool, true, false, List, [], ◌∷◌, ◌++◌, map, slice_get, Option, Some, None, refl, sym, ap, subst, ◌∙◌}
-use Rattle.std.specs.Prelude.{if◌then◌else◌, is_some, replicate, ◌==◌, ◌||◌}
+use Rattle.std.proofs.Common.{◌≡◌, ℕ, zero, suc, Bool, true, false, List, [], ◌∷◌, ◌++◌, map, slice_get, Option, Some, None, refl, sym, ap, ◌∙◌}
+use Rattle.std.specs.Prelude.{if◌then◌else◌, replicate, ◌==◌, ◌||◌}
 use Rattle.std.specs.List.{flat_map}
-use Rattle.std.specs.Option.{option_map, option_map_or, option_to_list}
+use Rattle.std.specs.Option.{option_map_or, option_to_list}
 use Rattle.std.proofs.lemmas.Bool.{eq-eqb}
-use Rattle.att_policy.specs.declared.standing.KeyFacts.{KeyFacts}
-use Rattle.gatt_host.proofs.Nexts.{clash}
 use Rattle.gatt_host.proofs.standing.Holding.{Holds, has_slot_there, holds, were_open}
 use Rattle.gatt_host.proofs.standing.Turned.{kept_at_place}
 use Rattle.gatt_host.specs.declared.last_event.LastEvent.{LastEvent}
@@ -18,12 +16,12 @@ use Rattle.gatt_laws.specs.Controller.{Slots, is_ready}
 use Rattle.gatt_laws.specs.Event.{Ordinal, Own, Of, Gone, Authorized, Ended, KeyAsked, Encrypted, Refreshed, Signals, Tick}
 use Rattle.gatt_laws.specs.Notice.{Notice, Disconnected, TimedOut, Ending, end_told, late_told, link_told, noticed, slot_told}
 use Rattle.gatt_laws.specs.Part.{Part, is_live, is_there, key_of, after_ending, with_pdus}
-use Rattle.gatt_laws.specs.Settled.{has_slot, is_slot_of}
+use Rattle.gatt_laws.specs.Settled.{has_slot}
 use Rattle.gatt_laws.specs.State.{State}
 use Rattle.gatt_laws.specs.Turn.{Turn, authentication_failure, remote_user_terminated, after_channel, channel_answer, is_full, live_turn, lost_encryption, turn_of, turn_to, with_step}
 use Rattle.gatt_slots.proofs.parts.Kept.{live_there}
 use Rattle.gatt_slots.proofs.parts.Turns.{full_kept, live_turned}
-use Rattle.gatt_slots.specs.Kept.{Kept, backlog_of, kept_if_there, kept_of}
+use Rattle.gatt_slots.specs.Kept.{Kept, kept_of}
 use Rattle.gatt_slots.specs.Slots.{late_handle, late_handles}
 use Rattle.gatt_slots.specs.Turn.{has_no_room}
 use Rattle.gatt_subs.specs.Indications.{times_out}

@@ -35,6 +35,7 @@ bonds_alike keys rows bonds bonds' owed owed' same same' holds = record {
   known = λ peer. holds.known peer ∙ λ i. if is_known keys peer then Some (record { row = same peer i; owed = same' peer i }) else None;
   row = λ peer unknown. sym (same peer) ∙ holds.row peer unknown;
   owing = λ peer unknown. sym (same' peer) ∙ holds.owing peer unknown;
+  listed = holds.listed;
 }
 
 pub at_own_peer : {A : Type 0} (peer other : Peer) (new : A) (old : Peer → A) → new ≡ old peer → old other ≡ at_peer peer new old other

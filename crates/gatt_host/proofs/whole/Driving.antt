@@ -80,24 +80,29 @@ pub record HasDriven (count : ℕ) (inputs rest : List Input) (old new : Whole) 
   pub takes : TakesAll items old new before after
   pub counts : CountsRefused count items old
 
--- the next of them
-record IsNext (inputs : List Input) (index : ℕ) (input : Input) (items : List Item) : Type 0 where
-  parts : items_of inputs ≡ (items ++ input_items input) ++ items_of (drop (index + 1) inputs)
-
-next-of : (inputs : List Input) (index : ℕ) (last : Input) (items : List Item) → index < length inputs → items_of inputs ≡ items ++ items_of (drop index inputs)
-    → IsNext inputs index (get_or inputs index last) items
-next-of inputs index last items within parts = record {
-  parts = parts ∙ ap (λ (left : List Input). items ++ items_of left) (drop_more inputs index last within)
-      ∙ sym (append_assoc items (input_items (get_or inputs index last)) (items_of (drop (index + 1) inputs)));
+abbrev pub driven_none : (inputs : List Input) (old new : Whole) (before after : Option Octets) → TakesAll [] old new before after
+    → HasDriven 0 inputs inputs old new before after
+driven_none inputs old new before after takes = record {
+  items = [];
+  parts = refl;
+  takes = takes;
+  counts = λ start input gone is. refl;
 }
+
+-- the next of them
+pub next_parts : (inputs : List Input) (index : ℕ) (last : Input) (items : List Item) → index < length inputs → items_of inputs ≡ items ++ items_of (drop index inputs)
+    → items_of inputs ≡ (items ++ input_items (get_or inputs index last)) ++ items_of (drop (index + 1) inputs)
+next_parts inputs index last items within parts =
+    parts ∙ ap (λ (left : List Input). items ++ items_of left) (drop_more inputs index last within)
+    ∙ sym (append_assoc items (input_items (get_or inputs index last)) (items_of (drop (index + 1) inputs)))
 
 module _ (inputs : List Input) (index : ℕ) (last : Input) (within : index < length inputs) (count : ℕ) (old mid new : Whole) (before between after : Option Octets)
     (has : HasDriven count inputs (drop index inputs) old mid before between) where
-  pub driven_more : (next : ℕ) → TakesAll (input_items (get_or inputs index last)) mid new between after → CountsRefused next (input_items (get_or inputs index last)) mid
+  abbrev pub driven_more : (next : ℕ) → TakesAll (input_items (get_or inputs index last)) mid new between after → CountsRefused next (input_items (get_or inputs index last)) mid
       → HasDriven (count + next) inputs (drop (index + 1) inputs) old new before after
   driven_more next takes counts = record {
     items = has.items ++ input_items (get_or inputs index last);
-    parts = (next-of inputs index last has.items within has.parts).parts;
+    parts = (next_parts inputs index last has.items within has.parts);
     takes = takes_then has.items (input_items (get_or inputs index last)) old mid new before between after has.takes takes;
     counts = counts_then count next has.items (input_items (get_or inputs index last)) has.takes.packets old mid has.counts has.takes.leads counts;
   }
@@ -108,7 +113,7 @@ module _ (inputs : List Input) (index : ℕ) (last : Input) (within : index < le
   driven_stops fault stopped comes feeds =
       let input : Input = get_or inputs index last in
       let rest : List Input = drop (index + 1) inputs in
-      subst (λ (items : List Item). Feeds items old new before after new.fault) (sym (next-of inputs index last has.items within has.parts).parts)
+      subst (λ (items : List Item). Feeds items old new before after new.fault) (sym (next_parts inputs index last has.items within has.parts))
       (past_fault (has.items ++ input_items input) (items_of rest) old new before after fault stopped comes
       (feeds_then has.items (input_items input) old mid new before between after new.fault has.takes feeds))
 

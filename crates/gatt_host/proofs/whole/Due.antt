@@ -8,7 +8,8 @@ use Rattle.gatt_host.specs.declared.host_fault.HostFault.{HostFault}
 use Rattle.gatt_host.specs.declared.host_fault.HostFault.TheVariants as stop
 use Rattle.gatt_host.specs.Feeding.{IsAllOut, WritesAllThatIsDue}
 use Rattle.gatt_host.specs.GoingOut.{is_drained}
-use Rattle.gatt_host.specs.Held.{Held, open_slots}
+use Rattle.gatt_host.specs.declared.last_event.LastEvent.TheVariants as last
+use Rattle.gatt_host.specs.Held.{Held, open_slots, with_last}
 use Rattle.gatt_host.specs.Whole.{Whole, all_out}
 use Rattle.gatt_laws.specs.Input.{course}
 
@@ -43,6 +44,13 @@ pub due_where_drained : (whole : Whole) (fault : Option HostFault) → is_draine
     → WritesAllThatIsDue fault whole
 due_where_drained whole fault drained =
     due-by fault whole (λ start input gone is. all_gone (course start input) gone whole.held whole.frames is.stands drained)
+
+-- of which nothing is told any more
+pub due_in_silence : (old new : Whole) (fault : Option HostFault) → old.fault ≡ None → all_out old ≡ true → new.held ≡ with_last last.Quiet old.held
+    → WritesAllThatIsDue fault new
+due_in_silence old new fault none out same =
+    due_where_drained new fault
+    (subst (λ (held : Held). is_drained held.controller (open_slots held) ≡ true) (sym same) (drained_where old none out))
 
 -- a call that is no failure is well
 pub ok_where : {T E : Type 0} (result : Result T E) → is_err result ≡ false → IsOk result

@@ -3,7 +3,7 @@ use Rattle.std.proofs.Common.{◌≡◌, ℕ, true, false, List, [], ◌∷◌, 
 use Rattle.std.proofs.KnownBytes.{Appends-nil, Appends-trans}
 use Rattle.std.proofs.lemmas.List.{map-append}
 use Rattle.std.proofs.lemmas.List.Concat.{flat_map-append}
-use Rattle.std.specs.Prelude.{is_err, OnErr, OnOk}
+use Rattle.std.specs.Prelude.{is_err, IsSome, OnErr, OnOk}
 use Rattle.std.specs.Io.KnownBytes.{Appends}
 use Rattle.gatt_host.proofs.Nexts.{clash}
 use Rattle.gatt_host.proofs.whole.Items.{leads_nowhere, leads_on, leads_stopped}
@@ -137,6 +137,16 @@ pub none_answered : (found : Option HostFault) → done ≡ outcome_of found →
 none_answered None is = refl
 none_answered (Some fault) is = cc is
 
+-- a host on which no fault stands had none before
+pub none_before : (old new : Whole) → (IsSome old.fault → new ≡ old) → new.fault ≡ None → old.fault ≡ None
+none_before old new stopped none = by old.fault refl
+  where
+    by : (fault : Option HostFault) → old.fault ≡ fault → old.fault ≡ None
+    by None is = is
+    by (Some why) is =
+        let same : new ≡ old = stopped (subst (λ (fault : Option HostFault). IsSome fault) (sym is) refl) in
+        sym (ap (λ (whole : Whole). whole.fault) same) ∙ none
+
 -- where the writer fails, what follows is left
 pub broken_before : (items more : List Item) (old new : Whole) (before after : Option Octets) (found : Option HostFault) → found ≡ Some stop.Write
     → Feeds items old new before after found → Feeds (items ++ more) old new before after found
@@ -184,26 +194,26 @@ breaks_off_at old at mid packet before between after takes leads none front =
     })
 
 -- octets in two parts
-items-append : (octets rest : Octets) → octet_items (octets ++ rest) ≡ octet_items octets ++ octet_items rest
-items-append octets rest = map-append (λ (octet : ℕ). AnOctet octet) octets rest
+pub items_append_octets : (octets rest : Octets) → octet_items (octets ++ rest) ≡ octet_items octets ++ octet_items rest
+items_append_octets octets rest = map-append (λ (octet : ℕ). AnOctet octet) octets rest
 
 pub all_items : (octets taken rest : Octets) → octets ≡ taken ++ rest → octet_items octets ≡ octet_items taken ++ octet_items rest
-all_items octets taken rest parts = ap octet_items parts ∙ items-append taken rest
+all_items octets taken rest parts = ap octet_items parts ∙ items_append_octets taken rest
 
-pub taken_none : (octets : Octets) (old new : Whole) (before after : Option Octets) → TakesAll [] old new before after → HasTaken octets octets old new before after
+abbrev pub taken_none : (octets : Octets) (old new : Whole) (before after : Option Octets) → TakesAll [] old new before after → HasTaken octets octets old new before after
 taken_none octets old new before after takes = record { taken = []; parts = refl; takes = takes }
 
-pub taken_silently : (octets rest : Octets) (used : ℕ) (old at new : Whole) (before after : Option Octets) → HasTaken octets rest old at before after
+abbrev pub taken_silently : (octets rest : Octets) (used : ℕ) (old at new : Whole) (before after : Option Octets) → HasTaken octets rest old at before after
     → Leads (octet_items (take used rest)) [] at new → HasTaken octets (drop used rest) old new before after
 taken_silently octets rest used old at new before after has leads = record {
   taken = has.taken ++ take used rest;
   parts = has.parts ∙ ap (λ (left : Octets). has.taken ++ left) (sym (take-append-drop used rest)) ∙ sym (append_assoc has.taken (take used rest) (drop used rest));
-  takes = subst (λ (items : List Item). TakesAll items old new before after) (sym (items-append has.taken (take used rest)))
+  takes = subst (λ (items : List Item). TakesAll items old new before after) (sym (items_append_octets has.taken (take used rest)))
       (takes_then (octet_items has.taken) (octet_items (take used rest)) old at new before after after has.takes
       (takes_silently (octet_items (take used rest)) at new after leads));
 }
 
-pub taken_then : (octets rest : Octets) (old mid new : Whole) (before between after : Option Octets) → HasTaken octets rest old mid before between
+abbrev pub taken_then : (octets rest : Octets) (old mid new : Whole) (before between after : Option Octets) → HasTaken octets rest old mid before between
     → TakesAll [] mid new between after → HasTaken octets rest old new before after
 taken_then octets rest old mid new before between after has takes = record {
   taken = has.taken;

@@ -136,13 +136,13 @@ octets_bring old new octets packet none divides marked last leads =
     })
 
 -- the fault of the course, where the host has none of its own
-record Stopped (found : Option Fault) : Type 0 where
-  why : Fault
-  is : found ≡ Some why
+pub record Stopped (found : Option Fault) : Type 0 where
+  pub why : Fault
+  pub is : found ≡ Some why
 
-stopped-for : (found : Option Fault) (fault : HostFault) → is_own fault ≡ false → SameFault found (Some fault) → Stopped found
-stopped-for (Some why) fault other same = record { why = why; is = refl }
-stopped-for None fault other same = absurd (clash (sym other ∙ same))
+pub stopped_for : (found : Option Fault) (fault : HostFault) → is_own fault ≡ false → SameFault found (Some fault) → Stopped found
+stopped_for (Some why) fault other same = record { why = why; is = refl }
+stopped_for None fault other same = absurd (clash (sym other ∙ same))
 
 -- octets that end a packet, which stops the host, and those behind them
 pub octets_stop : (old new : Whole) (octets rest : Octets) (packet : Packet) (fault : HostFault) → old.fault ≡ None → Divides old.stream octets new.stream
@@ -154,7 +154,7 @@ octets_stop old new octets rest packet fault none divides marked leads stops oth
     let taken : Course = after_packet course packet in
     let with_packet : StandsWith taken gone new.held new.frames new.fault = leads course gone no_why is.stands in
     let found : Stopped taken.intake.fault =
-    stopped-for taken.intake.fault fault other (subst (λ (stands : Option HostFault). SameFault taken.intake.fault stands) stops with_packet.same) in
+    stopped_for taken.intake.fault fault other (subst (λ (stands : Option HostFault). SameFault taken.intake.fault stands) stops with_packet.same) in
     let behind : Division = still new.stream rest in
     let alike : whole after ≡ whole taken =
     new-whole course (octets ++ rest) no_why part (before (packet ∷ []) behind)

@@ -2,6 +2,7 @@
 use Rattle.std.proofs.Common.{◌≡◌, ℕ, ◌≤◌, Bool, true, false, if◌then◌else◌, List, [], ◌∷◌, length, replicate, filter, Option, Some, None, refl, sym, ap, subst, arith}
 use Rattle.std.specs.Prelude.{unwrap_or, ◌&&◌, Result, Ok, Err, OnOk, is_err}
 use Rattle.std.specs.Option.{option_map, option_map_or}
+use Rattle.std.proofs.lemmas.List.{length-map}
 use Rattle.std.proofs.lemmas.List.Elements.{All-nil}
 use Rattle.att_numbers.specs.Types.{Handle, Row}
 use Rattle.att_attributes.specs.declared.attr.Attr.{Attr}
@@ -24,7 +25,7 @@ use Rattle.gatt_laws.specs.Input.{course}
 use Rattle.gatt_laws.specs.Start.{new_controller}
 use Rattle.gatt_subs.proofs.Supported.{supported_configuration}
 use Rattle.gatt_subs.specs.declared.bond.Bond.{Bond}
-use Rattle.gatt_subs.specs.Fit.{fitted_bond, with_entries, HasFittedBonds}
+use Rattle.gatt_subs.specs.Fit.{fitted_bond, fitted_rows, peers_of, with_entries, HasFittedBonds, IsListed}
 use Rattle.gatt_subs.specs.Rows.{Subscriptions, bond_of, row_read}
 use Rattle.le_h4.proofs.Dividing.{past_none}
 use Rattle.le_h4.specs.Deframer.{Deframing, at_start, still}
@@ -84,7 +85,13 @@ held_at_first table keys rows config = record {
   late = [];
 }
 
-module _ (table : Contents) (keys : List Entry) (old new : Subscriptions) (config : Config) (fitted : HasFittedBonds keys table old new) where
+module _ (table : Contents) (keys : List Entry) (old new : Subscriptions) (config : Config) (fitted : HasFittedBonds keys table old new)
+    (is_fitted : new ≡ fitted_rows keys table old) where
+  listed : IsListed keys new
+  listed =
+      subst (λ (rows : Subscriptions). IsListed keys rows) (sym is_fitted)
+      (record { peers = refl; count = length-map (peers_of keys) (fitted_bond table old); unfitted = refl })
+
   opened-as : IsOpenedAs (start_of table keys old config) (held_at_first table keys new config)
   opened-as = record {
     table = refl;
@@ -97,6 +104,7 @@ module _ (table : Contents) (keys : List Entry) (old new : Subscriptions) (confi
     rows = fitted_known keys table old new fitted;
     bonds = λ i peer. bond-if-known (is_known keys peer) (fitted_bond table old peer) (bond_of new peer) (fitted peer) i;
     owed = λ i peer. owed-if-known (is_known keys peer) (fitted_bond table old peer) (bond_of new peer) (fitted peer) i;
+    listed = listed;
   }
 
   few : is_configured config ≡ true → config.slots ≤ 8

@@ -7,14 +7,17 @@ use Rattle.std.specs.Prelude.{◌==◌, nat_le, OnErr}
 use Rattle.std.specs.Io.KnownBytes.{Consumes, IsAtEnd, Keeps}
 use Rattle.gatt_host.proofs.whole.Feeds.{all_items, feeds_then, takes_silently, takes_then}
 use Rattle.gatt_host.proofs.whole.Items.{leads_stopped, takes_item}
+use Rattle.gatt_host.proofs.whole.Silence.{stands_at_in_silence}
 use Rattle.gatt_host.specs.declared.host_fault.HostFault.{HostFault}
 use Rattle.gatt_host.proofs.Nexts.{clash}
 use Rattle.gatt_host.specs.declared.host_fault.HostFault.TheVariants as stop
+use Rattle.gatt_host.specs.declared.last_event.LastEvent.TheVariants as last
 use Rattle.gatt_host.specs.declared.serving.End.{End}
 use Rattle.gatt_host.specs.Feeding.{Feeds, IsReadIn, Reads, Serves, TakesAll, comes_of_feeding, is_write, octet_items}
-use Rattle.gatt_host.specs.Whole.{Takes, Whole, is_own}
-use Rattle.gatt_laws.specs.Input.{Item, TheEnd}
-use Rattle.le_h4.specs.Deframer.{Deframing, at_start, still}
+use Rattle.gatt_host.specs.Held.{with_last}
+use Rattle.gatt_host.specs.Whole.{StandsAt, Takes, Whole, is_own}
+use Rattle.gatt_laws.specs.Input.{Course, Item, TheEnd, course}
+use Rattle.le_h4.specs.Deframer.{at_start, still}
 use Rattle.le_h4.specs.Division.{division}
 use Rattle.octets.specs.Number.{Octets}
 use Rattle.octets.specs.Stream.{CountsIf, CountsMany, CountsNone, CountsOne}
@@ -26,14 +29,21 @@ from-the-start rest = elim (cases_Bool (nat_le 0 (length rest))) [
   | inr after ↦ absurd (omega (arith, leb-false 0 (length rest) after))
 ]
 
--- the stream ends, and what is unfinished is dropped
-pub takes_end : (old : Whole) (stream : Deframing) → old.fault ≡ None → stream ≡ at_start → Takes TheEnd old (record old { stream = stream })
-takes_end old stream none anew =
-    takes_item TheEnd old (record old { stream = stream }) none (λ course gone no_why is. record {
+-- the stream ends: what is unfinished is dropped, and nothing is told
+pub takes_end : (old new : Whole) → old.fault ≡ None → new.fault ≡ None → new.frames ≡ old.frames → new.stream ≡ at_start
+    → new.held ≡ with_last last.Quiet old.held → Takes TheEnd old new
+takes_end old new none still frames anew silent start input gone is =
+    let ended : Whole = record old { stream = at_start } in
+    let takes : Takes TheEnd old ended =
+    takes_item TheEnd old ended none (λ course gone no_why is. record {
       stands = record { owed = is.stands.owed; all = is.stands.all; sound = is.stands.sound; stands = is.stands.stands; together = is.stands.together };
       same = is.same;
-      stream = λ stands rest. ap (λ (kept : Deframing). still kept rest) anew ∙ from-the-start rest;
-    })
+      stream = λ stands rest. from-the-start rest;
+    }) in
+    let after : Course = course start (input ++ TheEnd ∷ []) in
+    subst (λ (whole : Whole). StandsAt after (gone ++ []) whole)
+    (λ i. record { held = sym silent i; frames = sym frames i; stream = sym anew i; fault = (none ∙ sym still) i })
+    (stands_at_in_silence after (gone ++ []) ended (takes start input gone is))
 
 -- so many turns gave these octets, and they are taken in
 pub record HasServed (turns : ℕ) (old new : Whole) (remaining left before after : Option Octets) : Type 0 where
@@ -42,7 +52,7 @@ pub record HasServed (turns : ℕ) (old new : Whole) (remaining left before afte
   pub takes : TakesAll (octet_items read) old new before after
   pub read_in : IsReadIn turns read
 
-pub served_none : (old new : Whole) (remaining before after : Option Octets) → TakesAll [] old new before after → HasServed 0 old new remaining remaining before after
+abbrev pub served_none : (old new : Whole) (remaining before after : Option Octets) → TakesAll [] old new before after → HasServed 0 old new remaining remaining before after
 served_none old new remaining before after takes = record {
   read = [];
   consumed = Consumes-nil remaining;
@@ -50,7 +60,7 @@ served_none old new remaining before after takes = record {
   read_in = record { some = omega arith; most = omega arith };
 }
 
-pub served_more : (turns : ℕ) (octets : Octets) (old mid new : Whole) (remaining between left before held after : Option Octets) → HasServed turns old mid remaining between before held
+abbrev pub served_more : (turns : ℕ) (octets : Octets) (old mid new : Whole) (remaining between left before held after : Option Octets) → HasServed turns old mid remaining between before held
     → Consumes between left octets → 1 ≤ length octets → length octets ≤ 512 → TakesAll (octet_items octets) mid new held after
     → HasServed (turns + 1) old new remaining left before after
 served_more turns octets old mid new remaining between left before held after served consumed some most takes = record {

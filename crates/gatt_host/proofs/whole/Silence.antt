@@ -1,5 +1,5 @@
 -- A host of which nothing is told any more stands where it stood.
-use Rattle.std.proofs.Common.{◌≡◌, List, Option, None}
+use Rattle.std.proofs.Common.{List}
 use Rattle.gatt_host.proofs.standing.Holding.{stands_with_last}
 use Rattle.gatt_host.specs.declared.last_event.LastEvent.TheVariants as last
 use Rattle.gatt_host.specs.Held.{Held, with_last}

@@ -4,9 +4,12 @@ use Rattle.std.specs.Prelude.{IfSome, IsSome, IsTrue, is_some, not, ◌↔◌}
 use Rattle.std.specs.Option.{option_to_list}
 use Rattle.gatt_host.proofs.Nexts.{clash, is_none_where}
 use Rattle.gatt_host.proofs.whole.Octets.{octets_lost}
+use Rattle.gatt_host.proofs.whole.StreamTold.{lost_told}
 use Rattle.gatt_host.specs.Answers.{lost_fault}
+use Rattle.gatt_host.specs.declared.host_fault.HostFault.{HostFault}
 use Rattle.gatt_host.specs.declared.host_fault.HostFault.TheVariants as stop
 use Rattle.gatt_host.specs.Feeding.{octet_items}
+use Rattle.gatt_host.specs.Telling.{TellsOfAll}
 use Rattle.gatt_host.specs.Whole.{Leads, Whole}
 use Rattle.le_h4.specs.declared.deframer.Fed.{Fed}
 use Rattle.le_h4.specs.declared.deframer.H4Fault.{H4Fault}
@@ -28,6 +31,12 @@ pub lost_leads : (old : Whole) (octets : Octets) (stream : Deframing) (fault : H
 lost_leads old octets stream (lost.Desync indicator) none divides lies =
     subst (λ (kept : Deframing). Leads (octet_items octets) [] old (record old { stream = kept; fault = Some (stop.Desync indicator) })) (sym (lies indicator refl))
     (octets_lost old octets indicator none ((divides indicator).0 refl))
+
+-- nor do they tell anything
+pub lost_silent : (old new : Whole) (octets : Octets) (fault : H4Fault) (why : HostFault) → new.fault ≡ Some why
+    → ((indicator : ℕ) → (failing fault ≡ Err (lost.Desync indicator)) ↔ (still old.stream octets ≡ lost_at_once indicator))
+    → TellsOfAll (octet_items octets) old new
+lost_silent old new octets (lost.Desync indicator) why stopped divides = lost_told old new octets indicator why stopped ((divides indicator).0 refl)
 
 -- no packet is marked
 pub none_marked : {A : Type 0} (packet : Bool) (marked : Option A) → packet ≡ false → (IsTrue packet ↔ IsSome marked) → marked ≡ None

@@ -1,5 +1,5 @@
 -- What is told of an item, where a host stands in a course.
-use Rattle.std.proofs.Common.{◌≡◌, Bool, true, false, List, [], Option, Some, None, Result, Ok, Err, refl, sym, ap, subst, ◌∙◌}
+use Rattle.std.proofs.Common.{◌≡◌, Bool, true, false, List, [], Option, None, Result, Ok, Err, refl, sym, ap, ◌∙◌}
 use Rattle.std.specs.Prelude.{is_some, if◌then◌else◌, IsOk}
 use Rattle.std.specs.Result.{result_err}
 use Rattle.std.specs.Option.{option_map_or}
@@ -13,7 +13,7 @@ use Rattle.gatt_host.specs.Telling.{noticed_in, notices_told}
 use Rattle.gatt_host.specs.Whole.{StandsAt, Whole}
 use Rattle.gatt_laws.specs.Event.{Event}
 use Rattle.gatt_laws.specs.Input.{APacket, Course, Item}
-use Rattle.gatt_laws.specs.ItemEvents.{event_at, event_if, event_of_packet, event_taken}
+use Rattle.gatt_laws.specs.ItemEvents.{event_if, event_of_packet, event_taken}
 use Rattle.gatt_laws.specs.Notice.{noticed, notices_of}
 use Rattle.gatt_laws.specs.Packets.{Fault, Fragments, packet_event}
 use Rattle.gatt_laws.specs.State.{State}
@@ -21,9 +21,9 @@ use Rattle.le_h4.specs.Division.{is_long}
 use Rattle.le_h4.specs.Packet.{Packet}
 use Rattle.octets.specs.Number.{Octets}
 
-by-result : {E : Type 0} (state : State) (result : Result Event E) → noticed_in state result ≡ option_map_or (noticed state) (event_if result) []
-by-result state (Ok event) = refl
-by-result state (Err fault) = refl
+pub result_told : {E : Type 0} (state : State) (result : Result Event E) → noticed_in state result ≡ option_map_or (noticed state) (event_if result) []
+result_told state (Ok event) = refl
+result_told state (Err fault) = refl
 
 -- an item that means the event of a result
 pub told_in_course : {E : Type 0} (item : Item) (course : Course) (gone : List Octets) (old new : Whole) → old.fault ≡ None
@@ -32,7 +32,7 @@ pub told_in_course : {E : Type 0} (item : Item) (course : Course) (gone : List O
     → notices_told new ≡ notices_of course item
 told_in_course item course gone old new none result means same is told =
     ap (λ (fault : Option HostFault). if is_some fault then [] else last_notices new.held) same
-    ∙ told is.stands ∙ by-result course.intake.state result
+    ∙ told is.stands ∙ result_told course.intake.state result
     ∙ ap (λ (event : Option Event). option_map_or (noticed course.intake.state) event []) (sym means)
     ∙ ap (λ (fault : Option Fault). option_map_or (noticed course.intake.state) (if is_some fault then None else event_taken course.intake item) [])
     (sym (no_fault course gone old none is))

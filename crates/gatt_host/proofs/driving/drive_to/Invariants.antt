@@ -1,6 +1,7 @@
 use Rattle.std.proofs.Common.{◌≡◌, ◌≤◌, true, None, drop}
-use Rattle.gatt_host.proofs.driving.drive.Given as goal
+use Rattle.gatt_host.proofs.driving.drive_to.Given as goal
 use Rattle.gatt_host.proofs.whole.Driving.{HasDriven}
+use Rattle.gatt_host.proofs.whole.HearingTurns.{HasDrivenTo}
 use Rattle.gatt_host.specs.Whole.{all_out}
 use Rattle.octets.specs.Stream.{CountsNone}
 
@@ -11,4 +12,5 @@ invariant-loop-input g l = record {
   none : l.host.fault ≡ None;
   drained : all_out l.host ≡ true;
   failures : CountsNone (g.W.Sink.failures l.fn.out) (g.W.Sink.failures l.out);
+  heard : HasDrivenTo l.refused l.inputs (drop l.input-index l.inputs) l.fn.host l.host (g.W.Sink.contents l.fn.out) (g.W.Sink.contents l.out) (g.L.Listener.heard l.fn.listener) (g.L.Listener.heard l.listener);
 }

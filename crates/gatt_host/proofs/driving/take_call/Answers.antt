@@ -1,3 +1,7 @@
+use Rattle.std.proofs.Common.{[], ◌∷◌, Some, ap, ◌∙◌}
+use Rattle.gatt_host.proofs.whole.Feeds.{fault_answered, none_answered}
+use Rattle.gatt_host.proofs.whole.Hearing.{breaks_heard, call_heard, listens_going}
+use Rattle.gatt_host.specs.declared.host_fault.HostFault.{HostFault}
 use Rattle.gatt_host.proofs.whole.Driving.{call_feeds, one_refused}
 use Rattle.gatt_host.specs.Asked.{call_of}
 use Rattle.gatt_host.specs.Whole.{Whole}
@@ -19,3 +23,22 @@ returns-clause-feeds g c =
 pub returns-clause-refused : goal.returns-clause-refused
 returns-clause-refused g c =
     one_refused (call_of c.args.call) c.args.host.now c.app.result c.is_err-refused.result c.requires.none c.is_err-refused.ensures.value c.app.ensures.refused
+
+pub returns-in_err-write_out-clause-heard : goal.returns-in_err-write_out-clause-heard
+returns-in_err-write_out-clause-heard g c =
+    let new : Whole = c.write_out.new.host in
+    breaks_heard (ACall (call_of c.args.call) ∷ []) [] [] c.args.host.now c.app.new.self new (g.W.Sink.contents c.args.out.now) (g.W.Sink.contents c.write_out.new.out)
+    (g.L.Listener.heard c.args.listener.now) (g.L.Listener.heard c.tell.new.listener) new.fault
+    (fault_answered new.fault c.in_err-write_out.field-0.0 c.in_err-write_out.ensures.fault ∙ ap (λ (why : HostFault). Some why) c.in_err-write_out.ensures.write)
+    (c.app.ensures.takes c.requires.none)
+    (call_heard (ACall (call_of c.args.call)) c.args.host.now c.app.new.self (g.L.Listener.heard c.args.listener.now) (g.L.Listener.heard c.tell.new.listener)
+    c.requires.none (c.app.ensures.fault ∙ c.requires.none) c.app.ensures.told c.tell.ensures.hears)
+    c.write_out.ensures.feeds
+
+pub returns-clause-heard : goal.returns-clause-heard
+returns-clause-heard g c =
+    let new : Whole = c.write_out.new.host in
+    listens_going (ACall (call_of c.args.call) ∷ []) c.args.host.now new (g.L.Listener.heard c.args.listener.now) (g.L.Listener.heard c.tell.new.listener) new.fault
+    (none_answered new.fault c.in_ok-write_out.ensures.fault)
+    (call_heard (ACall (call_of c.args.call)) c.args.host.now c.app.new.self (g.L.Listener.heard c.args.listener.now) (g.L.Listener.heard c.tell.new.listener)
+    c.requires.none (c.app.ensures.fault ∙ c.requires.none) c.app.ensures.told c.tell.ensures.hears)

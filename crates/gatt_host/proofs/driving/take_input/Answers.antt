@@ -5,8 +5,8 @@ use Rattle.gatt_host.specs.declared.driving.Input.{Input}
 use Rattle.gatt_host.specs.Feeding.{CountsRefused, input_items}
 use Rattle.gatt_host.proofs.driving.take_input.Goals as goal
 
-pub returns-in_ok-feed-in-Bytes-clause-refused : goal.returns-in_ok-feed-in-Bytes-clause-refused
-returns-in_ok-feed-in-Bytes-clause-refused g c =
+pub returns-in_ok-feed_to-in-Bytes-clause-refused : goal.returns-in_ok-feed_to-in-Bytes-clause-refused
+returns-in_ok-feed_to-in-Bytes-clause-refused g c =
     subst (λ (input : Input). CountsRefused 0 (input_items input) c.args.host.now) (sym c.in-Bytes.is) (none_refused c.in-Bytes.octets.now c.args.host.now)
 
 pub returns-in-Call-clause-refused : goal.returns-in-Call-clause-refused

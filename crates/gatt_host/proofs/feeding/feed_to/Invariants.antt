@@ -1,6 +1,7 @@
 use Rattle.std.proofs.Common.{◌≡◌, true, None, length}
-use Rattle.gatt_host.proofs.feeding.feed.Given as goal
+use Rattle.gatt_host.proofs.feeding.feed_to.Given as goal
 use Rattle.gatt_host.proofs.whole.Feeds.{HasTaken}
+use Rattle.gatt_host.proofs.whole.Hearing.{HasHeard}
 use Rattle.gatt_host.specs.Whole.{all_out}
 use Rattle.octets.specs.Stream.{CountsNone}
 
@@ -10,6 +11,7 @@ invariant-loop-rest g l = record {
   none : l.host.fault ≡ None;
   drained : all_out l.host ≡ true;
   failures : CountsNone (g.W.Sink.failures l.fn.out) (g.W.Sink.failures l.out);
+  heard : HasHeard l.fn.octets l.rest l.fn.host l.host (g.W.Sink.contents l.fn.out) (g.W.Sink.contents l.out) (g.L.Listener.heard l.fn.listener) (g.L.Listener.heard l.listener);
 }
 
 abbrev pub decreases-loop-rest : goal.decreases-loop-rest

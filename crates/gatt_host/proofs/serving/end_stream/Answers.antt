@@ -1,4 +1,4 @@
-use Rattle.std.proofs.Common.{◌≡◌, ◌∷◌, [], None, sym, subst}
+use Rattle.std.proofs.Common.{◌≡◌, ◌∷◌, [], None, refl, sym, subst}
 use Rattle.gatt_host.proofs.whole.Items.{reached_by}
 use Rattle.gatt_host.proofs.whole.Serving.{takes_end}
 use Rattle.gatt_host.specs.contracts.host.Host.{the_view}
@@ -9,13 +9,13 @@ use Rattle.gatt_host.proofs.serving.end_stream.Goals as goal
 pub invariant_of-host : goal.invariant_of-host
 invariant_of-host c =
     let old : Whole = the_view c.host.inside in
-    let new : Whole = record old { stream = c.new-host-inside.result } in
-    reached_by (TheEnd ∷ []) [] old new c.host.invariant
-    (takes_end old c.new-host-inside.result (subst (λ (whole : Whole). whole.fault ≡ None) (sym c.host.view_is) c.requires.none) c.new-host-inside.ensures.at_start)
+    let new : Whole = record old { held = c.forget.new.self; stream = c.new-host-inside.result } in
+    let none : old.fault ≡ None = subst (λ (whole : Whole). whole.fault ≡ None) (sym c.host.view_is) c.requires.none in
+    reached_by (TheEnd ∷ []) [] old new c.host.invariant (takes_end old new none none refl c.new-host-inside.ensures.at_start c.forget.ensures)
 
 pub returns-clause-takes : goal.returns-clause-takes
 returns-clause-takes c =
     let old : Whole = the_view c.host.inside in
-    let new : Whole = record old { stream = c.new-host-inside.result } in
-    subst (λ (whole : Whole). Takes TheEnd whole new) c.host.view_is
-    (takes_end old c.new-host-inside.result (subst (λ (whole : Whole). whole.fault ≡ None) (sym c.host.view_is) c.requires.none) c.new-host-inside.ensures.at_start)
+    let new : Whole = record old { held = c.forget.new.self; stream = c.new-host-inside.result } in
+    let none : old.fault ≡ None = subst (λ (whole : Whole). whole.fault ≡ None) (sym c.host.view_is) c.requires.none in
+    subst (λ (whole : Whole). Takes TheEnd whole new) c.host.view_is (takes_end old new none none refl c.new-host-inside.ensures.at_start c.forget.ensures)

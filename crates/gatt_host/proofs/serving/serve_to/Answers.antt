@@ -1,16 +1,20 @@
-use Rattle.std.proofs.Common.{◌≡◌, ◌+◌, [], None, Err, refl, sym, subst, ap, arith, ◌∙◌}
-use Rattle.std.proofs.KnownBytes.{Keeps-refl}
+use Rattle.std.proofs.Common.{◌≡◌, ◌+◌, List, [], Option, None, Some, Err, refl, sym, subst, ap, arith, ◌∙◌}
+use Rattle.std.proofs.KnownBytes.{Consumes-nil, Keeps-refl}
 use Rattle.std.proofs.lemmas.Result.{err_from_is_err_and}
 use Rattle.std.specs.Io.KnownBytes.{Consumes}
-use Rattle.gatt_host.proofs.whole.Due.{due_where_held}
-use Rattle.gatt_host.proofs.whole.Feeds.{counts_where_going, going_takes, none_answered}
-use Rattle.gatt_host.proofs.whole.Serving.{counts_where_none, counts_where_some, empty_where, no_turns, reads_stopped, some_where, kept_where_failed, serves_broken, serves_ended, serves_stopped, served_more}
+use Rattle.gatt_host.proofs.whole.Due.{due_in_silence, due_where_held}
+use Rattle.gatt_host.proofs.whole.Feeds.{counts_where_going, going_takes, none_answered, none_before, takes_none}
+use Rattle.gatt_host.proofs.whole.Hearing.{going_hears}
+use Rattle.gatt_host.proofs.whole.HearingTurns.{breaks_serving, ends_serving, nothing_heard, served_to_more, served_to_none, stops_serving}
+use Rattle.gatt_host.proofs.whole.Serving.{counts_where_none, counts_where_some, empty_where, no_turns, reads_stopped, some_where, kept_where_failed, serves_broken, serves_ended, serves_stopped, served_more, served_none}
 use Rattle.gatt_host.specs.declared.host_fault.HostFault.{HostFault}
 use Rattle.gatt_host.specs.declared.host_fault.HostFault.TheVariants as stop
-use Rattle.gatt_host.specs.Feeding.{octet_items}
+use Rattle.gatt_host.specs.Feeding.{TakesAll, octet_items}
+use Rattle.gatt_laws.specs.Notice.{Notice}
+use Rattle.octets.specs.Number.{Octets}
 use Rattle.gatt_host.specs.Whole.{Whole}
-use Rattle.octets.proofs.Writing.{counts_none, counts_one, many_more}
-use Rattle.gatt_host.proofs.serving.serve.Goals as goal
+use Rattle.octets.proofs.Writing.{counts_none, counts_one, counts_same, many_more, many_none}
+use Rattle.gatt_host.proofs.serving.serve_to.Goals as goal
 
 pub returns-in_default-clause-serves : goal.returns-in_default-clause-serves
 returns-in_default-clause-serves g c = λ none.
@@ -40,41 +44,50 @@ pub returns-then-is_empty-clause-ends : goal.returns-then-is_empty-clause-ends
 returns-then-is_empty-clause-ends g c = λ none.
     counts_one _ _ _ c.loop-turn.invariant.ends (counts_where_none c.in-Ok.read.now _ _ (sym c.is_empty.ensures ∙ c.if-is_empty.true) c.in-Ok.ensures.ends)
 
-pub returns-in_err-feed-2-clause-serves : goal.returns-in_err-feed-2-clause-serves
-returns-in_err-feed-2-clause-serves g c = λ none.
-    let stopped = err_from_is_err_and c.from_residual-in_err-feed-2.result c.from_residual-in_err-feed-2.ensures.1 in
-    serves_broken c.from_residual-in_err-feed-2.result c.in_err-feed-2.field-0.0 c.args.turns c.loop-turn.turn c.in-Ok.read.now c.args.host.now c.loop-turn.host c.feed-in-loop-turn.new.host
+pub returns-in_err-feed_to-clause-serves : goal.returns-in_err-feed_to-clause-serves
+returns-in_err-feed_to-clause-serves g c = λ none.
+    let stopped = err_from_is_err_and c.from_residual-in_err-feed_to.result c.from_residual-in_err-feed_to.ensures.1 in
+    serves_broken c.from_residual-in_err-feed_to.result c.in_err-feed_to.field-0.0 c.args.turns c.loop-turn.turn c.in-Ok.read.now c.args.host.now c.loop-turn.host c.feed_to.new.host
     (g.R.Source.remaining c.args.reader.now) (g.R.Source.remaining c.loop-turn.reader) (g.R.Source.remaining c.read_turn.new.reader)
-    (g.W.Sink.contents c.args.writer.now) (g.W.Sink.contents c.loop-turn.writer) (g.W.Sink.contents c.feed-in-loop-turn.new.out)
-    (stopped.1 ∙ ap (λ (why : HostFault). Err why) stopped.2) (c.in_err-feed-2.ensures.feeding c.loop-turn.invariant.none)
-    c.in-Ok.ensures.consumed c.loop-turn.invariant.served (c.feed-in-loop-turn.ensures.feeds c.loop-turn.invariant.none)
+    (g.W.Sink.contents c.args.writer.now) (g.W.Sink.contents c.loop-turn.writer) (g.W.Sink.contents c.feed_to.new.out)
+    (stopped.1 ∙ ap (λ (why : HostFault). Err why) stopped.2) (c.in_err-feed_to.ensures.feeding c.loop-turn.invariant.none)
+    c.in-Ok.ensures.consumed c.loop-turn.invariant.served (c.feed_to.ensures.feeds c.loop-turn.invariant.none)
 
-pub returns-in_err-feed-2-clause-reads : goal.returns-in_err-feed-2-clause-reads
-returns-in_err-feed-2-clause-reads g c = λ none.
-    let stopped = err_from_is_err_and c.from_residual-in_err-feed-2.result c.from_residual-in_err-feed-2.ensures.1 in
-    reads_stopped c.from_residual-in_err-feed-2.result c.in_err-feed-2.field-0.0 (c.loop-turn.turn + 1) c.args.turns (g.R.Source.reads c.args.reader.now) (g.R.Source.reads c.read_turn.new.reader)
+pub returns-in_err-feed_to-clause-reads : goal.returns-in_err-feed_to-clause-reads
+returns-in_err-feed_to-clause-reads g c = λ none.
+    let stopped = err_from_is_err_and c.from_residual-in_err-feed_to.result c.from_residual-in_err-feed_to.ensures.1 in
+    reads_stopped c.from_residual-in_err-feed_to.result c.in_err-feed_to.field-0.0 (c.loop-turn.turn + 1) c.args.turns (g.R.Source.reads c.args.reader.now) (g.R.Source.reads c.read_turn.new.reader)
     (stopped.1 ∙ ap (λ (why : HostFault). Err why) stopped.2) (many_more c.loop-turn.turn _ _ _ c.loop-turn.invariant.reads c.read_turn.ensures.reads)
-    (omega (arith, c.loop-turn-test.true)) (no_turns c.in_err-feed-2.field-0.0 (c.in_err-feed-2.ensures.feeding c.loop-turn.invariant.none))
+    (omega (arith, c.loop-turn-test.true)) (no_turns c.in_err-feed_to.field-0.0 (c.in_err-feed_to.ensures.feeding c.loop-turn.invariant.none))
 
 pub loop-turn-preserved : goal.loop-turn-preserved
 loop-turn-preserved g c =
     let mid : Whole = c.loop-turn.host in
-    let new : Whole = c.feed-in-loop-turn.new.host in
-    let none : new.fault ≡ None = none_answered new.fault c.in_ok-feed-2.ensures.outcome in
+    let new : Whole = c.feed_to.new.host in
+    let none : new.fault ≡ None = none_answered new.fault c.in_ok-feed_to.ensures.outcome in
     record {
       served = served_more c.loop-turn.turn c.in-Ok.read.now c.args.host.now mid new
           (g.R.Source.remaining c.args.reader.now) (g.R.Source.remaining c.loop-turn.reader) (g.R.Source.remaining c.read_turn.new.reader)
-          (g.W.Sink.contents c.args.writer.now) (g.W.Sink.contents c.loop-turn.writer) (g.W.Sink.contents c.feed-in-loop-turn.new.out)
+          (g.W.Sink.contents c.args.writer.now) (g.W.Sink.contents c.loop-turn.writer) (g.W.Sink.contents c.feed_to.new.out)
           c.loop-turn.invariant.served c.in-Ok.ensures.consumed (some_where c.in-Ok.read.now (sym c.is_empty.ensures ∙ c.if-is_empty.false)) c.in-Ok.ensures.within
-          (going_takes (octet_items c.in-Ok.read.now) mid new (g.W.Sink.contents c.loop-turn.writer) (g.W.Sink.contents c.feed-in-loop-turn.new.out) new.fault none
-          (c.feed-in-loop-turn.ensures.feeds c.loop-turn.invariant.none));
+          (going_takes (octet_items c.in-Ok.read.now) mid new (g.W.Sink.contents c.loop-turn.writer) (g.W.Sink.contents c.feed_to.new.out) new.fault none
+          (c.feed_to.ensures.feeds c.loop-turn.invariant.none));
       few = omega (arith, c.loop-turn-test.true);
       none = none;
-      drained = c.in_ok-feed-2.ensures.out refl;
+      drained = c.in_ok-feed_to.ensures.out refl;
       reads = many_more c.loop-turn.turn _ _ _ c.loop-turn.invariant.reads c.read_turn.ensures.reads;
       ends = counts_none _ _ _ c.loop-turn.invariant.ends (counts_where_some c.in-Ok.read.now _ _ (sym c.is_empty.ensures ∙ c.if-is_empty.false) c.in-Ok.ensures.ends);
       read_failures = counts_none _ _ _ c.loop-turn.invariant.read_failures c.in-Ok.ensures.failures;
-      write_failures = counts_none _ _ _ c.loop-turn.invariant.write_failures (counts_where_going new.fault _ _ none (c.feed-in-loop-turn.ensures.failures c.loop-turn.invariant.none));
+      write_failures = counts_none _ _ _ c.loop-turn.invariant.write_failures (counts_where_going new.fault _ _ none (c.feed_to.ensures.failures c.loop-turn.invariant.none));
+      heard = served_to_more c.loop-turn.turn c.in-Ok.read.now c.args.host.now mid new
+          (g.R.Source.remaining c.args.reader.now) (g.R.Source.remaining c.loop-turn.reader) (g.R.Source.remaining c.read_turn.new.reader)
+          (g.W.Sink.contents c.args.writer.now) (g.W.Sink.contents c.loop-turn.writer) (g.W.Sink.contents c.feed_to.new.out)
+          (g.L.Listener.heard c.args.listener.now) (g.L.Listener.heard c.loop-turn.listener) (g.L.Listener.heard c.feed_to.new.listener)
+          c.loop-turn.invariant.heard c.in-Ok.ensures.consumed (some_where c.in-Ok.read.now (sym c.is_empty.ensures ∙ c.if-is_empty.false)) c.in-Ok.ensures.within
+          (going_takes (octet_items c.in-Ok.read.now) mid new (g.W.Sink.contents c.loop-turn.writer) (g.W.Sink.contents c.feed_to.new.out) new.fault none
+          (c.feed_to.ensures.feeds c.loop-turn.invariant.none))
+          (going_hears (octet_items c.in-Ok.read.now) mid new (g.L.Listener.heard c.loop-turn.listener) (g.L.Listener.heard c.feed_to.new.listener) new.fault none
+          (c.feed_to.ensures.heard c.loop-turn.invariant.none));
     }
 
 pub returns-clause-serves : goal.returns-clause-serves
@@ -92,10 +105,85 @@ returns-in_default-clause-due g c = λ none.
 
 pub returns-then-is_empty-clause-due : goal.returns-then-is_empty-clause-due
 returns-then-is_empty-clause-due g c = λ none.
-    due_where_held c.loop-turn.host c.end_stream.new.host c.end_stream.new.host.fault c.loop-turn.invariant.none c.loop-turn.invariant.drained
+    due_in_silence c.loop-turn.host c.end_stream.new.host c.end_stream.new.host.fault c.loop-turn.invariant.none c.loop-turn.invariant.drained
     c.end_stream.ensures.held
 
 pub returns-clause-due : goal.returns-clause-due
 returns-clause-due g c = λ none.
     due_where_held c.loop-turn.host c.stop-2.new.host c.stop-2.new.host.fault c.loop-turn.invariant.none c.loop-turn.invariant.drained
     (ap (λ (whole : Whole). whole.held) c.stop-2.ensures.stopped)
+
+pub returns-in_err-feed-clause-heard : goal.returns-in_err-feed-clause-heard
+returns-in_err-feed-clause-heard g c = λ none.
+    record {
+      read = [];
+      consumed = Consumes-nil (g.R.Source.remaining c.args.reader.now);
+      listens = nothing_heard c.args.host.now c.feed.new.host (g.W.Sink.contents c.args.writer.now) (g.W.Sink.contents c.feed.new.out)
+          (g.L.Listener.heard c.args.listener.now) c.feed.new.host.fault (c.feed.ensures.feeds none);
+    }
+
+pub returns-in_default-clause-heard : goal.returns-in_default-clause-heard
+returns-in_default-clause-heard g c = λ none.
+    stops_serving c.loop-turn.turn c.args.host.now c.loop-turn.host c.stop.new.host
+    (g.R.Source.remaining c.args.reader.now) (g.R.Source.remaining c.loop-turn.reader) (g.R.Source.remaining c.read_turn.new.reader)
+    (g.W.Sink.contents c.args.writer.now) (g.W.Sink.contents c.loop-turn.writer) (g.L.Listener.heard c.args.listener.now) (g.L.Listener.heard c.loop-turn.listener)
+    (Some stop.Read) (ap (λ (whole : Whole). whole.fault) c.stop.ensures.stopped) refl c.loop-turn.invariant.heard
+    (kept_where_failed c.read_turn.result c.in_default.not-Ok c.read_turn.ensures.kept)
+
+pub returns-then-is_empty-clause-heard : goal.returns-then-is_empty-clause-heard
+returns-then-is_empty-clause-heard g c = λ none.
+    let nothing : c.in-Ok.read.now ≡ [] = empty_where c.in-Ok.read.now (sym c.is_empty.ensures ∙ c.if-is_empty.true) in
+    ends_serving c.loop-turn.turn c.args.host.now c.loop-turn.host c.end_stream.new.host
+    (g.R.Source.remaining c.args.reader.now) (g.R.Source.remaining c.loop-turn.reader) (g.R.Source.remaining c.read_turn.new.reader)
+    (g.W.Sink.contents c.args.writer.now) (g.W.Sink.contents c.loop-turn.writer) (g.L.Listener.heard c.args.listener.now) (g.L.Listener.heard c.loop-turn.listener)
+    None c.end_stream.ensures.fault refl c.loop-turn.invariant.heard
+    (subst (Consumes (g.R.Source.remaining c.loop-turn.reader) (g.R.Source.remaining c.read_turn.new.reader)) nothing c.in-Ok.ensures.consumed)
+
+pub returns-in_err-feed_to-clause-heard : goal.returns-in_err-feed_to-clause-heard
+returns-in_err-feed_to-clause-heard g c = λ none.
+    breaks_serving c.loop-turn.turn c.in-Ok.read.now c.args.host.now c.loop-turn.host c.feed_to.new.host
+    (g.R.Source.remaining c.args.reader.now) (g.R.Source.remaining c.loop-turn.reader) (g.R.Source.remaining c.read_turn.new.reader)
+    (g.W.Sink.contents c.args.writer.now) (g.W.Sink.contents c.loop-turn.writer) (g.W.Sink.contents c.feed_to.new.out)
+    (g.L.Listener.heard c.args.listener.now) (g.L.Listener.heard c.loop-turn.listener) (g.L.Listener.heard c.feed_to.new.listener)
+    c.loop-turn.invariant.heard c.in-Ok.ensures.consumed (c.feed_to.ensures.heard c.loop-turn.invariant.none)
+
+pub returns-clause-heard : goal.returns-clause-heard
+returns-clause-heard g c = λ none.
+    stops_serving c.loop-turn.turn c.args.host.now c.loop-turn.host c.stop-2.new.host
+    (g.R.Source.remaining c.args.reader.now) (g.R.Source.remaining c.loop-turn.reader) (g.R.Source.remaining c.loop-turn.reader)
+    (g.W.Sink.contents c.args.writer.now) (g.W.Sink.contents c.loop-turn.writer) (g.L.Listener.heard c.args.listener.now) (g.L.Listener.heard c.loop-turn.listener)
+    (Some stop.Turns) (ap (λ (whole : Whole). whole.fault) c.stop-2.ensures.stopped) refl c.loop-turn.invariant.heard
+    (Keeps-refl (g.R.Source.remaining c.loop-turn.reader))
+
+pub loop-turn-init : goal.loop-turn-init
+loop-turn-init g c =
+    let old : Whole = c.args.host.now in
+    let new : Whole = c.feed.new.host in
+    let remaining : Option Octets = g.R.Source.remaining c.args.reader.now in
+    let before : Option Octets = g.W.Sink.contents c.args.writer.now in
+    let after : Option Octets = g.W.Sink.contents c.feed.new.out in
+    let known : Option (List Notice) = g.L.Listener.heard c.args.listener.now in
+    let still : new.fault ≡ None = none_answered new.fault c.in_ok-feed.ensures.outcome in
+    let none : old.fault ≡ None = none_before old new c.in_ok-feed.ensures.stopped still in
+    let takes : TakesAll [] old new before after = going_takes [] old new before after new.fault still (c.feed.ensures.feeds none) in
+    record {
+      served = served_none old new remaining before after takes;
+      few = omega arith;
+      none = still;
+      drained = c.in_ok-feed.ensures.out refl;
+      reads = many_none _;
+      ends = counts_same _;
+      read_failures = counts_same _;
+      write_failures = counts_where_going new.fault _ _ still (c.feed.ensures.failures none);
+      heard = served_to_none old new remaining before after known takes;
+    }
+
+pub returns-in_err-feed-clause-serves : goal.returns-in_err-feed-clause-serves
+returns-in_err-feed-clause-serves g c = λ none.
+    let old : Whole = c.args.host.now in
+    let remaining : Option Octets = g.R.Source.remaining c.args.reader.now in
+    let before : Option Octets = g.W.Sink.contents c.args.writer.now in
+    let stopped = err_from_is_err_and c.from_residual.result c.from_residual.ensures.1 in
+    serves_broken c.from_residual.result c.in_err-feed.field-0.0 c.args.turns 0 [] old old c.feed.new.host remaining remaining remaining before before (g.W.Sink.contents c.feed.new.out)
+    (stopped.1 ∙ ap (λ (why : HostFault). Err why) stopped.2) (c.in_err-feed.ensures.feeding none) (Consumes-nil remaining)
+    (served_none old old remaining before before (takes_none old before)) (c.feed.ensures.feeds none)

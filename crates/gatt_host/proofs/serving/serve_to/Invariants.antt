@@ -1,5 +1,6 @@
 use Rattle.std.proofs.Common.{◌≡◌, ◌≤◌, true, None}
-use Rattle.gatt_host.proofs.serving.serve.Given as goal
+use Rattle.gatt_host.proofs.serving.serve_to.Given as goal
+use Rattle.gatt_host.proofs.whole.HearingTurns.{HasServedTo}
 use Rattle.gatt_host.proofs.whole.Serving.{HasServed}
 use Rattle.gatt_host.specs.Whole.{all_out}
 use Rattle.octets.specs.Stream.{CountsMany, CountsNone}
@@ -14,4 +15,6 @@ invariant-loop-turn g l = record {
   ends : CountsNone (g.R.Source.ends l.fn.reader) (g.R.Source.ends l.reader);
   read_failures : CountsNone (g.R.Source.failures l.fn.reader) (g.R.Source.failures l.reader);
   write_failures : CountsNone (g.W.Sink.failures l.fn.writer) (g.W.Sink.failures l.writer);
+  heard : HasServedTo l.turn l.fn.host l.host (g.R.Source.remaining l.fn.reader) (g.R.Source.remaining l.reader) (g.W.Sink.contents l.fn.writer) (g.W.Sink.contents l.writer)
+      (g.L.Listener.heard l.fn.listener) (g.L.Listener.heard l.listener);
 }

@@ -6,7 +6,7 @@ use Rattle.gatt_host.specs.declared.last_event.LastEvent.TheVariants as last
 use Rattle.gatt_host.specs.Held.{Held}
 use Rattle.gatt_host.specs.Opening.{is_configured}
 use Rattle.gatt_host.specs.Whole.{Whole}
-use Rattle.gatt_subs.specs.Fit.{HasFittedBonds}
+use Rattle.gatt_subs.specs.Fit.{HasFittedBonds, fitted_rows}
 
 pub returns-clause-opened : goal.returns-clause-opened
 returns-clause-opened c =
@@ -27,6 +27,8 @@ returns-clause-opened c =
     let configured : is_configured c.args.config ≡ true = sym c.is_configured.ensures ∙ c.if-not-is_configured.false in
     let fitted : HasFittedBonds c.args.keys c.args.table c.args.rows c.fit.new.self =
     without_fault c.fit.result (sym c.is_err.ensures.value ∙ c.if-is_err.false) c.fit.ensures.each in
+    let is_fitted : c.fit.new.self ≡ fitted_rows c.args.keys c.args.table c.args.rows =
+    without_fault c.fit.result (sym c.is_err.ensures.value ∙ c.if-is_err.false) c.fit.ensures.fitted in
     let same : held ≡ held_at_first c.args.table c.args.keys c.fit.new.self c.args.config = λ i. record {
       table = c.args.table;
       changer = c.changer.ensures.changer i;
@@ -40,7 +42,7 @@ returns-clause-opened c =
       written = c.new-3.ensures i;
       late = c.new-4.ensures i;
     } in
-    stands_when_opened c.args.table c.args.keys c.args.rows c.fit.new.self c.args.config fitted whole configured same
+    stands_when_opened c.args.table c.args.keys c.args.rows c.fit.new.self c.args.config fitted is_fitted whole configured same
     c.from_fn.ensures.items.long c.new-5.ensures.at_start (λ i. None)
 
 pub invariant_of-result-2 : goal.invariant_of-result-2

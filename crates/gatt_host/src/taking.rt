@@ -1,0 +1,120 @@
+//! Octets of the stream from a controller, up to the end of a packet.
+
+ghost use Rattle.std.specs.Prelude.{◌≡◌, ◌≤◌, ◌<◌, [], true, false, length, None, Some, IsSome, IfOk, IfErr, IfSome, OnErr};
+ghost use Rattle.std.specs.Result.{result_err};
+ghost use Rattle.gatt_host.specs.Answers.{lost_fault};
+ghost use Rattle.gatt_host.specs.Feeding.{items_taken, TakesUpToAPacket};
+ghost use Rattle.gatt_host.specs.GoingOut.{is_drained};
+ghost use Rattle.gatt_host.specs.Held.{open_slots};
+ghost use Rattle.gatt_host.specs.Meaning.{HasRowsOfTheTable};
+ghost use Rattle.gatt_host.specs.Telling.{TellsOfAll};
+ghost use Rattle.gatt_host.specs.Whole.{all_out, going, is_own, Leads};
+ghost use Rattle.le_h4.specs.Packet.{seen};
+
+use crate::host::Host;
+use crate::host_fault::HostFault;
+use crate::host_state::HostState;
+use crate::packet::packet;
+use le_acl::Reassembler;
+use le_h4::{Deframer, H4Fault, WholePacket};
+
+/// Takes in octets up to the end of the next packet, which is one, and that packet; or all of them,
+/// where none ends in them. Says how many.
+pub(crate) fn take(host: &mut Host, octets: &[u8]) -> Result<usize, HostFault>
+    requires no_fault { host.old.fault ≡ None }
+    requires drained { all_out host.old ≡ true }
+    ensures leads { Leads (items_taken octets.now result) [] host.old host.new }
+    ensures told { TellsOfAll (items_taken octets.now result) host.old host.new }
+    ensures up_to { IfOk result (λ used. TakesUpToAPacket octets.now used host.old) }
+    ensures fault { host.new.fault ≡ result_err result }
+    ensures not_own { IfErr result (λ fault. is_own fault ≡ false) }
+    ensures unchanged { OnErr result (host.new.held ≡ host.old.held) }
+    ensures within { IfOk result (λ used. used ≤ length octets.now) }
+    ensures some { IfOk result (λ used. 0 < length octets.now → 0 < used) }
+{
+    match take_in(
+        &mut host.state,
+        &mut host.frames,
+        &mut host.deframer,
+        octets,
+    ) {
+        Ok(used) => Ok(used),
+        Err(fault) => {
+            host.fault = Some(fault);
+            Err(fault)
+        }
+    }
+}
+
+/// The same by the parts of a host. Most packets lie whole in what is fed, and are heard where they lie.
+#[inline(always)]
+fn take_in(
+    state: &mut HostState,
+    frames: &mut [Reassembler; 8],
+    deframer: &mut Deframer,
+    octets: &[u8],
+) -> Result<usize, HostFault>
+    requires rows { HasRowsOfTheTable state.old }
+    requires drained { is_drained state.old.controller (open_slots state.old) ≡ true }
+    ensures leads { Leads (items_taken octets.now result) []
+        (record { held = state.old; frames = frames.old; stream = deframer.old; fault = None })
+        (record { held = state.new; frames = frames.new; stream = deframer.new; fault = result_err result }) }
+    ensures told { TellsOfAll (items_taken octets.now result)
+        (record { held = state.old; frames = frames.old; stream = deframer.old; fault = None })
+        (record { held = state.new; frames = frames.new; stream = deframer.new; fault = result_err result }) }
+    ensures up_to { IfOk result (λ used. TakesUpToAPacket octets.now used (going state.old frames.old deframer.old)) }
+    ensures not_own { IfErr result (λ fault. is_own fault ≡ false) }
+    ensures unchanged { OnErr result (state.new ≡ state.old) }
+    ensures within { IfOk result (λ used. used ≤ length octets.now) }
+    ensures some { IfOk result (λ used. 0 < length octets.now → 0 < used) }
+{
+    let lent = deframer.whole_packet(octets);
+    let mut used = 0;
+    if lent.is_none() {
+        let fed = match deframer.feed(octets) {
+            Ok(fed) => fed,
+            Err(fault) => return Err(lost_fault(fault)),
+        };
+        if !fed.packet {
+            state.forget();
+            return Ok(fed.used);
+        }
+        used = fed.used;
+    }
+    // One call hears either, so that it stands here inlined.
+    let whole = lent_or_marked(lent, deframer, used);
+    packet(state, frames, whole.packet)?;
+    Ok(whole.used)
+}
+
+/// The packet that is lent, or else the one that the deframer has marked, which ends behind so many
+/// octets.
+#[inline(always)]
+fn lent_or_marked<'a>(
+    lent: Option<WholePacket<'a>>,
+    deframer: &'a Deframer,
+    used: usize,
+) -> WholePacket<'a>
+    requires { lent ≡ None → IsSome deframer.now.marked }
+    ensures lent { IfSome lent.entry (λ whole. seen result.packet ≡ seen whole.packet) }
+    ensures lent_used { IfSome lent.entry (λ whole. result.used ≡ whole.used) }
+    ensures marked { lent.entry ≡ None → deframer.now.marked ≡ Some (seen result.packet) }
+    ensures marked_used { lent.entry ≡ None → result.used ≡ used }
+{
+    match lent {
+        Some(whole) => whole,
+        None => WholePacket {
+            packet: deframer.packet(),
+            used,
+        },
+    }
+}
+
+/// Why a host stops whose stream cannot be divided any further.
+fn lost_fault(fault: H4Fault) -> HostFault
+    ensures { result ≡ lost_fault fault }
+{
+    match fault {
+        H4Fault::Desync(indicator) => HostFault::Desync(indicator),
+    }
+}

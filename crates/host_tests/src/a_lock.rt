@@ -1,0 +1,117 @@
+//! The lock of the example at a door: its motor, its button and its strangers.
+
+use crate::player::{Setting, ready};
+use crate::wire::{Octets, Written, put_told, spell, spelled};
+use arrayvec::ArrayVec;
+use att_table::examples::DOOR;
+use gatt_host::Host;
+use lock::{Lock, Motor};
+use std::alloc::Global;
+use std::process::Abort;
+
+const SETTING: &Setting<'static> = &Setting {
+    table: DOOR,
+    slots: 2,
+    rx_mtu: 247,
+    packets: 4,
+};
+
+/// A motor that keeps how it was turned.
+#[derive(Drop)]
+struct Turns(ArrayVec<bool, 8>);
+
+impl Motor for Turns {
+    fn turn(&mut self, open: bool) {
+        let _ = self.0.try_push(open);
+    }
+}
+
+/// What happens at the door.
+#[derive(Clone, Copy)]
+enum Happens {
+    /// The controller sends this by a moment, and this goes back.
+    Sends(u64, &'static str, &'static str),
+    /// A PDU of the connection 0040 comes by a moment, and is answered so. The answer is completed.
+    Asks(u64, &'static str, &'static str),
+    /// The button is pressed.
+    Presses,
+}
+
+/// A phone with a key opens and shuts, and reads the code while it may.
+const KNOWN: &[Happens] = &[
+    Happens::Sends(1_000, "043e1301004000010055443322110018000000480000", ""),
+    Happens::Asks(1_000, "120a0001", "01120a000f"),
+    Happens::Sends(
+        1_000,
+        "043e0d05400002020202020202020202",
+        "011a2012400002020202020202020202020202020202",
+    ),
+    Happens::Sends(1_000, "04080400400001", ""),
+    Happens::Asks(2_000, "120a0001", "13"),
+    Happens::Asks(2_000, "0a0d00", "010a0d0008"),
+    Happens::Presses,
+    Happens::Asks(6_999, "0a0d00", "0b31323334"),
+    Happens::Asks(7_000, "0a0d00", "010a0d0008"),
+    Happens::Asks(60_000, "120a0000", "13"),
+];
+
+/// One without a key is sent away once it has stayed for half a minute.
+const STRANGER: &[Happens] = &[
+    Happens::Sends(1_000, "043e130100400001010a00000000c018000000480000", ""),
+    Happens::Asks(31_000, "0a0300", "0b4c6f636b"),
+    Happens::Sends(31_001, "", "01060403400013"),
+    Happens::Sends(31_002, "", ""),
+];
+
+/// Makes it happen, and says whether all goes back that is to go.
+fn happens(rt: &impl Abort, lock: &mut Lock<Turns>, host: &mut Host, happens: Happens) -> bool {
+    let mut written = Written::new();
+    match happens {
+        Happens::Sends(now, octets, wants) => {
+            let sent = spelled(rt, octets, 0);
+            let served = lock.serve(host, now, sent.as_slice(), &mut written).is_ok();
+            served && written.octets() == spelled(rt, wants, 0).as_slice()
+        }
+        Happens::Asks(now, pdu, wants) => asks(rt, lock, host, now, pdu, wants),
+        Happens::Presses => lock.press(host, &mut written).is_ok(),
+    }
+}
+
+fn asks(
+    rt: &impl Abort,
+    lock: &mut Lock<Turns>,
+    host: &mut Host,
+    now: u64,
+    pdu: &str,
+    wants: &str,
+) -> bool {
+    let mut written = Written::new();
+    let mut sent = Octets::new();
+    put_told(rt, &mut sent, 0x40, 0x04, spelled(rt, pdu, 0).as_slice());
+    spell(rt, &mut sent, "0413050140000100");
+    let served = lock.serve(host, now, sent.as_slice(), &mut written).is_ok();
+    let wanted = spelled(rt, wants, 0);
+    served && written.octets().ends_with(wanted.as_slice())
+}
+
+/// Plays a day at the door, and says whether the motor was turned so.
+fn turns(rt: &impl Abort, alloc: Global, day: &[Happens], turned: &[bool]) -> bool {
+    let mut host = ready(rt, alloc, SETTING);
+    let mut lock = Lock::new(Turns(ArrayVec::new()));
+    let mut all = true;
+    for step in day {
+        all &= happens(rt, &mut lock, &mut host, *step);
+    }
+    drop(host);
+    all && lock.motor().0.as_slice() == turned
+}
+
+#[test]
+fn phone_with_a_key(rt: HostRuntime) {
+    assert!(rt; turns(&rt, rt.alloc(), KNOWN, &[true, false]));
+}
+
+#[test]
+fn stranger(rt: HostRuntime) {
+    assert!(rt; turns(&rt, rt.alloc(), STRANGER, &[]));
+}

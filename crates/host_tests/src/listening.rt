@@ -1,0 +1,290 @@
+//! Who listens hears what octets and calls tell, however they come.
+
+use crate::player::{Setting, ready};
+use crate::wire::{Octets, Written, put_told, spell};
+use att_table::examples::PORCH;
+use gatt_host::{
+    App, End, Host, HostFault, Input, Listener, Notice, Peer, drive_to, feed, feed_to, serve_to,
+};
+use octets::{ArraySink, SliceSource};
+use std::alloc::Global;
+use std::process::Abort;
+
+const SETTING: &Setting<'static> = &Setting {
+    table: PORCH,
+    slots: 2,
+    rx_mtu: 247,
+    packets: 4,
+};
+
+/// Hears notices that are known beforehand.
+struct Expects {
+    wanted: &'static [Notice<'static>],
+    /// How many were heard.
+    heard: usize,
+    /// Whether one was another.
+    differs: bool,
+}
+
+impl Expects {
+    fn new(wanted: &'static [Notice<'static>]) -> Expects {
+        Expects {
+            wanted,
+            heard: 0,
+            differs: false,
+        }
+    }
+
+    /// Whether it has heard these and no other.
+    fn is_met(&self) -> bool {
+        !self.differs && self.heard == self.wanted.len()
+    }
+}
+
+impl Listener for Expects {
+    fn hear(&mut self, notice: Notice<'_>) {
+        if self.wanted.get(self.heard) != Some(&notice) {
+            self.differs = true;
+        }
+        self.heard = self.heard.saturating_add(1);
+    }
+}
+
+/// A phone connects, writes a value, reads one, writes two values by one execution, and goes.
+const TOLD: &[Notice<'static>] = &[
+    Notice::Connected {
+        handle: 0x40,
+        peer: Peer {
+            kind: 1,
+            address: [0x0A, 0x00, 0x00, 0x00, 0x00, 0xC0],
+        },
+    },
+    Notice::Written {
+        handle: 0x40,
+        attribute: 21,
+        value: b"a",
+    },
+    Notice::Written {
+        handle: 0x40,
+        attribute: 21,
+        value: b"bc",
+    },
+    Notice::Configured {
+        handle: 0x40,
+        attribute: 7,
+        bits: 1,
+    },
+    Notice::Disconnected { handle: 0x40 },
+];
+
+fn put_day(rt: &impl Abort, octets: &mut Octets) {
+    spell(rt, octets, "043e130100400001010a00000000c018000000480000");
+    for pdu in [
+        [0x12, 0x15, 0x00, 0x61].as_slice(),
+        &[0x0A, 0x03, 0x00],
+        &[0x16, 0x15, 0x00, 0x00, 0x00, 0x62],
+        &[0x16, 0x07, 0x00, 0x00, 0x00, 0x01, 0x00],
+        &[0x16, 0x15, 0x00, 0x01, 0x00, 0x63],
+        &[0x18, 0x01],
+    ] {
+        put_told(rt, octets, 0x40, 0x04, pdu);
+        spell(rt, octets, "0413050140000100");
+    }
+    spell(rt, octets, "04050400400013");
+}
+
+/// The stream of the day.
+fn day(rt: &impl Abort) -> Octets {
+    let mut octets = Octets::new();
+    put_day(rt, &mut octets);
+    octets
+}
+
+/// Feeds the day in pieces of a size.
+fn hears_pieces(rt: &impl Abort, alloc: Global, size: usize) -> bool {
+    let mut host = ready(rt, alloc, SETTING);
+    let mut written = Written::new();
+    let mut listener = Expects::new(TOLD);
+    let fed = feed_pieces(
+        &mut host,
+        day(rt).as_slice(),
+        size,
+        &mut written,
+        &mut listener,
+    );
+    drop(host);
+    fed && listener.is_met()
+}
+
+fn feed_pieces(
+    host: &mut Host,
+    octets: &[u8],
+    size: usize,
+    written: &mut Written,
+    listener: &mut Expects,
+) -> bool {
+    for piece in octets.chunks(size.max(1)) {
+        if feed_to(host, piece, written, listener).is_err() {
+            return false;
+        }
+    }
+    true
+}
+
+#[test]
+fn octets_in_pieces(rt: HostRuntime) {
+    for size in [1, 3, 16, 1000] {
+        assert!(rt; hears_pieces(&rt, rt.alloc(), size), "{size}");
+    }
+}
+
+/// What of the day is taken in up to its second packet, and how far.
+#[derive(Clone, Copy)]
+struct Step {
+    /// How many octets are handed in.
+    handed: usize,
+    /// How many of them are taken.
+    taken: usize,
+    /// What is told then.
+    told: &'static [Notice<'static>],
+}
+
+/// The event has 22 octets, and the packet that follows it 13.
+const STEPS: &[Step] = &[
+    Step {
+        handed: 21,
+        taken: 21,
+        told: &[],
+    },
+    Step {
+        handed: 14,
+        taken: 1,
+        told: &[TOLD[0]],
+    },
+    Step {
+        handed: 12,
+        taken: 12,
+        told: &[],
+    },
+    Step {
+        handed: 9,
+        taken: 1,
+        told: &[TOLD[1]],
+    },
+];
+
+/// Whether these notices are there, and no other.
+fn tells(host: &Host, wanted: &[Notice<'_>]) -> bool {
+    let mut told = host.notices();
+    for notice in wanted {
+        if told.next() != Some(*notice) {
+            return false;
+        }
+    }
+    told.next().is_none()
+}
+
+/// Takes the day in by these steps.
+fn takes_steps(host: &mut Host, octets: &[u8], steps: &[Step]) -> bool {
+    let mut left = octets;
+    for step in steps {
+        let mut written = Written::new();
+        if feed(host, &[], &mut written).is_err() {
+            return false;
+        }
+        let handed = left.get(..step.handed).unwrap_or(&[]);
+        if host.take(handed) != Ok(step.taken) || !tells(host, step.told) {
+            return false;
+        }
+        left = left.get(step.taken..).unwrap_or(&[]);
+    }
+    true
+}
+
+#[test]
+fn up_to_the_end_of_a_packet(rt: HostRuntime) {
+    let mut host = ready(&rt, rt.alloc(), SETTING);
+    let taken = takes_steps(&mut host, day(&rt).as_slice(), STEPS);
+    drop(host);
+    assert!(rt; taken);
+}
+
+const CONNECTED: &[Notice<'static>] = &[TOLD[0]];
+
+/// An octet that begins no packet behind the first: what was told before it is heard.
+#[test]
+fn before_a_fault(rt: HostRuntime) {
+    let mut host = ready(&rt, rt.alloc(), SETTING);
+    let mut listener = Expects::new(CONNECTED);
+    let mut octets = Octets::new();
+    spell(
+        &rt,
+        &mut octets,
+        "043e130100400001010a00000000c01800000048000007",
+    );
+    let fed = feed_to(
+        &mut host,
+        octets.as_slice(),
+        &mut Written::new(),
+        &mut listener,
+    );
+    let silent = host.notices().next().is_none();
+    drop(host);
+    assert!(rt; fed == Err(HostFault::Desync(0x07)));
+    assert!(rt; silent && listener.is_met());
+}
+
+/// The answer to a Write is not written: that the value was written is heard.
+#[test]
+fn before_the_writer_fails(rt: HostRuntime) {
+    let mut host = ready(&rt, rt.alloc(), SETTING);
+    let mut listener = Expects::new(&TOLD[..2]);
+    let fed = feed_to(
+        &mut host,
+        day(&rt).as_slice(),
+        &mut ArraySink::<4>::new(),
+        &mut listener,
+    );
+    drop(host);
+    assert!(rt; fed == Err(HostFault::Write));
+    assert!(rt; listener.is_met());
+}
+
+/// Calls between octets. One is refused, and tells nothing.
+#[test]
+fn octets_and_calls(rt: HostRuntime) {
+    let mut host = ready(&rt, rt.alloc(), SETTING);
+    let mut listener = Expects::new(TOLD);
+    let octets = day(&rt);
+    let (early, late) = octets.as_slice().split_at(30);
+    let inputs = [
+        Input::Bytes(early),
+        Input::Call(App::Tick(7)),
+        Input::Call(App::Tick(6)),
+        Input::Bytes(late),
+    ];
+    let driven = drive_to(&mut host, &inputs, &mut Written::new(), &mut listener);
+    drop(host);
+    assert!(rt; driven == Ok(1));
+    assert!(rt; listener.is_met());
+}
+
+/// A stream to its end, after which nothing more is told.
+#[test]
+fn a_stream(rt: HostRuntime) {
+    let mut host = ready(&rt, rt.alloc(), SETTING);
+    let mut listener = Expects::new(TOLD);
+    let octets = day(&rt);
+    let mut source = SliceSource::new(octets.as_slice());
+    let served = serve_to(
+        &mut host,
+        &mut source,
+        &mut Written::new(),
+        9,
+        &mut listener,
+    );
+    let silent = host.notices().next().is_none();
+    drop(host);
+    assert!(rt; served == Ok(End { turns: 2 }));
+    assert!(rt; silent && listener.is_met());
+}
