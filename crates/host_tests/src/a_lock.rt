@@ -39,13 +39,19 @@ enum Happens {
 
 /// A phone with a key opens and shuts, and reads the code while it may.
 const KNOWN: &[Happens] = &[
-    Happens::Sends(1_000, "043e1301004000010055443322110018000000480000", ""),
+    Happens::Sends(
+        1_000,
+        "043e1301004000010055443322110018000000480000",
+        "010a200101",
+    ),
+    Happens::Sends(1_000, "040e04010a2000", ""),
     Happens::Asks(1_000, "120a0001", "01120a000f"),
     Happens::Sends(
         1_000,
         "043e0d05400002020202020202020202",
-        "011a2012400002020202020202020202020202020202",
+        "011a20124000ffeeddccbbaa99887766554433221100",
     ),
+    Happens::Sends(1_000, "040e06011a20004000", ""),
     Happens::Sends(1_000, "04080400400001", ""),
     Happens::Asks(2_000, "120a0001", "13"),
     Happens::Asks(2_000, "0a0d00", "010a0d0008"),
@@ -57,14 +63,19 @@ const KNOWN: &[Happens] = &[
 
 /// One without a key is sent away once it has stayed for half a minute.
 const STRANGER: &[Happens] = &[
-    Happens::Sends(1_000, "043e130100400001010a00000000c018000000480000", ""),
+    Happens::Sends(
+        1_000,
+        "043e130100400001010a00000000c018000000480000",
+        "010a200101",
+    ),
+    Happens::Sends(1_000, "040e04010a2000", ""),
     Happens::Asks(31_000, "0a0300", "0b4c6f636b"),
     Happens::Sends(31_001, "", "01060403400013"),
     Happens::Sends(31_002, "", ""),
 ];
 
 /// Makes it happen, and says whether all goes back that is to go.
-fn happens(rt: &impl Abort, lock: &mut Lock<Turns>, host: &mut Host, happens: Happens) -> bool {
+fn step(rt: &impl Abort, lock: &mut Lock<Turns>, host: &mut Host, happens: Happens) -> bool {
     let mut written = Written::new();
     match happens {
         Happens::Sends(now, octets, wants) => {
@@ -95,12 +106,12 @@ fn asks(
 }
 
 /// Plays a day at the door, and says whether the motor was turned so.
-fn turns(rt: &impl Abort, alloc: Global, day: &[Happens], turned: &[bool]) -> bool {
+fn plays(rt: &impl Abort, alloc: Global, day: &[Happens], turned: &[bool]) -> bool {
     let mut host = ready(rt, alloc, SETTING);
     let mut lock = Lock::new(Turns(ArrayVec::new()));
     let mut all = true;
-    for step in day {
-        all &= happens(rt, &mut lock, &mut host, *step);
+    for happens in day {
+        all &= step(rt, &mut lock, &mut host, *happens);
     }
     drop(host);
     all && lock.motor().0.as_slice() == turned
@@ -108,10 +119,10 @@ fn turns(rt: &impl Abort, alloc: Global, day: &[Happens], turned: &[bool]) -> bo
 
 #[test]
 fn phone_with_a_key(rt: HostRuntime) {
-    assert!(rt; turns(&rt, rt.alloc(), KNOWN, &[true, false]));
+    assert!(rt; plays(&rt, rt.alloc(), KNOWN, &[true, false]));
 }
 
 #[test]
 fn stranger(rt: HostRuntime) {
-    assert!(rt; turns(&rt, rt.alloc(), STRANGER, &[]));
+    assert!(rt; plays(&rt, rt.alloc(), STRANGER, &[]));
 }

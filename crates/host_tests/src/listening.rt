@@ -2,7 +2,7 @@
 
 use crate::player::{Setting, ready};
 use crate::wire::{Octets, Written, put_told, spell};
-use att_table::examples::PORCH;
+use att_table::examples::DOOR;
 use gatt_host::{
     App, End, Host, HostFault, Input, Listener, Notice, Peer, drive_to, feed, feed_to, serve_to,
 };
@@ -11,13 +11,14 @@ use std::alloc::Global;
 use std::process::Abort;
 
 const SETTING: &Setting<'static> = &Setting {
-    table: PORCH,
+    table: DOOR,
     slots: 2,
     rx_mtu: 247,
     packets: 4,
 };
 
 /// Hears notices that are known beforehand.
+#[derive(Drop)]
 struct Expects {
     wanted: &'static [Notice<'static>],
     /// How many were heard.
@@ -50,20 +51,24 @@ impl Listener for Expects {
     }
 }
 
+const CAME: Notice<'static> = Notice::Connected {
+    handle: 0x40,
+    peer: Peer {
+        kind: 1,
+        address: [0x0A, 0x00, 0x00, 0x00, 0x00, 0xC0],
+    },
+};
+
+const WROTE: Notice<'static> = Notice::Written {
+    handle: 0x40,
+    attribute: 21,
+    value: b"a",
+};
+
 /// A phone connects, writes a value, reads one, writes two values by one execution, and goes.
 const TOLD: &[Notice<'static>] = &[
-    Notice::Connected {
-        handle: 0x40,
-        peer: Peer {
-            kind: 1,
-            address: [0x0A, 0x00, 0x00, 0x00, 0x00, 0xC0],
-        },
-    },
-    Notice::Written {
-        handle: 0x40,
-        attribute: 21,
-        value: b"a",
-    },
+    CAME,
+    WROTE,
     Notice::Written {
         handle: 0x40,
         attribute: 21,
@@ -159,7 +164,7 @@ const STEPS: &[Step] = &[
     Step {
         handed: 14,
         taken: 1,
-        told: &[TOLD[0]],
+        told: &[CAME],
     },
     Step {
         handed: 12,
@@ -169,7 +174,7 @@ const STEPS: &[Step] = &[
     Step {
         handed: 9,
         taken: 1,
-        told: &[TOLD[1]],
+        told: &[WROTE],
     },
 ];
 
@@ -209,7 +214,9 @@ fn up_to_the_end_of_a_packet(rt: HostRuntime) {
     assert!(rt; taken);
 }
 
-const CONNECTED: &[Notice<'static>] = &[TOLD[0]];
+const CONNECTED: &[Notice<'static>] = &[CAME];
+
+const WRITTEN: &[Notice<'static>] = &[CAME, WROTE];
 
 /// An octet that begins no packet behind the first: what was told before it is heard.
 #[test]
@@ -238,11 +245,11 @@ fn before_a_fault(rt: HostRuntime) {
 #[test]
 fn before_the_writer_fails(rt: HostRuntime) {
     let mut host = ready(&rt, rt.alloc(), SETTING);
-    let mut listener = Expects::new(&TOLD[..2]);
+    let mut listener = Expects::new(WRITTEN);
     let fed = feed_to(
         &mut host,
         day(&rt).as_slice(),
-        &mut ArraySink::<4>::new(),
+        &mut ArraySink::<8>::new(),
         &mut listener,
     );
     drop(host);
