@@ -1,6 +1,7 @@
 pub mod Appending
 pub mod Doing
 pub mod Exchanging
+pub mod Fronts
 pub mod Inputs
 pub mod KeyFiles
 pub mod Printing

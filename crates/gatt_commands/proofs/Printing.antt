@@ -5,7 +5,8 @@ use Rattle.std.specs.Option.{option_map}
 use Rattle.std.proofs.lemmas.List.{append-nil, take-append-drop}
 use Rattle.hex.specs.Hex.{encode_lower}
 use Rattle.att_pdu.specs.Response.{Response, sent}
-use Rattle.gatt_commands.specs.Att.{printed_answer, PrintsFront}
+use Rattle.octets.specs.Stream.{WritesFront}
+use Rattle.gatt_commands.specs.Att.{printed_answer}
 use Rattle.gatt_commands.proofs.Appending.{appends-append, appends-nothing, appends-kept}
 use Rattle.octets.specs.Number.{Octets}
 
@@ -19,19 +20,19 @@ unanswered_line None is = refl
 
 pub breaks_answer : (answer : Option Response) (due : Bool) (octets text : Octets) (held holds : Option Octets)
     → option_map sent answer ≡ (if due then Some octets else None) → due ≡ true → text ≡ octets
-    → PrintsFront (encode_lower text ++ 10 ∷ []) held holds → PrintsFront (printed_answer answer) held holds
+    → WritesFront (encode_lower text ++ 10 ∷ []) held holds → WritesFront (printed_answer answer) held holds
 breaks_answer answer true octets text held holds is due_is same front =
     let line : encode_lower text ++ 10 ∷ [] ≡ printed_answer answer = ap (λ here. encode_lower here ++ 10 ∷ []) same ∙ sym (answered_line answer octets is) in
-    subst (λ octets. PrintsFront octets held holds) line front
+    subst (λ octets. WritesFront octets held holds) line front
 breaks_answer answer false octets text held holds is due_is same front = cc due_is
 
 pub breaks_dash : (answer : Option Response) (due : Bool) (octets text : Octets) (held holds : Option Octets)
     → option_map sent answer ≡ (if due then Some octets else None) → due ≡ false → text ≡ 45 ∷ 10 ∷ []
-    → PrintsFront text held holds → PrintsFront (printed_answer answer) held holds
+    → WritesFront text held holds → WritesFront (printed_answer answer) held holds
 breaks_dash answer true octets text held holds is due_is same front = cc due_is
 breaks_dash answer false octets text held holds is due_is same front =
     let line : text ≡ printed_answer answer = same ∙ sym (unanswered_line answer is) in
-    subst (λ octets. PrintsFront octets held holds) line front
+    subst (λ octets. WritesFront octets held holds) line front
 
 -- of a text all but the rest is printed
 pub record HasPrinted (text rest : Octets) (held holds : Option Octets) : Type 0 where
@@ -63,5 +64,5 @@ pub printed_all : (text rest : Octets) (held holds : Option Octets) → HasPrint
 printed_all text rest held holds so_far none =
     subst (Appends held holds) (sym (so_far.parts ∙ ap (λ octets. so_far.printed ++ octets) none ∙ append-nil so_far.printed)) so_far.appended
 
-pub printed_front : (text rest : Octets) (held holds : Option Octets) → HasPrinted text rest held holds → PrintsFront text held holds
-printed_front text rest held holds so_far = record { printed = so_far.printed; appended = so_far.appended; left = rest; parts = so_far.parts }
+pub printed_front : (text rest : Octets) (held holds : Option Octets) → HasPrinted text rest held holds → WritesFront text held holds
+printed_front text rest held holds so_far = record { written = so_far.printed; appended = so_far.appended; left = rest; parts = so_far.parts }

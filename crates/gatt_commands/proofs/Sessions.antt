@@ -7,7 +7,8 @@ use Rattle.std.proofs.lemmas.Grind.{common_steps}
 use Rattle.std.proofs.lemmas.List.{append-nil}
 use Rattle.gatt_commands.specs.declared.session.Session.{Session}
 use Rattle.std.specs.List.{onto_first}
-use Rattle.gatt_commands.specs.Att.{Server, lines_of, pdu_of, printed_answer, answer_from, server_after, door_server, printed_for, bad_line_of, PrintsFront}
+use Rattle.octets.specs.Stream.{WritesFront}
+use Rattle.gatt_commands.specs.Att.{Server, lines_of, pdu_of, printed_answer, answer_from, server_after, door_server, printed_for, bad_line_of}
 use Rattle.gatt_commands.proofs.Appending.{appends-append, appends-nothing}
 use Rattle.gatt_commands.proofs.Inputs.{consumes-append, consumes-kept, consumes-nothing}
 use Rattle.gatt_commands.proofs.Reports.{printed-report, bad_line-report}
@@ -180,18 +181,18 @@ end_refused old number held holds begun refused is appended = record {
 
 -- an answer that is printed in part
 break_report : (server : Server) (number : ℕ) (line pdu : List ℕ) (rest : Server → Report) (held holds : Option (List ℕ)) → line ≢ [] → pdu_of line ≡ Some pdu
-    → (broken : PrintsFront (printed_answer (answer_from server pdu)) held holds) → IsFront broken.printed (line_report server number line rest).printed
+    → (broken : WritesFront (printed_answer (answer_from server pdu)) held holds) → IsFront broken.written (line_report server number line rest).printed
 break_report server number line pdu rest held holds begun spelled broken = (
   broken.left ++ (rest (server_after server pdu)).printed,
   ap (λ (r : Report). r.printed) (line_report-answered server number line pdu rest begun spelled)
       ∙ ap (λ octets. octets ++ (rest (server_after server pdu)).printed) broken.parts
-      ∙ append_assoc broken.printed broken.left (rest (server_after server pdu)).printed,
+      ∙ append_assoc broken.written broken.left (rest (server_after server pdu)).printed,
 )
 
 pub break_line : (old : Session) (octet : ℕ) (held holds : Option (List ℕ)) → octet ≡ 10 → old.line.items ≢ [] → BreaksLine old held holds
     → BreaksOff old (octet ∷ []) held holds
 break_line old octet held holds feed begun broken = record {
-  printed = broken.front.printed;
+  printed = broken.front.written;
   appended = broken.front.appended;
   front = λ rest.
       let this = break_report (server_of old) old.number old.line.items broken.pdu (λ next. report next (old.number + 1) (lines_of rest)) held holds begun broken.spelled broken.front in
@@ -201,7 +202,7 @@ break_line old octet held holds feed begun broken = record {
 pub break_last : (old : Session) (held holds : Option (List ℕ)) → old.line.items ≢ [] → BreaksLine old held holds → EndsBroken old held holds
 unfolding report_from
 break_last old held holds begun broken = record {
-  printed = broken.front.printed;
+  printed = broken.front.written;
   appended = broken.front.appended;
   front =
       let this = break_report (server_of old) old.number old.line.items broken.pdu (λ next. nothing) held holds begun broken.spelled broken.front in
@@ -323,14 +324,14 @@ refuses_input start now number octets (Some input) (Some rest) (Some more) held 
 
 -- what was printed up to here, where the rest of the input is not read
 pub prints_front : (start now : Session) (before left held holds : Option (List ℕ))
-    → IsStart start → HasRead start now before left held holds → IfSome before (λ input. PrintsFront (printed_for input) held holds)
+    → IsStart start → HasRead start now before left held holds → IfSome before (λ input. WritesFront (printed_for input) held holds)
 prints_front start now None left held holds is so_far = tt
 prints_front start now (Some input) None held holds is so_far = absurd so_far.consumed
 prints_front start now (Some input) (Some rest) held holds is so_far =
     let said : report_of input ≡ after so_far.passed.printed (report_from now rest) =
     sym (report_from-start start input is) ∙ ap (report_from start) so_far.consumed ∙ so_far.passed.left rest in
     record {
-      printed = so_far.passed.printed;
+      written = so_far.passed.printed;
       appended = so_far.passed.appended;
       left = (report_from now rest).printed;
       parts = sym (printed-of input) ∙ ap (λ (r : Report). r.printed) said;
@@ -338,9 +339,9 @@ prints_front start now (Some input) (Some rest) held holds is so_far =
 
 -- the same, where the writer failed
 front_of : (input : List ℕ) (xs ys : List ℕ) (held holding holds : Option (List ℕ)) → IsFront (xs ++ ys) (report_of input).printed
-    → Appends held holding xs → Appends holding holds ys → PrintsFront (printed_for input) held holds
+    → Appends held holding xs → Appends holding holds ys → WritesFront (printed_for input) held holds
 front_of input xs ys held holding holds is first second = record {
-  printed = xs ++ ys;
+  written = xs ++ ys;
   appended = appends-append held holding holds xs ys first second;
   left = is.0;
   parts = sym (printed-of input) ∙ is.1;
@@ -348,7 +349,7 @@ front_of input xs ys held holding holds is first second = record {
 
 pub breaks_input : (start now : Session) (octets : List ℕ) (before mid left held holding holds : Option (List ℕ))
     → IsStart start → HasRead start now before mid held holding → Consumes mid left octets → BreaksOff now octets holding holds
-    → IfSome before (λ input. PrintsFront (printed_for input) held holds)
+    → IfSome before (λ input. WritesFront (printed_for input) held holds)
 breaks_input start now octets None mid left held holding holds is so_far consumed broken = tt
 breaks_input start now octets (Some input) None left held holding holds is so_far consumed broken = absurd so_far.consumed
 breaks_input start now octets (Some input) (Some rest) None held holding holds is so_far consumed broken = absurd consumed
@@ -368,7 +369,7 @@ breaks_input start now octets (Some input) (Some rest) (Some more) held holding 
 
 pub breaks_end : (start now : Session) (before left held holding holds : Option (List ℕ))
     → IsStart start → HasRead start now before left held holding → IsAtEnd left → EndsBroken now holding holds
-    → IfSome before (λ input. PrintsFront (printed_for input) held holds)
+    → IfSome before (λ input. WritesFront (printed_for input) held holds)
 breaks_end start now None left held holding holds is so_far at_end broken = tt
 breaks_end start now (Some input) None held holding holds is so_far at_end broken = absurd so_far.consumed
 breaks_end start now (Some input) (Some rest) held holding holds is so_far at_end broken =

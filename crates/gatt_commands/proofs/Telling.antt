@@ -21,11 +21,11 @@ set-twice (phone ∷ phones) zero first second = grind (arith, common_steps)
 set-twice (phone ∷ phones) (suc place) first second = ap (λ (rest : List Phone). phone ∷ rest) (set-twice phones place first second)
 
 -- what a phone is then, where none is still none
-heard-then : (phones : List Phone) (place : ℕ)
+pub heard_then : (phones : List Phone) (place : ℕ)
     → slice_index_or (slice_set phones place (after_hearing (slice_index_or phones place absent))) place absent ≡ after_hearing (slice_index_or phones place absent)
-heard-then [] place = refl
-heard-then (phone ∷ phones) zero = refl
-heard-then (phone ∷ phones) (suc place) = heard-then phones place
+heard_then [] place = refl
+heard_then (phone ∷ phones) zero = refl
+heard_then (phone ∷ phones) (suc place) = heard_then phones place
 
 -- a phone of the same name has heard the rest, and the others stand
 pub record HasTold (name : Octets) (place : ℕ) (old new : Simulated) (held holds : Option Octets) : Type 0 where
@@ -36,22 +36,22 @@ pub record HasTold (name : Octets) (place : ℕ) (old new : Simulated) (held hol
   pub link : (phone_at new place).link ≡ (phone_at old place).link
   pub others : (phone : Phone) → with_phone new place phone ≡ with_phone old place phone
 
-heard-split : (name frame : Octets) (heard : List Octets) → slice_get heard 0 ≡ Some frame
+pub heard_split : (name frame : Octets) (heard : List Octets) → slice_get heard 0 ≡ Some frame
     → heard_text name heard ≡ heard_line name frame ++ heard_text name (drop 1 heard)
-heard-split name frame [] is = grind (arith, common_steps)
-heard-split name frame (first ∷ heard) is = grind (arith, common_steps)
+heard_split name frame [] is = grind (arith, common_steps)
+heard_split name frame (first ∷ heard) is = grind (arith, common_steps)
 
 pub told_more : (name frame : Octets) (place : ℕ) (old mid new : Simulated) (held between holds : Option Octets) → HasTold name place old mid held between
     → slice_get (phone_at mid place).heard 0 ≡ Some frame → new ≡ with_phone mid place (after_hearing (phone_at mid place))
     → Appends between holds (heard_line name frame) → HasTold name place old new held holds
 told_more name frame place old mid new held between holds so_far first after appended =
     subst (λ (new : Simulated). HasTold name place old new held holds) (sym after)
-    (let hears : phone_at (with_phone mid place (after_hearing (phone_at mid place))) place ≡ after_hearing (phone_at mid place) = heard-then mid.phones place in
+    (let hears : phone_at (with_phone mid place (after_hearing (phone_at mid place))) place ≡ after_hearing (phone_at mid place) = heard_then mid.phones place in
     record {
       told = so_far.told ++ heard_line name frame;
       appended = appends-append held between holds so_far.told (heard_line name frame) so_far.appended appended;
       parts =
-          so_far.parts ∙ ap (λ (octets : Octets). so_far.told ++ octets) (heard-split name frame (phone_at mid place).heard first)
+          so_far.parts ∙ ap (λ (octets : Octets). so_far.told ++ octets) (heard_split name frame (phone_at mid place).heard first)
           ∙ sym (append_assoc so_far.told (heard_line name frame) (heard_text name (drop 1 (phone_at mid place).heard)))
           ∙ ap (λ (phone : Phone). (so_far.told ++ heard_line name frame) ++ heard_text name phone.heard) (sym hears);
       ended = ap (λ (phone : Phone). phone.ended) hears ∙ so_far.ended;
@@ -62,10 +62,10 @@ told_more name frame place old mid new held between holds so_far first after app
     })
 
 -- one phone after another
-phone-still : (count : ℕ) (phones : List Phone) → slice_index_or (told_phones count phones) count absent ≡ slice_index_or phones count absent
-phone-still zero phones = refl
-phone-still (suc count) [] = refl
-phone-still (suc count) (phone ∷ phones) = phone-still count phones
+pub phone_still : (count : ℕ) (phones : List Phone) → slice_index_or (told_phones count phones) count absent ≡ slice_index_or phones count absent
+phone_still zero phones = refl
+phone_still (suc count) [] = refl
+phone_still (suc count) (phone ∷ phones) = phone_still count phones
 
 phone-told : (count : ℕ) (phones : List Phone)
     → slice_set (told_phones count phones) count (told_phone (slice_index_or (told_phones count phones) count absent)) ≡ told_phones (suc count) phones
@@ -74,15 +74,15 @@ phone-told zero (phone ∷ phones) = grind (arith, common_steps)
 phone-told (suc count) [] = grind (arith, common_steps)
 phone-told (suc count) (phone ∷ phones) = ap (λ (rest : List Phone). told_phone phone ∷ rest) (phone-told count phones)
 
-text-next : (count : ℕ) (names : List Octets) (phones : List Phone) → count < length names
+pub text_next : (count : ℕ) (names : List Octets) (phones : List Phone) → count < length names
     → phones_text (take (suc count) names) phones
     ≡ phones_text (take count names) phones ++ phone_text (slice_index_or names count []) (slice_index_or phones count absent)
-text-next count [] phones below = absurd (omega arith)
-text-next zero (name ∷ names) [] below = refl
-text-next zero (name ∷ names) (phone ∷ phones) below = append-nil (phone_text name phone)
-text-next (suc count) (name ∷ names) [] below = refl
-text-next (suc count) (name ∷ names) (phone ∷ phones) below =
-    let next = text-next count names phones (omega arith) in
+text_next count [] phones below = absurd (omega arith)
+text_next zero (name ∷ names) [] below = refl
+text_next zero (name ∷ names) (phone ∷ phones) below = append-nil (phone_text name phone)
+text_next (suc count) (name ∷ names) [] below = refl
+text_next (suc count) (name ∷ names) (phone ∷ phones) below =
+    let next = text_next count names phones (omega arith) in
     ap (λ (octets : Octets). phone_text name phone ++ octets) next
     ∙ sym (append_assoc (phone_text name phone) (phones_text (take count names) phones) (phone_text (slice_index_or names count []) (slice_index_or phones count absent)))
 
@@ -92,10 +92,10 @@ pub record HasToldPhones (count : ℕ) (names : List Octets) (old new : Simulate
   pub after : new ≡ with_told_phones old count
 
 -- whatever stands past the end
-any-default : (names : List Octets) (place : ℕ) (first second : Octets) → place < length names → slice_index_or names place first ≡ slice_index_or names place second
-any-default [] place first second below = absurd (omega arith)
-any-default (name ∷ names) zero first second below = refl
-any-default (name ∷ names) (suc place) first second below = any-default names place first second (omega arith)
+pub any_default : (names : List Octets) (place : ℕ) (first second : Octets) → place < length names → slice_index_or names place first ≡ slice_index_or names place second
+any_default [] place first second below = absurd (omega arith)
+any_default (name ∷ names) zero first second below = refl
+any_default (name ∷ names) (suc place) first second below = any_default names place first second (omega arith)
 
 pub phones_more : (count : ℕ) (names : List Octets) (name : Octets) (old mid new : Simulated) (held between holds : Option Octets) → count < length names
     → name ≡ slice_index_or names count name → HasToldPhones count names old mid held between
@@ -103,14 +103,14 @@ pub phones_more : (count : ℕ) (names : List Octets) (name : Octets) (old mid n
 phones_more count names name old mid new held between holds below named so_far appended after =
     let one : suc count ≡ count + 1 = omega arith in
     subst (λ (next : ℕ). HasToldPhones next names old new held holds) one
-    (let same : phone_at mid count ≡ phone_at old count = ap (λ (sim : Simulated). phone_at sim count) so_far.after ∙ phone-still count old.phones in
+    (let same : phone_at mid count ≡ phone_at old count = ap (λ (sim : Simulated). phone_at sim count) so_far.after ∙ phone_still count old.phones in
     let text : Appends between holds (phone_text (slice_index_or names count []) (phone_at old count)) =
-    subst (λ (name : Octets). Appends between holds (phone_text name (phone_at old count))) (named ∙ any-default names count name [] below)
+    subst (λ (name : Octets). Appends between holds (phone_text name (phone_at old count))) (named ∙ any_default names count name [] below)
     (subst (λ (phone : Phone). Appends between holds (phone_text name phone)) same appended)
     in
     record {
       appended =
-          subst (Appends held holds) (sym (text-next count names old.phones below))
+          subst (Appends held holds) (sym (text_next count names old.phones below))
           (appends-append held between holds (phones_text (take count names) old.phones) (phone_text (slice_index_or names count []) (phone_at old count)) so_far.appended text);
       after =
           after ∙ ap (λ (sim : Simulated). with_told_phone sim count) so_far.after

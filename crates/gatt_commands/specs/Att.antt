@@ -1,6 +1,5 @@
 -- What is printed for the lines of an input, where each is an Attribute PDU of one connection.
 use Rattle.std.specs.Prelude.{◌≡◌, ℕ, ◌+◌, ◌==◌, Bool, false, is_none, nat_lt, if◌then◌else◌, List, [], ◌∷◌, ◌++◌, length, filter_map, Option, Some, None, Result}
-use Rattle.std.specs.Io.KnownBytes.{Appends}
 use Rattle.std.specs.List.{list_any, flat_map, slice_split}
 use Rattle.std.specs.Result.{result_ok, result_unwrap_or}
 use Rattle.hex.specs.Hex.{decode_of, encode_lower}
@@ -96,13 +95,6 @@ printed_by server lines = flat_map printed_answer (answers_from server (filter_m
 
 unfoldable pub printed_for : Octets → Octets
 printed_for input = printed_by door_server (lines_of input)
-
--- the front of these octets was printed
-pub record PrintsFront (octets : Octets) (held holds : Option Octets) : Type 0 where
-  pub printed : Octets
-  pub appended : Appends held holds printed
-  pub left : Octets
-  pub parts : octets ≡ printed ++ left
 
 -- what may end the command before the end of its input
 abbrev pub IsAttFault : ShellFault → Type 0

@@ -5,7 +5,8 @@ use Rattle.gatt_commands.specs.declared.fault.ShellFault.{ShellFault}
 use Rattle.gatt_commands.specs.declared.fault.ShellFault.TheVariants.{Table, NotHex, Unwritten, Memory}
 use Rattle.gatt_commands.specs.declared.session.Session.{Session}
 use Rattle.gatt_commands.specs.TableFile.{IsRefusedAs}
-use Rattle.gatt_commands.specs.Att.{Server, door_read, lines_of, pdu_of, printed_answer, answer_from, server_after, PrintsFront}
+use Rattle.octets.specs.Stream.{WritesFront}
+use Rattle.gatt_commands.specs.Att.{Server, door_read, lines_of, pdu_of, printed_answer, answer_from, server_after}
 use Rattle.octets.specs.Number.{Octets}
 
 -- what is printed in all, and the number of the first line that is not hexadecimal, with which the printing ends
@@ -90,7 +91,7 @@ pub record EndsBroken (old : Session) (held holds : Option Octets) : Type 0 wher
 pub record BreaksLine (old : Session) (held holds : Option Octets) : Type 0 where
   pub pdu : Octets
   pub spelled : pdu_of old.line.items ≡ Some pdu
-  pub front : PrintsFront (printed_answer (answer_from (server_of old) pdu)) held holds
+  pub front : WritesFront (printed_answer (answer_from (server_of old) pdu)) held holds
 
 -- with no more octets the session ends like this, and the writer holds what is printed for the last line
 pub record Ends (old : Session) (end : Report) (held holds : Option (Octets)) : Type 0 where

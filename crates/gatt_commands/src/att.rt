@@ -1,6 +1,7 @@
 ghost use Rattle.std.specs.Prelude.{◌≡◌, ℕ, OnOk, IfErr, IfSome, None};
 ghost use Rattle.std.specs.Io.KnownBytes.{Appends, Keeps};
-ghost use Rattle.gatt_commands.specs.Att.{door_read, printed_for, bad_line_of, PrintsFront, IsAttFault};
+ghost use Rattle.octets.specs.Stream.{WritesFront};
+ghost use Rattle.gatt_commands.specs.Att.{door_read, printed_for, bad_line_of, IsAttFault};
 ghost use Rattle.gatt_commands.specs.TableFile.{IsRefusedAs};
 
 use crate::fault::ShellFault;
@@ -25,9 +26,9 @@ pub fn att_lines<R: Read, W: Write>(
     // An input that cannot be read on, and an output that fails, leave the front of that printed, and
     // refused memory nothing.
     ensures unreadable { result ≡ Err ShellFault.Unreadable → IfSome (R.remaining reader.old) (λ input.
-        PrintsFront (printed_for input) (W.contents writer.old) (W.contents writer.new)) }
+        WritesFront (printed_for input) (W.contents writer.old) (W.contents writer.new)) }
     ensures unwritten { result ≡ Err ShellFault.Unwritten → IfSome (R.remaining reader.old) (λ input.
-        PrintsFront (printed_for input) (W.contents writer.old) (W.contents writer.new)) }
+        WritesFront (printed_for input) (W.contents writer.old) (W.contents writer.new)) }
     ensures memory { result ≡ Err ShellFault.Memory → Keeps (W.contents writer.old) (W.contents writer.new) }
     ensures table { (number : ℕ) → result ≡ Err (ShellFault.Table number) → IsRefusedAs number door_read }
     ensures faults { IfErr result IsAttFault }

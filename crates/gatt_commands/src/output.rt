@@ -1,10 +1,10 @@
 //! Output of the commands.
 
-ghost use Rattle.std.specs.Prelude.{◌≡◌, ◌≤◌, ◌*◌, ◌++◌, ◌∷◌, [], length, Ok, Err, IfErr, OnOk};
+ghost use Rattle.std.specs.Prelude.{◌≡◌, ◌≤◌, ◌*◌, ◌++◌, ◌∷◌, [], length, Ok, Err, IfErr, OnErr, OnOk};
 ghost use Rattle.std.specs.Fmt.{decimal};
 ghost use Rattle.hex.specs.Hex.{encode_lower};
 ghost use Rattle.std.specs.Io.KnownBytes.{Appends};
-ghost use Rattle.gatt_commands.specs.Att.{PrintsFront};
+ghost use Rattle.octets.specs.Stream.{WritesFront};
 ghost use Rattle.gatt_commands.specs.declared.fault.ShellFault.{ShellFault};
 
 use crate::fault::ShellFault;
@@ -15,7 +15,7 @@ use std::io::{ErrorKind, Write};
 /// again.
 pub(crate) fn print<W: Write>(text: &[u8], writer: &mut W) -> Result<(), ShellFault>
     ensures ok { OnOk result (Appends (W.contents writer.old) (W.contents writer.new) text.now) }
-    ensures front { result ≡ Err ShellFault.Unwritten → PrintsFront text.now (W.contents writer.old) (W.contents writer.new) }
+    ensures front { OnErr result (WritesFront text.now (W.contents writer.old) (W.contents writer.new)) }
     ensures faults { IfErr result (λ fault. fault ≡ ShellFault.Unwritten) }
 {
     let mut rest = text;
@@ -37,8 +37,7 @@ pub(crate) fn print<W: Write>(text: &[u8], writer: &mut W) -> Result<(), ShellFa
 pub(crate) fn print_hex_line<W: Write>(octets: &[u8], writer: &mut W) -> Result<(), ShellFault>
     requires { length octets.now ≤ 517 }
     ensures ok { OnOk result (Appends (W.contents writer.old) (W.contents writer.new) (encode_lower octets.now ++ 10 ∷ [])) }
-    ensures front { result ≡ Err ShellFault.Unwritten
-        → PrintsFront (encode_lower octets.now ++ 10 ∷ []) (W.contents writer.old) (W.contents writer.new) }
+    ensures front { OnErr result (WritesFront (encode_lower octets.now ++ 10 ∷ []) (W.contents writer.old) (W.contents writer.new)) }
     ensures faults { IfErr result (λ fault. fault ≡ ShellFault.Unwritten) }
 {
     let mut text = [0; 2 * 517 + 1];
@@ -49,8 +48,10 @@ pub(crate) fn print_hex_line<W: Write>(octets: &[u8], writer: &mut W) -> Result<
 }
 
 /// Writes a number out in decimal, and a line feed.
+#[tactic(auto, using(crate::proofs::Fronts::at_error, crate::proofs::Fronts::front_first, crate::proofs::Fronts::front_rest))]
 pub(crate) fn print_number_line<W: Write>(number: u64, writer: &mut W) -> Result<(), ShellFault>
     ensures ok { OnOk result (Appends (W.contents writer.old) (W.contents writer.new) (decimal number ++ 10 ∷ [])) }
+    ensures front { OnErr result (WritesFront (decimal number ++ 10 ∷ []) (W.contents writer.old) (W.contents writer.new)) }
     ensures faults { IfErr result (λ fault. fault ≡ ShellFault.Unwritten) }
 {
     let mut digits = Buffer::new();

@@ -1,7 +1,7 @@
 ghost use Rattle.std.specs.Prelude.{◌≡◌, ◌≢◌, ℕ, ◌+◌, ◌^◌, ◌<◌, ◌≤◌, [], ◌∷◌, ◌++◌, length, Some, None, OnOk, IfErr, IfOk};
 ghost use Rattle.std.specs.Io.KnownBytes.{Appends};
 ghost use Rattle.hex.specs.Hex.{encode_lower};
-ghost use Rattle.gatt_commands.specs.Att.{pdu_of, door_server, PrintsFront};
+ghost use Rattle.gatt_commands.specs.Att.{pdu_of, door_server};
 ghost use Rattle.gatt_commands.specs.Session.{IsStartFault, nothing, ends_at};
 
 use crate::fault::ShellFault;

@@ -1,9 +1,10 @@
 //! What is printed of a line of a script.
 
-ghost use Rattle.std.specs.Prelude.{◌≡◌, ◌<◌, ◌≤◌, [], ◌∷◌, length, Ok, IfErr, IfSome, OnOk};
+ghost use Rattle.std.specs.Prelude.{◌≡◌, ◌<◌, ◌≤◌, [], ◌∷◌, length, Ok, IfErr, IfSome, OnErr, OnOk};
 ghost use Rattle.std.specs.Io.KnownBytes.{Appends};
 ghost use Rattle.le_l2cap.specs.Frame.{frame_of, BasicFrame};
 ghost use Rattle.octets.specs.Number.{Octets};
+ghost use Rattle.octets.specs.Stream.{WritesFront};
 ghost use Rattle.sim_controller.specs.Simulated.{phone_at};
 ghost use Rattle.gatt_commands.specs.Lines.{IsOfPhone, ended_line, frame_line, heard_line, outcome_text, phone_text, phones_text, refused_line, sign_of, with_told_phone, with_told_phones};
 
@@ -18,6 +19,7 @@ use std::io::Write;
 
 /// Prints what a line has brought: what was refused of it, and then for each phone the frames that it
 /// has heard, and whether the host has ended its connection.
+#[tactic(auto, using(crate::proofs::Fronts::at_error, crate::proofs::Fronts::front_first, crate::proofs::Fronts::front_then, crate::proofs::Fronts::front_rest))]
 pub(crate) fn print_outcome<W: Write>(
     sim: &mut Sim,
     names: &[Name<'_>],
@@ -28,6 +30,7 @@ pub(crate) fn print_outcome<W: Write>(
     requires named { IfSome refused (IsOfPhone (length names.now)) }
     ensures ok { OnOk result (Appends (W.contents writer.old) (W.contents writer.new) (outcome_text names.now refused sim.old.phones)) }
     ensures told { OnOk result (sim.new ≡ with_told_phones sim.old (length names.now)) }
+    ensures front { OnErr result (WritesFront (outcome_text names.now refused sim.old.phones) (W.contents writer.old) (W.contents writer.new)) }
     ensures faults { IfErr result (λ fault. fault ≡ ShellFault.Unwritten) }
     ensures waiting { sim.new.waiting ≡ sim.old.waiting }
 {
@@ -46,6 +49,7 @@ fn print_phones<W: Write>(
     requires { length names.now ≤ 8 }
     ensures ok { OnOk result (Appends (W.contents writer.old) (W.contents writer.new) (phones_text names.now sim.old.phones)) }
     ensures told { OnOk result (sim.new ≡ with_told_phones sim.old (length names.now)) }
+    ensures front { OnErr result (WritesFront (phones_text names.now sim.old.phones) (W.contents writer.old) (W.contents writer.new)) }
     ensures faults { IfErr result (λ fault. fault ≡ ShellFault.Unwritten) }
     ensures waiting { sim.new.waiting ≡ sim.old.waiting }
 {
@@ -57,6 +61,7 @@ fn print_phones<W: Write>(
 
 /// Prints the number of the fault for which a call of the application, or an act of a phone, was
 /// refused.
+#[tactic(auto, using(crate::proofs::Fronts::at_error, crate::proofs::Fronts::front_first, crate::proofs::Fronts::front_then, crate::proofs::Fronts::front_rest))]
 fn print_refused<W: Write>(
     names: &[Name<'_>],
     refused: Refused,
@@ -64,6 +69,7 @@ fn print_refused<W: Write>(
 ) -> Result<(), ShellFault>
     requires { IsOfPhone (length names.now) refused }
     ensures ok { OnOk result (Appends (W.contents writer.old) (W.contents writer.new) (refused_line names.now refused)) }
+    ensures front { OnErr result (WritesFront (refused_line names.now refused) (W.contents writer.old) (W.contents writer.new)) }
     ensures faults { IfErr result (λ fault. fault ≡ ShellFault.Unwritten) }
 {
     match refused {
@@ -89,6 +95,7 @@ fn print_phone<W: Write>(
     requires { phone < 8 }
     ensures ok { OnOk result (Appends (W.contents writer.old) (W.contents writer.new) (phone_text name.now (phone_at sim.old phone))) }
     ensures told { OnOk result (sim.new ≡ with_told_phone sim.old phone) }
+    ensures front { OnErr result (WritesFront (phone_text name.now (phone_at sim.old phone)) (W.contents writer.old) (W.contents writer.new)) }
     ensures faults { IfErr result (λ fault. fault ≡ ShellFault.Unwritten) }
     ensures waiting { sim.new.waiting ≡ sim.old.waiting }
 {
@@ -103,11 +110,13 @@ fn print_phone<W: Write>(
 }
 
 /// Prints a frame that a phone has heard: its channel and its payload.
+#[tactic(auto, using(crate::proofs::Fronts::at_error, crate::proofs::Fronts::front_first, crate::proofs::Fronts::front_then, crate::proofs::Fronts::front_rest))]
 fn print_frame<W: Write>(name: &Name<'_>, octets: &[u8], writer: &mut W) -> Result<(), ShellFault>
     requires { length octets.now ≤ 521 }
     ensures ok { (frame : BasicFrame) → frame_of octets.now ≡ Ok frame
         → OnOk result (Appends (W.contents writer.old) (W.contents writer.new) (frame_line name.now frame)) }
     ensures line { OnOk result (Appends (W.contents writer.old) (W.contents writer.new) (heard_line name.now octets.now)) }
+    ensures front { OnErr result (WritesFront (heard_line name.now octets.now) (W.contents writer.old) (W.contents writer.new)) }
     ensures faults { IfErr result (λ fault. fault ≡ ShellFault.Unwritten) }
 {
     let Ok(frame) = read_frame(octets) else {
@@ -132,8 +141,10 @@ fn sign_of(cid: u16) -> &'static [u8]
 }
 
 /// Prints that the host has ended the connection of a phone, for a reason.
+#[tactic(auto, using(crate::proofs::Fronts::at_error, crate::proofs::Fronts::front_first, crate::proofs::Fronts::front_then, crate::proofs::Fronts::front_rest))]
 fn print_ended<W: Write>(name: &Name<'_>, reason: u8, writer: &mut W) -> Result<(), ShellFault>
     ensures ok { OnOk result (Appends (W.contents writer.old) (W.contents writer.new) (ended_line name.now reason)) }
+    ensures front { OnErr result (WritesFront (ended_line name.now reason) (W.contents writer.old) (W.contents writer.new)) }
     ensures faults { IfErr result (λ fault. fault ≡ ShellFault.Unwritten) }
 {
     print(name.as_str().as_bytes(), writer)?;
