@@ -15,3 +15,4 @@ pub mod Sessions
 pub mod TableFiles
 pub mod Telling
 pub mod Texts
+pub mod WriterLent

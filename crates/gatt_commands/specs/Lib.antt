@@ -6,9 +6,11 @@ pub mod Fault
 pub mod Input
 pub mod KeyFile
 pub mod Lines
+pub mod Opening
 pub mod RowsFile
 pub mod ScriptFile
 pub mod Serving
 pub mod Session
 pub mod TableFile
 pub mod Turns
+pub mod Written

@@ -1,9 +1,37 @@
--- What may end the serving of a controller: this profile's own.
-use Rattle.std.specs.Prelude.{}
+-- What the serving of a controller does, and what may end it: this profile's own.
+use Rattle.std.specs.Prelude.{◌≡◌, ℕ, Option, Some, None, Result, Ok, Err}
+use Rattle.std.specs.Result.{result_err}
+use Rattle.gatt_host.specs.declared.host_fault.HostFault.{HostFault}
+use Rattle.gatt_host.specs.declared.serving.End.{End}
+use Rattle.gatt_host.specs.Feeding.{Serves}
+use Rattle.gatt_host.specs.Numbers.{number_of_fault}
+use Rattle.gatt_host.specs.Whole.{Whole}
+use Rattle.octets.specs.Number.{Octets}
 use Rattle.gatt_commands.specs.declared.fault.ShellFault.{ShellFault}
 use Rattle.gatt_commands.specs.declared.fault.ShellFault.TheVariants.{Table, Keys, Rows, Host, Unreadable, Unwritten, Listen, Memory}
 
--- before the host is open
+-- so many reads may be made of a connection
+abbrev pub turns : ℕ
+turns = 1000000000
+
+-- a host takes in what it reads and writes what that brings, to the end of the stream or to the fault that stands then
+pub record ServesStream (old new : Whole) (remaining left before after : Option Octets) : Type 0 where
+  pub ended : Result End HostFault
+  pub serves : Serves ended turns old new remaining left before after
+  pub stands : new.fault ≡ result_err ended
+
+-- a reader and a writer that began as these have come to this
+pub record ServesBy {R W : Type 0} (remaining : R → Option Octets) (contents : W → Option Octets) (reader : R) (writer : W) (old new : Whole) : Type 0 where
+  pub reader_then : R
+  pub writer_then : W
+  pub serves : ServesStream old new (remaining reader) (remaining reader_then) (contents writer) (contents writer_then)
+
+-- that fault is told by its number
+abbrev pub told_of : Option HostFault → Result (Unit {0}) ShellFault
+told_of None = Ok tt
+told_of (Some fault) = Err (Host (number_of_fault fault))
+
+-- What may end it: before the host is open
 abbrev pub IsOpeningFault : ShellFault → Type 0
 IsOpeningFault (Table number) = Unit {0}
 IsOpeningFault (Keys number) = Unit {0}

@@ -1,6 +1,7 @@
 //! The host that the commands open.
 
-ghost use Rattle.std.specs.Prelude.{◌≡◌, IfErr};
+ghost use Rattle.std.specs.Prelude.{◌≡◌, IfErr, IfOk};
+ghost use Rattle.gatt_commands.specs.Opening.{configuration, IsOpened};
 
 use crate::fault::ShellFault;
 use arrayvec::ArrayVec;
@@ -26,13 +27,16 @@ pub(crate) fn open_host(
     keys: Keys,
     rows: Rows,
 ) -> Result<Host, ShellFault>
-    ensures { IfErr result (λ fault. fault ≡ ShellFault.Memory) }
+    ensures opened { IfOk result (IsOpened table keys rows) }
+    ensures faults { IfErr result (λ fault. fault ≡ ShellFault.Memory) }
 {
     Host::open(alloc, table, keys, rows, configured()).map_err(|_| ShellFault::Memory)
 }
 
 /// What the host is opened with, beside its files.
-fn configured() -> Config {
+fn configured() -> Config
+    ensures { result ≡ configuration }
+{
     let mut advertising = ArrayVec::new();
     advertising.try_extend_from_slice(&ADVERTISING).unwrap();
     Config {

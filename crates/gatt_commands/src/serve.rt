@@ -1,7 +1,14 @@
 //! The command `serve`.
 
-ghost use Rattle.std.specs.Prelude.{◌≡◌, ◌≢◌, Err, IfErr};
-ghost use Rattle.gatt_commands.specs.Serving.{IsOpeningFault, IsServeFault, IsServedFault};
+ghost use Rattle.std.specs.Prelude.{◌≡◌, ◌≢◌, ℕ, None, Err, IfErr, IfOk, IfSome, OnOk};
+ghost use Rattle.gatt_host.specs.Numbers.{number_of_fault};
+ghost use Rattle.gatt_subs.specs.RowsText.{text_of};
+ghost use Rattle.gatt_commands.specs.KeyFile.{keys_in, AreRefusedAs as KeysAreRefusedAs};
+ghost use Rattle.gatt_commands.specs.Opening.{IsOpenedWith};
+ghost use Rattle.gatt_commands.specs.RowsFile.{rows_in, AreRefusedAs};
+ghost use Rattle.gatt_commands.specs.Serving.{told_of, IsOpeningFault, IsServeFault, IsServedFault, ServesBy, ServesStream};
+ghost use Rattle.gatt_commands.specs.TableFile.{table_in, IsRefusedAs};
+ghost use Rattle.gatt_commands.specs.Written.{HasWritten};
 
 use crate::check::{KeysPath, TablePath};
 use crate::fault::ShellFault;
@@ -32,6 +39,11 @@ pub fn serve_on<V: Write>(
     // Where no connection was accepted, nothing was served, and the rows are left as they are.
     ensures listen { result ≡ Err ShellFault.Listen → host.new ≡ host.old }
     ensures rows_left { result ≡ Err ShellFault.Listen → rows_writer.new ≡ rows_writer.old }
+    // Once one was, the host was served to the end of the stream, or to the fault that stands then.
+    ensures served { result ≢ Err ShellFault.Listen → host.old.fault ≡ None → ServesStream host.old host.new None None None None }
+    ensures ended { OnOk result (host.new.fault ≡ None) }
+    ensures fault { (number : ℕ) → result ≡ Err (ShellFault.Host number) → IfSome host.new.fault (λ fault. number ≡ number_of_fault fault) }
+    ensures rows { OnOk result (HasWritten V.contents rows_writer.old (text_of host.new.held.rows)) }
     ensures faults { IfErr result IsServedFault }
 {
     let Ok((stream, _)) = listener.accept() else {
@@ -49,7 +61,10 @@ fn serve_stream<R: Read, W: Write>(
     reader: &mut R,
     writer: &mut W,
 ) -> Result<(), ShellFault>
-    ensures { IfErr result (λ fault. IsServedFault fault × (fault ≢ ShellFault.Listen)) }
+    ensures serves { host.old.fault ≡ None
+        → ServesBy R.remaining W.contents reader.old writer.old host.old host.new }
+    ensures told { result ≡ told_of host.new.fault }
+    ensures faults { IfErr result (λ fault. IsServedFault fault × (fault ≢ ShellFault.Listen)) }
 {
     let mut source = Reader::new(reader);
     let mut sink = Writer::new(writer);
@@ -105,10 +120,36 @@ pub fn serve_paths<F: Files + Net<Listener = TcpListener, Stream = TcpStream>>(
 
 /// A host with the files at these paths. None of them is opened before its turn.
 fn open_paths<F: Files>(alloc: Global, files: &F, paths: ServePaths<'_>) -> Result<Host, ShellFault>
-    ensures { IfErr result IsOpeningFault }
+    ensures opened { IfOk result (IsOpenedWith None None None) }
+    ensures faults { IfErr result IsOpeningFault }
 {
-    let table = read_table(alloc, &mut LazyFile::new(files, paths.table.0))?;
-    let keys = read_keys(alloc, &mut LazyFile::new(files, paths.keys.0))?;
-    let rows = read_rows(alloc, &mut RowsReader::new(files, paths.rows))?;
+    open_files(
+        alloc,
+        &mut LazyFile::new(files, paths.table.0),
+        &mut LazyFile::new(files, paths.keys.0),
+        &mut RowsReader::new(files, paths.rows),
+    )
+}
+
+/// A host with these files. Each is read only once those in front of it have been accepted.
+fn open_files<T: Read, K: Read, R: Read>(
+    alloc: Global,
+    table: &mut T,
+    keys: &mut K,
+    rows: &mut R,
+) -> Result<Host, ShellFault>
+    ensures opened { IfOk result (IsOpenedWith (T.remaining table.old) (K.remaining keys.old) (R.remaining rows.old)) }
+    // A file is refused for its first fault, or for want of memory.
+    ensures table { (number : ℕ) → result ≡ Err (ShellFault.Table number) → number ≢ 10
+        → IfSome (T.remaining table.old) (λ octets. IsRefusedAs number (table_in octets)) }
+    ensures keys { (number : ℕ) → result ≡ Err (ShellFault.Keys number) → number ≢ 8
+        → IfSome (K.remaining keys.old) (λ octets. KeysAreRefusedAs number (keys_in octets)) }
+    ensures rows { (number : ℕ) → result ≡ Err (ShellFault.Rows number) → number ≢ 4
+        → IfSome (R.remaining rows.old) (λ octets. AreRefusedAs number (rows_in octets)) }
+    ensures faults { IfErr result IsOpeningFault }
+{
+    let table = read_table(alloc, table)?;
+    let keys = read_keys(alloc, keys)?;
+    let rows = read_rows(alloc, rows)?;
     open_host(alloc, table, keys, rows)
 }

@@ -1,4 +1,4 @@
-use Rattle.std.proofs.Common.{◌≡◌, ℕ, List, Some, sym, ap, ◌∙◌}
+use Rattle.std.proofs.Common.{ℕ, Some, sym, ap, ◌∙◌}
 use Rattle.att_table.specs.Table.{Contents}
 use Rattle.gatt_commands.proofs.Doing.{replaced, told_by}
 use Rattle.gatt_commands.specs.declared.acts.Refused.TheVariants.{Call}

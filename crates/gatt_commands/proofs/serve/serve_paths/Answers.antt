@@ -6,4 +6,4 @@ returns g c = served_at_all c.serve_on.result c.serve_on.ensures.faults
 
 pub returns-in_err-host : goal.returns-in_err-host
 returns-in_err-host g c =
-    opening_at_all c.from_residual.result c.in_err-host.field-0.0 c.from_residual.ensures.1 c.in_err-host.ensures
+    opening_at_all c.from_residual.result c.in_err-host.field-0.0 c.from_residual.ensures.1 c.in_err-host.ensures.faults

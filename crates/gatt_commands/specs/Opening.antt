@@ -1,0 +1,37 @@
+-- The host that the commands open: this profile's own.
+use Rattle.std.specs.Prelude.{◌≡◌, ℕ, List, [], ◌∷◌, Option, None, Ok, IfSome}
+use Rattle.arrayvec.specs.ArrayVec.{ArrayVec}
+use Rattle.att_table.specs.Table.{Contents}
+use Rattle.gatt_host.specs.declared.config.Config.{Config}
+use Rattle.gatt_host.specs.Opening.{start_of}
+use Rattle.gatt_host.specs.Whole.{StandsAt, Whole}
+use Rattle.gatt_laws.specs.Input.{course}
+use Rattle.gatt_subs.specs.Rows.{Subscriptions}
+use Rattle.le_security.specs.declared.entry.Entry.{Entry}
+use Rattle.octets.specs.Number.{Octets}
+use Rattle.gatt_commands.specs.KeyFile.{keys_in}
+use Rattle.gatt_commands.specs.RowsFile.{rows_in}
+use Rattle.gatt_commands.specs.TableFile.{table_in}
+
+-- everybody may find it, and it has no BR/EDR: Core Specification Supplement 7, Part A, 1.3
+abbrev pub flags : ArrayVec ℕ
+flags = record { items = 0x02 ∷ 0x01 ∷ 0x06 ∷ [] }
+
+-- it has four connections at most, receives PDUs of at most 247 octets, and has the public address of its controller
+abbrev pub configuration : Config
+configuration = record { slots = 4; rx_mtu = 247; address = None; advertising = flags }
+
+-- a host is open: it goes on, nothing has come in, and nothing has gone out
+pub record IsOpened (table : Contents) (keys : List Entry) (rows : Subscriptions) (host : Whole) : Type 0 where
+  pub stands : StandsAt (course (start_of table keys rows configuration) []) [] host
+  pub going : host.fault ≡ None
+
+-- it is opened with what files say, as far as their octets are known
+pub record IsOpenedWith (table_file key_file rows_file : Option Octets) (host : Whole) : Type 0 where
+  pub table : Contents
+  pub keys : List Entry
+  pub rows : Subscriptions
+  pub has_table : IfSome table_file (λ octets. table_in octets ≡ Ok table)
+  pub has_keys : IfSome key_file (λ octets. keys_in octets ≡ Ok keys)
+  pub has_rows : IfSome rows_file (λ octets. rows_in octets ≡ Ok rows)
+  pub opened : IsOpened table keys rows host
