@@ -7,8 +7,10 @@ pub mod KeyFiles
 pub mod Printing
 pub mod Reports
 pub mod RowsFiles
+pub mod RunEnds
 pub mod RunFaults
 pub mod RunOrders
+pub mod Running
 pub mod ScriptFiles
 pub mod ServeFaults
 pub mod Sessions

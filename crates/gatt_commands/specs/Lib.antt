@@ -8,6 +8,7 @@ pub mod KeyFile
 pub mod Lines
 pub mod Opening
 pub mod RowsFile
+pub mod Runs
 pub mod ScriptFile
 pub mod Serving
 pub mod Session

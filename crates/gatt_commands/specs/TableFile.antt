@@ -1,5 +1,5 @@
 -- Table files, as octets.
-use Rattle.std.specs.Prelude.{◌≡◌, ◌≢◌, ℕ, if◌then◌else◌, Result, Ok, Err}
+use Rattle.std.specs.Prelude.{◌≡◌, ◌≢◌, ℕ, if◌then◌else◌, Option, Some, None, Result, Ok, Err, IfSome}
 use Rattle.std.specs.Str.{is_utf8}
 use Rattle.att_table.specs.declared.table_fault.TableFault.{TableFault}
 use Rattle.att_table.specs.declared.table_fault.TableFault.TheVariants.{NotToml}
@@ -35,6 +35,12 @@ IsTableFileFault _ = ⊥
 abbrev pub next_of : ShellFault → ShellFault
 next_of (Table number) = Next number
 next_of fault = fault
+
+-- there is such a table where there is a file of it, and it is the one that the file gives, as far as its octets are known
+abbrev pub HasNext : Option (Option Octets) → Option Contents → Type 0
+HasNext None None = Unit {0}
+HasNext (Some file) (Some table) = IfSome file (λ octets. table_in octets ≡ Ok table)
+HasNext _ _ = ⊥
 
 abbrev pub IsNextFileFault : ShellFault → Type 0
 IsNextFileFault (Next number) = Unit {0}

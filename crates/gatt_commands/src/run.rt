@@ -1,14 +1,21 @@
 //! The command `run`.
 
-ghost use Rattle.std.specs.Prelude.{◌≡◌, ◌≢◌, ℕ, is_some, IfErr, IfOk, IfSome, IsOk};
-ghost use Rattle.scripts.specs.Phones.{HasNamedPhones};
+ghost use Rattle.std.specs.Prelude.{◌≡◌, ◌≢◌, ◌≤◌, ℕ, true, length, is_some, Err, IfErr, IfOk, IfSome, IsOk, OnOk};
+ghost use Rattle.std.specs.List.{All};
+ghost use Rattle.std.specs.Option.{option_map};
+ghost use Rattle.gatt_host.specs.Whole.{all_out};
+ghost use Rattle.scripts.specs.Phones.{HasNamedPhones, IsOfPhoneBelow};
 ghost use Rattle.scripts.specs.declared.script_fault.ScriptFault.TheVariants.{BadLine};
+ghost use Rattle.sim_controller.specs.Simulated.{at_start};
+ghost use Rattle.gatt_commands.specs.Doing.{stage_of};
 ghost use Rattle.gatt_commands.specs.KeyFile.{keys_in, AreRefusedAs as KeysAreRefusedAs};
 ghost use Rattle.gatt_commands.specs.Lines.{IsHostRunFault, IsRunCommandFault, IsRunFault, IsScriptRunFault};
 ghost use Rattle.gatt_commands.specs.RowsFile.{rows_in, AreRefusedAs};
+ghost use Rattle.gatt_commands.specs.Runs.{files_of, simulated, EndsAmong, EndsAtLine, EndsEarly, HostRuns, Runs, RunsAll, RunsFile, RunsFiles, RunsLine};
 ghost use Rattle.gatt_commands.specs.ScriptFile.{script_in};
 ghost use Rattle.gatt_commands.specs.TableFile.{table_in, IsRefusedAs};
 ghost use Rattle.gatt_commands.specs.Turns.{IsPast, OfTable, OfNext, OfKeys, OfRows, OfScript};
+ghost use Rattle.gatt_commands.specs.Written.{HasWritten, HasWrittenFront};
 
 use crate::acts::do_act;
 use crate::check::{KeysPath, TablePath};
@@ -28,7 +35,7 @@ use att_table::Table;
 use gatt_host::Host;
 use gatt_subs::Rows;
 use le_security::Keys;
-use scripts::Script;
+use scripts::{Act, Name, Script};
 use sim_controller::{Sim, SimConfig};
 use std::alloc::Global;
 use std::fs::Files;
@@ -73,6 +80,10 @@ pub fn run_script<T: Read, N: Read, K: Read, R: Read, S: Read, V: Write, W: Writ
     ensures keys_third { IsPast OfKeys result → IfSome (K.remaining keys.old) (λ octets. IsOk (keys_in octets)) }
     ensures rows_fourth { IsPast OfRows result → IfSome (R.remaining rows.old) (λ octets. IsOk (rows_in octets)) }
     ensures script_last { IsPast OfScript result → IfSome (S.remaining script.old) (λ octets. IsOk (script_in (is_some next.old) octets)) }
+    // Then all that the files say is run, up to the fault that ends the run.
+    ensures runs { IsPast OfScript result → RunsFiles result
+        (files_of (T.remaining table.old) (option_map N.remaining next.old) (K.remaining keys.old) (R.remaining rows.old) (S.remaining script.old))
+        (W.contents writer.old) (W.contents writer.new) (HasWritten V.contents rows_writer.old) (HasWrittenFront V.contents rows_writer.old) }
     ensures faults { IfErr result IsRunCommandFault }
 {
     let table = read_table(alloc, table)?;
@@ -93,6 +104,8 @@ fn run_files<S: Read, V: Write, W: Write>(
     rows_writer: &mut V,
     writer: &mut W,
 ) -> Result<(), ShellFault>
+    ensures runs { IsPast OfScript result → RunsFile result table next keys rows (S.remaining script.old) (W.contents writer.old) (W.contents writer.new)
+        (HasWritten V.contents rows_writer.old) (HasWrittenFront V.contents rows_writer.old) }
     ensures script { (line : ℕ) → result ≡ Err (ShellFault.Script line)
         → IfSome (S.remaining script.old) (λ octets. script_in (is_some next) octets ≡ Err (BadLine line)) }
     ensures script_last { IsPast OfScript result → IfSome (S.remaining script.old) (λ octets. IsOk (script_in (is_some next) octets)) }
@@ -115,17 +128,25 @@ fn run_host<V: Write, W: Write>(
     writer: &mut W,
 ) -> Result<(), ShellFault>
     requires { HasNamedPhones script.now }
-    ensures { IfErr result IsHostRunFault }
+    ensures runs { result ≢ Err ShellFault.Memory → HostRuns result script.now host.old host.new next.old next.new
+        (W.contents writer.old) (W.contents writer.new) (HasWritten V.contents rows_writer.old) (HasWrittenFront V.contents rows_writer.old) }
+    ensures faults { IfErr result IsHostRunFault }
 {
-    let Ok(mut sim) = Sim::new(alloc, SIMULATED) else {
-        return Err(ShellFault::Memory);
-    };
+    let mut sim = open_sim(alloc)?;
     let ran = run_lines(host, &mut sim, next, script, writer);
     outcome_of(ran, write_rows(host.rows(), rows_writer))
 }
 
-/// Runs the lines of a script: before the first and after each, host and controller hand each other
-/// all that they have, and then what the line has brought is printed.
+/// A simulated controller, to which nothing has happened yet.
+fn open_sim(alloc: Global) -> Result<Sim, ShellFault>
+    ensures start { IfOk result (λ sim. sim ≡ at_start simulated) }
+    ensures faults { IfErr result (λ fault. fault ≡ ShellFault.Memory) }
+{
+    Sim::new(alloc, SIMULATED).map_err(|_| ShellFault::Memory)
+}
+
+/// Runs the lines of a script. Before the first of them, host and controller hand each other all that
+/// they have.
 fn run_lines<W: Write>(
     host: &mut Host,
     sim: &mut Sim,
@@ -134,15 +155,63 @@ fn run_lines<W: Write>(
     writer: &mut W,
 ) -> Result<(), ShellFault>
     requires { HasNamedPhones script.now }
-    ensures { IfErr result IsRunFault }
+    ensures runs { OnOk result (RunsAll script.now (stage_of host.old sim.old next.old) (stage_of host.new sim.new next.new)
+        (W.contents writer.old) (W.contents writer.new)) }
+    ensures ends { IfErr result (λ fault. EndsEarly fault script.now (stage_of host.old sim.old next.old) (stage_of host.new sim.new next.new)
+        (W.contents writer.old) (W.contents writer.new)) }
+    ensures faults { IfErr result IsRunFault }
 {
     exchange(host, sim)?;
-    for act in script.acts() {
-        let refused = do_act(host, sim, next, act);
-        exchange(host, sim)?;
-        print_outcome(sim, script.names(), refused, writer)?;
+    run_acts(host, sim, next, script.names(), script.acts(), writer)
+}
+
+/// Runs lines one after the other.
+fn run_acts<W: Write>(
+    host: &mut Host,
+    sim: &mut Sim,
+    next: &mut Option<Table>,
+    names: &[Name<'_>],
+    acts: &[Act<'_>],
+    writer: &mut W,
+) -> Result<(), ShellFault>
+    requires few { length names.now ≤ 8 }
+    requires named { All (IsOfPhoneBelow (length names.now)) acts.now }
+    requires drained { all_out host.old ≡ true }
+    ensures runs { OnOk result (Runs names.now acts.now (stage_of host.old sim.old next.old) (stage_of host.new sim.new next.new)
+        (W.contents writer.old) (W.contents writer.new)) }
+    ensures ends { IfErr result (λ fault. EndsAmong fault names.now acts.now (stage_of host.old sim.old next.old) (stage_of host.new sim.new next.new)
+        (W.contents writer.old) (W.contents writer.new)) }
+    ensures faults { IfErr result IsRunFault }
+{
+    for act in acts {
+        run_line(host, sim, next, names, act, writer)?;
     }
     Ok(())
+}
+
+/// Runs a line: does what it says, has host and controller hand each other all that they have, and
+/// prints what that has brought.
+fn run_line<W: Write>(
+    host: &mut Host,
+    sim: &mut Sim,
+    next: &mut Option<Table>,
+    names: &[Name<'_>],
+    act: &Act<'_>,
+    writer: &mut W,
+) -> Result<(), ShellFault>
+    requires few { length names.now ≤ 8 }
+    requires named { IsOfPhoneBelow (length names.now) act.now }
+    requires drained { all_out host.old ≡ true }
+    ensures runs { OnOk result (RunsLine names.now act.now (stage_of host.old sim.old next.old) (stage_of host.new sim.new next.new)
+        (W.contents writer.old) (W.contents writer.new)) }
+    ensures ends { IfErr result (λ fault. EndsAtLine fault names.now act.now (stage_of host.old sim.old next.old) (stage_of host.new sim.new next.new)
+        (W.contents writer.old) (W.contents writer.new)) }
+    ensures drained { IsOk result → all_out host.new ≡ true }
+    ensures faults { IfErr result IsRunFault }
+{
+    let refused = do_act(host, sim, next, act);
+    exchange(host, sim)?;
+    print_outcome(sim, names, refused, writer)
 }
 
 /// The path of a table file that replaces another, where there is one.
@@ -196,6 +265,8 @@ pub fn run_paths<F: Files, W: Write>(
 }
 
 /// The table file that replaces another, where there is one.
-fn next_file<'a, F: Files>(files: &'a F, path: NextPath<'a>) -> Option<LazyFile<'a, F>> {
+fn next_file<'a, F: Files>(files: &'a F, path: NextPath<'a>) -> Option<LazyFile<'a, F>>
+    ensures { is_some result ≡ is_some path.entry.0 }
+{
     Some(LazyFile::new(files, path.0?))
 }

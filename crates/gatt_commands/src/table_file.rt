@@ -1,8 +1,9 @@
 //! Table files, as octets of an input.
 
 ghost use Rattle.std.specs.Prelude.{◌≡◌, ◌≢◌, ℕ, is_some, IfErr, IfOk, IfSome, IsOk};
+ghost use Rattle.std.specs.Option.{option_map};
 ghost use Rattle.octets.specs.Memory.{Gives};
-ghost use Rattle.gatt_commands.specs.TableFile.{table_in, IsRefusedAs, IsTableRefusal, IsTableFileFault, IsNextFileFault, next_of};
+ghost use Rattle.gatt_commands.specs.TableFile.{table_in, HasNext, IsRefusedAs, IsTableRefusal, IsTableFileFault, IsNextFileFault, next_of};
 
 use crate::fault::ShellFault;
 use crate::input;
@@ -28,6 +29,7 @@ pub(crate) fn read_next<R: Read>(
     reader: &mut Option<R>,
 ) -> Result<Option<Table>, ShellFault>
     ensures some { IfOk result (λ next. is_some next ≡ is_some reader.old) }
+    ensures next { IfOk result (HasNext (option_map R.remaining reader.old)) }
     ensures table { IsOk result → IfSome reader.old (λ file. IfSome (R.remaining file) (λ octets. IsOk (table_in octets))) }
     ensures refused { (number : ℕ) → result ≡ Err (ShellFault.Next number) → number ≢ 10
         → IfSome reader.old (λ file. IfSome (R.remaining file) (λ octets. IsRefusedAs number (table_in octets))) }

@@ -28,5 +28,18 @@ returns-clause-script_last g c = λ past.
     script_accepted (g.S.Read.remaining c.args.script.now) (is_some c.in_ok-next.next) (is_some c.args.next.now)
     c.in_ok-next.ensures.some (c.run_files.ensures.script_last past)
 
+pub returns-clause-runs : goal.returns-clause-runs
+returns-clause-runs g c = λ past. record {
+  table = c.in_ok-table.table;
+  next = c.in_ok-next.next;
+  keys = c.in_ok-keys.keys;
+  rows = c.in_ok-rows.rows;
+  has_table = c.in_ok-table.ensures.table;
+  has_next = c.in_ok-next.ensures.next;
+  has_keys = c.in_ok-keys.ensures.keys;
+  has_rows = c.in_ok-rows.ensures.rows;
+  runs = c.run_files.ensures.runs past;
+}
+
 pub returns-clause-faults : goal.returns-clause-faults
 returns-clause-faults g c = run_at_all c.run_files.result c.run_files.ensures.faults

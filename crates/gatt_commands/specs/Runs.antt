@@ -1,0 +1,146 @@
+-- What a run of a script does, one line after the other: this profile's own.
+use Rattle.std.specs.Prelude.{◌≡◌, ◌⊎◌, false, is_some, List, [], ◌∷◌, length, Option, Result, Ok, Err, IfSome}
+use Rattle.std.specs.Io.KnownBytes.{Appends, Keeps}
+use Rattle.att_table.specs.Table.{Contents}
+use Rattle.gatt_host.specs.Whole.{Whole}
+use Rattle.gatt_subs.specs.Rows.{Subscriptions}
+use Rattle.gatt_subs.specs.RowsText.{text_of}
+use Rattle.le_security.specs.declared.entry.Entry.{Entry}
+use Rattle.octets.specs.Number.{Octets}
+use Rattle.octets.specs.Stream.{WritesFront}
+use Rattle.scripts.specs.declared.act.Act.{Act}
+use Rattle.scripts.specs.Script.{Acts}
+use Rattle.sim_controller.specs.declared.config.SimConfig.{SimConfig}
+use Rattle.sim_controller.specs.Simulated.{Simulated, at_start}
+use Rattle.gatt_commands.specs.declared.acts.Refused.{Refused}
+use Rattle.gatt_commands.specs.declared.fault.ShellFault.{ShellFault}
+use Rattle.gatt_commands.specs.declared.fault.ShellFault.TheVariants.{Unwritten}
+use Rattle.gatt_commands.specs.Doing.{Does, Stage, stage_of}
+use Rattle.gatt_commands.specs.Exchange.{ExchangesAll, ExchangesUntil, pair_of}
+use Rattle.gatt_commands.specs.KeyFile.{keys_in}
+use Rattle.gatt_commands.specs.Lines.{outcome_text, with_told_phones}
+use Rattle.gatt_commands.specs.Opening.{IsOpened}
+use Rattle.gatt_commands.specs.RowsFile.{rows_in}
+use Rattle.gatt_commands.specs.ScriptFile.{script_in}
+use Rattle.gatt_commands.specs.TableFile.{table_in, HasNext}
+
+-- the controller has buffers for LE connections alone, 8 of 27 octets, and cuts data for the host into pieces of 27 octets
+abbrev pub simulated : SimConfig
+simulated = record { acl_len = 27; packets = 8; shared = false; cut = 27 }
+
+-- a line: what it says is done, host and controller hand each other all that they have, and what it has brought is printed
+pub record RunsLine (names : List Octets) (act : Act) (old new : Stage) (held holds : Option Octets) : Type 0 where
+  pub refused : Option Refused
+  pub acted : Stage
+  pub quiet : Simulated
+  pub does : Does act refused old acted
+  pub exchanges : ExchangesAll (pair_of acted.host acted.sim) (pair_of new.host quiet)
+  pub printed : Appends held holds (outcome_text names refused quiet.phones)
+  pub told : new.sim ≡ with_told_phones quiet (length names)
+  pub next : new.next ≡ acted.next
+
+-- or host and controller do not come to an end, and nothing is printed
+pub record FailsToExchange (fault : ShellFault) (old new : Stage) (held holds : Option Octets) : Type 0 where
+  pub exchanges : ExchangesUntil (Err fault) (pair_of old.host old.sim) (pair_of new.host new.sim)
+  pub next : new.next ≡ old.next
+  pub kept : Keeps held holds
+
+-- or the writer fails, and the front of what the line has brought is printed
+pub record FailsToPrint (names : List Octets) (refused : Option Refused) (old new : Stage) (held holds : Option Octets) : Type 0 where
+  pub quiet : Simulated
+  pub exchanges : ExchangesAll (pair_of old.host old.sim) (pair_of new.host quiet)
+  pub next : new.next ≡ old.next
+  pub printed : WritesFront (outcome_text names refused quiet.phones) held holds
+
+abbrev pub Fails : ShellFault → List Octets → Option Refused → Stage → Stage → Option Octets → Option Octets → Type 0
+Fails Unwritten names refused old new held holds = FailsToPrint names refused old new held holds
+Fails fault names refused old new held holds = FailsToExchange fault old new held holds
+
+pub record EndsAtLine (fault : ShellFault) (names : List Octets) (act : Act) (old new : Stage) (held holds : Option Octets) : Type 0 where
+  pub refused : Option Refused
+  pub acted : Stage
+  pub does : Does act refused old acted
+  pub fails : Fails fault names refused acted new held holds
+
+-- all of some lines
+abbrev pub Runs : List Octets → List Act → Stage → Stage → Option Octets → Option Octets → Type 0
+Runs names [] old new held holds = (new ≡ old) × Keeps held holds
+Runs names (act ∷ acts) old new held holds =
+    (middle : Stage) × (between : Option Octets) × RunsLine names act old middle held between × Runs names acts middle new between holds
+
+-- or those before one that ends the run
+abbrev pub EndsAmong : ShellFault → List Octets → List Act → Stage → Stage → Option Octets → Option Octets → Type 0
+EndsAmong fault names [] old new held holds = ⊥
+EndsAmong fault names (act ∷ acts) old new held holds =
+    EndsAtLine fault names act old new held holds
+    ⊎ ((middle : Stage) × (between : Option Octets) × RunsLine names act old middle held between × EndsAmong fault names acts middle new between holds)
+
+-- all of a script: before the first line host and controller hand each other all that they have
+pub record RunsAll (script : Acts) (old new : Stage) (held holds : Option Octets) : Type 0 where
+  pub begun : Stage
+  pub exchanges : ExchangesAll (pair_of old.host old.sim) (pair_of begun.host begun.sim)
+  pub next : begun.next ≡ old.next
+  pub lines : Runs script.names script.acts begun new held holds
+
+-- or what stands before the fault that ends the run
+pub record EndsInLines (fault : ShellFault) (script : Acts) (old new : Stage) (held holds : Option Octets) : Type 0 where
+  pub begun : Stage
+  pub exchanges : ExchangesAll (pair_of old.host old.sim) (pair_of begun.host begun.sim)
+  pub next : begun.next ≡ old.next
+  pub lines : EndsAmong fault script.names script.acts begun new held holds
+
+abbrev pub EndsEarly : ShellFault → Acts → Stage → Stage → Option Octets → Option Octets → Type 0
+EndsEarly fault script old new held holds = FailsToExchange fault old new held holds ⊎ EndsInLines fault script old new held holds
+
+-- with a new controller; and then the rows that stand are written, as the writer has it
+pub record RunsHost (script : Acts) (old new : Whole) (next next_then : Option Contents) (held holds : Option Octets) (writes writes_front : Octets → Type 0) : Type 0 where
+  pub sim : Simulated
+  pub runs : RunsAll script (stage_of old (at_start simulated) next) (stage_of new sim next_then) held holds
+  pub rows : writes (text_of new.held.rows)
+
+-- or the run ends early, or the rows cannot be written; the front of the rows is written then
+pub record EndsHost (fault : ShellFault) (script : Acts) (old new : Whole) (next next_then : Option Contents) (held holds : Option Octets) (writes writes_front : Octets → Type 0) : Type 0 where
+  pub sim : Simulated
+  pub ends :
+      EndsEarly fault script (stage_of old (at_start simulated) next) (stage_of new sim next_then) held holds
+      ⊎ ((fault ≡ Unwritten) × RunsAll script (stage_of old (at_start simulated) next) (stage_of new sim next_then) held holds)
+  pub rows : writes_front (text_of new.held.rows)
+
+-- by what is answered
+abbrev pub HostRuns : Result (Unit {0}) ShellFault → Acts → Whole → Whole → Option Contents → Option Contents
+    → Option Octets → Option Octets → (Octets → Type 0) → (Octets → Type 0) → Type 0
+HostRuns (Ok done) script old new next next_then held holds writes writes_front = RunsHost script old new next next_then held holds writes writes_front
+HostRuns (Err fault) script old new next next_then held holds writes writes_front = EndsHost fault script old new next next_then held holds writes writes_front
+
+-- with a new host, and the script of a file, as far as its octets are known
+pub record RunsFile (result : Result (Unit {0}) ShellFault) (table : Contents) (next : Option Contents) (keys : List Entry) (rows : Subscriptions) (script_file held holds : Option Octets) (writes writes_front : Octets → Type 0) : Type 0 where
+  pub script : Acts
+  pub has_script : IfSome script_file (λ octets. script_in (is_some next) octets ≡ Ok script)
+  pub host : Whole
+  pub opened : IsOpened table keys rows host
+  pub last : Whole
+  pub next_then : Option Contents
+  pub runs : HostRuns result script host last next next_then held holds writes writes_front
+
+-- the files of a run by their octets, where those are known
+pub record Files : Type 0 where
+  pub table_file : Option Octets
+  pub next_file : Option (Option Octets)
+  pub key_file : Option Octets
+  pub rows_file : Option Octets
+  pub script_file : Option Octets
+
+abbrev pub files_of : Option Octets → Option (Option Octets) → Option Octets → Option Octets → Option Octets → Files
+files_of table next keys rows script = record { table_file = table; next_file = next; key_file = keys; rows_file = rows; script_file = script }
+
+-- what the files say is run
+pub record RunsFiles (result : Result (Unit {0}) ShellFault) (files : Files) (held holds : Option Octets) (writes writes_front : Octets → Type 0) : Type 0 where
+  pub table : Contents
+  pub next : Option Contents
+  pub keys : List Entry
+  pub rows : Subscriptions
+  pub has_table : IfSome files.table_file (λ octets. table_in octets ≡ Ok table)
+  pub has_next : HasNext files.next_file next
+  pub has_keys : IfSome files.key_file (λ octets. keys_in octets ≡ Ok keys)
+  pub has_rows : IfSome files.rows_file (λ octets. rows_in octets ≡ Ok rows)
+  pub runs : RunsFile result table next keys rows files.script_file held holds writes writes_front
