@@ -1,5 +1,5 @@
 -- What is told of a call that the host refuses.
-use Rattle.std.proofs.Common.{◌≡◌, if◌then◌else◌, List, ◌∷◌, [], Option, Some, None, Result, Ok, Err, refl, sym, ap, subst, ◌∙◌}
+use Rattle.std.proofs.Common.{◌≡◌, if◌then◌else◌, List, Option, Some, None, Result, Ok, Err, refl, sym, ap, subst, ◌∙◌}
 use Rattle.std.specs.Prelude.{is_some, IsSome, OnErr}
 use Rattle.std.specs.Option.{option_map}
 use Rattle.att_table.specs.Table.{Contents}

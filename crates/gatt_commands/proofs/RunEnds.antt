@@ -1,6 +1,6 @@
 -- A run ends as the script does, and then the rows are written.
-use Rattle.std.proofs.Common.{◌≡◌, List, [], Option, Result, Ok, Err, refl, sym, subst, inl, inr, arith}
-use Rattle.std.specs.Prelude.{◌≢◌, ◌<◌, IfErr, IsErrAnd, OnErr, OnOk}
+use Rattle.std.proofs.Common.{◌≡◌, [], Option, Result, Ok, Err, refl, sym, subst, inl, inr, arith}
+use Rattle.std.specs.Prelude.{◌≢◌, ◌<◌, IfErr, OnErr, OnOk}
 use Rattle.std.proofs.lemmas.List.{append-nil}
 use Rattle.att_table.specs.Table.{Contents}
 use Rattle.gatt_host.specs.Whole.{Whole}

@@ -1,5 +1,5 @@
 -- A reader and a writer are lent to a source and a sink.
-use Rattle.std.proofs.Common.{◌≡◌, Option, Result, Ok, Err, MutBor, refl, sym, subst}
+use Rattle.std.proofs.Common.{◌≡◌, Option, Result, Ok, Err, refl, subst}
 use Rattle.std.specs.Prelude.{IfErr, IsOk, None, OnErr, OnOk, Some}
 use Rattle.std.specs.Result.{result_err}
 use Rattle.std.proofs.lemmas.Result.{on_err_weaker, on_ok_weaker}
