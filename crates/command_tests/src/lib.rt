@@ -13,12 +13,22 @@ mod command_faults;
 #[cfg(test)]
 mod equal_views;
 #[cfg(test)]
+mod long_scripts;
+#[cfg(test)]
+mod machine;
+#[cfg(test)]
+mod octet_order;
+#[cfg(test)]
 mod run_command;
 #[cfg(test)]
 mod run_files;
+#[cfg(test)]
+mod run_options;
 #[cfg(test)]
 mod run_paths;
 #[cfg(test)]
 mod serve_command;
 #[cfg(test)]
 mod serve_paths;
+#[cfg(test)]
+mod serving;

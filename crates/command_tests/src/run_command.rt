@@ -215,7 +215,30 @@ U > 010a030008
 ",
 };
 
-const AUTHORIZATIONS: &[Run] = &[AUTHORIZED, ALLOWED_AND_DENIED];
+/// What is allowed or denied to one phone is not to another.
+const SECOND_ALLOWED: Run = Run {
+    table: POST,
+    next: None,
+    script: "\
+connect U 1 c0:00:00:00:00:0a
+connect V 1 c0:00:00:00:00:0b
+allow V
+U < 0a0300
+V < 0a0300
+allow U
+deny V
+U < 0a0300
+V < 0a0300
+",
+    printed: "\
+U > 010a030008
+V > 0b00
+U > 0b00
+V > 010a030008
+",
+};
+
+const AUTHORIZATIONS: &[Run] = &[AUTHORIZED, ALLOWED_AND_DENIED, SECOND_ALLOWED];
 
 #[test]
 fn ends_an_authorization_at_its_moment(rt: HostRuntime) {

@@ -20,10 +20,10 @@ pub struct Inputs<'a> {
 
 /// What a run prints, the rows that it writes, and how it ends.
 #[derive(Clone, Copy)]
-struct Outcome {
-    printed: &'static str,
-    rows: &'static str,
-    ended: Result<(), ShellFault>,
+pub struct Outcome {
+    pub printed: &'static str,
+    pub rows: &'static str,
+    pub ended: Result<(), ShellFault>,
 }
 
 /// Runs over inputs, and writes the rows and what is printed to two writers.
@@ -50,7 +50,7 @@ fn next_of<'a>(inputs: &Inputs<'a>) -> Option<&'a [u8]> {
 }
 
 /// Runs over inputs, and compares what that prints and writes, and how it ends.
-fn runs(rt: &impl Abort, alloc: Global, cases: &[(Inputs<'_>, Outcome)]) {
+pub fn runs(rt: &impl Abort, alloc: Global, cases: &[(Inputs<'_>, Outcome)]) {
     for (inputs, outcome) in cases {
         assert!(rt; leads_to(alloc, inputs, outcome), "{}", inputs.script);
     }
@@ -204,6 +204,18 @@ const WRITTEN: &[(Inputs<'_>, Outcome)] = &[
         Outcome {
             printed: "P > 1b060041\nP > 13\n",
             rows: "",
+            ended: Ok(()),
+        },
+    ),
+    (
+        Inputs {
+            rows: "1 c0:00:00:00:00:01 11 1\n0 00:11:22:33:44:55 7 1\n",
+            script: "connect Q 0 00:11:22:33:44:55\nencrypt Q 0202020202020202 514\nQ < 120b000100\n",
+            ..GOOD
+        },
+        Outcome {
+            printed: "Q > 13\n",
+            rows: "0 00:11:22:33:44:55 7 1\n0 00:11:22:33:44:55 11 1\n1 c0:00:00:00:00:01 11 1\n",
             ended: Ok(()),
         },
     ),

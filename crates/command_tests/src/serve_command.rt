@@ -3,7 +3,7 @@
 use arrayvec::ArrayVec;
 use att_table::Table;
 use att_table::examples::DOOR;
-use gatt_commands::{ShellFault, serve_on};
+use gatt_commands::{ShellFault, TURNS, serve_on};
 use gatt_host::{Config, Host};
 use gatt_subs::Rows;
 use le_security::Keys;
@@ -12,11 +12,12 @@ use std::alloc::Global;
 use std::io;
 use std::io::{Read, Write};
 use std::net::{Net, Shutdown, SocketAddr, TcpListener, TcpStream};
+use std::os::fd::OwnedFd;
 use std::process::Abort;
 use std::time::Duration;
 
 /// What the controller sends: it is initialised, and a phone connects.
-const TOLD: &[&[u8]] = &[
+pub const TOLD: &[&[u8]] = &[
     &[0x04, 0x0e, 0x04, 0x01, 0x03, 0x0c, 0x00],
     &[0x04, 0x0e, 0x04, 0x01, 0x01, 0x0c, 0x00],
     &[0x04, 0x0e, 0x04, 0x01, 0x01, 0x20, 0x00],
@@ -31,7 +32,7 @@ const TOLD: &[&[u8]] = &[
 ];
 
 /// What the host writes.
-const WRITTEN: &[&[u8]] = &[
+pub const WRITTEN: &[&[u8]] = &[
     &[0x01, 0x03, 0x0c, 0x00],
     &[
         0x01, 0x01, 0x0c, 0x08, 0xff, 0xff, 0xff, 0xff, 0xff, 0x9f, 0x00, 0x20,
@@ -91,7 +92,9 @@ fn config() -> Config {
 }
 
 /// A listener on this machine.
-fn listening<R: Abort + Net<Listener = TcpListener, Stream = TcpStream>>(rt: &R) -> TcpListener {
+pub fn listening<R: Abort + Net<Listener = TcpListener, Stream = TcpStream>>(
+    rt: &R,
+) -> TcpListener {
     TcpListener::bind(rt, "127.0.0.1:0").expect(rt, "a listener")
 }
 
@@ -102,11 +105,12 @@ fn connected<R: Abort + Net<Listener = TcpListener, Stream = TcpStream>>(
     packets: &[&[u8]],
 ) -> TcpStream {
     let stream = connected_to(rt, listener);
-    sends(rt, &stream, packets);
+    sends(rt, &stream, packets, 1);
+    sends_no_more(rt, &stream);
     stream
 }
 
-fn connected_to<R: Abort + Net<Listener = TcpListener, Stream = TcpStream>>(
+pub fn connected_to<R: Abort + Net<Listener = TcpListener, Stream = TcpStream>>(
     rt: &R,
     listener: &TcpListener,
 ) -> TcpStream {
@@ -117,16 +121,22 @@ fn address_of(rt: &impl Abort, listener: &TcpListener) -> SocketAddr {
     listener.local_addr().expect(rt, "an address")
 }
 
-fn sends(rt: &impl Abort, stream: &TcpStream, packets: &[&[u8]]) {
-    send(stream, packets).expect(rt, "octets that are sent");
+/// Sends packets, and them all again, so many times.
+pub fn sends(rt: &impl Abort, stream: &TcpStream, packets: &[&[u8]], times: usize) {
+    for _ in 0..times {
+        send(stream, packets).expect(rt, "octets that are sent");
+    }
 }
 
-/// Sends packets, and no more.
 fn send(mut stream: &TcpStream, packets: &[&[u8]]) -> io::Result<()> {
     for packet in packets {
         stream.write_all(packet)?;
     }
-    stream.shutdown(Shutdown::Write)
+    Ok(())
+}
+
+pub fn sends_no_more(rt: &impl Abort, stream: &TcpStream) {
+    assert!(rt; stream.shutdown(Shutdown::Write).is_ok());
 }
 
 /// Serves a listener with a new host, and compares how that ends. The rows are written at the end
@@ -166,13 +176,17 @@ fn is_served(
     serve_on(listener, host, &mut written) == ended && written.as_slice() == rows.as_bytes()
 }
 
-/// Compares what has come back with these packets, one behind the other.
-fn hears(rt: &impl Abort, stream: &TcpStream, packets: &[&[u8]]) {
+/// Compares what has come back with these packets, one behind the other, and then the end.
+pub fn hears(rt: &impl Abort, stream: &TcpStream, packets: &[&[u8]]) {
+    hears_first(rt, stream, packets);
+    assert!(rt; ends(stream));
+}
+
+pub fn hears_first(rt: &impl Abort, stream: &TcpStream, packets: &[&[u8]]) {
     assert!(rt; is_patient(stream));
     for packet in packets {
         assert!(rt; gives(stream, packet), "{packet:?}");
     }
-    assert!(rt; ends(stream));
 }
 
 fn is_patient(stream: &TcpStream) -> bool {
@@ -199,6 +213,53 @@ fn serves_the_first_connection(rt: HostRuntime) {
     let controller = connected(&rt, &listener, TOLD);
     serves(&rt, rt.alloc(), &listener, Ok(()), SUBSCRIBED);
     hears(&rt, &controller, WRITTEN);
+}
+
+/// An event that no host knows, in two parts.
+const UNKNOWN: &[&[u8]] = &[&[0x04, 0xff, 0xff], &[0x00; 255]];
+
+/// A phone asks for a value, and what it is answered.
+const ASKED: &[&[u8]] = &[&[
+    0x02, 0x40, 0x20, 0x07, 0x00, 0x03, 0x00, 0x04, 0x00, 0x0a, 0x03, 0x00,
+]];
+
+const ANSWERED: &[u8] = &[
+    0x02, 0x40, 0x00, 0x09, 0x00, 0x05, 0x00, 0x04, 0x00, 0x0b, 0x4c, 0x6f, 0x63, 0x6b,
+];
+
+/// 220 unknown events take more than a hundred reads of 512 octets.
+#[test]
+fn serves_as_many_reads_as_it_may_make(rt: HostRuntime) {
+    assert_eq!(&rt; TURNS, 1_000_000_000);
+    let listener = listening(&rt);
+    let controller = connected_to(&rt, &listener);
+    sends(&rt, &controller, TOLD, 1);
+    sends(&rt, &controller, UNKNOWN, 220);
+    sends(&rt, &controller, ASKED, 1);
+    sends_no_more(&rt, &controller);
+    serves(&rt, rt.alloc(), &listener, Ok(()), SUBSCRIBED);
+    hears_first(&rt, &controller, WRITTEN);
+    hears(&rt, &controller, &[ANSWERED]);
+}
+
+/// Has reads of what is accepted fail where nothing comes for a short time: a new connection has the
+/// options of its listener.
+fn be_impatient(rt: &impl Abort, listener: &TcpListener) {
+    set_read_timeout(listener).expect(rt, "an option");
+}
+
+fn set_read_timeout(listener: &TcpListener) -> io::Result<()> {
+    let socket = TcpStream::from(OwnedFd::from(listener.try_clone()?));
+    socket.set_read_timeout(Some(Duration::from_millis(100)))
+}
+
+#[test]
+fn tells_a_read_that_fails(rt: HostRuntime) {
+    let listener = listening(&rt);
+    be_impatient(&rt, &listener);
+    let _controller = connected_to(&rt, &listener);
+    let fault = ShellFault::Host(5);
+    serves(&rt, rt.alloc(), &listener, Err(fault), SUBSCRIBED);
 }
 
 /// The rows are written after a fault too.

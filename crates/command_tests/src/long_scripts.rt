@@ -1,0 +1,164 @@
+//! Scripts of many lines, and lines of many octets.
+
+use crate::run_files;
+use crate::run_files::Inputs;
+use att_table::examples::DOOR;
+use le_security::examples::KEYS;
+use std::alloc::{AllocError, Global};
+use std::process::Abort;
+
+/// A script over a table, and what it prints: pieces of a text, and how often each stands.
+#[derive(Clone, Copy)]
+struct LongRun {
+    table: &'static str,
+    script: &'static [(&'static str, usize)],
+    printed: &'static [(&'static str, usize)],
+}
+
+fn prints(rt: &impl Abort, alloc: Global, runs: &[LongRun]) {
+    for (number, run) in runs.iter().enumerate() {
+        assert!(rt; is_long_run(alloc, run) == Ok(true), "{number}");
+    }
+}
+
+fn is_long_run(alloc: Global, run: &LongRun) -> Result<bool, AllocError> {
+    let script = text_of(alloc, run.script)?;
+    let wanted = text_of(alloc, run.printed)?;
+    Ok(is_printed(alloc, run.table, script.as_str(), wanted.as_str()))
+}
+
+/// The pieces of a text, one behind the other.
+fn text_of(alloc: Global, pieces: &[(&str, usize)]) -> Result<String, AllocError> {
+    let mut text = String::new(alloc);
+    for &(piece, times) in pieces {
+        for _ in 0..times {
+            text.push_str(piece)?;
+        }
+    }
+    Ok(text)
+}
+
+fn is_printed<'a>(alloc: Global, table: &'a str, script: &'a str, wanted: &str) -> bool {
+    let inputs = Inputs {
+        table,
+        next: None,
+        keys: KEYS,
+        rows: "",
+        script,
+    };
+    let mut printed: Vec<u8> = Vec::new(alloc);
+    run_files::run(alloc, &inputs, &mut Vec::new(alloc), &mut printed) == Ok(())
+        && printed.as_slice() == wanted.as_bytes()
+}
+
+const MANY_LINES: LongRun = LongRun {
+    table: DOOR,
+    script: &[
+        ("connect U 1 c0:00:00:00:00:0a\n", 1),
+        ("U < 0a0300\n", 1000),
+    ],
+    printed: &[("U > 0b4c6f636b\n", 1000)],
+};
+
+#[test]
+fn runs_each_line(rt: HostRuntime) {
+    prints(&rt, rt.alloc(), &[MANY_LINES]);
+}
+
+/// The longest value there is, and its last two octets.
+const LONGEST_VALUE: LongRun = LongRun {
+    table: DOOR,
+    script: &[
+        ("connect U 1 c0:00:00:00:00:0a\nupdate 21 ", 1),
+        ("4142434445464748", 64),
+        ("\nU < 0c1500fe01\nU < 0c15000002\nU < 0c15000102\n", 1),
+    ],
+    printed: &[("U > 0d4748\nU > 0d\nU > 010c150007\n", 1)],
+};
+
+#[test]
+fn takes_all_octets_of_a_line(rt: HostRuntime) {
+    prints(&rt, rt.alloc(), &[LONGEST_VALUE]);
+}
+
+/// A table with one value, which may be long.
+const SIGN: &str = r#"
+[[service]]
+uuid = "fff0"
+[[service.characteristic]]
+uuid = "fff1"
+value = ""
+max = 512
+properties = ["read", "notify"]
+"#;
+
+/// Each phone is told the front of a value, in ten packets.
+const MANY_PACKETS: LongRun = LongRun {
+    table: SIGN,
+    script: &[
+        (
+            "connect A 1 c0:00:00:00:00:0a\nA < 02f700\nA < 1204000100\n",
+            1,
+        ),
+        (
+            "connect B 1 c0:00:00:00:00:0b\nB < 02f700\nB < 1204000100\n",
+            1,
+        ),
+        (
+            "connect C 1 c0:00:00:00:00:0c\nC < 02f700\nC < 1204000100\n",
+            1,
+        ),
+        (
+            "connect D 1 c0:00:00:00:00:0d\nD < 02f700\nD < 1204000100\n",
+            1,
+        ),
+        ("update 3 ", 1),
+        ("4142434445464748", 64),
+        ("\n", 1),
+    ],
+    printed: &[
+        ("A > 03f700\nA > 13\nB > 03f700\nB > 13\n", 1),
+        ("C > 03f700\nC > 13\nD > 03f700\nD > 13\nA > 1b0300", 1),
+        ("4142434445464748", 30),
+        ("41424344\nB > 1b0300", 1),
+        ("4142434445464748", 30),
+        ("41424344\nC > 1b0300", 1),
+        ("4142434445464748", 30),
+        ("41424344\nD > 1b0300", 1),
+        ("4142434445464748", 30),
+        ("41424344\n", 1),
+    ],
+};
+
+#[test]
+fn hands_over_all_packets_of_a_line(rt: HostRuntime) {
+    prints(&rt, rt.alloc(), &[MANY_PACKETS]);
+}
+
+/// Two packets of 27 octets may be on their way to a phone. An answer with 49 octets of a value fills
+/// them, with its opcode and the header of its frame. One octet more waits for a third packet.
+const PACKET_ROOM: LongRun = LongRun {
+    table: DOOR,
+    script: &[
+        ("connect U 1 c0:00:00:00:00:0a\nU < 02f700\nupdate 21 ", 1),
+        ("41", 49),
+        (
+            "\nhold U\nU < 0a1500\nupdate 99 01\ndone U 2\nupdate 21 ",
+            1,
+        ),
+        ("41", 50),
+        ("\nU < 0a1500\nupdate 99 01\ndone U 1\nupdate 99 01\n", 1),
+    ],
+    printed: &[
+        ("U > 03f700\nU > 0b", 1),
+        ("41", 49),
+        ("\nfault 1\nfault 1\nU > 0b", 1),
+        ("41", 50),
+        ("\nfault 1\n", 1),
+    ],
+};
+
+#[test]
+fn gives_a_phone_packets_of_27_octets(rt: HostRuntime) {
+    prints(&rt, rt.alloc(), &[PACKET_ROOM]);
+}

@@ -1,0 +1,128 @@
+//! The command `run` over files at paths: which files are opened.
+
+use crate::machine::Machine;
+use att_table::examples::{PORCH, PORCH_NEXT};
+use gatt_commands::{
+    KeysPath, NextPath, RowsPath, RunPaths, ScriptPath, ShellFault, TablePath, run_paths,
+};
+use le_security::examples::KEYS;
+use std::fs::Files;
+use std::process::Abort;
+use std::test::Fail;
+use std::{fs, io};
+
+const TABLE: &str = "options_table.toml";
+
+const NEXT: &str = "options_next.toml";
+
+const PEERS: &str = "options_keys.toml";
+
+const SCRIPT: &str = "options_script.txt";
+
+/// A file of the machine that may not be opened.
+const SEALED: &str = "options_sealed.txt";
+
+const PATHS: &[&str] = &[TABLE, NEXT, PEERS, SCRIPT];
+
+/// A script with the two paths that a run need not have, and what it comes to.
+struct Case {
+    next: Option<&'static str>,
+    rows: Option<&'static str>,
+    script: &'static str,
+    printed: &'static [u8],
+    ended: Result<(), ShellFault>,
+}
+
+/// A phone is told that another table stands.
+const REPLACED: Case = Case {
+    next: Some(NEXT),
+    rows: None,
+    script: "connect U 1 c0:00:00:00:00:0a\nU < 1204000200\nreplace\n",
+    printed: b"U > 13\nU > 1d03000100ffff\n",
+    ended: Ok(()),
+};
+
+/// What a phone with a key has configured is kept nowhere.
+const KEPT_NOWHERE: Case = Case {
+    next: None,
+    rows: None,
+    script: "connect P 1 c0:00:00:00:00:01\nencrypt P 0101010101010101 257\nP < 1208000100\n",
+    printed: b"P > 13\n",
+    ended: Ok(()),
+};
+
+/// A file that cannot be opened is not one that is not there.
+const SEALED_NEXT: Case = Case {
+    next: Some(SEALED),
+    printed: b"",
+    ended: Err(ShellFault::Unreadable),
+    ..KEPT_NOWHERE
+};
+
+const SEALED_ROWS: Case = Case {
+    rows: Some(SEALED),
+    printed: b"",
+    ended: Err(ShellFault::Unreadable),
+    ..KEPT_NOWHERE
+};
+
+/// Writes the files beside the script.
+fn make_files(rt: &impl Files) -> io::Result<()> {
+    fs::write(rt, TABLE, PORCH)?;
+    fs::write(rt, NEXT, PORCH_NEXT)?;
+    fs::write(rt, PEERS, KEYS)
+}
+
+/// Removes all files.
+fn remove_files(rt: &impl Files) -> io::Result<()> {
+    fs::remove_file(rt, TABLE)?;
+    fs::remove_file(rt, NEXT)?;
+    fs::remove_file(rt, PEERS)?;
+    fs::remove_file(rt, SCRIPT)
+}
+
+const CASES: &[Case] = &[REPLACED, KEPT_NOWHERE, SEALED_NEXT, SEALED_ROWS];
+
+#[test]
+fn opens_the_files_that_it_is_given(rt: HostRuntime) -> Result<(), Fail> {
+    Ok(opens(&rt)?)
+}
+
+fn opens(rt: &(impl Abort + AllocGlobal + Files)) -> io::Result<()> {
+    make_files(rt)?;
+    runs_each(rt, CASES);
+    remove_files(rt)
+}
+
+fn runs_each(rt: &(impl Abort + AllocGlobal + Files), cases: &[Case]) {
+    for case in cases {
+        assert!(rt;
+            is_script(rt, case.script) && is_run(rt, case),
+            "{}",
+            case.script
+        );
+    }
+}
+
+fn is_script(rt: &impl Files, script: &str) -> bool {
+    fs::write(rt, SCRIPT, script).is_ok()
+}
+
+fn is_run(rt: &(impl AllocGlobal + Files), case: &Case) -> bool {
+    let machine = Machine {
+        system: rt,
+        paths: PATHS,
+        address: "",
+        listener: None,
+    };
+    let paths = RunPaths {
+        table: TablePath(TABLE),
+        next: NextPath(case.next),
+        keys: KeysPath(PEERS),
+        rows: RowsPath(case.rows),
+        script: ScriptPath(SCRIPT),
+    };
+    let mut printed: Vec<u8> = Vec::new(rt.alloc());
+    run_paths(rt.alloc(), &machine, paths, &mut printed) == case.ended
+        && printed.as_slice() == case.printed
+}
