@@ -45,6 +45,8 @@ mod steps;
 #[cfg(test)]
 mod subscriptions;
 #[cfg(test)]
+mod taken;
+#[cfg(test)]
 mod told;
 #[cfg(test)]
 mod wire;

@@ -1,32 +1,9 @@
 //! What the application is told of packets, calls and tables.
 
-use crate::player::{Setting, read_table, ready};
-use crate::wire::{Octets, Written, put_told, spelled};
-use att_table::Table;
+use crate::player::Setting;
+use crate::taken::{Case, Taken, play};
 use att_table::examples::{BELL, DOOR, PORCH, PORCH_NEXT};
-use gatt_host::{App, Host, KeyFacts, Notice, Peer, feed};
-use std::alloc::Global;
-use std::process::Abort;
-
-/// What is taken in, one at a time.
-#[derive(Clone, Copy)]
-enum Taken {
-    /// A packet from the controller.
-    Packet(&'static str),
-    /// A PDU of the Attribute Protocol of the connection 0040. What goes out for it is completed.
-    Pdu(&'static str),
-    /// PDUs of it, so many times, of which nothing is completed.
-    Held(usize, &'static str),
-    /// A call that is accepted.
-    Call(App<'static>),
-    /// A call that is refused.
-    Refused(App<'static>),
-    /// Another table.
-    Table(&'static str),
-}
-
-/// What is told of each.
-type Case = (Taken, &'static [Notice<'static>]);
+use gatt_host::{App, KeyFacts, Notice, Peer};
 
 const fn at(table: &'static str) -> Setting<'static> {
     Setting {
@@ -48,6 +25,47 @@ const STRANGER: Notice<'static> = Notice::Connected {
 };
 
 const GOES: Taken = Taken::Packet("04050400400013");
+
+const ANOTHER_COMES: Taken = Taken::Packet("043e130100410001010b00000000c018000000480000");
+
+const ANOTHER: Notice<'static> = Notice::Connected {
+    handle: 0x41,
+    peer: Peer {
+        kind: 1,
+        address: [0x0B, 0x00, 0x00, 0x00, 0x00, 0xC0],
+    },
+};
+
+/// Who comes and who goes, and nothing of what is ignored.
+const LINKS: &[Case] = &[
+    // A status, another role, and a handle that none has.
+    (
+        Taken::Packet("043e130101400001010a00000000c018000000480000"),
+        &[],
+    ),
+    (
+        Taken::Packet("043e130100400000010a00000000c018000000480000"),
+        &[],
+    ),
+    (
+        Taken::Packet("043e130100000f01010a00000000c018000000480000"),
+        &[],
+    ),
+    (COMES, &[STRANGER]),
+    (ANOTHER_COMES, &[ANOTHER]),
+    // There are two slots.
+    (
+        Taken::Packet("043e130100420001010c00000000c018000000480000"),
+        &[],
+    ),
+    (Taken::Packet("04050400420013"), &[]),
+    (Taken::Packet("04050401400013"), &[]),
+    (GOES, &[Notice::Disconnected { handle: 0x40 }]),
+    (
+        Taken::Packet("04050400410013"),
+        &[Notice::Disconnected { handle: 0x41 }],
+    ),
+];
 
 /// Values and configurations that are written, in the order of first entries, also where the octets
 /// stand already; nothing of what is refused, prepared or read.
@@ -143,6 +161,31 @@ const KEYS: &[Case] = &[
             value: &[0x01],
         }],
     ),
+    // Two values and a configuration, by their first entries. The first is what its last entry makes it.
+    (Taken::Pdu("160a00000002"), &[]),
+    (Taken::Pdu("160b0000000100"), &[]),
+    (Taken::Pdu("161500000061"), &[]),
+    (Taken::Pdu("160a00000003"), &[]),
+    (
+        Taken::Pdu("1801"),
+        &[
+            Notice::Written {
+                handle: 0x40,
+                attribute: 10,
+                value: &[0x03],
+            },
+            Notice::Configured {
+                handle: 0x40,
+                attribute: 11,
+                bits: 1,
+            },
+            Notice::Written {
+                handle: 0x40,
+                attribute: 21,
+                value: b"a",
+            },
+        ],
+    ),
     // The shorter key.
     (Taken::Packet("043e0d05400003030303030303030303"), &[]),
     (
@@ -202,6 +245,37 @@ const INDICATIONS: &[Case] = &[
     (Taken::Call(App::Tick(60_002)), &[]),
 ];
 
+/// Two confirmations that do not come in time.
+const TWO_INDICATIONS: &[Case] = &[
+    (COMES, &[STRANGER]),
+    (ANOTHER_COMES, &[ANOTHER]),
+    (
+        Taken::Packet("0241200900050004001204000200"),
+        &[Notice::Configured {
+            handle: 0x41,
+            attribute: 4,
+            bits: 2,
+        }],
+    ),
+    (
+        Taken::Pdu("1204000200"),
+        &[Notice::Configured {
+            handle: 0x40,
+            attribute: 4,
+            bits: 2,
+        }],
+    ),
+    (Taken::Call(App::Update(3, &[0x01])), &[]),
+    (Taken::Call(App::Tick(29_999)), &[]),
+    (
+        Taken::Call(App::Tick(30_000)),
+        &[
+            Notice::TimedOut { handle: 0x40 },
+            Notice::TimedOut { handle: 0x41 },
+        ],
+    ),
+];
+
 /// A confirmation of an indication from before a replacement confirms nothing.
 const REPLACEMENT: &[Case] = &[
     (COMES, &[STRANGER]),
@@ -248,6 +322,51 @@ const A_FULL_QUEUE: &[Case] = &[
     (GOES, &[Notice::Disconnected { handle: 0x40 }]),
 ];
 
+/// The same of an answer on another channel.
+const A_FULL_QUEUE_FOR_PAIRING: &[Case] = &[
+    (COMES, &[STRANGER]),
+    (Taken::Held(18, "0a0300"), &[]),
+    (
+        Taken::Packet("0240200b000700060001030001100000"),
+        &[Notice::Ending {
+            handle: 0x40,
+            reason: 0x13,
+        }],
+    ),
+];
+
+#[test]
+fn links_are_told(rt: HostRuntime) {
+    play(&rt, rt.alloc(), &at(DOOR), LINKS);
+}
+
+#[test]
+fn writes_are_told(rt: HostRuntime) {
+    play(&rt, rt.alloc(), &at(DOOR), WRITES);
+}
+
+#[test]
+fn keys_are_told(rt: HostRuntime) {
+    play(&rt, rt.alloc(), &at(DOOR), KEYS);
+}
+
+#[test]
+fn indications_are_told(rt: HostRuntime) {
+    play(&rt, rt.alloc(), &at(BELL), INDICATIONS);
+    play(&rt, rt.alloc(), &at(BELL), TWO_INDICATIONS);
+}
+
+#[test]
+fn a_replacement_is_no_confirmation(rt: HostRuntime) {
+    play(&rt, rt.alloc(), &at(PORCH), REPLACEMENT);
+}
+
+#[test]
+fn a_full_queue_is_told(rt: HostRuntime) {
+    play(&rt, rt.alloc(), &at(DOOR), A_FULL_QUEUE);
+    play(&rt, rt.alloc(), &at(DOOR), A_FULL_QUEUE_FOR_PAIRING);
+}
+
 /// The application ends a connection, which is told as an end of the host's own.
 const AN_END: &[Case] = &[
     (COMES, &[STRANGER]),
@@ -276,98 +395,6 @@ const AN_END: &[Case] = &[
 ];
 
 #[test]
-fn writes_are_told(rt: HostRuntime) {
-    play(&rt, rt.alloc(), &at(DOOR), WRITES);
-}
-
-#[test]
-fn keys_are_told(rt: HostRuntime) {
-    play(&rt, rt.alloc(), &at(DOOR), KEYS);
-}
-
-#[test]
-fn indications_are_told(rt: HostRuntime) {
-    play(&rt, rt.alloc(), &at(BELL), INDICATIONS);
-}
-
-#[test]
-fn a_replacement_is_no_confirmation(rt: HostRuntime) {
-    play(&rt, rt.alloc(), &at(PORCH), REPLACEMENT);
-}
-
-#[test]
-fn a_full_queue_is_told(rt: HostRuntime) {
-    play(&rt, rt.alloc(), &at(DOOR), A_FULL_QUEUE);
-}
-
-#[test]
 fn an_end_is_told(rt: HostRuntime) {
     play(&rt, rt.alloc(), &at(DOOR), AN_END);
-}
-
-/// Takes in each in turn, and compares what is told of it.
-fn play(rt: &impl Abort, alloc: Global, setting: &Setting<'_>, cases: &[Case]) {
-    let mut host = ready(rt, alloc, setting);
-    for (place, &(taken, notices)) in cases.iter().enumerate() {
-        take(rt, alloc, &mut host, taken);
-        compare(rt, &host, place, notices);
-        settle(rt, &mut host, taken);
-    }
-    drop(host);
-}
-
-/// Takes it in. What goes out for packets goes out with them.
-fn take(rt: &impl Abort, alloc: Global, host: &mut Host, taken: Taken) {
-    match taken {
-        Taken::Packet(octets) => hear(rt, host, spelled(rt, octets, 0).as_slice()),
-        Taken::Pdu(pdu) => ask(rt, host, pdu),
-        Taken::Held(times, pdu) => {
-            for _ in 0..times {
-                ask(rt, host, pdu);
-            }
-        }
-        Taken::Call(call) => {
-            assert!(rt; host.drained());
-            assert!(rt; host.app(call).is_ok());
-        }
-        Taken::Refused(call) => {
-            assert!(rt; host.drained());
-            assert!(rt; host.app(call).is_err());
-        }
-        Taken::Table(text) => replace(rt, host, read_table(rt, alloc, text)),
-    }
-}
-
-/// Octets from the controller.
-fn hear(rt: &impl Abort, host: &mut Host, octets: &[u8]) {
-    let mut written = Written::new();
-    assert!(rt; feed(host, octets, &mut written).is_ok());
-}
-
-/// A PDU of the connection.
-fn ask(rt: &impl Abort, host: &mut Host, pdu: &str) {
-    let mut octets = Octets::new();
-    put_told(rt, &mut octets, 0x40, 0x04, spelled(rt, pdu, 0).as_slice());
-    hear(rt, host, octets.as_slice());
-}
-
-fn replace(rt: &impl Abort, host: &mut Host, table: Table) {
-    assert!(rt; host.drained());
-    assert!(rt; host.replace(table).is_ok());
-}
-
-/// What goes out for calls goes out afterwards, and packets are completed.
-fn settle(rt: &impl Abort, host: &mut Host, taken: Taken) {
-    hear(rt, host, &[]);
-    if let Taken::Pdu(_) | Taken::Call(_) | Taken::Table(_) = taken {
-        hear(rt, host, &[0x04, 0x13, 0x05, 0x01, 0x40, 0x00, 0x01, 0x00]);
-    }
-}
-
-fn compare(rt: &impl Abort, host: &Host, place: usize, notices: &[Notice<'_>]) {
-    let mut told = host.notices();
-    for (number, notice) in notices.iter().enumerate() {
-        assert!(rt; told.next() == Some(*notice), "notice {number} of {place}");
-    }
-    assert!(rt; told.next().is_none(), "more at {place}");
 }

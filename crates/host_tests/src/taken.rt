@@ -1,0 +1,95 @@
+//! What a host takes in, and what its application is told of it.
+
+use crate::player::{Setting, read_table, ready};
+use crate::wire::{Octets, Written, put_told, spelled};
+use att_table::Table;
+use gatt_host::{App, Host, Notice, feed};
+use std::alloc::Global;
+use std::process::Abort;
+
+/// What is taken in, one at a time.
+#[derive(Clone, Copy)]
+pub enum Taken {
+    /// A packet from the controller.
+    Packet(&'static str),
+    /// A PDU of the Attribute Protocol of the connection 0040. What goes out for it is completed.
+    Pdu(&'static str),
+    /// PDUs of it, so many times, of which nothing is completed.
+    Held(usize, &'static str),
+    /// A call that is accepted.
+    Call(App<'static>),
+    /// A call that is refused.
+    Refused(App<'static>),
+    /// Another table.
+    Table(&'static str),
+}
+
+/// What is told of each.
+pub type Case = (Taken, &'static [Notice<'static>]);
+
+/// Takes in each in turn, and compares what is told of it.
+pub fn play(rt: &impl Abort, alloc: Global, setting: &Setting<'_>, cases: &[Case]) {
+    let mut host = ready(rt, alloc, setting);
+    for (place, &(taken, notices)) in cases.iter().enumerate() {
+        take(rt, alloc, &mut host, taken);
+        compare(rt, &host, place, notices);
+        settle(rt, &mut host, taken);
+    }
+    drop(host);
+}
+
+/// Takes it in. What goes out for packets goes out with them.
+fn take(rt: &impl Abort, alloc: Global, host: &mut Host, taken: Taken) {
+    match taken {
+        Taken::Packet(octets) => hear(rt, host, spelled(rt, octets, 0).as_slice()),
+        Taken::Pdu(pdu) => ask(rt, host, pdu),
+        Taken::Held(times, pdu) => {
+            for _ in 0..times {
+                ask(rt, host, pdu);
+            }
+        }
+        Taken::Call(call) => {
+            assert!(rt; host.drained());
+            assert!(rt; host.app(call).is_ok());
+        }
+        Taken::Refused(call) => {
+            assert!(rt; host.drained());
+            assert!(rt; host.app(call).is_err());
+        }
+        Taken::Table(text) => replace(rt, host, read_table(rt, alloc, text)),
+    }
+}
+
+/// Octets from the controller.
+fn hear(rt: &impl Abort, host: &mut Host, octets: &[u8]) {
+    let mut written = Written::new();
+    assert!(rt; feed(host, octets, &mut written).is_ok());
+}
+
+/// A PDU of the connection.
+fn ask(rt: &impl Abort, host: &mut Host, pdu: &str) {
+    let mut octets = Octets::new();
+    put_told(rt, &mut octets, 0x40, 0x04, spelled(rt, pdu, 0).as_slice());
+    hear(rt, host, octets.as_slice());
+}
+
+fn replace(rt: &impl Abort, host: &mut Host, table: Table) {
+    assert!(rt; host.drained());
+    assert!(rt; host.replace(table).is_ok());
+}
+
+/// What goes out for calls goes out afterwards, and packets are completed.
+fn settle(rt: &impl Abort, host: &mut Host, taken: Taken) {
+    hear(rt, host, &[]);
+    if let Taken::Pdu(_) | Taken::Call(_) | Taken::Table(_) = taken {
+        hear(rt, host, &[0x04, 0x13, 0x05, 0x01, 0x40, 0x00, 0x01, 0x00]);
+    }
+}
+
+fn compare(rt: &impl Abort, host: &Host, place: usize, notices: &[Notice<'_>]) {
+    let mut told = host.notices();
+    for (number, notice) in notices.iter().enumerate() {
+        assert!(rt; told.next() == Some(*notice), "notice {number} of {place}");
+    }
+    assert!(rt; told.next().is_none(), "more at {place}");
+}
