@@ -23,8 +23,8 @@ const PATHS: &[&str] = &[TABLE, PEERS, ROWS];
 
 const ADDRESS: &str = "127.0.0.1:5000";
 
-/// What the controller sends once a first phone is there: four more connect, the fourth asks for the MTU
-/// of the host, and the first for a value.
+/// What the controller sends once a first phone is there: four more connect, and there is room for three.
+/// The last of these asks for the MTU of the host, and the first phone for a value.
 const TOLD_THEN: &[&[u8]] = &[
     ENABLED,
     &[
