@@ -92,14 +92,15 @@ pub record EndsInLines (fault : ShellFault) (script : Acts) (old new : Stage) (h
 abbrev pub EndsEarly : ShellFault → Acts → Stage → Stage → Option Octets → Option Octets → Type 0
 EndsEarly fault script old new held holds = FailsToExchange fault old new held holds ⊎ EndsInLines fault script old new held holds
 
--- with a new controller; and then the rows that stand are written, as the writer has it
-pub record RunsHost (script : Acts) (old new : Whole) (next next_then : Option Contents) (held holds : Option Octets) (writes writes_front : Octets → Type 0) : Type 0 where
+-- with a new controller; and then the rows that stand are written. `writes` and `writes_front` say that octets, or the front
+-- of them, were written
+pub record RunsHost (script : Acts) (old new : Whole) (next next_then : Option Contents) (held holds : Option Octets) (writes : Octets → Type 0) : Type 0 where
   pub sim : Simulated
   pub runs : RunsAll script (stage_of old (at_start simulated) next) (stage_of new sim next_then) held holds
   pub rows : writes (text_of new.held.rows)
 
 -- or the run ends early, or the rows cannot be written; the front of the rows is written then
-pub record EndsHost (fault : ShellFault) (script : Acts) (old new : Whole) (next next_then : Option Contents) (held holds : Option Octets) (writes writes_front : Octets → Type 0) : Type 0 where
+pub record EndsHost (fault : ShellFault) (script : Acts) (old new : Whole) (next next_then : Option Contents) (held holds : Option Octets) (writes_front : Octets → Type 0) : Type 0 where
   pub sim : Simulated
   pub ends :
       EndsEarly fault script (stage_of old (at_start simulated) next) (stage_of new sim next_then) held holds
@@ -109,8 +110,8 @@ pub record EndsHost (fault : ShellFault) (script : Acts) (old new : Whole) (next
 -- by what is answered
 abbrev pub HostRuns : Result (Unit {0}) ShellFault → Acts → Whole → Whole → Option Contents → Option Contents
     → Option Octets → Option Octets → (Octets → Type 0) → (Octets → Type 0) → Type 0
-HostRuns (Ok done) script old new next next_then held holds writes writes_front = RunsHost script old new next next_then held holds writes writes_front
-HostRuns (Err fault) script old new next next_then held holds writes writes_front = EndsHost fault script old new next next_then held holds writes writes_front
+HostRuns (Ok done) script old new next next_then held holds writes writes_front = RunsHost script old new next next_then held holds writes
+HostRuns (Err fault) script old new next next_then held holds writes writes_front = EndsHost fault script old new next next_then held holds writes_front
 
 -- with a new host, and the script of a file, as far as its octets are known
 pub record RunsFile (result : Result (Unit {0}) ShellFault) (table : Contents) (next : Option Contents) (keys : List Entry) (rows : Subscriptions) (script_file held holds : Option Octets) (writes writes_front : Octets → Type 0) : Type 0 where
