@@ -1,6 +1,9 @@
 ghost use Rattle.std.specs.Prelude.{◌≡◌};
 ghost use Rattle.gatt_host.specs.Numbers.{number_of_refusal};
 
+use std::error::Error;
+use std::fmt;
+
 /// What an application asks of a host.
 #[derive(Clone, Copy, Debug, PartialEq, Eq)]
 pub enum App<'a> {
@@ -52,3 +55,23 @@ impl AppFault {
         }
     }
 }
+
+impl fmt::Display for AppFault {
+    fn fmt<W: fmt::Write>(&self, f: &mut fmt::Formatter<W>) -> fmt::Result {
+        f.write_str(match self {
+            AppFault::NoSuchHandle => "there is no attribute with the handle",
+            AppFault::NotAValue => "it is no characteristic value",
+            AppFault::BadLength => {
+                "the value is longer than its largest length, or a fixed one has another length"
+            }
+            AppFault::NoSuchConnection => "no connection with the handle serves",
+            AppFault::TimeWentBack => "the time is before the one that stands",
+            AppFault::Stopped => "the host has stopped",
+            AppFault::NoServiceChanged => {
+                "a table has no value that tells of changes, or they have it at different handles"
+            }
+        })
+    }
+}
+
+impl Error for AppFault {}

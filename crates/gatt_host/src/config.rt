@@ -1,6 +1,8 @@
 //! What a host is opened with, beside its files.
 
 use arrayvec::ArrayVec;
+use std::error::Error;
+use std::fmt;
 
 /// How many connections a host may have, what it receives, and how it advertises.
 #[derive(Clone, Debug, PartialEq, Eq, Drop)]
@@ -25,3 +27,14 @@ pub enum OpenFault {
     /// Memory was refused.
     OutOfMemory,
 }
+
+impl fmt::Display for OpenFault {
+    fn fmt<W: fmt::Write>(&self, f: &mut fmt::Formatter<W>) -> fmt::Result {
+        match self {
+            OpenFault::BadConfig => write!(f, "the configuration is out of its limits"),
+            OpenFault::OutOfMemory => write!(f, "memory was refused"),
+        }
+    }
+}
+
+impl Error for OpenFault {}

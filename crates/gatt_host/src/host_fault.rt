@@ -2,6 +2,8 @@ ghost use Rattle.std.specs.Prelude.{◌≡◌};
 ghost use Rattle.gatt_host.specs.Numbers.{number_of_fault};
 
 use le_hci::InitFault;
+use std::error::Error;
+use std::fmt;
 
 /// Why a host stops for good, or why it could not go on serving.
 #[derive(Clone, Copy, Debug, PartialEq, Eq)]
@@ -38,3 +40,29 @@ impl HostFault {
         }
     }
 }
+
+impl fmt::Display for HostFault {
+    fn fmt<W: fmt::Write>(&self, f: &mut fmt::Formatter<W>) -> fmt::Result {
+        match self {
+            HostFault::Desync(octet) => {
+                write!(
+                    f,
+                    "the octet {octet:02x} stands where a packet begins, and begins none"
+                )
+            }
+            HostFault::BadEvent(code) => write!(
+                f,
+                "the event {code:02x} is too short for its fields, or has another length than it states"
+            ),
+            HostFault::Init(_) => write!(f, "the controller could not be initialised"),
+            HostFault::Hardware(code) => {
+                write!(f, "the controller reports an error of its own, {code:02x}")
+            }
+            HostFault::Read => write!(f, "octets could not be read"),
+            HostFault::Write => write!(f, "octets could not be written"),
+            HostFault::Turns => write!(f, "as many turns are over as there may be"),
+        }
+    }
+}
+
+impl Error for HostFault {}

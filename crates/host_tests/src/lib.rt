@@ -50,3 +50,5 @@ mod taken;
 mod told;
 #[cfg(test)]
 mod wire;
+#[cfg(test)]
+mod words;

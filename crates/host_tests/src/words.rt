@@ -1,0 +1,55 @@
+//! What faults say.
+
+use gatt_host::{AppFault, Fault, HostFault, KeyFault, OpenFault, RowsFault, TableFault};
+use std::alloc::Global;
+use std::process::Abort;
+
+/// A fault of each kind, and its words.
+const WORDS: &[(Fault, &str)] = &[
+    (
+        Fault::Table(TableFault::BadUuid),
+        "table: a uuid is none, or is one that may not stand there",
+    ),
+    (
+        Fault::Keys(KeyFault::BadSize),
+        "keys: a size is out of its range",
+    ),
+    (
+        Fault::Rows(RowsFault::Twice(3)),
+        "rows: line 3 says what an earlier one has said",
+    ),
+    (
+        Fault::Open(OpenFault::BadConfig),
+        "the configuration is out of its limits",
+    ),
+    (
+        Fault::Host(HostFault::Desync(0x07)),
+        "the octet 07 stands where a packet begins, and begins none",
+    ),
+    (
+        Fault::Host(HostFault::Hardware(0x42)),
+        "the controller reports an error of its own, 42",
+    ),
+    (
+        Fault::Call(AppFault::NoSuchConnection),
+        "no connection with the handle serves",
+    ),
+];
+
+fn says(alloc: Global, fault: Fault, words: &str) -> bool {
+    match format!(in alloc; "{fault}") {
+        Ok(text) => text.as_str() == words,
+        Err(_) => false,
+    }
+}
+
+fn say_each(rt: &impl Abort, alloc: Global, faults: &[(Fault, &str)]) {
+    for &(fault, words) in faults {
+        assert!(rt; says(alloc, fault, words), "{words}");
+    }
+}
+
+#[test]
+fn words_of_faults(rt: HostRuntime) {
+    say_each(&rt, rt.alloc(), WORDS);
+}
