@@ -33,6 +33,7 @@ use att_table::Table;
 use gatt_subs::Rows;
 use le_acl::Reassembler;
 use le_h4::{Deframer, PacketBuf, PacketRef};
+use le_security::Keys;
 use octets::overwrite;
 use std::marker::Model;
 
@@ -235,6 +236,21 @@ impl Host {
             → result.now ≡ (course start input).intake.state.room.table }
     {
         &self.state.table
+    }
+
+    /// The table with its values, the keys and the rows, to go on with: also after a fault.
+    pub fn into_parts(self) -> (Table, Keys, Rows)
+        ensures table { result.0 ≡ self.held.table }
+        ensures keys { result.1 ≡ self.held.keys }
+        ensures rows { result.2 ≡ self.held.rows }
+    {
+        let HostState {
+            table,
+            keys,
+            rows,
+            ..
+        } = self.state;
+        (table, keys, rows)
     }
 }
 
