@@ -18,3 +18,4 @@ pub mod StreamTold
 pub mod Hearing
 pub mod HearingTurns
 pub mod Rows
+pub mod Deadlines

@@ -5,6 +5,7 @@ ghost use Rattle.std.specs.Prelude.{◌≡◌, ◌<◌, ◌≤◌, ◌∷◌, []
 ghost use Rattle.std.specs.Bool.{OnTrue, OnFalse};
 ghost use Rattle.std.specs.Option.{option_map};
 ghost use Rattle.std.specs.Result.{result_err};
+ghost use Rattle.gatt_laws.specs.Deadline.{deadline, TellsFromTheDeadlineOn};
 ghost use Rattle.gatt_laws.specs.Input.{course, call_refusal, replacement_refusal, Item, APacket, ACall, ATable};
 ghost use Rattle.gatt_laws.specs.Start.{Start};
 ghost use Rattle.gatt_laws.specs.Telling.{TellsTheApplication};
@@ -18,6 +19,7 @@ ghost use Rattle.gatt_host.specs.Stands.{rows_of};
 ghost use Rattle.gatt_host.specs.Promises.{KeepsConnectionsApart, KeepsThePolicy};
 ghost use Rattle.gatt_host.specs.Whole.{all_out, is_own, outcome_of, Leads, StandsAt, Takes};
 ghost use Rattle.gatt_host.specs.Telling.{notices_told, silent, TellsOf, TellsOfAll};
+ghost use Rattle.gatt_slots.specs.Slots.{slots_deadline};
 ghost use Rattle.le_h4.specs.Division.{is_long};
 ghost use Rattle.le_h4.specs.Packet.{seen};
 ghost use Rattle.octets.specs.Number.{Octets};
@@ -236,6 +238,19 @@ impl Host {
             → result.now ≡ (course start input).intake.state.room.table }
     {
         &self.state.table
+    }
+
+    /// The least time, in milliseconds, at which an indication that is not confirmed is late; none where
+    /// every one is confirmed. Until then no time has to be told.
+    #[tactic(auto, using(crate::proofs::whole::Deadlines::tells_from_the_deadline))]
+    pub fn deadline(&self) -> Option<u64>
+        ensures held { result ≡ slots_deadline self.now.held.slots }
+        ensures course { (start : Start) (input : List Item) (gone : List Octets) → StandsAt (course start input) gone self.now
+            → result ≡ deadline (course start input).intake.state }
+        // And of every state, for every time:
+        ensures told { TellsFromTheDeadlineOn }
+    {
+        self.state.slots.deadline()
     }
 
     /// The table with its values, the keys and the rows, to go on with: also after a fault.

@@ -3,6 +3,7 @@ pub mod Always
 pub mod AnswersAlike
 pub mod ChangersAlike
 pub mod Courses
+pub mod Deadline
 pub mod Ends
 pub mod Given
 pub mod Headline

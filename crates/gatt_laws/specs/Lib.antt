@@ -2,6 +2,7 @@ pub mod Alike
 pub mod AllowedNotices
 pub mod Calls
 pub mod Controller
+pub mod Deadline
 pub mod Event
 pub mod Given
 pub mod Headline

@@ -1,6 +1,6 @@
 -- All slots of a host, in their order.
-use Rattle.std.specs.Prelude.{ℕ, ◌+◌, ◌==◌, ◌<◌, ◌&&◌, Bool, false, not, is_none, if◌then◌else◌, List, [], ◌∷◌, length, map, set, slice_get, Option, None, IsSome}
-use Rattle.std.specs.List.{flat_map, position}
+use Rattle.std.specs.Prelude.{ℕ, ◌+◌, ◌==◌, ◌<◌, ◌&&◌, Bool, false, not, is_none, if◌then◌else◌, List, [], ◌∷◌, length, map, set, slice_get, min, filter_map, Option, Some, None, IsSome}
+use Rattle.std.specs.List.{flat_map, position, reduce}
 use Rattle.std.specs.Option.{option_map, option_map_or}
 use Rattle.att_numbers.specs.Types.{Handle, Row}
 use Rattle.att_attributes.specs.declared.attr.Attr.{Attr}
@@ -8,6 +8,7 @@ use Rattle.att_table.specs.Table.{Contents}
 use Rattle.gatt_slots.specs.Hearing.{after_hearing, after_raising, row_in_force}
 use Rattle.gatt_slots.specs.Kept.{Kept}
 use Rattle.gatt_slots.specs.Turn.{after_completed, after_table, after_time}
+use Rattle.gatt_subs.specs.Deadline.{deadline_of}
 use Rattle.gatt_subs.specs.Indications.{times_out}
 use Rattle.gatt_subs.specs.Rows.{Subscriptions, row_of}
 use Rattle.le_hci.specs.declared.event.CompletedPackets.{CompletedPackets}
@@ -94,6 +95,14 @@ late_handle now kept = if times_out kept.pending now then kept.handle ∷ [] els
 
 abbrev pub late_handles : ℕ → Held → List ℕ
 late_handles now slots = flat_map (λ (slot : Option Kept). option_map_or (late_handle now) slot []) slots
+
+-- when the first indication of a connection is late
+abbrev pub kept_deadline : Option Kept → Option ℕ
+kept_deadline None = None
+kept_deadline (Some kept) = deadline_of kept.pending
+
+abbrev pub slots_deadline : Held → Option ℕ
+slots_deadline slots = reduce min (filter_map kept_deadline slots)
 
 -- time has gone by for all, and the table is replaced for all
 abbrev pub all_after_time : ℕ → Held → Held

@@ -5,7 +5,7 @@ ghost use Rattle.std.specs.Option.{option_map_or, option_to_list};
 ghost use Rattle.le_hci.specs.Event.{completed_packets_of};
 ghost use Rattle.gatt_slots.specs.Handles.{AreNoted};
 ghost use Rattle.gatt_slots.specs.Places.{IsMarked};
-ghost use Rattle.gatt_slots.specs.Slots.{after_entries, after_entry, all_after_table, all_after_time, is_serving, late_handles, place_free, place_serving, IsThere};
+ghost use Rattle.gatt_slots.specs.Slots.{after_entries, after_entry, all_after_table, all_after_time, is_serving, kept_deadline, late_handles, place_free, place_serving, slots_deadline, IsThere};
 
 use crate::handles::Handles;
 use crate::marks::Marks;
@@ -47,6 +47,25 @@ impl Slot {
     {
         self.used == Use::Live
     }
+}
+
+impl Slot {
+    /// When the indication of its connection that is not confirmed is late, in milliseconds.
+    fn deadline(&self) -> Option<u64>
+        ensures { result ≡ kept_deadline self.now }
+    {
+        if self.used == Use::Free {
+            return None;
+        }
+        self.pending.deadline()
+    }
+}
+
+/// The least time at which an indication is late, in milliseconds.
+pub(crate) fn first_deadline(slots: &[Slot]) -> Option<u64>
+    ensures { result ≡ slots_deadline slots.now }
+{
+    slots.iter().filter_map(|slot| slot.deadline()).min()
 }
 
 /// Takes in the time, in milliseconds, with the handles of the connections that are timed out by it in

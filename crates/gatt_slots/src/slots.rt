@@ -7,14 +7,14 @@ ghost use Rattle.gatt_laws.specs.Turn.{channel_answer, gained_encryption};
 ghost use Rattle.gatt_slots.specs.Hearing.{row_in_force};
 ghost use Rattle.gatt_slots.specs.Places.{CoversHeard};
 ghost use Rattle.gatt_slots.specs.Request.{bond_served, confirmed_of, handles_of, is_full, kept_served, table_after};
-ghost use Rattle.gatt_slots.specs.Slots.{after_entries, all_after_table, all_after_time, all_heard, at_place, kept_at, late_handles, place_free, place_holding, place_serving, row_there, slots_at, IsThere};
+ghost use Rattle.gatt_slots.specs.Slots.{after_entries, all_after_table, all_after_time, all_heard, at_place, kept_at, late_handles, place_free, place_holding, place_serving, row_there, slots_at, slots_deadline, IsThere};
 ghost use Rattle.gatt_slots.specs.Turn.{after_authorizing, after_ending, after_key_asked, after_link_step, after_signal, come, has_no_room};
 ghost use Rattle.gatt_subs.specs.Rows.{owes, row_of, ChangesBond};
 ghost use Rattle.le_hci.specs.Event.{completed_packets_of};
 ghost use Rattle.le_security.specs.Keys.{answer_of};
 ghost use Rattle.le_security.specs.Link.{after_step, Encryption, Refresh};
 
-use crate::each::{complete_all, find_free, find_serving, replace_all, tick_all};
+use crate::each::{complete_all, find_free, find_serving, first_deadline, replace_all, tick_all};
 use crate::handles::Handles;
 use crate::marks::Marks;
 use crate::places::Places;
@@ -108,6 +108,13 @@ impl Slots {
         ensures few { IfSome result (λ place. place < 8) }
     {
         find_free(self.slots.as_slice())
+    }
+
+    /// The least time at which an indication that is not confirmed is late, in milliseconds.
+    pub fn deadline(&self) -> Option<u64>
+        ensures { result ≡ slots_deadline self.now }
+    {
+        first_deadline(self.slots.as_slice())
     }
 
     /// Authorizes the connection of a slot while the time is below a moment, in milliseconds.

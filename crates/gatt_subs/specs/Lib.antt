@@ -1,3 +1,4 @@
+pub mod Deadline
 pub mod Hearing
 pub mod HeardOnly
 pub mod InOrder

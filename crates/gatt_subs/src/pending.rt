@@ -1,6 +1,7 @@
 ghost use Rattle.std.specs.Prelude.{◌≡◌, ◌≢◌, ◌<◌, ◌≤◌, true, IfSome, []};
 ghost use Rattle.std.specs.Bool.{OnTrue, OnFalse};
 ghost use Rattle.att_attributes.specs.Attributes.{is_value_at};
+ghost use Rattle.gatt_subs.specs.Deadline.{deadline_of};
 ghost use Rattle.gatt_subs.specs.Hearing.{is_indicated};
 ghost use Rattle.gatt_subs.specs.HeardOnly.{RaisesOnlyWhatIsHeard, ReleasesOnlyWhatIsHeard, ReleasesOnlyWhatWaits};
 ghost use Rattle.gatt_subs.specs.Indications.{after_confirmation, after_end, after_raise, after_release, after_replacement, after_tick, confirmed_handle, first_of, from_due, is_notified, is_told, is_waiting, no_indications, released_handle, rest_of, times_out, with_handle, HaveOnePlace};
@@ -176,6 +177,14 @@ impl Pending {
             self.timed_out = true;
         }
         is_late
+    }
+
+    /// When the indication that is not confirmed is late, in milliseconds; none where nothing is
+    /// unconfirmed, and where no time of 64 bits is so late.
+    pub fn deadline(&self) -> Option<u64>
+        ensures deadline { result ≡ deadline_of self.now }
+    {
+        self.unconfirmed?.since.checked_add(CONFIRMATION_TIMEOUT)
     }
 
     /// Takes in that the table was replaced: nothing waits any more, and an indication that is not

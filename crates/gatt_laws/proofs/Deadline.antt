@@ -1,0 +1,74 @@
+-- A time tells of somebody who did not confirm from the deadline on.
+use Rattle.std.proofs.Common.{◌≡◌, ℕ, ◌<◌, Bool, true, false, List, [], ◌∷◌, Option, Some, None, refl, sym, ap, ◌∙◌, arith}
+use Rattle.std.specs.Prelude.{◌^◌, ◌||◌, min, nat_le, nat_lt, fold, filter_map, if◌then◌else◌}
+use Rattle.std.specs.List.{list_any, reduce, flat_map, cons_option}
+use Rattle.std.specs.Option.{option_and_then, option_map_or}
+use Rattle.std.proofs.lemmas.List.Folds.{list_any-append}
+use Rattle.gatt_laws.specs.Controller.{Slots}
+use Rattle.gatt_laws.specs.Deadline.{slot_deadline, is_late_told, is_reached, TellsFromTheDeadlineOn}
+use Rattle.gatt_laws.specs.Notice.{Notice, TimedOut, noticed, late_told, slot_told}
+use Rattle.gatt_laws.specs.State.{State}
+use Rattle.gatt_subs.specs.declared.pending.Unconfirmed.{Unconfirmed}
+use Rattle.gatt_subs.specs.Deadline.{late_at, late_from}
+use Rattle.gatt_subs.specs.Indications.{is_late}
+
+module _ (time : ℕ) where
+  abbrev has-come : ℕ → Bool
+  has-come least = nat_le least time
+
+  or-none : (one : Bool) → one ≡ (one || false)
+  or-none true = refl
+  or-none false = refl
+
+  or-assoc : (one other third : Bool) → ((one || other) || third) ≡ (one || (other || third))
+  or-assoc true other third = refl
+  or-assoc false other third = refl
+
+  least-come : (one other : ℕ) → has-come (min one other) ≡ (has-come one || has-come other)
+  least-come one other = grind arith
+
+  fold-come : (first : ℕ) (times : List ℕ) → has-come (fold min first times) ≡ (has-come first || list_any has-come times)
+  fold-come first [] = or-none (has-come first)
+  fold-come first (next ∷ times) =
+      fold-come (min first next) times
+      ∙ ap (λ (one : Bool). one || list_any has-come times) (least-come first next)
+      ∙ or-assoc (has-come first) (has-come next) (list_any has-come times)
+
+  -- the least of some times has come where one of them has
+  reached : (times : List ℕ) → list_any has-come times ≡ is_reached (reduce min times) time
+  reached [] = refl
+  reached (first ∷ times) = sym (fold-come first times)
+
+  abbrev told : ℕ → Bool → List Notice
+  told handle late = if late then TimedOut handle ∷ [] else []
+
+  either : (handle at : ℕ) (rest : List ℕ) (late within : Bool) → nat_le at time ≡ late → nat_lt at (2 ^ 64) ≡ within → time < 2 ^ 64
+      → (list_any is_late_told (told handle late) || list_any has-come rest)
+      ≡ list_any has-come (cons_option (if within then Some at else None) rest)
+  either handle at rest true true late within few = ap (λ (one : Bool). one || list_any has-come rest) (sym late)
+  either handle at rest false true late within few = ap (λ (one : Bool). one || list_any has-come rest) (sym late)
+  either handle at rest true false late within few = absurd (grind (arith, late, within, few))
+  either handle at rest false false late within few = refl
+
+  one-told : (handle : ℕ) (unconfirmed : Option Unconfirmed) (rest : List ℕ) → time < 2 ^ 64
+      → (list_any is_late_told (told handle (option_map_or (is_late time) unconfirmed false)) || list_any has-come rest)
+      ≡ list_any has-come (cons_option (option_and_then late_from unconfirmed) rest)
+  one-told handle None rest few = refl
+  one-told handle (Some unconfirmed) rest few =
+      let at = late_at unconfirmed in
+      either handle at rest (nat_le at time) (nat_lt at (2 ^ 64)) refl refl few
+
+  slots-told : (state : State) (slots : Slots) → time < 2 ^ 64
+      → list_any is_late_told (flat_map (slot_told state time) slots) ≡ list_any has-come (filter_map (slot_deadline state) slots)
+  slots-told state [] few = refl
+  slots-told state (None ∷ slots) few = slots-told state slots few
+  slots-told state (Some ordinal ∷ slots) few =
+      let part = state.parts ordinal in
+      list_any-append is_late_told (late_told time part) (flat_map (slot_told state time) slots)
+      ∙ ap (λ (later : Bool). list_any is_late_told (late_told time part) || later) (slots-told state slots few)
+      ∙ one-told part.handle part.pending.unconfirmed (filter_map (slot_deadline state) slots) few
+
+pub tells_from_the_deadline_on : TellsFromTheDeadlineOn
+unfolding noticed
+tells_from_the_deadline_on state time few =
+    slots-told time state state.slots few ∙ reached time (filter_map (slot_deadline state) state.slots)
