@@ -1,9 +1,8 @@
 -- A confirmation is answered by nothing, so one is never kept from being served for want of room.
-use Rattle.std.proofs.Common.{◌≡◌, ℕ, Bool, true, false, [], ◌∷◌, Option, Some, None, refl, sym, ap, subst, ◌∙◌}
-use Rattle.std.specs.Prelude.{◌==◌, ◌&&◌, nat_le, if◌then◌else◌, Result, Ok, Err, IfSome}
+use Rattle.std.proofs.Common.{◌≡◌, ℕ, Bool, true, false, [], ◌∷◌, Option, Some, None, refl, sym, ap, subst}
+use Rattle.std.specs.Prelude.{◌&&◌, nat_le, if◌then◌else◌, Ok, Err, IfSome}
 use Rattle.std.proofs.lemmas.Bool.{eqb-true}
 use Rattle.att_numbers.specs.declared.opcode.TheConstants.{HANDLE_VALUE_CONFIRMATION}
-use Rattle.att_numbers.specs.Types.{Handle}
 use Rattle.att_pdu.specs.declared.grammar.PduFault.TheVariants.{Ignored}
 use Rattle.att_pdu.specs.Form.{form_of}
 use Rattle.att_pdu.specs.Grammar.{fault_of, is_due, request_of}

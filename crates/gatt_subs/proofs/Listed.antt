@@ -39,11 +39,10 @@ once-in-order (first ∷ peers) peer once lacks =
     let apart = neither (same_peer first peer) (has_peer peers peer) lacks in
     elim (nat_lt (rank_of peer) (rank_of first)) as (λ before. IsEachOnce (if before then peer ∷ first ∷ peers else first ∷ in_order rank_of peer peers)) [
       | true ↦ (lacks, once)
-      | false ↦
-          (
-            has_in_order peers peer first ∙ ap (λ same. same || has_peer peers first) (swap-apart first peer apart.0) ∙ once.0,
-            once-in-order peers peer once.1 apart.1,
-          )
+      | false ↦ (
+        has_in_order peers peer first ∙ ap (λ same. same || has_peer peers first) (swap-apart first peer apart.0) ∙ once.0,
+        once-in-order peers peer once.1 apart.1,
+      )
     ]
 
 once-with_peer : (peers : List Peer) (peer : Peer) → IsEachOnce peers → IsEachOnce (with_peer peers peer)
