@@ -18,4 +18,6 @@ pub mod StreamTold
 pub mod Hearing
 pub mod HearingTurns
 pub mod Rows
+pub mod Slots
+pub mod Seen
 pub mod Deadlines

@@ -17,3 +17,4 @@ pub mod Promises
 pub mod Notices
 pub mod Telling
 pub mod Listening
+pub mod Connections

@@ -10,6 +10,7 @@ ghost use Rattle.gatt_laws.specs.Input.{course, call_refusal, replacement_refusa
 ghost use Rattle.gatt_laws.specs.Start.{Start};
 ghost use Rattle.gatt_laws.specs.Telling.{TellsTheApplication};
 ghost use Rattle.gatt_host.specs.Asked.{call_of, refusal_of, replacing_refusal_of};
+ghost use Rattle.gatt_host.specs.Connections.{connections_of};
 ghost use Rattle.gatt_host.specs.Credits.{most_out};
 ghost use Rattle.gatt_host.specs.Feeding.{items_taken, TakesUpToAPacket};
 ghost use Rattle.gatt_host.specs.GoingOut.{is_drained};
@@ -19,12 +20,14 @@ ghost use Rattle.gatt_host.specs.Stands.{rows_of};
 ghost use Rattle.gatt_host.specs.Promises.{KeepsConnectionsApart, KeepsThePolicy};
 ghost use Rattle.gatt_host.specs.Whole.{all_out, is_own, outcome_of, Leads, StandsAt, Takes};
 ghost use Rattle.gatt_host.specs.Telling.{notices_told, silent, TellsOf, TellsOfAll};
+ghost use Rattle.gatt_slots.specs.Connections.{connections_in};
 ghost use Rattle.gatt_slots.specs.Slots.{slots_deadline};
 ghost use Rattle.le_h4.specs.Division.{is_long};
 ghost use Rattle.le_h4.specs.Packet.{seen};
 ghost use Rattle.octets.specs.Number.{Octets};
 
 use crate::app::{App, AppFault};
+use crate::connections::Connections;
 use crate::host_fault::HostFault;
 use crate::host_state::HostState;
 use crate::iter::Notices;
@@ -251,6 +254,18 @@ impl Host {
         ensures told { TellsFromTheDeadlineOn }
     {
         self.state.slots.deadline()
+    }
+
+    /// Who is connected: each connection that is there, in the order of the slots.
+    pub fn connections(&self) -> Connections<'_>
+        ensures held { result ≡ connections_in self.now.held.slots }
+        ensures course { (start : Start) (input : List Item) (gone : List Octets) → StandsAt (course start input) gone self.now
+            → result ≡ connections_of (course start input).intake.state }
+    {
+        Connections {
+            slots: &self.state.slots,
+            place: 0,
+        }
     }
 
     /// The table with its values, the keys and the rows, to go on with: also after a fault.

@@ -10,3 +10,4 @@ pub mod AtPlace
 pub mod InTurn
 pub mod Noted
 mod Late
+pub mod Seen

@@ -7,3 +7,4 @@ pub mod Request
 pub mod Slots
 pub mod Places
 pub mod Handles
+pub mod Connections

@@ -2,6 +2,7 @@
 //! goes out on it.
 #![tactic(auto)]
 
+mod connection;
 mod each;
 mod going_out;
 mod handles;
@@ -14,6 +15,7 @@ mod slots;
 mod telling;
 mod turn;
 
+pub use connection::Connection;
 pub use request::Brought;
 pub use slots::Slots;
 pub use turn::{AUTHENTICATION_FAILURE, REMOTE_USER_TERMINATED};

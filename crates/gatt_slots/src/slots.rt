@@ -4,6 +4,7 @@ ghost use Rattle.std.specs.Prelude.{◌≡◌, false, ◌<◌, ◌≤◌, ◌^�
 ghost use Rattle.std.specs.List.{list_any};
 ghost use Rattle.att_table.specs.ConfigRow.{bits_at, IsRowOf};
 ghost use Rattle.gatt_laws.specs.Turn.{channel_answer, gained_encryption};
+ghost use Rattle.gatt_slots.specs.Connections.{FindsNext};
 ghost use Rattle.gatt_slots.specs.Hearing.{row_in_force};
 ghost use Rattle.gatt_slots.specs.Places.{CoversHeard};
 ghost use Rattle.gatt_slots.specs.Request.{bond_served, confirmed_of, handles_of, is_full, kept_served, table_after};
@@ -14,6 +15,7 @@ ghost use Rattle.le_hci.specs.Event.{completed_packets_of};
 ghost use Rattle.le_security.specs.Keys.{answer_of};
 ghost use Rattle.le_security.specs.Link.{after_step, Encryption, Refresh};
 
+use crate::connection::{Connection, next_connection};
 use crate::each::{complete_all, find_free, find_serving, first_deadline, replace_all, tick_all};
 use crate::handles::Handles;
 use crate::marks::Marks;
@@ -115,6 +117,13 @@ impl Slots {
         ensures { result ≡ slots_deadline self.now }
     {
         first_deadline(self.slots.as_slice())
+    }
+
+    /// The first connection of a slot from a place on, and the place behind that slot.
+    pub fn next_connection(&self, from: usize) -> Option<(usize, Connection)>
+        ensures { FindsNext self.now from result }
+    {
+        next_connection(self.slots.as_slice(), from)
     }
 
     /// Authorizes the connection of a slot while the time is below a moment, in milliseconds.

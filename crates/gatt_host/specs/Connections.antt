@@ -1,0 +1,31 @@
+-- The connections that the application can see, wherever a host stands.
+use Rattle.std.specs.Prelude.{◌≡◌, not, List, [], ◌∷◌, filter_map, Option, Some, None}
+use Rattle.gatt_laws.specs.Event.{Ordinal}
+use Rattle.gatt_laws.specs.Part.{Part, is_live, key_of, mtu_of}
+use Rattle.gatt_laws.specs.Room.{Room}
+use Rattle.gatt_laws.specs.State.{State}
+use Rattle.gatt_slots.specs.declared.connection.Connection.{Connection}
+
+-- one connection: it is ending where it does not serve any more
+abbrev pub part_seen : Room → Part → Connection
+part_seen room part = record {
+  handle = part.handle;
+  peer = part.peer;
+  mtu = mtu_of room part;
+  key = key_of part;
+  authorized_until = part.until;
+  ending = not (is_live part.mark);
+}
+
+abbrev pub ordinal_seen : State → Option Ordinal → Option Connection
+ordinal_seen state None = None
+ordinal_seen state (Some ordinal) = Some (part_seen state.room (state.parts ordinal))
+
+-- and all that have a slot, in the order of the slots
+abbrev pub connections_of : State → List Connection
+connections_of state = filter_map (ordinal_seen state) state.slots
+
+-- the first of those that are left is handed out, as long as there is one
+abbrev pub HandsOutTheFirst : List Connection → Option Connection → List Connection → Type 0
+HandsOutTheFirst old None new = (old ≡ []) × (new ≡ old)
+HandsOutTheFirst old (Some connection) new = old ≡ connection ∷ new

@@ -1,0 +1,57 @@
+//! What the application can see of a connection.
+
+ghost use Rattle.std.specs.Prelude.{◌≡◌};
+ghost use Rattle.std.specs.Option.{option_map};
+ghost use Rattle.gatt_slots.specs.Connections.{kept_connection, FindsNext};
+
+use crate::slot::{Slot, Use};
+use att_policy::KeyFacts;
+use le_hci::Peer;
+
+/// A connection as it stands.
+#[derive(Clone, Copy, Debug, PartialEq, Eq)]
+pub struct Connection {
+    /// As it has it in HCI.
+    pub handle: u16,
+    pub peer: Peer,
+    /// The ATT_MTU, in octets.
+    pub mtu: u16,
+    /// What is known of the key of its link, if that has one.
+    pub key: Option<KeyFacts>,
+    /// It is authorized while the time is below this, in milliseconds.
+    pub authorized_until: u64,
+    /// The host ends it: it is served no more, and is not gone yet.
+    pub ending: bool,
+}
+
+impl Slot {
+    /// Its connection, if it has one.
+    fn connection(&self) -> Option<Connection>
+        ensures { result ≡ option_map kept_connection self.now }
+    {
+        if self.used == Use::Free {
+            return None;
+        }
+        Some(Connection {
+            handle: self.handle,
+            peer: self.peer,
+            mtu: self.conn.mtu(),
+            key: self.link.facts(),
+            authorized_until: self.until,
+            ending: self.used == Use::Ending,
+        })
+    }
+}
+
+/// The first connection of slots from a place on, and the place behind its slot.
+#[tactic(auto, using(crate::proofs::Seen::seen_more, crate::proofs::Seen::seen_none))]
+pub(crate) fn next_connection(slots: &[Slot], from: usize) -> Option<(usize, Connection)>
+    ensures { FindsNext slots.now from result }
+{
+    for place in from..slots.len() {
+        if let Some(connection) = slots[place].connection() {
+            return Some((place + 1, connection));
+        }
+    }
+    None
+}
