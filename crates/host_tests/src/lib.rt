@@ -37,6 +37,8 @@ mod player;
 #[cfg(test)]
 mod requests;
 #[cfg(test)]
+mod seen;
+#[cfg(test)]
 mod serving;
 #[cfg(test)]
 mod shares;

@@ -38,6 +38,12 @@ pub fn play(rt: &impl Abort, alloc: Global, setting: &Setting<'_>, cases: &[Case
     drop(host);
 }
 
+/// Takes it in, and lets go out what goes out for it.
+pub fn go_on(rt: &impl Abort, alloc: Global, host: &mut Host, taken: Taken) {
+    take(rt, alloc, host, taken);
+    settle(rt, host, taken);
+}
+
 /// Takes it in. What goes out for packets goes out with them.
 fn take(rt: &impl Abort, alloc: Global, host: &mut Host, taken: Taken) {
     match taken {

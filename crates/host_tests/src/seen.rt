@@ -1,0 +1,174 @@
+//! What can be seen of a host: when an indication is late, who is connected, and what is left of it.
+
+use crate::player::{Setting, ready};
+use crate::taken::{Taken, go_on};
+use crate::wire::Written;
+use att_table::Table;
+use att_table::examples::{BELL, DOOR};
+use gatt_host::{App, Connection, Host, Peer, feed};
+use std::alloc::Global;
+use std::process::Abort;
+
+const fn at(table: &'static str) -> Setting<'static> {
+    Setting {
+        table,
+        slots: 2,
+        rx_mtu: 247,
+        packets: 4,
+    }
+}
+
+const COMES: Taken = Taken::Packet("043e130100400001010a00000000c018000000480000");
+
+const ANOTHER_COMES: Taken = Taken::Packet("043e130100410001010b00000000c018000000480000");
+
+/// Indications to two, of which one confirms, and one is ended.
+const DEADLINES: &[(Taken, Option<u64>)] = &[
+    (COMES, None),
+    (ANOTHER_COMES, None),
+    (Taken::Pdu("1204000200"), None),
+    (Taken::Packet("0241200900050004001204000200"), None),
+    (Taken::Call(App::Tick(5)), None),
+    (Taken::Call(App::Update(3, &[0x01])), Some(30_005)),
+    (Taken::Call(App::Tick(6)), Some(30_005)),
+    (Taken::Pdu("1e"), Some(30_005)),
+    (Taken::Call(App::Update(3, &[0x02])), Some(30_005)),
+    (Taken::Call(App::Tick(30_004)), Some(30_005)),
+    // The other is late, and this one is not yet.
+    (Taken::Call(App::Tick(30_005)), Some(30_006)),
+    (Taken::Call(App::Disconnect(0x40)), None),
+];
+
+fn play(rt: &impl Abort, alloc: Global, cases: &[(Taken, Option<u64>)]) {
+    let mut host = ready(rt, alloc, &at(BELL));
+    for (place, &(taken, deadline)) in cases.iter().enumerate() {
+        go_on(rt, alloc, &mut host, taken);
+        assert!(rt; host.deadline() == deadline, "deadline {place}");
+    }
+    drop(host);
+}
+
+#[test]
+fn deadlines_are_known(rt: HostRuntime) {
+    play(&rt, rt.alloc(), DEADLINES);
+}
+
+const STRANGER: Peer = Peer {
+    kind: 1,
+    address: [0x0A, 0x00, 0x00, 0x00, 0x00, 0xC0],
+};
+
+const ANOTHER: Peer = Peer {
+    kind: 1,
+    address: [0x0B, 0x00, 0x00, 0x00, 0x00, 0xC0],
+};
+
+const FIRST: Connection = Connection {
+    handle: 0x40,
+    peer: STRANGER,
+    mtu: 23,
+    key: None,
+    authorized_until: 0,
+    ending: false,
+};
+
+const LARGER: Connection = Connection {
+    handle: 0x40,
+    peer: STRANGER,
+    mtu: 247,
+    key: None,
+    authorized_until: 0,
+    ending: false,
+};
+
+const SECOND: Connection = Connection {
+    handle: 0x41,
+    peer: ANOTHER,
+    mtu: 23,
+    key: None,
+    authorized_until: 0,
+    ending: false,
+};
+
+const AUTHORIZED: Connection = Connection {
+    handle: 0x41,
+    peer: ANOTHER,
+    mtu: 23,
+    key: None,
+    authorized_until: 7,
+    ending: false,
+};
+
+const ENDED: Connection = Connection {
+    handle: 0x41,
+    peer: ANOTHER,
+    mtu: 23,
+    key: None,
+    authorized_until: 7,
+    ending: true,
+};
+
+/// Who is connected, in the order of the slots.
+const CONNECTIONS: &[(Taken, &[Connection])] = &[
+    (COMES, &[FIRST]),
+    (ANOTHER_COMES, &[FIRST, SECOND]),
+    (Taken::Pdu("02f700"), &[LARGER, SECOND]),
+    (Taken::Call(App::Authorize(0x41, 7)), &[LARGER, AUTHORIZED]),
+    (Taken::Call(App::Disconnect(0x41)), &[LARGER, ENDED]),
+    (Taken::Packet("04050400400013"), &[ENDED]),
+    (Taken::Packet("04050400410016"), &[]),
+];
+
+fn play_connections(rt: &impl Abort, alloc: Global, cases: &[(Taken, &[Connection])]) {
+    let mut host = ready(rt, alloc, &at(DOOR));
+    for (place, &(taken, connections)) in cases.iter().enumerate() {
+        go_on(rt, alloc, &mut host, taken);
+        assert!(rt; are(&host, connections), "connections {place}");
+    }
+    drop(host);
+}
+
+fn are(host: &Host, connections: &[Connection]) -> bool {
+    let mut seen = host.connections();
+    for connection in connections {
+        if seen.next() != Some(*connection) {
+            return false;
+        }
+    }
+    seen.next().is_none()
+}
+
+#[test]
+fn connections_are_seen(rt: HostRuntime) {
+    play_connections(&rt, rt.alloc(), CONNECTIONS);
+}
+
+/// A phone writes a value, and then the stream is lost.
+fn lost(rt: &impl Abort, alloc: Global) -> Host {
+    let mut host = ready(rt, alloc, &at(DOOR));
+    go_on(rt, alloc, &mut host, COMES);
+    go_on(rt, alloc, &mut host, Taken::Pdu("12150061"));
+    let mut written = Written::new();
+    assert!(rt; feed(&mut host, &[0x07], &mut written).is_err());
+    host
+}
+
+fn is_written(table: &Table) -> bool {
+    match table.get(21) {
+        Some(_) => table.value(21) == b"a".as_slice(),
+        None => false,
+    }
+}
+
+fn take_apart(rt: &impl Abort, host: Host) {
+    let (table, keys, rows) = host.into_parts();
+    assert!(rt; is_written(&table));
+    drop(table);
+    drop(keys);
+    drop(rows);
+}
+
+#[test]
+fn values_are_left_after_a_fault(rt: HostRuntime) {
+    take_apart(&rt, lost(&rt, rt.alloc()));
+}
