@@ -1,7 +1,7 @@
 -- The command line that the program takes, as clap's specification reads one.
-use Rattle.std.specs.Prelude.{◌≡◌, ℕ, List, [], codes, true, Option, Some, IfSome, option_map}
-use Rattle.clap.specs.Words.{App, Row, Rule, Shape, Text, first_of, new_app, new_rule, with_rule, with_subcommand}
-use Rattle.clap.specs.declared.builder.action.ArgAction.TheVariants.{Set}
+use Rattle.std.specs.Prelude.{◌≡◌, ℕ, List, [], codes, Bool, true, false, Option, Some, IfSome, option_map}
+use Rattle.clap.specs.Words.{App, Row, Rule, Shape, Text, first_of, new_app, new_rule, one_of, with_rule, with_subcommand}
+use Rattle.clap.specs.declared.builder.action.ArgAction.TheVariants.{Set, SetTrue}
 use Rattle.gatt_words.specs.declared.words.Choice.{Choice}
 use Rattle.gatt_words.specs.declared.words.Choice.TheVariants.{Att, Check, Run, Serve}
 
@@ -21,11 +21,18 @@ check_shape = (with_rule (with_rule (new_app (codes "check")) (file_rule (codes 
 abbrev pub option_rule : Text → Rule
 option_rule name = record (new_rule name) { long = Some name; action = Some Set; value_names = 1 }
 
--- the command `run`, of a table file, a key file and a script
+-- a flag, which has no value and may be left out
+abbrev pub flag_rule : Text → Rule
+flag_rule name = record (new_rule name) { long = Some name; action = Some SetTrue }
+
+-- the command `run`, of a table file, a key file and a script; and with its options and its flag
+abbrev pub run_files : App
+run_files = with_rule (with_rule (with_rule (new_app (codes "run"))
+    (file_rule (codes "TABLE"))) (file_rule (codes "KEYS"))) (file_rule (codes "SCRIPT"))
+
 abbrev pub run_shape : Shape
-run_shape = (with_rule (with_rule (with_rule (with_rule (with_rule (new_app (codes "run"))
-    (file_rule (codes "TABLE"))) (file_rule (codes "KEYS"))) (file_rule (codes "SCRIPT")))
-    (option_rule (codes "rows"))) (option_rule (codes "next"))).top
+run_shape = (with_rule (with_rule (with_rule run_files
+    (option_rule (codes "rows"))) (option_rule (codes "next"))) (flag_rule (codes "notices"))).top
 
 -- the command `serve`, of a table file, a key file and an address
 abbrev pub serve_shape : Shape
@@ -50,7 +57,7 @@ command_line =
 abbrev pub name_of : Choice → List ℕ
 name_of Att = codes "att"
 name_of (Check table keys) = codes "check"
-name_of (Run table next keys rows script) = codes "run"
+name_of (Run table next keys rows script notices) = codes "run"
 name_of (Serve table keys rows address) = codes "serve"
 
 -- an argument is a path, and an option is one or is left out
@@ -60,16 +67,22 @@ IsGiven name arguments path = first_of name arguments ≡ Some path
 abbrev pub IsGivenIfAny : List ℕ → List Row → Option (List ℕ) → Type 0
 IsGivenIfAny name arguments path = first_of name arguments ≡ path
 
+-- a flag is given or left out
+abbrev pub IsSetIfGiven : List ℕ → List Row → Bool → Type 0
+IsSetIfGiven name arguments flag =
+    (one_of name arguments ≡ Some (codes "true") → flag ≡ true) × (one_of name arguments ≡ Some (codes "false") → flag ≡ false)
+
 -- the files of a choice are those that these arguments of its command give
 abbrev pub HasFilesOf : List Row → Choice → Type 0
 HasFilesOf arguments Att = Unit {0}
 HasFilesOf arguments (Check table keys) =
     IsGiven (codes "TABLE") arguments table.now × IsGiven (codes "KEYS") arguments keys.now
-HasFilesOf arguments (Run table next keys rows script) =
+HasFilesOf arguments (Run table next keys rows script notices) =
     IsGiven (codes "TABLE") arguments table.now × IsGiven (codes "KEYS") arguments keys.now
     × IsGiven (codes "SCRIPT") arguments script.now
     × IsGivenIfAny (codes "rows") arguments (option_map (λ path. path.now) rows)
     × IsGivenIfAny (codes "next") arguments (option_map (λ path. path.now) next)
+    × IsSetIfGiven (codes "notices") arguments notices
 HasFilesOf arguments (Serve table keys rows address) =
     IsGiven (codes "TABLE") arguments table.now × IsGiven (codes "KEYS") arguments keys.now
     × IsGiven (codes "ADDRESS") arguments address.now

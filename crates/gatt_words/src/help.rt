@@ -79,7 +79,8 @@ Run a script of phones against a host and a simulated controller, in memory.
 Each line of a script says what a phone or the application does: a phone connects, sends a PDU,
 encrypts its connection or leaves; the application updates a value, authorizes a phone, tells
 the time or replaces the table. After each line is printed what was refused, what each phone has
-heard, and which connection the host has ended; docs/FORMATS.md has all lines and what they print.
+heard, and which connection the host has ended; with --notices also what the application is told.
+docs/FORMATS.md has all lines and what they print.
 The rows file keeps what the phones have configured: it is read first and written at the end, and
 one that is not there is empty.
 
@@ -125,6 +126,12 @@ pub const NEXT: &str = "next";
 
 /// What that table is.
 pub const NEXT_ABOUT: &str = "The table file that the line `replace` of a script replaces TABLE by";
+
+/// The name of the flag that has notices printed.
+pub const NOTICES: &str = "notices";
+
+/// What the flag does.
+pub const NOTICES_ABOUT: &str = "Print what the application is told too, one line a notice";
 
 /// What stands for the value of an option that names a file.
 pub const FILE: &str = "FILE";

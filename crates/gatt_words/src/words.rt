@@ -5,7 +5,7 @@ ghost use Rattle.clap.specs.Words.{IsAmong, app_of, fault_of, kind_of, shape_of,
 ghost use Rattle.clap.specs.declared.builder.Command.TheViews.{out-Command};
 ghost use Rattle.clap.specs.Words.{found_of, rows_of, subcommand_name_of, subcommand_of, subcommand_rows_of};
 ghost use Rattle.clap.specs.Words.{rule_of, IsPlainArg};
-ghost use Rattle.gatt_words.specs.CommandLine.{att_shape, file_rule, option_rule, check_shape, run_shape, serve_shape, command_line, name_of};
+ghost use Rattle.gatt_words.specs.CommandLine.{att_shape, file_rule, flag_rule, option_rule, check_shape, run_files, run_shape, serve_shape, command_line, name_of};
 ghost use Rattle.gatt_words.specs.CommandLine.{HasFiles, HasFilesOf};
 ghost use Rattle.gatt_words.specs.Refusal.{ShowsUnlessMemory, refusal_for};
 
@@ -38,6 +38,8 @@ pub enum Choice<'a> {
         rows: Option<&'a str>,
         /// The script.
         script: &'a str,
+        /// Whether what the application is told is printed too.
+        notices: bool,
     },
     /// Serves a controller over a connection.
     Serve {
@@ -109,8 +111,8 @@ fn checking<'a>(arguments: &ArgMatches<'a>) -> Option<Choice<'a>>
     })
 }
 
-/// The choice of `run`, with its files.
-#[tactic(auto, using(crate::proofs::CommandLines::first_in_rows))]
+/// The choice of `run`, with its files and its flag.
+#[tactic(auto, using(crate::proofs::CommandLines::first_in_rows, crate::proofs::CommandLines::flag_in_rows))]
 fn running<'a>(arguments: &ArgMatches<'a>) -> Option<Choice<'a>>
     ensures name { IfSome result (λ choice. name_of choice ≡ codes "run") }
     ensures files { IfSome result (HasFilesOf (rows_of (found_of arguments.now))) }
@@ -121,6 +123,7 @@ fn running<'a>(arguments: &ArgMatches<'a>) -> Option<Choice<'a>>
         keys: arguments.get_str(help::KEYS)?,
         rows: arguments.get_str(help::ROWS),
         script: arguments.get_str(help::SCRIPT)?,
+        notices: arguments.get_flag(help::NOTICES),
     })
 }
 
@@ -225,9 +228,34 @@ fn with_option<'a>(
     command.arg(file_option(alloc, name, about))
 }
 
-/// The command `run`.
-fn run_command<'a>(alloc: Global) -> Result<Command<'a>, AllocError>
-    ensures shape { IfOk result (λ command. shape_of command ≡ run_shape) }
+/// A flag, which has no value and may be left out.
+fn flag_argument<'a>(alloc: Global, name: &'a str, about: &'a str) -> Arg<'a>
+    ensures rule { rule_of result ≡ flag_rule name.entry.now }
+    ensures plain { IsPlainArg result }
+    ensures local { result.global ≡ false }
+{
+    Arg::new(alloc, name)
+        .long(name)
+        .help(about)
+        .action(ArgAction::SetTrue)
+}
+
+/// The command with one more flag.
+fn with_flag<'a>(
+    alloc: Global,
+    command: Command<'a>,
+    name: &'a str,
+    about: &'a str,
+) -> Result<Command<'a>, AllocError>
+    ensures app { IfOk result (λ added. app_of added ≡ with_rule (app_of command.entry) (flag_rule name.entry.now)) }
+    ensures local { IfOk result (λ added. (out-Command added).has_globals ≡ (out-Command command.entry).has_globals) }
+{
+    command.arg(flag_argument(alloc, name, about))
+}
+
+/// The command `run` with its files alone.
+fn run_files_command<'a>(alloc: Global) -> Result<Command<'a>, AllocError>
+    ensures app { IfOk result (λ command. app_of command ≡ run_files) }
     ensures local { IfOk result (λ command. (out-Command command).has_globals ≡ false) }
 {
     let command = Command::new(alloc, help::RUN)
@@ -236,9 +264,18 @@ fn run_command<'a>(alloc: Global) -> Result<Command<'a>, AllocError>
         .after_help(help::STATUSES);
     let command = with_file(alloc, command, help::TABLE, help::TABLE_ABOUT)?;
     let command = with_file(alloc, command, help::KEYS, help::KEYS_ABOUT)?;
-    let command = with_file(alloc, command, help::SCRIPT, help::SCRIPT_ABOUT)?;
+    with_file(alloc, command, help::SCRIPT, help::SCRIPT_ABOUT)
+}
+
+/// The command `run`.
+fn run_command<'a>(alloc: Global) -> Result<Command<'a>, AllocError>
+    ensures shape { IfOk result (λ command. shape_of command ≡ run_shape) }
+    ensures local { IfOk result (λ command. (out-Command command).has_globals ≡ false) }
+{
+    let command = run_files_command(alloc)?;
     let command = with_option(alloc, command, help::ROWS, help::ROWS_ABOUT)?;
-    with_option(alloc, command, help::NEXT, help::NEXT_ABOUT)
+    let command = with_option(alloc, command, help::NEXT, help::NEXT_ABOUT)?;
+    with_flag(alloc, command, help::NOTICES, help::NOTICES_ABOUT)
 }
 
 /// The command `serve`.

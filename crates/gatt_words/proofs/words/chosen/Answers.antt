@@ -4,7 +4,41 @@ use Rattle.gatt_words.specs.CommandLine.{command_line}
 use Rattle.gatt_words.specs.Refusal.{refusal_for}
 use Rattle.gatt_words.specs.declared.words.Refusal.TheVariants.{Shown}
 use Rattle.gatt_words.proofs.CommandLines.{att_taken, att_named, none_faults, help_faults, version_faults, takes_behind, named_behind, missing_refused, help_shown, version_shown, shown_among, name-rows, kinds_at, faulty}
+use Rattle.std.proofs.lemmas.Result.{IfOk-weaker}
+use Rattle.std.specs.Prelude.{IfOk}
+use Rattle.clap.specs.Words.{Row, Text}
+use Rattle.gatt_words.specs.CommandLine.{HasFiles}
+use Rattle.gatt_words.proofs.CommandLines.{always}
 use Rattle.gatt_words.proofs.words.chosen.Goals as goal
+
+pub returns-in-Ok-try_get_matches_from-clause-named :
+    goal.returns-in-Ok-try_get_matches_from-clause-named
+returns-in-Ok-try_get_matches_from-clause-named c =
+    let app_is : app_of c.in-Ok.command ≡ command_line = search rules in
+    let words : List (List ℕ) = map string_bytes c.args.words.now in
+    let m = c.in-Ok-try_get_matches_from.matches in
+    let rows : subcommand_rows_of m ≡ subcommand_of command_line words =
+    (c.in-Ok-try_get_matches_from.ensures.matches (ap is_simple app_is)).1 ∙ ap (λ app. subcommand_of app words) app_is in
+    IfOk-weaker c.choice_in.result _ _ (λ choice named. sym (name-rows m ∙ ap (option_map (λ named. named.0)) rows) ∙ named)
+    c.choice_in.ensures.named
+
+pub returns-in-Ok-try_get_matches_from-clause-files :
+    goal.returns-in-Ok-try_get_matches_from-clause-files
+returns-in-Ok-try_get_matches_from-clause-files c =
+    let app_is : app_of c.in-Ok.command ≡ command_line = search rules in
+    let words : List (List ℕ) = map string_bytes c.args.words.now in
+    let m = c.in-Ok-try_get_matches_from.matches in
+    let rows : subcommand_rows_of m ≡ subcommand_of command_line words =
+    (c.in-Ok-try_get_matches_from.ensures.matches (ap is_simple app_is)).1 ∙ ap (λ app. subcommand_of app words) app_is in
+    subst (λ rows. IfOk c.choice_in.result (HasFiles rows)) rows c.choice_in.ensures.files
+
+pub returns-in-Ok-try_get_matches_from-clause-faultless :
+    goal.returns-in-Ok-try_get_matches_from-clause-faultless
+returns-in-Ok-try_get_matches_from-clause-faultless c =
+    let app_is : app_of c.in-Ok.command ≡ command_line = search rules in
+    let words : List (List ℕ) = map string_bytes c.args.words.now in
+    always c.choice_in.result (fault_of command_line words ≡ [])
+    (sym (ap (λ app. fault_of app words) app_is) ∙ c.in-Ok-try_get_matches_from.ensures.kinds (ap is_simple_and_free app_is))
 
 pub returns-in-Ok-try_get_matches_from-clause-att :
     goal.returns-in-Ok-try_get_matches_from-clause-att
