@@ -1,6 +1,6 @@
 -- One packet after another is handed over.
-use Rattle.std.proofs.Common.{◌≡◌, ℕ, zero, suc, ◌+◌, Bool, true, false, [], ◌∷◌, ◌++◌, take, drop, Option, Some, None, Result, Ok, Err, refl, sym, ap, subst, ◌∙◌, take-append-drop, arith}
-use Rattle.std.specs.Prelude.{IsSome, not, ◌↔◌}
+use Rattle.std.proofs.Common.{◌≡◌, ℕ, zero, suc, ◌+◌, ◌<◌, Bool, true, false, [], ◌∷◌, ◌++◌, take, drop, Option, Some, None, Result, Ok, Err, refl, sym, ap, subst, ◌∙◌, take-append-drop, arith}
+use Rattle.std.specs.Prelude.{IsSome, not, ◌↔◌, OnOk}
 use Rattle.std.specs.Option.{option_to_list}
 use Rattle.std.proofs.lemmas.Grind.{common_steps}
 use Rattle.gatt_host.specs.Answers.{lost_fault}
@@ -17,7 +17,9 @@ use Rattle.le_h4.specs.Packet.{Packet}
 use Rattle.octets.specs.Number.{Octets}
 use Rattle.gatt_commands.specs.declared.fault.ShellFault.{ShellFault}
 use Rattle.gatt_commands.specs.declared.fault.ShellFault.TheVariants as shell
-use Rattle.gatt_commands.specs.Exchange.{ControllerAnswers, ExchangesTooMany, Exchanges, HandsNext, HandsOver, HostGives, HostHears, HostStops, IsQuiet, Pair, StopsAtFirst, TakesFirst}
+use Rattle.gatt_commands.specs.Exchange.{ControllerAnswers, ExchangesTooMany, ExchangesUntil, Exchanges, HandsNext, HandsOver, HostGives, HostHears, HostStops, IsQuiet, NotesFirst, NotesTaken, Pair, StopsAtFirst, TakesFirst}
+use Rattle.gatt_commands.specs.declared.notes.Notes.{Notes}
+use Rattle.gatt_commands.specs.Notices.{Hears}
 
 -- what a fresh deframer has before it
 fresh-still : (octets : Octets) → still at_start octets ≡ division octets
@@ -64,6 +66,16 @@ hears_marked octets used start new packet result old after fresh is divided =
     let divides = subst (λ (first : Deframing). (rest : Octets) → still first (take used octets ++ rest) ≡ before (marks new) (still new rest)) fresh divided in
     hears-packet octets packet (still new (drop used octets)) result old after (marked-first octets used new packet is divides)
 
+-- what is told of the packet is noted
+pub noted_marked : (octets : Octets) (used : ℕ) (start new : Deframing) (packet : Packet) (result : Result (Unit {0}) HostFault) (host : Whole) (old now : Notes)
+    → start ≡ at_start → new.marked ≡ Some packet
+    → ((rest : Octets) → still start (take used octets ++ rest) ≡ before (marks new) (still new rest))
+    → OnOk result (Hears host old now) → OnOk result (NotesTaken octets host old now)
+noted_marked octets used start new packet (Err fault) host old now fresh is divided hears = tt
+noted_marked octets used start new packet (Ok done) host old now fresh is divided hears =
+    let divides = subst (λ (first : Deframing). (rest : Octets) → still first (take used octets ++ rest) ≡ before (marks new) (still new rest)) fresh divided in
+    subst (λ (divided : Division). NotesFirst divided.packets host old now) (sym (marked-first octets used new packet is divides)) hears
+
 abbrev failing : H4Fault → Result Fed H4Fault
 failing fault = Err fault
 
@@ -108,10 +120,23 @@ exchanges_next count before middle after true so_far hands is =
     subst (λ (more : ℕ). Exchanges more before after) one (exchanges_more count before middle after so_far hands)
 exchanges_next count before middle after false so_far hands is = cc is
 
-pub exchanges_all : (count : ℕ) (before last : Pair) → Exchanges count before last → count ≡ 100000 → (IsQuiet last → ⊥) → ExchangesTooMany before last.host
+pub exchanges_all : (count : ℕ) (before last : Pair) → Exchanges count before last → count ≡ 100000 → (IsQuiet last.host last.sim → ⊥) → ExchangesTooMany before last.host
 exchanges_all count before last so_far all more = record {
   last = last;
   exchanges = subst (λ (count : ℕ). Exchanges count before last) all so_far;
   more = more;
   host_then = refl;
 }
+
+ended-by : (count : ℕ) (before last after : Pair) (fault : ShellFault) → count < 100000 → Exchanges count before last
+    → HandsNext (Err fault) last after → ExchangesUntil (Err fault) before after
+ended-by count before last after (shell.Host number) fewer so_far ends =
+    record { count = count; fewer = fewer; last = last; exchanges = so_far; ends = ends }
+ended-by count before last after (shell.Controller number) fewer so_far ends =
+    record { count = count; fewer = fewer; last = last; exchanges = so_far; ends = ends }
+ended-by count before last after fault fewer so_far ends = absurd ends
+
+pub exchanges_ended : (count : ℕ) (before last after : Pair) (fault : ShellFault) (result : Result (Unit {0}) ShellFault) → result ≡ Err fault
+    → count < 100000 → Exchanges count before last → HandsNext (Err fault) last after → ExchangesUntil result before after
+exchanges_ended count before last after fault result is fewer so_far ends =
+    subst (λ (answer : Result (Unit {0}) ShellFault). ExchangesUntil answer before after) (sym is) (ended-by count before last after fault fewer so_far ends)

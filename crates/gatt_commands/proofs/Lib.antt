@@ -4,6 +4,7 @@ pub mod Exchanging
 pub mod Fronts
 pub mod Inputs
 pub mod KeyFiles
+pub mod Noting
 pub mod Printing
 pub mod Reports
 pub mod RowsFiles
@@ -17,4 +18,5 @@ pub mod Sessions
 pub mod TableFiles
 pub mod Telling
 pub mod Texts
+pub mod Unshown
 pub mod WriterLent

@@ -1,5 +1,5 @@
 -- A run ends as the script does, and then the rows are written.
-use Rattle.std.proofs.Common.{◌≡◌, [], Option, Result, Ok, Err, refl, sym, subst, inl, inr, arith}
+use Rattle.std.proofs.Common.{◌≡◌, Bool, [], Option, Result, Ok, Err, refl, sym, subst, inl, inr, arith}
 use Rattle.std.specs.Prelude.{◌≢◌, ◌<◌, IfErr, OnErr, OnOk}
 use Rattle.std.proofs.lemmas.List.{append-nil}
 use Rattle.att_table.specs.Table.{Contents}
@@ -28,16 +28,16 @@ written-front : (written : Result (Unit {0}) ShellFault) (All Front : Type 0) �
 written-front (Ok done) All Front weaker all front = weaker all
 written-front (Err fault) All Front weaker all front = front
 
-module _ (script : Acts) (old new : Whole) (next next_then : Option Contents) (last : Simulated) (held holds : Option Octets) (writes writes_front : Octets → Type 0)
+module _ (shows : Bool) (script : Acts) (old new : Whole) (next next_then : Option Contents) (last : Simulated) (held holds : Option Octets) (writes writes_front : Octets → Type 0)
     (weaker : (octets : Octets) → writes octets → writes_front octets) where
   abbrev Runs-all : Type 0
-  Runs-all = RunsAll script (stage_of old (at_start simulated) next) (stage_of new last next_then) held holds
+  Runs-all = RunsAll shows script (stage_of old (at_start simulated) next) (stage_of new last next_then) held holds
 
   abbrev Ends-early : ShellFault → Type 0
-  Ends-early fault = EndsEarly fault script (stage_of old (at_start simulated) next) (stage_of new last next_then) held holds
+  Ends-early fault = EndsEarly fault shows script (stage_of old (at_start simulated) next) (stage_of new last next_then) held holds
 
   abbrev Host-runs : Result (Unit {0}) ShellFault → Type 0
-  Host-runs result = HostRuns result script old new next next_then held holds writes writes_front
+  Host-runs result = HostRuns result shows script old new next next_then held holds writes writes_front
 
   by-results : (ran written result : Result (Unit {0}) ShellFault)
       → ((fault : ShellFault) → ran ≡ Err fault → result ≡ Err fault) → (ran ≡ Ok tt → result ≡ written)
@@ -54,14 +54,14 @@ module _ (script : Acts) (old new : Whole) (next next_then : Option Contents) (l
 
   pub host_runs : (fresh : Simulated) (rows : Subscriptions) (ran written result : Result (Unit {0}) ShellFault) → fresh ≡ at_start simulated → rows ≡ new.held.rows
       → ((fault : ShellFault) → ran ≡ Err fault → result ≡ Err fault) → (ran ≡ Ok tt → result ≡ written)
-      → OnOk ran (RunsAll script (stage_of old fresh next) (stage_of new last next_then) held holds)
-      → IfErr ran (λ fault. EndsEarly fault script (stage_of old fresh next) (stage_of new last next_then) held holds)
+      → OnOk ran (RunsAll shows script (stage_of old fresh next) (stage_of new last next_then) held holds)
+      → IfErr ran (λ fault. EndsEarly fault shows script (stage_of old fresh next) (stage_of new last next_then) held holds)
       → OnOk written (writes (text_of rows)) → OnErr written (writes_front (text_of rows))
       → IfErr written (λ fault. fault ≡ Unwritten) → Host-runs result
   host_runs fresh rows ran written result starts same failed wrote runs ends all front is =
       by-results ran written result failed wrote
-      (subst (λ (sim : Simulated). OnOk ran (RunsAll script (stage_of old sim next) (stage_of new last next_then) held holds)) starts runs)
-      (subst (λ (sim : Simulated). IfErr ran (λ fault. EndsEarly fault script (stage_of old sim next) (stage_of new last next_then) held holds)) starts ends)
+      (subst (λ (sim : Simulated). OnOk ran (RunsAll shows script (stage_of old sim next) (stage_of new last next_then) held holds)) starts runs)
+      (subst (λ (sim : Simulated). IfErr ran (λ fault. EndsEarly fault shows script (stage_of old sim next) (stage_of new last next_then) held holds)) starts ends)
       (subst (λ (rows : Subscriptions). OnOk written (writes (text_of rows))) same all)
       (subst (λ (rows : Subscriptions). OnErr written (writes_front (text_of rows))) same front)
       is

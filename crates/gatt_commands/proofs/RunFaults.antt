@@ -3,10 +3,10 @@ use Rattle.std.proofs.Common.{◌≡◌, Bool, List, ℕ, sym, subst}
 use Rattle.std.specs.Prelude.{Result, Ok, Err, IfErr, IsErrAnd}
 use Rattle.gatt_commands.specs.declared.fault.ShellFault.{ShellFault}
 use Rattle.gatt_commands.specs.declared.fault.ShellFault.TheVariants.{Table, Keys, Rows, Next, Script, Host, Controller, TooLong, NotHex, Unreadable, Unwritten, Listen, Memory}
-use Rattle.gatt_commands.specs.Lines.{IsHostRunFault, IsRunCommandFault, IsScriptRunFault}
+use Rattle.gatt_commands.specs.Lines.{IsRunCommandFault, IsRunFault, IsScriptRunFault}
 use Rattle.gatt_commands.specs.ScriptFile.{IsScriptRefusal}
 
-ran : (fault : ShellFault) → IsHostRunFault fault → IsScriptRunFault fault
+ran : (fault : ShellFault) → IsRunFault fault → IsScriptRunFault fault
 ran (Host number) is = is
 ran (Controller number) is = is
 ran TooLong is = is
@@ -21,7 +21,7 @@ ran (NotHex line) is = absurd is
 ran Unreadable is = absurd is
 ran Listen is = absurd is
 
-pub ran_at_all : (result : Result Unit ShellFault) → IfErr result IsHostRunFault → IfErr result IsScriptRunFault
+pub ran_at_all : (result : Result Unit ShellFault) → IfErr result IsRunFault → IfErr result IsScriptRunFault
 ran_at_all (Ok done) is = is
 ran_at_all (Err fault) is = ran fault is
 

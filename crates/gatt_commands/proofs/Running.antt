@@ -1,7 +1,7 @@
 -- Lines are run one after the other.
-use Rattle.std.proofs.Common.{◌≡◌, ℕ, ◌+◌, ◌<◌, List, [], ◌∷◌, length, drop, get_or, Option, None, Some, Result, Ok, Err, refl, sym, ap, subst, inl, inr, ◌∙◌}
+use Rattle.std.proofs.Common.{◌≡◌, ℕ, ◌+◌, ◌<◌, Bool, false, List, [], ◌∷◌, length, drop, get_or, Option, None, Some, Result, Ok, Err, refl, sym, ap, subst, inl, inr, ◌∙◌}
 use Rattle.std.specs.Prelude.{IfErr, IsErrAnd, OnErr, OnOk}
-use Rattle.std.specs.Io.KnownBytes.{Keeps}
+use Rattle.std.specs.Io.KnownBytes.{Appends, Keeps}
 use Rattle.std.proofs.lemmas.List.{drop_more}
 use Rattle.octets.specs.Number.{Octets}
 use Rattle.octets.specs.Stream.{WritesFront}
@@ -11,10 +11,11 @@ use Rattle.sim_controller.specs.Simulated.{Simulated}
 use Rattle.gatt_commands.specs.declared.acts.Refused.{Refused}
 use Rattle.gatt_commands.specs.declared.fault.ShellFault.{ShellFault}
 use Rattle.gatt_commands.specs.declared.fault.ShellFault.TheVariants.{Table, Keys, Rows, Next, Script, Host, Controller, TooLong, NotHex, Unreadable, Unwritten, Listen, Memory}
-use Rattle.gatt_commands.specs.Doing.{Does, Stage}
+use Rattle.gatt_commands.specs.declared.notes.Notes.{Notes}
+use Rattle.gatt_commands.specs.Doing.{Stage}
 use Rattle.gatt_commands.specs.Exchange.{ExchangesAll, pair_of}
-use Rattle.gatt_commands.specs.Lines.{outcome_text, IsExchangeFault}
-use Rattle.gatt_commands.specs.Runs.{EndsAmong, EndsAtLine, EndsEarly, Fails, FailsToExchange, Runs, RunsAll, RunsLine}
+use Rattle.gatt_commands.specs.Lines.{IsExchangeFault, with_told_phones}
+use Rattle.gatt_commands.specs.Runs.{EndsAmong, EndsAtLine, EndsEarly, Fails, FailsToExchange, FailsToNote, IsDone, Runs, RunsAll, RunsLine, line_text}
 
 pub keeps_all : (held : Option Octets) → Keeps held held
 keeps_all None = tt
@@ -27,94 +28,128 @@ passed_on (Ok done) fault P was is = absurd was
 passed_on (Err passed) fault P was is = subst P (sym was) is
 
 -- a line that ends for a fault of the exchange
-fails-exchanging : (fault : ShellFault) (names : List Octets) (refused : Option Refused) (old new : Stage) (held holds : Option Octets)
-    → IsExchangeFault fault → FailsToExchange fault old new held holds → Fails fault names refused old new held holds
-fails-exchanging (Host number) names refused old new held holds is fails = fails
-fails-exchanging (Controller number) names refused old new held holds is fails = fails
-fails-exchanging TooLong names refused old new held holds is fails = fails
-fails-exchanging (Table number) names refused old new held holds is fails = fails
-fails-exchanging (Keys number) names refused old new held holds is fails = fails
-fails-exchanging (Rows number) names refused old new held holds is fails = fails
-fails-exchanging (Next number) names refused old new held holds is fails = fails
-fails-exchanging (Script line) names refused old new held holds is fails = fails
-fails-exchanging (NotHex line) names refused old new held holds is fails = fails
-fails-exchanging Unreadable names refused old new held holds is fails = fails
-fails-exchanging Listen names refused old new held holds is fails = fails
-fails-exchanging Memory names refused old new held holds is fails = fails
-fails-exchanging Unwritten names refused old new held holds is fails = absurd is
+fails-exchanging : (fault : ShellFault) (shows : Bool) (names : List Octets) (refused : Option Refused) (heard : Notes) (old new : Stage) (held holds : Option Octets)
+    → IsExchangeFault fault → FailsToExchange fault heard old new held holds → Fails fault shows names refused heard old new held holds
+fails-exchanging (Host number) shows names refused heard old new held holds is fails = fails
+fails-exchanging (Controller number) shows names refused heard old new held holds is fails = fails
+fails-exchanging TooLong shows names refused heard old new held holds is fails = fails
+fails-exchanging (Table number) shows names refused heard old new held holds is fails = fails
+fails-exchanging (Keys number) shows names refused heard old new held holds is fails = fails
+fails-exchanging (Rows number) shows names refused heard old new held holds is fails = fails
+fails-exchanging (Next number) shows names refused heard old new held holds is fails = fails
+fails-exchanging (Script line) shows names refused heard old new held holds is fails = fails
+fails-exchanging (NotHex line) shows names refused heard old new held holds is fails = fails
+fails-exchanging Unreadable shows names refused heard old new held holds is fails = fails
+fails-exchanging Listen shows names refused heard old new held holds is fails = fails
+fails-exchanging Memory shows names refused heard old new held holds is fails = absurd is
+fails-exchanging Unwritten shows names refused heard old new held holds is fails = absurd is
 
-module _ (names : List Octets) (act : Act) (refused : Option Refused) (old acted new : Stage) (held holds : Option Octets) (does : Does act refused old acted) where
+module _ (shows : Bool) (names : List Octets) (act : Act) (refused : Option Refused) (heard : Notes) (old acted new : Stage) (held holds : Option Octets)
+    (done : IsDone shows act refused old acted heard) where
   pub ends_exchanging : (result : Result (Unit {0}) ShellFault) (fault : ShellFault) → IsErrAnd result (λ passed. passed ≡ fault)
-      → IsExchangeFault fault → FailsToExchange fault acted new held holds → IfErr result (λ fault. EndsAtLine fault names act old new held holds)
+      → IsExchangeFault fault → FailsToExchange fault heard acted new held holds → IfErr result (λ fault. EndsAtLine fault shows names act old new held holds)
   ends_exchanging result fault was is fails =
-      passed_on result fault (λ fault. EndsAtLine fault names act old new held holds) was
-      (record { refused = refused; acted = acted; does = does; fails = fails-exchanging fault names refused acted new held holds is fails })
+      passed_on result fault (λ fault. EndsAtLine fault shows names act old new held holds) was
+      (record { refused = refused; acted = acted; heard = heard; done = done; fails = fails-exchanging fault shows names refused heard acted new held holds is fails })
 
-  pub ends_printing : (result : Result (Unit {0}) ShellFault) (quiet : Simulated) → ExchangesAll (pair_of acted.host acted.sim) (pair_of new.host quiet)
-      → new.next ≡ acted.next → IfErr result (λ fault. fault ≡ Unwritten) → OnErr result (WritesFront (outcome_text names refused quiet.phones) held holds)
-      → IfErr result (λ fault. EndsAtLine fault names act old new held holds)
-  ends_printing (Ok done) quiet exchanges next is front = tt
-  ends_printing (Err fault) quiet exchanges next is front =
-      subst (λ (fault : ShellFault). EndsAtLine fault names act old new held holds) (sym is)
-      (record { refused = refused; acted = acted; does = does; fails = record { quiet = quiet; exchanges = exchanges; next = next; printed = front } })
+  pub runs_line : (result : Result (Unit {0}) ShellFault) (quiet : Simulated) (last : Notes)
+      → ExchangesAll (pair_of acted.host acted.sim heard) (pair_of new.host quiet last) → last.is_refused ≡ false → new.next ≡ acted.next
+      → OnOk result (Appends held holds (line_text names refused quiet last)) → OnOk result (new.sim ≡ with_told_phones quiet (length names))
+      → OnOk result (RunsLine shows names act old new held holds)
+  runs_line (Err fault) quiet last exchanges kept next printed told = tt
+  runs_line (Ok ran) quiet last exchanges kept next printed told = record {
+    refused = refused;
+    acted = acted;
+    quiet = quiet;
+    heard = heard;
+    last = last;
+    done = done;
+    exchanges = exchanges;
+    kept = kept;
+    printed = printed;
+    told = told;
+    next = next;
+  }
+
+  pub ends_noting : FailsToNote shows heard acted new held holds → EndsAtLine Memory shows names act old new held holds
+  ends_noting fails = record { refused = refused; acted = acted; heard = heard; done = done; fails = fails }
+
+  pub ends_printing : (result : Result (Unit {0}) ShellFault) (quiet : Simulated) (last : Notes)
+      → ExchangesAll (pair_of acted.host acted.sim heard) (pair_of new.host quiet last)
+      → new.next ≡ acted.next → IfErr result (λ fault. fault ≡ Unwritten) → OnErr result (WritesFront (line_text names refused quiet last) held holds)
+      → IfErr result (λ fault. EndsAtLine fault shows names act old new held holds)
+  ends_printing (Ok done) quiet last exchanges next is front = tt
+  ends_printing (Err fault) quiet last exchanges next is front =
+      subst (λ (fault : ShellFault). EndsAtLine fault shows names act old new held holds) (sym is)
+      (record {
+        refused = refused;
+        acted = acted;
+        heard = heard;
+        done = done;
+        fails = record { quiet = quiet; last = last; exchanges = exchanges; next = next; printed = front };
+      })
 
 -- some lines are run, and of those these are left: whoever runs them has run all, and a fault among them ends the run
-pub record HasRun (names : List Octets) (acts rest : List Act) (old now : Stage) (held holds : Option Octets) : Type 0 where
-  pub all : (new : Stage) (last : Option Octets) → Runs names rest now new holds last → Runs names acts old new held last
-  pub ends : (fault : ShellFault) (new : Stage) (last : Option Octets) → EndsAmong fault names rest now new holds last → EndsAmong fault names acts old new held last
+pub record HasRun (shows : Bool) (names : List Octets) (acts rest : List Act) (old now : Stage) (held holds : Option Octets) : Type 0 where
+  pub all : (new : Stage) (last : Option Octets) → Runs shows names rest now new holds last → Runs shows names acts old new held last
+  pub ends : (fault : ShellFault) (new : Stage) (last : Option Octets) → EndsAmong fault shows names rest now new holds last → EndsAmong fault shows names acts old new held last
 
-pub run_none : (names : List Octets) (acts : List Act) (old : Stage) (held : Option Octets) → HasRun names acts acts old old held held
-run_none names acts old held = record { all = λ new last runs. runs; ends = λ fault new last ends. ends }
+pub run_none : (shows : Bool) (names : List Octets) (acts : List Act) (old : Stage) (held : Option Octets) → HasRun shows names acts acts old old held held
+run_none shows names acts old held = record { all = λ new last runs. runs; ends = λ fault new last ends. ends }
 
-module _ (names : List Octets) (acts : List Act) (index : ℕ) (act : Act) (below : index < length acts) (same : act ≡ get_or acts index act) (old now : Stage)
+module _ (shows : Bool) (names : List Octets) (acts : List Act) (index : ℕ) (act : Act) (below : index < length acts) (same : act ≡ get_or acts index act) (old now : Stage)
     (held between : Option Octets)
-    (so_far : HasRun names acts (drop index acts) old now held between) where
+    (so_far : HasRun shows names acts (drop index acts) old now held between) where
   next-line : act ∷ drop (index + 1) acts ≡ drop index acts
   next-line = ap (λ (first : Act). first ∷ drop (index + 1) acts) same ∙ sym (drop_more acts index act below)
 
-  pub run_more : (next : Stage) (holds : Option Octets) → RunsLine names act now next between holds
-      → HasRun names acts (drop (index + 1) acts) old next held holds
+  pub run_more : (next : Stage) (holds : Option Octets) → RunsLine shows names act now next between holds
+      → HasRun shows names acts (drop (index + 1) acts) old next held holds
   run_more next holds line = record {
     all = λ new last runs.
-        so_far.all new last (subst (λ (left : List Act). Runs names left now new between last) next-line (next, holds, line, runs));
+        so_far.all new last (subst (λ (left : List Act). Runs shows names left now new between last) next-line (next, holds, line, runs));
     ends = λ fault new last ends.
         so_far.ends fault new last
-        (subst (λ (left : List Act). EndsAmong fault names left now new between last) next-line (inr (next, holds, line, ends)));
+        (subst (λ (left : List Act). EndsAmong fault shows names left now new between last) next-line (inr (next, holds, line, ends)));
   }
 
   pub run_ends : (result : Result (Unit {0}) ShellFault) (fault : ShellFault) (new : Stage) (holds : Option Octets) → IsErrAnd result (λ passed. passed ≡ fault)
-      → EndsAtLine fault names act now new between holds → IfErr result (λ fault. EndsAmong fault names acts old new held holds)
+      → EndsAtLine fault shows names act now new between holds → IfErr result (λ fault. EndsAmong fault shows names acts old new held holds)
   run_ends result fault new holds was line =
-      passed_on result fault (λ fault. EndsAmong fault names acts old new held holds) was
+      passed_on result fault (λ fault. EndsAmong fault shows names acts old new held holds) was
       (so_far.ends fault new holds
-      (subst (λ (left : List Act). EndsAmong fault names left now new between holds) next-line (inl line)))
+      (subst (λ (left : List Act). EndsAmong fault shows names left now new between holds) next-line (inl line)))
 
-pub run_all : (names : List Octets) (acts rest : List Act) (old now : Stage) (held holds : Option Octets) → HasRun names acts rest old now held holds
-    → rest ≡ [] → Runs names acts old now held holds
-run_all names acts rest old now held holds so_far none =
-    so_far.all now holds (subst (λ (left : List Act). Runs names left now now holds holds) (sym none) (refl, keeps_all holds))
+pub run_all : (shows : Bool) (names : List Octets) (acts rest : List Act) (old now : Stage) (held holds : Option Octets) → HasRun shows names acts rest old now held holds
+    → rest ≡ [] → Runs shows names acts old now held holds
+run_all shows names acts rest old now held holds so_far none =
+    so_far.all now holds (subst (λ (left : List Act). Runs shows names left now now holds holds) (sym none) (refl, keeps_all holds))
 
 -- a script is its lines
-module _ (script : Acts) (names : List Octets) (acts : List Act) (same_names : names ≡ script.names) (same_acts : acts ≡ script.acts)
-    (old begun new : Stage) (held holds : Option Octets) (exchanges : ExchangesAll (pair_of old.host old.sim) (pair_of begun.host begun.sim))
+module _ (shows : Bool) (script : Acts) (names : List Octets) (acts : List Act) (same_names : names ≡ script.names) (same_acts : acts ≡ script.acts)
+    (old begun new : Stage) (held holds : Option Octets) (silent last : Notes) (exchanges : ExchangesAll (pair_of old.host old.sim silent) (pair_of begun.host begun.sim last))
     (next : begun.next ≡ old.next) where
-  pub runs_script : (result : Result (Unit {0}) ShellFault) → OnOk result (Runs names acts begun new held holds) → OnOk result (RunsAll script old new held holds)
+  pub runs_script : (result : Result (Unit {0}) ShellFault) → OnOk result (Runs shows names acts begun new held holds) → OnOk result (RunsAll shows script old new held holds)
   runs_script (Err fault) runs = tt
   runs_script (Ok done) runs = record {
     begun = begun;
+    silent = silent;
+    last = last;
     exchanges = exchanges;
     next = next;
-    lines = subst (λ (names : List Octets). Runs names script.acts begun new held holds) same_names
-        (subst (λ (acts : List Act). Runs names acts begun new held holds) same_acts runs);
+    lines = subst (λ (names : List Octets). Runs shows names script.acts begun new held holds) same_names
+        (subst (λ (acts : List Act). Runs shows names acts begun new held holds) same_acts runs);
   }
 
-  pub script_ends : (result : Result (Unit {0}) ShellFault) → IfErr result (λ fault. EndsAmong fault names acts begun new held holds)
-      → IfErr result (λ fault. EndsEarly fault script old new held holds)
+  pub script_ends : (result : Result (Unit {0}) ShellFault) → IfErr result (λ fault. EndsAmong fault shows names acts begun new held holds)
+      → IfErr result (λ fault. EndsEarly fault shows script old new held holds)
   script_ends (Ok done) ends = tt
   script_ends (Err fault) ends = inr (record {
     begun = begun;
+    silent = silent;
+    last = last;
     exchanges = exchanges;
     next = next;
-    lines = subst (λ (names : List Octets). EndsAmong fault names script.acts begun new held holds) same_names
-        (subst (λ (acts : List Act). EndsAmong fault names acts begun new held holds) same_acts ends);
+    lines = subst (λ (names : List Octets). EndsAmong fault shows names script.acts begun new held holds) same_names
+        (subst (λ (acts : List Act). EndsAmong fault shows names acts begun new held holds) same_acts ends);
   })

@@ -22,6 +22,8 @@ use Rattle.sim_controller.specs.SimFault.{number_of}
 use Rattle.sim_controller.specs.Simulated.{Simulated}
 use Rattle.gatt_commands.specs.declared.acts.Refused.{Refused}
 use Rattle.gatt_commands.specs.declared.acts.Refused.TheVariants as refused
+use Rattle.gatt_commands.specs.declared.notes.Notes.{Notes}
+use Rattle.gatt_commands.specs.Notices.{Hears}
 
 -- what stands between two lines: a host, its controller, and the table by which the next replacement replaces
 pub record Stage : Type 0 where
@@ -119,3 +121,18 @@ Does (line.Authorize phone until) told old new = ByCall (AuthorizeCall (handle_o
 Does (line.Update handle value) told old new = ByCall (UpdateCall handle value) told old new
 Does (line.Tick time) told old new = ByCall (TickCall time) told old new
 Does line.Replace told old new = ByReplacing told old new
+
+-- what the host tells of a call that is not refused is noted
+abbrev pub NotesUnless : Option Refused → Whole → Notes → Notes → Type 0
+NotesUnless None host old new = Hears host old new
+NotesUnless (Some refused) host old new = new ≡ old
+
+abbrev pub NotesReplacing : Option Contents → Option Refused → Whole → Notes → Notes → Type 0
+NotesReplacing None told host old new = new ≡ old
+NotesReplacing (Some table) told host old new = NotesUnless told host old new
+
+-- of what a line does, which the host takes in at once or not at all
+abbrev pub NotesAct : Act → Option Contents → Option Refused → Whole → Notes → Notes → Type 0
+NotesAct (line.Phone phone act) next told host old new = new ≡ old
+NotesAct line.Replace next told host old new = NotesReplacing next told host old new
+NotesAct act next told host old new = NotesUnless told host old new

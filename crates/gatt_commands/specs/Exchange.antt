@@ -15,20 +15,23 @@ use Rattle.sim_controller.specs.SimFault.{number_of}
 use Rattle.sim_controller.specs.Simulated.{Simulated}
 use Rattle.sim_controller.specs.Told.{octets_of, sent_of}
 use Rattle.gatt_commands.specs.declared.fault.ShellFault.{ShellFault}
+use Rattle.gatt_commands.specs.declared.notes.Notes.{Notes}
+use Rattle.gatt_commands.specs.Notices.{Hears}
 use Rattle.gatt_commands.specs.declared.fault.ShellFault.TheVariants.{Host, Controller, TooLong}
 
--- a host and its controller
+-- a host and its controller, and what is noted of what the host tells
 pub record Pair : Type 0 where
   pub host : Whole
   pub sim : Simulated
+  pub notes : Notes
 
-abbrev pub pair_of : Whole → Simulated → Pair
-pair_of host sim = record { host = host; sim = sim }
+abbrev pub pair_of : Whole → Simulated → Notes → Pair
+pair_of host sim notes = record { host = host; sim = sim; notes = notes }
 
 -- neither has a packet to give
-pub record IsQuiet (pair : Pair) : Type 0 where
-  pub out : all_out pair.host ≡ true
-  pub taken : pair.sim.waiting ≡ []
+pub record IsQuiet (host : Whole) (sim : Simulated) : Type 0 where
+  pub out : all_out host ≡ true
+  pub taken : sim.waiting ≡ []
 
 -- the host gives its next packet
 pub record HostGives (packet : Octets) (old new : Whole) : Type 0 where
@@ -60,6 +63,11 @@ TakesFirst (packet ∷ packets) end old new = GoesOn packet old new
 TakesFirst [] Unfinished old new = new ≡ old
 TakesFirst [] (Lost indicator) old new = ⊥
 
+-- what it tells of that packet is noted
+abbrev pub NotesFirst : List Packet → Whole → Notes → Notes → Type 0
+NotesFirst (packet ∷ packets) host old new = Hears host old new
+NotesFirst [] host old new = new ≡ old
+
 -- or it stops there for a fault, or had stopped before, or an octet begins no packet
 pub record Stops (fault : HostFault) (packet : Packet) (old new : Whole) : Type 0 where
   pub takes : old.fault ≡ None → Takes (APacket packet) old new
@@ -78,6 +86,9 @@ StopsAtFirst fault [] (Lost indicator) old new = IsLost fault indicator old new
 -- octets are to the host what they divide into
 abbrev pub HostTakes : Octets → Whole → Whole → Type 0
 HostTakes octets old new = TakesFirst (division octets).packets (division octets).end old new
+
+abbrev pub NotesTaken : Octets → Whole → Notes → Notes → Type 0
+NotesTaken octets host old new = NotesFirst (division octets).packets host old new
 
 abbrev pub HostStops : HostFault → Octets → Whole → Whole → Type 0
 HostStops fault octets old new = StopsAtFirst fault (division octets).packets (division octets).end old new
@@ -108,12 +119,14 @@ pub record GoesOut (before after : Pair) : Type 0 where
   pub packet : Octets
   pub gives : HostGives packet before.host after.host
   pub takes : ControllerTakes packet before.sim after.sim
+  pub same : after.notes ≡ before.notes
 
 pub record GoesIn (before after : Pair) : Type 0 where
   pub packet : Octets
   pub out : all_out before.host ≡ true
   pub gives : ControllerGives packet before.sim after.sim
   pub takes : HostTakes packet before.host after.host
+  pub noted : NotesTaken packet after.host before.notes after.notes
 
 abbrev pub HandsOver : Pair → Pair → Type 0
 HandsOver before after = GoesOut before after ⊎ GoesIn before after
@@ -140,13 +153,13 @@ pub record ExchangesAll (before after : Pair) : Type 0 where
   pub count : ℕ
   pub most : count ≤ 100000
   pub exchanges : Exchanges count before after
-  pub quiet : IsQuiet after
+  pub quiet : IsQuiet after.host after.sim
 
 -- as many as there may be, with another one to give
 pub record ExchangesTooMany (before : Pair) (host : Whole) : Type 0 where
   pub last : Pair
   pub exchanges : Exchanges 100000 before last
-  pub more : IsQuiet last → ⊥
+  pub more : IsQuiet last.host last.sim → ⊥
   pub host_then : host ≡ last.host
 
 -- fewer, and then one that ends it
@@ -160,7 +173,7 @@ pub record EndsBy (Ends : Pair → Pair → Type 0) (before after : Pair) : Type
 -- what became of the next packet: it is handed over, there is none, or it is refused
 abbrev pub HandsNext : Result Bool ShellFault → Pair → Pair → Type 0
 HandsNext (Ok true) before after = HandsOver before after
-HandsNext (Ok false) before after = IsQuiet before × (after ≡ before)
+HandsNext (Ok false) before after = IsQuiet before.host before.sim × (after ≡ before)
 HandsNext (Err (Host number)) before after = IsStopped number before after
 HandsNext (Err (Controller number)) before after = IsRefused number before after
 HandsNext (Err fault) before after = ⊥

@@ -100,18 +100,14 @@ IsExchangeFault _ = ⊥
 -- what may end a run
 abbrev pub IsRunFault : ShellFault → Type 0
 IsRunFault Unwritten = Unit {0}
+IsRunFault Memory = Unit {0}
 IsRunFault fault = IsExchangeFault fault
-
--- what may end it from the start of the controller on
-abbrev pub IsHostRunFault : ShellFault → Type 0
-IsHostRunFault Memory = Unit {0}
-IsHostRunFault fault = IsRunFault fault
 
 -- what may end it from the script on
 abbrev pub IsScriptRunFault : ShellFault → Type 0
 IsScriptRunFault (Script line) = Unit {0}
 IsScriptRunFault Unreadable = Unit {0}
-IsScriptRunFault fault = IsHostRunFault fault
+IsScriptRunFault fault = IsRunFault fault
 
 -- what may end it from the first file on
 abbrev pub IsRunCommandFault : ShellFault → Type 0

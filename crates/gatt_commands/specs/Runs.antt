@@ -1,5 +1,5 @@
 -- What a run of a script does, one line after the other: this profile's own.
-use Rattle.std.specs.Prelude.{◌≡◌, ◌⊎◌, false, is_some, List, [], ◌∷◌, length, Option, Result, Ok, Err, IfSome}
+use Rattle.std.specs.Prelude.{◌≡◌, ◌⊎◌, ◌++◌, Bool, true, false, is_some, List, [], ◌∷◌, length, Option, Result, Ok, Err, IfSome}
 use Rattle.std.specs.Io.KnownBytes.{Appends, Keeps}
 use Rattle.att_table.specs.Table.{Contents}
 use Rattle.gatt_host.specs.Whole.{Whole}
@@ -14,11 +14,13 @@ use Rattle.sim_controller.specs.declared.config.SimConfig.{SimConfig}
 use Rattle.sim_controller.specs.Simulated.{Simulated, at_start}
 use Rattle.gatt_commands.specs.declared.acts.Refused.{Refused}
 use Rattle.gatt_commands.specs.declared.fault.ShellFault.{ShellFault}
-use Rattle.gatt_commands.specs.declared.fault.ShellFault.TheVariants.{Unwritten}
-use Rattle.gatt_commands.specs.Doing.{Does, Stage, stage_of}
+use Rattle.gatt_commands.specs.declared.fault.ShellFault.TheVariants.{Memory, Unwritten}
+use Rattle.gatt_commands.specs.declared.notes.Notes.{Notes}
+use Rattle.gatt_commands.specs.Doing.{Does, NotesAct, Stage, stage_of}
 use Rattle.gatt_commands.specs.Exchange.{ExchangesAll, ExchangesUntil, pair_of}
 use Rattle.gatt_commands.specs.KeyFile.{keys_in}
 use Rattle.gatt_commands.specs.Lines.{outcome_text, with_told_phones}
+use Rattle.gatt_commands.specs.Notices.{IsBegun}
 use Rattle.gatt_commands.specs.Opening.{IsOpened}
 use Rattle.gatt_commands.specs.RowsFile.{rows_in}
 use Rattle.gatt_commands.specs.ScriptFile.{script_in}
@@ -28,100 +30,131 @@ use Rattle.gatt_commands.specs.TableFile.{table_in, HasNext}
 abbrev pub simulated : SimConfig
 simulated = record { acl_len = 27; packets = 8; shared = false; cut = 27 }
 
--- a line: what it says is done, host and controller hand each other all that they have, and what it has brought is printed
-pub record RunsLine (names : List Octets) (act : Act) (old new : Stage) (held holds : Option Octets) : Type 0 where
+-- a line: what it says is done, and what the host tells of it is noted
+pub record IsDone (shows : Bool) (act : Act) (refused : Option Refused) (old acted : Stage) (heard : Notes) : Type 0 where
+  pub begun : Notes
+  pub fresh : IsBegun shows begun
+  pub does : Does act refused old acted
+  pub noted : NotesAct act old.next refused acted.host begun heard
+
+-- what a line has brought, and then what was noted
+abbrev pub line_text : List Octets → Option Refused → Simulated → Notes → Octets
+line_text names refused sim notes = outcome_text names refused sim.phones ++ notes.text.items
+
+-- then host and controller hand each other all that they have, and what it has brought is printed
+pub record RunsLine (shows : Bool) (names : List Octets) (act : Act) (old new : Stage) (held holds : Option Octets) : Type 0 where
   pub refused : Option Refused
   pub acted : Stage
   pub quiet : Simulated
-  pub does : Does act refused old acted
-  pub exchanges : ExchangesAll (pair_of acted.host acted.sim) (pair_of new.host quiet)
-  pub printed : Appends held holds (outcome_text names refused quiet.phones)
+  pub heard : Notes
+  pub last : Notes
+  pub done : IsDone shows act refused old acted heard
+  pub exchanges : ExchangesAll (pair_of acted.host acted.sim heard) (pair_of new.host quiet last)
+  pub kept : last.is_refused ≡ false
+  pub printed : Appends held holds (line_text names refused quiet last)
   pub told : new.sim ≡ with_told_phones quiet (length names)
   pub next : new.next ≡ acted.next
 
 -- or host and controller do not come to an end, and nothing is printed
-pub record FailsToExchange (fault : ShellFault) (old new : Stage) (held holds : Option Octets) : Type 0 where
-  pub exchanges : ExchangesUntil (Err fault) (pair_of old.host old.sim) (pair_of new.host new.sim)
+pub record FailsToExchange (fault : ShellFault) (heard : Notes) (old new : Stage) (held holds : Option Octets) : Type 0 where
+  pub last : Notes
+  pub exchanges : ExchangesUntil (Err fault) (pair_of old.host old.sim heard) (pair_of new.host new.sim last)
+  pub next : new.next ≡ old.next
+  pub kept : Keeps held holds
+
+-- or memory is refused for a notice that is shown, and nothing is printed either
+pub record FailsToNote (shows : Bool) (heard : Notes) (old new : Stage) (held holds : Option Octets) : Type 0 where
+  pub shown : shows ≡ true
+  pub last : Notes
+  pub exchanges : ExchangesAll (pair_of old.host old.sim heard) (pair_of new.host new.sim last)
+  pub refused : last.is_refused ≡ true
   pub next : new.next ≡ old.next
   pub kept : Keeps held holds
 
 -- or the writer fails, and the front of what the line has brought is printed
-pub record FailsToPrint (names : List Octets) (refused : Option Refused) (old new : Stage) (held holds : Option Octets) : Type 0 where
+pub record FailsToPrint (names : List Octets) (refused : Option Refused) (heard : Notes) (old new : Stage) (held holds : Option Octets) : Type 0 where
   pub quiet : Simulated
-  pub exchanges : ExchangesAll (pair_of old.host old.sim) (pair_of new.host quiet)
+  pub last : Notes
+  pub exchanges : ExchangesAll (pair_of old.host old.sim heard) (pair_of new.host quiet last)
   pub next : new.next ≡ old.next
-  pub printed : WritesFront (outcome_text names refused quiet.phones) held holds
+  pub printed : WritesFront (line_text names refused quiet last) held holds
 
-abbrev pub Fails : ShellFault → List Octets → Option Refused → Stage → Stage → Option Octets → Option Octets → Type 0
-Fails Unwritten names refused old new held holds = FailsToPrint names refused old new held holds
-Fails fault names refused old new held holds = FailsToExchange fault old new held holds
+abbrev pub Fails : ShellFault → Bool → List Octets → Option Refused → Notes → Stage → Stage → Option Octets → Option Octets → Type 0
+Fails Unwritten shows names refused heard old new held holds = FailsToPrint names refused heard old new held holds
+Fails Memory shows names refused heard old new held holds = FailsToNote shows heard old new held holds
+Fails fault shows names refused heard old new held holds = FailsToExchange fault heard old new held holds
 
-pub record EndsAtLine (fault : ShellFault) (names : List Octets) (act : Act) (old new : Stage) (held holds : Option Octets) : Type 0 where
+pub record EndsAtLine (fault : ShellFault) (shows : Bool) (names : List Octets) (act : Act) (old new : Stage) (held holds : Option Octets) : Type 0 where
   pub refused : Option Refused
   pub acted : Stage
-  pub does : Does act refused old acted
-  pub fails : Fails fault names refused acted new held holds
+  pub heard : Notes
+  pub done : IsDone shows act refused old acted heard
+  pub fails : Fails fault shows names refused heard acted new held holds
 
 -- all of some lines
-abbrev pub Runs : List Octets → List Act → Stage → Stage → Option Octets → Option Octets → Type 0
-Runs names [] old new held holds = (new ≡ old) × Keeps held holds
-Runs names (act ∷ acts) old new held holds =
-    (middle : Stage) × (between : Option Octets) × RunsLine names act old middle held between × Runs names acts middle new between holds
+abbrev pub Runs : Bool → List Octets → List Act → Stage → Stage → Option Octets → Option Octets → Type 0
+Runs shows names [] old new held holds = (new ≡ old) × Keeps held holds
+Runs shows names (act ∷ acts) old new held holds =
+    (middle : Stage) × (between : Option Octets) × RunsLine shows names act old middle held between × Runs shows names acts middle new between holds
 
 -- or those before one that ends the run
-abbrev pub EndsAmong : ShellFault → List Octets → List Act → Stage → Stage → Option Octets → Option Octets → Type 0
-EndsAmong fault names [] old new held holds = ⊥
-EndsAmong fault names (act ∷ acts) old new held holds =
-    EndsAtLine fault names act old new held holds
-    ⊎ ((middle : Stage) × (between : Option Octets) × RunsLine names act old middle held between × EndsAmong fault names acts middle new between holds)
+abbrev pub EndsAmong : ShellFault → Bool → List Octets → List Act → Stage → Stage → Option Octets → Option Octets → Type 0
+EndsAmong fault shows names [] old new held holds = ⊥
+EndsAmong fault shows names (act ∷ acts) old new held holds =
+    EndsAtLine fault shows names act old new held holds
+    ⊎ ((middle : Stage) × (between : Option Octets) × RunsLine shows names act old middle held between × EndsAmong fault shows names acts middle new between holds)
 
 -- all of a script: before the first line host and controller hand each other all that they have
-pub record RunsAll (script : Acts) (old new : Stage) (held holds : Option Octets) : Type 0 where
+pub record RunsAll (shows : Bool) (script : Acts) (old new : Stage) (held holds : Option Octets) : Type 0 where
   pub begun : Stage
-  pub exchanges : ExchangesAll (pair_of old.host old.sim) (pair_of begun.host begun.sim)
+  pub silent : Notes
+  pub last : Notes
+  pub exchanges : ExchangesAll (pair_of old.host old.sim silent) (pair_of begun.host begun.sim last)
   pub next : begun.next ≡ old.next
-  pub lines : Runs script.names script.acts begun new held holds
+  pub lines : Runs shows script.names script.acts begun new held holds
 
 -- or what stands before the fault that ends the run
-pub record EndsInLines (fault : ShellFault) (script : Acts) (old new : Stage) (held holds : Option Octets) : Type 0 where
+pub record EndsInLines (fault : ShellFault) (shows : Bool) (script : Acts) (old new : Stage) (held holds : Option Octets) : Type 0 where
   pub begun : Stage
-  pub exchanges : ExchangesAll (pair_of old.host old.sim) (pair_of begun.host begun.sim)
+  pub silent : Notes
+  pub last : Notes
+  pub exchanges : ExchangesAll (pair_of old.host old.sim silent) (pair_of begun.host begun.sim last)
   pub next : begun.next ≡ old.next
-  pub lines : EndsAmong fault script.names script.acts begun new held holds
+  pub lines : EndsAmong fault shows script.names script.acts begun new held holds
 
-abbrev pub EndsEarly : ShellFault → Acts → Stage → Stage → Option Octets → Option Octets → Type 0
-EndsEarly fault script old new held holds = FailsToExchange fault old new held holds ⊎ EndsInLines fault script old new held holds
+abbrev pub EndsEarly : ShellFault → Bool → Acts → Stage → Stage → Option Octets → Option Octets → Type 0
+EndsEarly fault shows script old new held holds = ((silent : Notes) × FailsToExchange fault silent old new held holds) ⊎ EndsInLines fault shows script old new held holds
 
 -- with a new controller; and then the rows that stand are written. `writes` and `writes_front` say that octets, or the front
 -- of them, were written
-pub record RunsHost (script : Acts) (old new : Whole) (next next_then : Option Contents) (held holds : Option Octets) (writes : Octets → Type 0) : Type 0 where
+pub record RunsHost (shows : Bool) (script : Acts) (old new : Whole) (next next_then : Option Contents) (held holds : Option Octets) (writes : Octets → Type 0) : Type 0 where
   pub sim : Simulated
-  pub runs : RunsAll script (stage_of old (at_start simulated) next) (stage_of new sim next_then) held holds
+  pub runs : RunsAll shows script (stage_of old (at_start simulated) next) (stage_of new sim next_then) held holds
   pub rows : writes (text_of new.held.rows)
 
 -- or the run ends early, or the rows cannot be written; the front of the rows is written then
-pub record EndsHost (fault : ShellFault) (script : Acts) (old new : Whole) (next next_then : Option Contents) (held holds : Option Octets) (writes_front : Octets → Type 0) : Type 0 where
+pub record EndsHost (fault : ShellFault) (shows : Bool) (script : Acts) (old new : Whole) (next next_then : Option Contents) (held holds : Option Octets) (writes_front : Octets → Type 0) : Type 0 where
   pub sim : Simulated
   pub ends :
-      EndsEarly fault script (stage_of old (at_start simulated) next) (stage_of new sim next_then) held holds
-      ⊎ ((fault ≡ Unwritten) × RunsAll script (stage_of old (at_start simulated) next) (stage_of new sim next_then) held holds)
+      EndsEarly fault shows script (stage_of old (at_start simulated) next) (stage_of new sim next_then) held holds
+      ⊎ ((fault ≡ Unwritten) × RunsAll shows script (stage_of old (at_start simulated) next) (stage_of new sim next_then) held holds)
   pub rows : writes_front (text_of new.held.rows)
 
 -- by what is answered
-abbrev pub HostRuns : Result (Unit {0}) ShellFault → Acts → Whole → Whole → Option Contents → Option Contents
+abbrev pub HostRuns : Result (Unit {0}) ShellFault → Bool → Acts → Whole → Whole → Option Contents → Option Contents
     → Option Octets → Option Octets → (Octets → Type 0) → (Octets → Type 0) → Type 0
-HostRuns (Ok done) script old new next next_then held holds writes writes_front = RunsHost script old new next next_then held holds writes
-HostRuns (Err fault) script old new next next_then held holds writes writes_front = EndsHost fault script old new next next_then held holds writes_front
+HostRuns (Ok done) shows script old new next next_then held holds writes writes_front = RunsHost shows script old new next next_then held holds writes
+HostRuns (Err fault) shows script old new next next_then held holds writes writes_front = EndsHost fault shows script old new next next_then held holds writes_front
 
 -- with a new host, and the script of a file, as far as its octets are known
-pub record RunsFile (result : Result (Unit {0}) ShellFault) (table : Contents) (next : Option Contents) (keys : List Entry) (rows : Subscriptions) (script_file held holds : Option Octets) (writes writes_front : Octets → Type 0) : Type 0 where
+pub record RunsFile (result : Result (Unit {0}) ShellFault) (shows : Bool) (table : Contents) (next : Option Contents) (keys : List Entry) (rows : Subscriptions) (script_file held holds : Option Octets) (writes writes_front : Octets → Type 0) : Type 0 where
   pub script : Acts
   pub has_script : IfSome script_file (λ octets. script_in (is_some next) octets ≡ Ok script)
   pub host : Whole
   pub opened : IsOpened table keys rows host
   pub last : Whole
   pub next_then : Option Contents
-  pub runs : HostRuns result script host last next next_then held holds writes writes_front
+  pub runs : HostRuns result shows script host last next next_then held holds writes writes_front
 
 -- the files of a run by their octets, where those are known
 pub record Files : Type 0 where
@@ -135,7 +168,7 @@ abbrev pub files_of : Option Octets → Option (Option Octets) → Option Octets
 files_of table next keys rows script = record { table_file = table; next_file = next; key_file = keys; rows_file = rows; script_file = script }
 
 -- what the files say is run
-pub record RunsFiles (result : Result (Unit {0}) ShellFault) (files : Files) (held holds : Option Octets) (writes writes_front : Octets → Type 0) : Type 0 where
+pub record RunsFiles (result : Result (Unit {0}) ShellFault) (shows : Bool) (files : Files) (held holds : Option Octets) (writes writes_front : Octets → Type 0) : Type 0 where
   pub table : Contents
   pub next : Option Contents
   pub keys : List Entry
@@ -144,4 +177,4 @@ pub record RunsFiles (result : Result (Unit {0}) ShellFault) (files : Files) (he
   pub has_next : HasNext files.next_file next
   pub has_keys : IfSome files.key_file (λ octets. keys_in octets ≡ Ok keys)
   pub has_rows : IfSome files.rows_file (λ octets. rows_in octets ≡ Ok rows)
-  pub runs : RunsFile result table next keys rows files.script_file held holds writes writes_front
+  pub runs : RunsFile result shows table next keys rows files.script_file held holds writes writes_front

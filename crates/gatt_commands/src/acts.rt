@@ -5,9 +5,10 @@ ghost use Rattle.gatt_host.specs.Asked.{call_of};
 ghost use Rattle.gatt_host.specs.Whole.{all_out};
 ghost use Rattle.scripts.specs.Phones.{IsOfPhoneBelow};
 ghost use Rattle.sim_controller.specs.Acts.{Does as SimDoes};
-ghost use Rattle.gatt_commands.specs.Doing.{Calls, Does, PhoneActs, ReplacesBy, sim_act, stage_of};
+ghost use Rattle.gatt_commands.specs.Doing.{Calls, Does, NotesAct, NotesReplacing, NotesUnless, PhoneActs, ReplacesBy, sim_act, stage_of};
 ghost use Rattle.gatt_commands.specs.Lines.{IsOfPhone};
 
+use crate::notes::Notes;
 use arrayvec::ArrayVec;
 use att_table::Table;
 use gatt_host::{App, Host};
@@ -27,15 +28,18 @@ pub(crate) enum Refused {
 }
 
 /// Does what a line says, unless it is refused. A table that is replaced stands in the other's place.
+/// What the host tells of it is noted.
 pub(crate) fn do_act(
     host: &mut Host,
     sim: &mut Sim,
     next: &mut Option<Table>,
     act: &Act<'_>,
+    notes: &mut Notes,
 ) -> Option<Refused>
     requires drained { all_out host.old ≡ true }
     requires phone { IsOfPhoneBelow 8 act.now }
     ensures does { Does act.now result (stage_of host.old sim.old next.old) (stage_of host.new sim.new next.new) }
+    ensures noted { NotesAct act.now next.old result host.new notes.old notes.new }
     ensures named { (count : ℕ) → IsOfPhoneBelow count act.now → IfSome result (IsOfPhone count) }
     // What is refused leaves the controller and the table as they are.
     ensures sim { IsSome result → sim.new ≡ sim.old }
@@ -45,34 +49,39 @@ pub(crate) fn do_act(
         Act::Phone { phone, act } => phone_act(sim, *phone, act),
         Act::Authorize { phone, until } => {
             let handle = FIRST_HANDLE + u16::from(*phone);
-            call(host, App::Authorize(handle, *until))
+            call(host, App::Authorize(handle, *until), notes)
         }
         Act::Update { handle, value } => {
             let mut octets = ArrayVec::new();
             value.decode(&mut octets);
-            call(host, App::Update(*handle, octets.as_slice()))
+            call(host, App::Update(*handle, octets.as_slice()), notes)
         }
-        Act::Tick { time } => call(host, App::Tick(*time)),
-        Act::Replace => replace(host, next),
+        Act::Tick { time } => call(host, App::Tick(*time), notes),
+        Act::Replace => replace(host, next, notes),
     }
 }
 
 /// A call of the application.
-fn call(host: &mut Host, call: App<'_>) -> Option<Refused>
+fn call(host: &mut Host, call: App<'_>, notes: &mut Notes) -> Option<Refused>
     requires { all_out host.old ≡ true }
     ensures calls { Calls (call_of call.entry) result host.old host.new }
+    ensures noted { NotesUnless result host.new notes.old notes.new }
     ensures named { (count : ℕ) → IfSome result (IsOfPhone count) }
 {
     match host.app(call) {
-        Ok(()) => None,
+        Ok(()) => {
+            notes.hear(host);
+            None
+        }
         Err(fault) => Some(Refused::Call(fault.number())),
     }
 }
 
 /// The tables change places, where there is another one.
-fn replace(host: &mut Host, next: &mut Option<Table>) -> Option<Refused>
+fn replace(host: &mut Host, next: &mut Option<Table>, notes: &mut Notes) -> Option<Refused>
     requires { all_out host.old ≡ true }
     ensures replaces { ReplacesBy next.old result host.old host.new next.new }
+    ensures noted { NotesReplacing next.old result host.new notes.old notes.new }
     ensures named { (count : ℕ) → IfSome result (IsOfPhone count) }
     ensures next { IsSome result → next.new ≡ next.old }
 {
@@ -80,6 +89,7 @@ fn replace(host: &mut Host, next: &mut Option<Table>) -> Option<Refused>
     match host.replace(table) {
         Ok(old) => {
             *next = Some(old);
+            notes.hear(host);
             None
         }
         Err((fault, table)) => {

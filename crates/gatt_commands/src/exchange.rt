@@ -1,31 +1,35 @@
 //! Packets between a host and its simulated controller.
 
-ghost use Rattle.std.specs.Prelude.{◌≡◌, [], true, IfErr, IfOk, IsOk};
+ghost use Rattle.std.specs.Prelude.{◌≡◌, [], true, IfErr, IfOk, IsOk, IsSome, None, OnOk};
 ghost use Rattle.std.specs.Bool.{OnFalse, OnTrue};
 ghost use Rattle.gatt_host.specs.Answers.{lost_fault};
-ghost use Rattle.gatt_host.specs.Whole.{all_out};
-ghost use Rattle.gatt_commands.specs.Exchange.{ControllerAnswers, ExchangesUntil, HandsNext, HostAnswers, HostHears, IsQuiet, pair_of};
+ghost use Rattle.gatt_host.specs.Whole.{all_out, outcome_of, Takes};
+ghost use Rattle.gatt_laws.specs.Input.{APacket};
+ghost use Rattle.le_h4.specs.Packet.{seen};
+ghost use Rattle.gatt_commands.specs.Notices.{Hears};
+ghost use Rattle.gatt_commands.specs.Exchange.{ControllerAnswers, ExchangesUntil, HandsNext, HostAnswers, HostHears, IsQuiet, NotesTaken, pair_of};
 ghost use Rattle.gatt_commands.specs.Lines.{IsExchangeFault};
 
 use crate::fault::ShellFault;
+use crate::notes::Notes;
 use arrayvec::ArrayVec;
 use gatt_host::{Host, HostFault};
-use le_h4::{Deframer, H4Fault};
+use le_h4::{Deframer, H4Fault, PacketRef};
 use sim_controller::Sim;
 
 /// How many packets host and controller may hand each other before a line and the next.
 pub(crate) const MAX_EXCHANGED: u64 = 100_000;
 
 /// Host and controller hand each other packets until neither has anything to give: what the host gives
-/// goes first, so all is out before a packet of the controller goes in.
-pub(crate) fn exchange(host: &mut Host, sim: &mut Sim) -> Result<(), ShellFault>
-    ensures exchanges { ExchangesUntil result (pair_of host.old sim.old) (pair_of host.new sim.new) }
+/// goes first, so all is out before a packet of the controller goes in. What the host tells is noted.
+pub(crate) fn exchange(host: &mut Host, sim: &mut Sim, notes: &mut Notes) -> Result<(), ShellFault>
+    ensures exchanges { ExchangesUntil result (pair_of host.old sim.old notes.old) (pair_of host.new sim.new notes.new) }
     ensures out { IsOk result → all_out host.new ≡ true }
     ensures taken { IsOk result → sim.new.waiting ≡ [] }
     ensures faults { IfErr result IsExchangeFault }
 {
     for _packet in 0..MAX_EXCHANGED {
-        if !hand_over(host, sim)? {
+        if !hand_over(host, sim, notes)? {
             return Ok(());
         }
     }
@@ -36,8 +40,8 @@ pub(crate) fn exchange(host: &mut Host, sim: &mut Sim) -> Result<(), ShellFault>
 }
 
 /// Hands over the next packet, and answers whether there was one.
-fn hand_over(host: &mut Host, sim: &mut Sim) -> Result<bool, ShellFault>
-    ensures hands { HandsNext result (pair_of host.old sim.old) (pair_of host.new sim.new) }
+fn hand_over(host: &mut Host, sim: &mut Sim, notes: &mut Notes) -> Result<bool, ShellFault>
+    ensures hands { HandsNext result (pair_of host.old sim.old notes.old) (pair_of host.new sim.new notes.new) }
     ensures out { IfOk result (λ handed. OnFalse handed (all_out host.new ≡ true)) }
     ensures taken { IfOk result (λ handed. OnFalse handed (sim.new.waiting ≡ [])) }
     ensures faults { IfErr result IsExchangeFault }
@@ -48,7 +52,7 @@ fn hand_over(host: &mut Host, sim: &mut Sim) -> Result<bool, ShellFault>
         return Ok(true);
     }
     if sim.next_to_host(&mut packet) {
-        give_host(host, packet.as_slice())?;
+        give_host(host, packet.as_slice(), notes)?;
         return Ok(true);
     }
     Ok(false)
@@ -56,9 +60,9 @@ fn hand_over(host: &mut Host, sim: &mut Sim) -> Result<bool, ShellFault>
 
 /// Whether another packet would be handed over.
 fn has_packet(host: &Host, sim: &mut Sim) -> bool
-    ensures quiet { OnFalse result (IsQuiet (pair_of host.now sim.old)) }
+    ensures quiet { OnFalse result (IsQuiet host.now sim.old) }
     ensures unchanged { OnFalse result (sim.new ≡ sim.old) }
-    ensures more { OnTrue result (IsQuiet (pair_of host.now sim.old) → ⊥) }
+    ensures more { OnTrue result (IsQuiet host.now sim.old → ⊥) }
     ensures out { OnFalse result (all_out host.now ≡ true) }
     ensures taken { OnFalse result (sim.new.waiting ≡ []) }
 {
@@ -75,25 +79,40 @@ fn give_controller(sim: &mut Sim, packet: &[u8]) -> Result<(), ShellFault>
 }
 
 /// The host takes a packet of the controller, all of which is out.
-fn give_host(host: &mut Host, packet: &[u8]) -> Result<(), ShellFault>
+fn give_host(host: &mut Host, packet: &[u8], notes: &mut Notes) -> Result<(), ShellFault>
     requires { all_out host.old ≡ true }
     ensures answers { HostAnswers packet.now result host.old host.new }
+    ensures noted { OnOk result (NotesTaken packet.now host.new notes.old notes.new) }
     ensures faults { IfErr result IsExchangeFault }
 {
-    hear(host, packet).map_err(|fault| ShellFault::Host(fault.number()))
+    hear(host, packet, notes).map_err(|fault| ShellFault::Host(fault.number()))
 }
 
-/// The host takes in the first packet that octets have.
-fn hear(host: &mut Host, octets: &[u8]) -> Result<(), HostFault>
+/// The host takes in the first packet that octets have, and what it tells of it is noted.
+fn hear(host: &mut Host, octets: &[u8], notes: &mut Notes) -> Result<(), HostFault>
     requires { all_out host.old ≡ true }
-    ensures { HostHears octets.now result host.old host.new }
+    ensures hears { HostHears octets.now result host.old host.new }
+    ensures noted { OnOk result (NotesTaken octets.now host.new notes.old notes.new) }
 {
     let mut deframer = Deframer::new();
     match deframer.feed(octets) {
-        Ok(fed) if fed.packet => host.packet(deframer.packet()),
+        Ok(fed) if fed.packet => take(host, deframer.packet(), notes),
         Ok(_) => Ok(()),
         Err(fault) => Err(lost_fault(fault)),
     }
+}
+
+/// The host takes in a packet, and what it tells of it is noted.
+fn take(host: &mut Host, packet: PacketRef<'_>, notes: &mut Notes) -> Result<(), HostFault>
+    requires { all_out host.old ≡ true }
+    ensures outcome { result ≡ outcome_of host.new.fault }
+    ensures takes { host.old.fault ≡ None → Takes (APacket (seen packet.entry)) host.old host.new }
+    ensures stopped { IsSome host.old.fault → host.new ≡ host.old }
+    ensures noted { OnOk result (Hears host.new notes.old notes.new) }
+{
+    host.packet(packet)?;
+    notes.hear(host);
+    Ok(())
 }
 
 /// Where octets cannot be divided any further, as the host says it.

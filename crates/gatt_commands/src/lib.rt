@@ -9,6 +9,8 @@ mod fault;
 mod input;
 mod key_file;
 mod lazy_file;
+mod notes;
+mod notice_text;
 mod opening;
 mod output;
 mod rows_file;

@@ -9,7 +9,7 @@ ghost use Rattle.scripts.specs.declared.script_fault.ScriptFault.TheVariants.{Ba
 ghost use Rattle.sim_controller.specs.Simulated.{at_start};
 ghost use Rattle.gatt_commands.specs.Doing.{stage_of};
 ghost use Rattle.gatt_commands.specs.KeyFile.{keys_in, AreRefusedAs as KeysAreRefusedAs};
-ghost use Rattle.gatt_commands.specs.Lines.{IsHostRunFault, IsRunCommandFault, IsRunFault, IsScriptRunFault};
+ghost use Rattle.gatt_commands.specs.Lines.{IsRunCommandFault, IsRunFault, IsScriptRunFault};
 ghost use Rattle.gatt_commands.specs.RowsFile.{rows_in, AreRefusedAs};
 ghost use Rattle.gatt_commands.specs.Runs.{files_of, simulated, EndsAmong, EndsAtLine, EndsEarly, HostRuns, Runs, RunsAll, RunsFile, RunsFiles, RunsLine};
 ghost use Rattle.gatt_commands.specs.ScriptFile.{script_in};
@@ -24,13 +24,14 @@ use crate::fault::ShellFault;
 use crate::input::read_all;
 use crate::key_file::read_keys;
 use crate::lazy_file::LazyFile;
+use crate::notes::Notes;
 use crate::opening::open_host;
 use crate::output::outcome_of;
 use crate::rows_file::{read_rows, write_rows};
 use crate::rows_path::{RowsPath, RowsReader, RowsWriter};
 use crate::script_file::judged_script;
 use crate::table_file::{read_next, read_table};
-use crate::told::print_outcome;
+use crate::told::print_line;
 use att_table::Table;
 use gatt_host::Host;
 use gatt_subs::Rows;
@@ -51,7 +52,8 @@ const SIMULATED: SimConfig = SimConfig {
 
 /// Reads a table, a table to replace it by, keys, rows and a script, and runs the script with a host
 /// over a simulated controller. At the end the rows that then stand are written. Each file is read
-/// only once those in front of it have been accepted.
+/// only once those in front of it have been accepted. Where `shows` is set, what the application is
+/// told is printed behind what each line brings.
 pub fn run_script<T: Read, N: Read, K: Read, R: Read, S: Read, V: Write, W: Write>(
     alloc: Global,
     table: &mut T,
@@ -60,6 +62,7 @@ pub fn run_script<T: Read, N: Read, K: Read, R: Read, S: Read, V: Write, W: Writ
     rows: &mut R,
     script: &mut S,
     rows_writer: &mut V,
+    shows: bool,
     writer: &mut W,
 ) -> Result<(), ShellFault>
     // A file is refused for its first fault, or for want of memory.
@@ -81,7 +84,7 @@ pub fn run_script<T: Read, N: Read, K: Read, R: Read, S: Read, V: Write, W: Writ
     ensures rows_fourth { IsPast OfRows result → IfSome (R.remaining rows.old) (λ octets. IsOk (rows_in octets)) }
     ensures script_last { IsPast OfScript result → IfSome (S.remaining script.old) (λ octets. IsOk (script_in (is_some next.old) octets)) }
     // Then all that the files say is run, up to the fault that ends the run.
-    ensures runs { IsPast OfScript result → RunsFiles result
+    ensures runs { IsPast OfScript result → RunsFiles result shows
         (files_of (T.remaining table.old) (option_map N.remaining next.old) (K.remaining keys.old) (R.remaining rows.old) (S.remaining script.old))
         (W.contents writer.old) (W.contents writer.new) (HasWritten V.contents rows_writer.old) (HasWrittenFront V.contents rows_writer.old) }
     ensures faults { IfErr result IsRunCommandFault }
@@ -90,7 +93,17 @@ pub fn run_script<T: Read, N: Read, K: Read, R: Read, S: Read, V: Write, W: Writ
     let next = read_next(alloc, next)?;
     let keys = read_keys(alloc, keys)?;
     let rows = read_rows(alloc, rows)?;
-    run_files(alloc, table, next, keys, rows, script, rows_writer, writer)
+    run_files(
+        alloc,
+        table,
+        next,
+        keys,
+        rows,
+        script,
+        rows_writer,
+        shows,
+        writer,
+    )
 }
 
 /// Reads a script, and runs it with a host that has these files.
@@ -102,9 +115,10 @@ fn run_files<S: Read, V: Write, W: Write>(
     rows: Rows,
     script: &mut S,
     rows_writer: &mut V,
+    shows: bool,
     writer: &mut W,
 ) -> Result<(), ShellFault>
-    ensures runs { IsPast OfScript result → RunsFile result table next keys rows (S.remaining script.old) (W.contents writer.old) (W.contents writer.new)
+    ensures runs { IsPast OfScript result → RunsFile result shows table next keys rows (S.remaining script.old) (W.contents writer.old) (W.contents writer.new)
         (HasWritten V.contents rows_writer.old) (HasWrittenFront V.contents rows_writer.old) }
     ensures script { (line : ℕ) → result ≡ Err (ShellFault.Script line)
         → IfSome (S.remaining script.old) (λ octets. script_in (is_some next) octets ≡ Err (BadLine line)) }
@@ -114,7 +128,15 @@ fn run_files<S: Read, V: Write, W: Write>(
     let octets = read_all(alloc, script)?;
     let script = judged_script(alloc, octets.as_slice(), next.is_some())?;
     let mut host = open_host(alloc, table, keys, rows)?;
-    run_host(alloc, &mut host, &mut next, &script, rows_writer, writer)
+    run_host(
+        alloc,
+        &mut host,
+        &mut next,
+        &script,
+        rows_writer,
+        shows,
+        writer,
+    )
 }
 
 /// Runs a script with a host over a simulated controller, and then writes the rows that stand. A fault
@@ -125,15 +147,16 @@ fn run_host<V: Write, W: Write>(
     next: &mut Option<Table>,
     script: &Script<'_>,
     rows_writer: &mut V,
+    shows: bool,
     writer: &mut W,
 ) -> Result<(), ShellFault>
     requires { HasNamedPhones script.now }
-    ensures runs { result ≢ Err ShellFault.Memory → HostRuns result script.now host.old host.new next.old next.new
+    ensures runs { result ≢ Err ShellFault.Memory → HostRuns result shows script.now host.old host.new next.old next.new
         (W.contents writer.old) (W.contents writer.new) (HasWritten V.contents rows_writer.old) (HasWrittenFront V.contents rows_writer.old) }
-    ensures faults { IfErr result IsHostRunFault }
+    ensures faults { IfErr result IsRunFault }
 {
     let mut sim = open_sim(alloc)?;
-    let ran = run_lines(host, &mut sim, next, script, writer);
+    let ran = run_lines(alloc, host, &mut sim, next, script, shows, writer);
     outcome_of(ran, write_rows(host.rows(), rows_writer))
 }
 
@@ -148,70 +171,90 @@ fn open_sim(alloc: Global) -> Result<Sim, ShellFault>
 /// Runs the lines of a script. Before the first of them, host and controller hand each other all that
 /// they have.
 fn run_lines<W: Write>(
+    alloc: Global,
     host: &mut Host,
     sim: &mut Sim,
     next: &mut Option<Table>,
     script: &Script<'_>,
+    shows: bool,
     writer: &mut W,
 ) -> Result<(), ShellFault>
     requires { HasNamedPhones script.now }
-    ensures runs { OnOk result (RunsAll script.now (stage_of host.old sim.old next.old) (stage_of host.new sim.new next.new)
+    ensures runs { OnOk result (RunsAll shows script.now (stage_of host.old sim.old next.old) (stage_of host.new sim.new next.new)
         (W.contents writer.old) (W.contents writer.new)) }
-    ensures ends { IfErr result (λ fault. EndsEarly fault script.now (stage_of host.old sim.old next.old) (stage_of host.new sim.new next.new)
+    ensures ends { IfErr result (λ fault. EndsEarly fault shows script.now (stage_of host.old sim.old next.old) (stage_of host.new sim.new next.new)
         (W.contents writer.old) (W.contents writer.new)) }
     ensures faults { IfErr result IsRunFault }
 {
-    exchange(host, sim)?;
-    run_acts(host, sim, next, script.names(), script.acts(), writer)
+    let mut notes = Notes::new(alloc, false);
+    exchange(host, sim, &mut notes)?;
+    run_acts(
+        alloc,
+        host,
+        sim,
+        next,
+        script.names(),
+        script.acts(),
+        shows,
+        writer,
+    )
 }
 
 /// Runs lines one after the other.
 fn run_acts<W: Write>(
+    alloc: Global,
     host: &mut Host,
     sim: &mut Sim,
     next: &mut Option<Table>,
     names: &[Name<'_>],
     acts: &[Act<'_>],
+    shows: bool,
     writer: &mut W,
 ) -> Result<(), ShellFault>
     requires few { length names.now ≤ 8 }
     requires named { All (IsOfPhoneBelow (length names.now)) acts.now }
     requires drained { all_out host.old ≡ true }
-    ensures runs { OnOk result (Runs names.now acts.now (stage_of host.old sim.old next.old) (stage_of host.new sim.new next.new)
+    ensures runs { OnOk result (Runs shows names.now acts.now (stage_of host.old sim.old next.old) (stage_of host.new sim.new next.new)
         (W.contents writer.old) (W.contents writer.new)) }
-    ensures ends { IfErr result (λ fault. EndsAmong fault names.now acts.now (stage_of host.old sim.old next.old) (stage_of host.new sim.new next.new)
+    ensures ends { IfErr result (λ fault. EndsAmong fault shows names.now acts.now (stage_of host.old sim.old next.old) (stage_of host.new sim.new next.new)
         (W.contents writer.old) (W.contents writer.new)) }
     ensures faults { IfErr result IsRunFault }
 {
     for act in acts {
-        run_line(host, sim, next, names, act, writer)?;
+        run_line(alloc, host, sim, next, names, act, shows, writer)?;
     }
     Ok(())
 }
 
 /// Runs a line: does what it says, has host and controller hand each other all that they have, and
-/// prints what that has brought.
+/// prints what that has brought, and the notices, where they are shown.
 fn run_line<W: Write>(
+    alloc: Global,
     host: &mut Host,
     sim: &mut Sim,
     next: &mut Option<Table>,
     names: &[Name<'_>],
     act: &Act<'_>,
+    shows: bool,
     writer: &mut W,
 ) -> Result<(), ShellFault>
     requires few { length names.now ≤ 8 }
     requires named { IsOfPhoneBelow (length names.now) act.now }
     requires drained { all_out host.old ≡ true }
-    ensures runs { OnOk result (RunsLine names.now act.now (stage_of host.old sim.old next.old) (stage_of host.new sim.new next.new)
+    ensures runs { OnOk result (RunsLine shows names.now act.now (stage_of host.old sim.old next.old) (stage_of host.new sim.new next.new)
         (W.contents writer.old) (W.contents writer.new)) }
-    ensures ends { IfErr result (λ fault. EndsAtLine fault names.now act.now (stage_of host.old sim.old next.old) (stage_of host.new sim.new next.new)
+    ensures ends { IfErr result (λ fault. EndsAtLine fault shows names.now act.now (stage_of host.old sim.old next.old) (stage_of host.new sim.new next.new)
         (W.contents writer.old) (W.contents writer.new)) }
     ensures drained { IsOk result → all_out host.new ≡ true }
     ensures faults { IfErr result IsRunFault }
 {
-    let refused = do_act(host, sim, next, act);
-    exchange(host, sim)?;
-    print_outcome(sim, names, refused, writer)
+    let mut notes = Notes::new(alloc, shows);
+    let refused = do_act(host, sim, next, act, &mut notes);
+    exchange(host, sim, &mut notes)?;
+    if notes.is_refused {
+        return Err(ShellFault::Memory);
+    }
+    print_line(sim, names, refused, &notes, writer)
 }
 
 /// The path of a table file that replaces another, where there is one.
@@ -235,6 +278,8 @@ pub struct RunPaths<'a> {
     pub rows: RowsPath<'a>,
     /// The script.
     pub script: ScriptPath<'a>,
+    /// Whether what the application is told is printed too.
+    pub shows: bool,
 }
 
 /// The same of the files at these paths. None is opened before its turn.
@@ -260,6 +305,7 @@ pub fn run_paths<F: Files, W: Write>(
         &mut rows,
         &mut script,
         &mut rows_writer,
+        paths.shows,
         writer,
     )
 }

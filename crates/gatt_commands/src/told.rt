@@ -6,10 +6,12 @@ ghost use Rattle.le_l2cap.specs.Frame.{frame_of, BasicFrame};
 ghost use Rattle.octets.specs.Number.{Octets};
 ghost use Rattle.octets.specs.Stream.{WritesFront};
 ghost use Rattle.sim_controller.specs.Simulated.{phone_at};
+ghost use Rattle.gatt_commands.specs.Runs.{line_text};
 ghost use Rattle.gatt_commands.specs.Lines.{IsOfPhone, ended_line, frame_line, heard_line, outcome_text, phone_text, phones_text, refused_line, sign_of, with_told_phone, with_told_phones};
 
 use crate::acts::Refused;
 use crate::fault::ShellFault;
+use crate::notes::Notes;
 use crate::output::{print, print_hex_line, print_number_line};
 use arrayvec::ArrayVec;
 use le_l2cap::{channel, read_frame};
@@ -17,10 +19,31 @@ use scripts::{MAX_PHONES, Name};
 use sim_controller::Sim;
 use std::io::Write;
 
-/// Prints what a line has brought: what was refused of it, and then for each phone the frames that it
+/// Prints what a line has brought, and then what was noted.
+#[tactic(auto, using(crate::proofs::Fronts::at_error, crate::proofs::Fronts::front_first, crate::proofs::Fronts::front_then, crate::proofs::Fronts::front_rest))]
+pub(crate) fn print_line<W: Write>(
+    sim: &mut Sim,
+    names: &[Name<'_>],
+    refused: Option<Refused>,
+    notes: &Notes,
+    writer: &mut W,
+) -> Result<(), ShellFault>
+    requires few { length names.now ≤ 8 }
+    requires named { IfSome refused (IsOfPhone (length names.now)) }
+    ensures ok { OnOk result (Appends (W.contents writer.old) (W.contents writer.new) (line_text names.now refused sim.old notes.now)) }
+    ensures told { OnOk result (sim.new ≡ with_told_phones sim.old (length names.now)) }
+    ensures front { OnErr result (WritesFront (line_text names.now refused sim.old notes.now) (W.contents writer.old) (W.contents writer.new)) }
+    ensures faults { IfErr result (λ fault. fault ≡ ShellFault.Unwritten) }
+    ensures waiting { sim.new.waiting ≡ sim.old.waiting }
+{
+    print_outcome(sim, names, refused, writer)?;
+    print(notes.text.as_slice(), writer)
+}
+
+/// Prints what a line has brought of phones: what was refused of it, and then for each phone the frames that it
 /// has heard, and whether the host has ended its connection.
 #[tactic(auto, using(crate::proofs::Fronts::at_error, crate::proofs::Fronts::front_first, crate::proofs::Fronts::front_then, crate::proofs::Fronts::front_rest))]
-pub(crate) fn print_outcome<W: Write>(
+fn print_outcome<W: Write>(
     sim: &mut Sim,
     names: &[Name<'_>],
     refused: Option<Refused>,

@@ -4,7 +4,7 @@ use Rattle.gatt_commands.specs.Written.{HasWritten, HasWrittenFront}
 
 pub returns-clause-runs : goal.returns-clause-runs
 returns-clause-runs g c = λ _.
-    host_runs c.args.script.now c.args.host.now c.run_lines-ran.new.host c.args.next.now c.run_lines-ran.new.next c.run_lines-ran.new.sim
+    host_runs c.args.shows c.args.script.now c.args.host.now c.run_lines-ran.new.host c.args.next.now c.run_lines-ran.new.next c.run_lines-ran.new.sim
     (g.W.Write.contents c.args.writer.now) (g.W.Write.contents c.run_lines-ran.new.writer)
     (HasWritten g.V.Write.contents c.args.rows_writer.now) (HasWrittenFront g.V.Write.contents c.args.rows_writer.now) (front_written g.V.Write.contents c.args.rows_writer.now)
     c.in_ok-sim.sim c.rows.result.now c.run_lines-ran.result c.write_rows.result c.outcome_of.result c.in_ok-sim.ensures.start c.rows.ensures.held

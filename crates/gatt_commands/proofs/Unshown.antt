@@ -1,0 +1,56 @@
+-- Where no notice is shown nothing is noted, and so no memory is refused for it.
+use Rattle.std.proofs.Common.{◌≡◌, ℕ, zero, suc, Bool, true, false, List, [], ◌∷◌, Option, Some, None, refl, ap, inl, inr, ◌∙◌}
+use Rattle.att_table.specs.Table.{Contents}
+use Rattle.gatt_host.specs.Whole.{Whole}
+use Rattle.le_h4.specs.Division.{division}
+use Rattle.le_h4.specs.Packet.{Packet}
+use Rattle.scripts.specs.declared.act.Act.{Act}
+use Rattle.scripts.specs.declared.act.Act.TheVariants as line
+use Rattle.gatt_commands.specs.declared.acts.Refused.{Refused}
+use Rattle.gatt_commands.specs.declared.notes.Notes.{Notes}
+use Rattle.gatt_commands.specs.Doing.{NotesAct, NotesReplacing, NotesUnless}
+use Rattle.gatt_commands.specs.Exchange.{Exchanges, ExchangesAll, HandsOver, NotesFirst, Pair}
+use Rattle.gatt_commands.specs.Notices.{IsBegun}
+
+unless-unshown : (told : Option Refused) (host : Whole) (old new : Notes) → NotesUnless told host old new → old.shows ≡ false → new ≡ old
+unless-unshown None host old new noted unshown = noted.deaf unshown
+unless-unshown (Some refused) host old new noted unshown = noted
+
+replacing-unshown : (next : Option Contents) (told : Option Refused) (host : Whole) (old new : Notes) → NotesReplacing next told host old new → old.shows ≡ false
+    → new ≡ old
+replacing-unshown None told host old new noted unshown = noted
+replacing-unshown (Some table) told host old new noted unshown = unless-unshown told host old new noted unshown
+
+act-unshown : (act : Act) (next : Option Contents) (told : Option Refused) (host : Whole) (old new : Notes) → NotesAct act next told host old new
+    → old.shows ≡ false → new ≡ old
+act-unshown (line.Phone phone act) next told host old new noted unshown = noted
+act-unshown (line.Authorize phone until) next told host old new noted unshown = unless-unshown told host old new noted unshown
+act-unshown (line.Update handle value) next told host old new noted unshown = unless-unshown told host old new noted unshown
+act-unshown (line.Tick time) next told host old new noted unshown = unless-unshown told host old new noted unshown
+act-unshown line.Replace next told host old new noted unshown = replacing-unshown next told host old new noted unshown
+
+first-unshown : (packets : List Packet) (host : Whole) (old new : Notes) → NotesFirst packets host old new → old.shows ≡ false → new ≡ old
+first-unshown [] host old new noted unshown = noted
+first-unshown (packet ∷ packets) host old new noted unshown = noted.deaf unshown
+
+hands-unshown : (before after : Pair) → HandsOver before after → before.notes.shows ≡ false → after.notes ≡ before.notes
+hands-unshown before after (inl out) unshown = out.same
+hands-unshown before after (inr taken) unshown =
+    first-unshown (division taken.packet).packets after.host before.notes after.notes taken.noted unshown
+
+exchanges-unshown : (count : ℕ) (before after : Pair) → Exchanges count before after → before.notes.shows ≡ false → after.notes ≡ before.notes
+exchanges-unshown zero before after is unshown = ap (λ (pair : Pair). pair.notes) is
+exchanges-unshown (suc count) before after (middle, hands, rest) unshown =
+    let first : middle.notes ≡ before.notes = hands-unshown before middle hands unshown in
+    exchanges-unshown count middle after rest (ap (λ (notes : Notes). notes.shows) first ∙ unshown) ∙ first
+
+-- so where it was refused, notices are shown
+pub shown_where : (shows : Bool) (act : Act) (next : Option Contents) (told : Option Refused) (begun heard : Notes) (before after : Pair) → IsBegun shows begun
+    → NotesAct act next told before.host begun heard → before.notes ≡ heard → ExchangesAll before after → after.notes.is_refused ≡ true → shows ≡ true
+shown_where true act next told begun heard before after fresh noted same exchanges refused = refl
+shown_where false act next told begun heard before after fresh noted same exchanges refused =
+    let first : before.notes ≡ begun = same ∙ act-unshown act next told before.host begun heard noted fresh.shown in
+    let last : after.notes ≡ before.notes =
+    exchanges-unshown exchanges.count before after exchanges.exchanges (ap (λ (notes : Notes). notes.shows) first ∙ fresh.shown) in
+    let kept : after.notes.is_refused ≡ false = ap (λ (notes : Notes). notes.is_refused) (last ∙ first) ∙ fresh.kept in
+    cc (kept, refused)
