@@ -263,7 +263,8 @@ fn octets_and_calls(rt: HostRuntime) {
     let mut host = ready(&rt, rt.alloc(), SETTING);
     let mut listener = Expects::new(TOLD);
     let octets = day(&rt);
-    let (early, late) = octets.as_slice().split_at(30);
+    let early = octets.as_slice().get(..30).unwrap_or(&[]);
+    let late = octets.as_slice().get(30..).unwrap_or(&[]);
     let inputs = [
         Input::Bytes(early),
         Input::Call(App::Tick(7)),
