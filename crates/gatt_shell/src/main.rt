@@ -125,6 +125,7 @@ fn carry_out(
             keys,
             rows,
             script,
+            notices,
         } => {
             let paths = RunPaths {
                 table: TablePath(table),
@@ -132,6 +133,7 @@ fn carry_out(
                 keys: KeysPath(keys),
                 rows: RowsPath(rows),
                 script: ScriptPath(script),
+                shows: notices,
             };
             run_script(rt, paths)
         }
