@@ -23,6 +23,8 @@ mod run_command;
 #[cfg(test)]
 mod run_files;
 #[cfg(test)]
+mod run_notices;
+#[cfg(test)]
 mod run_options;
 #[cfg(test)]
 mod run_paths;

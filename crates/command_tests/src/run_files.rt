@@ -33,6 +33,17 @@ pub fn run<V: Write, W: Write>(
     rows: &mut V,
     printed: &mut W,
 ) -> Result<(), ShellFault> {
+    run_showing(alloc, inputs, rows, false, printed)
+}
+
+/// The same, and where `shows` is set notices are printed too.
+pub fn run_showing<V: Write, W: Write>(
+    alloc: Global,
+    inputs: &Inputs<'_>,
+    rows: &mut V,
+    shows: bool,
+    printed: &mut W,
+) -> Result<(), ShellFault> {
     run_script(
         alloc,
         &mut inputs.table.as_bytes(),
@@ -41,6 +52,7 @@ pub fn run<V: Write, W: Write>(
         &mut inputs.rows.as_bytes(),
         &mut inputs.script.as_bytes(),
         rows,
+        shows,
         printed,
     )
 }

@@ -121,6 +121,7 @@ fn is_run(rt: &(impl AllocGlobal + Files), case: &Case) -> bool {
         keys: KeysPath(PEERS),
         rows: RowsPath(case.rows),
         script: ScriptPath(SCRIPT),
+        shows: false,
     };
     let mut printed: Vec<u8> = Vec::new(rt.alloc());
     run_paths(rt.alloc(), &machine, paths, &mut printed) == case.ended

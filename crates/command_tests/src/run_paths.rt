@@ -41,6 +41,7 @@ fn run(rt: &(impl AllocGlobal + Files)) -> Result<(), ShellFault> {
         keys: KeysPath(PEERS),
         rows: RowsPath(Some(ROWS)),
         script: ScriptPath(SCRIPT),
+        shows: false,
     };
     let mut printed: Vec<u8> = Vec::new(rt.alloc());
     run_paths(rt.alloc(), rt, paths, &mut printed)

@@ -1,0 +1,183 @@
+//! The command `run` with notices.
+
+use crate::run_files;
+use crate::run_files::Inputs;
+use att_table::examples::{BELL, DOOR};
+use le_security::examples::KEYS;
+use std::alloc::Global;
+use std::process::Abort;
+
+/// A script over a table, and what it prints with notices.
+#[derive(Clone, Copy)]
+struct Run {
+    table: &'static str,
+    script: &'static str,
+    printed: &'static str,
+}
+
+/// Runs scripts, each over a host of its own with no rows, and compares what they print.
+fn prints(rt: &impl Abort, alloc: Global, runs: &[Run]) {
+    for run in runs {
+        assert!(rt; is_printed(alloc, run), "{}", run.script);
+    }
+}
+
+fn is_printed(alloc: Global, run: &Run) -> bool {
+    let mut printed: Vec<u8> = Vec::new(alloc);
+    is_run(alloc, run, &mut printed) && printed.as_slice() == run.printed.as_bytes()
+}
+
+/// Runs a script, and writes what is printed.
+fn is_run(alloc: Global, run: &Run, printed: &mut Vec<u8>) -> bool {
+    let inputs = Inputs {
+        table: run.table,
+        next: None,
+        keys: KEYS,
+        rows: "",
+        script: run.script,
+    };
+    run_files::run_showing(alloc, &inputs, &mut Vec::new(alloc), true, printed).is_ok()
+}
+
+/// A key is gained and lost, which ends the connection.
+const KEY: Run = Run {
+    table: DOOR,
+    script: "\
+connect Q 0 00:11:22:33:44:55
+Q < 120a0001
+encrypt Q 0202020202020202 514
+Q < 120a0001
+allow Q
+clear Q
+",
+    printed: "\
++ connected 64 0 00:11:22:33:44:55
+Q > 01120a000f
++ secured 64 16 1 0
+Q > 13
++ written 64 10 01
+Q ended 05
++ unsecured 64
++ ending 64 05
++ disconnected 64
+",
+};
+
+/// Prepared writes are told once they are executed, and a value of no octets as a hyphen.
+const WRITES: Run = Run {
+    table: DOOR,
+    script: "\
+connect U 1 c0:00:00:00:00:0a
+U < 16150000004869
+U < 16070000000100
+U < 1801
+U < 121500
+U < 521500aabb
+drop U
+U < 0a0300
+",
+    printed: "\
++ connected 64 1 c0:00:00:00:00:0a
+U > 17150000004869
+U > 17070000000100
+U > 19
++ written 64 21 4869
++ configured 64 7 1
+U > 13
++ written 64 21 -
++ written 64 21 aabb
++ disconnected 64
+U refused 1
+",
+};
+
+/// An indication is confirmed, and another one is not in time.
+const INDICATIONS: Run = Run {
+    table: BELL,
+    script: "\
+connect U 1 c0:00:00:00:00:0a
+U < 1204000200
+update 3 01
+U < 1e
+update 3 02
+tick 29999
+tick 30000
+tick 30001
+update 4 02
+",
+    printed: "\
++ connected 64 1 c0:00:00:00:00:0a
+U > 13
++ configured 64 4 2
+U > 1d030001
++ confirmed 64 3
+U > 1d030002
++ timed-out 64
+fault 2
+",
+};
+
+/// What two phones do is told by their handles, and of a phone that acts alone nothing is told again.
+const TWO: Run = Run {
+    table: DOOR,
+    script: "\
+connect P 1 c0:00:00:00:00:01
+connect Q 0 00:11:22:33:44:55
+Q < 52150001
+hold P
+drop Q
+done P 1
+",
+    printed: "\
++ connected 64 1 c0:00:00:00:00:01
++ connected 65 0 00:11:22:33:44:55
++ written 65 21 01
++ disconnected 65
+",
+};
+
+/// Where there is no room for an answer the connection is ended.
+const FULL_QUEUE: Run = Run {
+    table: DOOR,
+    script: "\
+connect U 1 c0:00:00:00:00:0a
+hold U
+U < 0a0300
+U < 0a0300
+U < 0a0300
+U < 0a0300
+U < 0a0300
+U < 0a0300
+U < 0a0300
+U < 0a0300
+U < 0a0300
+U < 0a0300
+U < 0a0300
+U < 0a0300
+U < 0a0300
+U < 0a0300
+U < 0a0300
+U < 0a0300
+U < 0a0300
+U < 0a0300
+U < 12150001
+",
+    printed: "\
++ connected 64 1 c0:00:00:00:00:0a
+U > 0b4c6f636b
+U > 0b4c6f636b
+U ended 13
++ ending 64 13
++ disconnected 64
+",
+};
+
+#[test]
+fn a_script_prints_what_the_application_is_told(rt: HostRuntime) {
+    prints(&rt, rt.alloc(), &[KEY, WRITES, INDICATIONS, TWO]);
+}
+
+#[test]
+fn a_script_prints_that_a_connection_is_ended(rt: HostRuntime) {
+    prints(&rt, rt.alloc(), &[FULL_QUEUE]);
+}
