@@ -3,6 +3,8 @@
 #![tactic(auto)]
 
 #[cfg(test)]
+mod a_day;
+#[cfg(test)]
 mod a_lock;
 #[cfg(test)]
 mod calls;

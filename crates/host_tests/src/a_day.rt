@@ -1,0 +1,195 @@
+//! A day of two phones, heard by somebody who keeps a copy of the values: at its end the copy is what
+//! the table has.
+
+use crate::player::{Setting, read_table, ready};
+use crate::wire::{Octets, Written, put, put_told, spelled};
+use arrayvec::ArrayVec;
+use att_table::Table;
+use att_table::examples::DOOR;
+use gatt_host::{App, Host, Input, Listener, Notice, drive_to};
+use std::alloc::Global;
+use std::process::Abort;
+
+const SETTING: &Setting<'static> = &Setting {
+    table: DOOR,
+    slots: 2,
+    rx_mtu: 247,
+    packets: 8,
+};
+
+/// A value, by the handle of its attribute.
+#[derive(Default, Drop)]
+struct Known {
+    attribute: u16,
+    value: ArrayVec<u8, 64>,
+}
+
+/// The values that were heard of, or set: all others are those of the table at first.
+#[derive(Drop)]
+struct Kept {
+    values: ArrayVec<Known, 8>,
+}
+
+impl Kept {
+    /// A value is this now.
+    fn keep(&mut self, attribute: u16, octets: &[u8]) {
+        let mut value = ArrayVec::new();
+        let _ = value.try_extend_from_slice(octets);
+        for known in self.values.as_mut_slice() {
+            if known.attribute == attribute {
+                known.value = value;
+                return;
+            }
+        }
+        let _ = self.values.try_push(Known { attribute, value });
+    }
+
+    /// The value of an attribute, where it is another than at first.
+    fn value(&self, attribute: u16) -> Option<&[u8]> {
+        for known in self.values.as_slice() {
+            if known.attribute == attribute {
+                return Some(known.value.as_slice());
+            }
+        }
+        None
+    }
+}
+
+impl Listener for Kept {
+    fn hear(&mut self, notice: Notice<'_>) {
+        if let Notice::Written {
+            attribute,
+            value,
+            ..
+        } = notice
+        {
+            self.keep(attribute, value);
+        }
+    }
+}
+
+/// What happens.
+#[derive(Clone, Copy)]
+enum Event {
+    /// The controller sends this.
+    Sends(&'static str),
+    /// A connection sends a PDU, and what goes out for it is completed.
+    Asks(u16, &'static str),
+    /// The application sets a value.
+    Sets(u16, &'static [u8]),
+    /// It makes another call.
+    Calls(App<'static>),
+}
+
+/// The tablet comes, which has a key, and a stranger; both go, and the tablet comes again.
+const DAY: &[Event] = &[
+    Event::Sends("043e1301004000010055443322110018000000480000"),
+    Event::Sends("040e04010a2000"),
+    Event::Asks(0x40, "120a0001"),
+    Event::Sends("043e0d05400002020202020202020202"),
+    Event::Sends("040e06011a20004000"),
+    Event::Sends("04080400400001"),
+    Event::Asks(0x40, "120a0001"),
+    Event::Asks(0x40, "120b000100"),
+    Event::Sends("043e130100410001010a00000000c018000000480000"),
+    Event::Asks(0x41, "12150068656c6c6f"),
+    Event::Asks(0x41, "120a0000"),
+    Event::Asks(0x41, "1207000100"),
+    Event::Sets(6, &[0x63]),
+    Event::Calls(App::Tick(1_000)),
+    Event::Calls(App::Authorize(0x40, 9_000)),
+    Event::Asks(0x40, "120d0039383736"),
+    Event::Asks(0x41, "16150002005858"),
+    Event::Asks(0x41, "1615000400595959"),
+    Event::Asks(0x41, "1801"),
+    Event::Asks(0x41, "1615000000ff"),
+    Event::Asks(0x41, "1800"),
+    Event::Asks(0x40, "16150000005a"),
+    Event::Asks(0x40, "160a00000007"),
+    Event::Asks(0x40, "160a00010008"),
+    Event::Asks(0x40, "1801"),
+    Event::Calls(App::Tick(9_000)),
+    Event::Asks(0x40, "120d0030303030"),
+    Event::Calls(App::Disconnect(0x41)),
+    Event::Asks(0x41, "12150021"),
+    Event::Sends("04050400410013"),
+    Event::Asks(0x40, "520a0000"),
+    Event::Sends("04050400400013"),
+    Event::Sets(6, &[0x62]),
+];
+
+fn happens(rt: &impl Abort, host: &mut Host, kept: &mut Kept, event: Event) -> bool {
+    match event {
+        Event::Sends(octets) => hears(host, kept, spelled(rt, octets, 0).as_slice()),
+        Event::Asks(handle, pdu) => {
+            let mut octets = Octets::new();
+            put_told(
+                rt,
+                &mut octets,
+                handle,
+                0x04,
+                spelled(rt, pdu, 0).as_slice(),
+            );
+            put(rt, &mut octets, &[0x04, 0x13, 0x05, 0x01]);
+            put(rt, &mut octets, &handle.to_le_bytes());
+            put(rt, &mut octets, &[0x01, 0x00]);
+            hears(host, kept, octets.as_slice())
+        }
+        Event::Sets(handle, value) => {
+            kept.keep(handle, value);
+            calls(host, kept, App::Update(handle, value))
+        }
+        Event::Calls(call) => calls(host, kept, call),
+    }
+}
+
+fn hears(host: &mut Host, kept: &mut Kept, octets: &[u8]) -> bool {
+    drive_to(host, &[Input::Bytes(octets)], &mut Written::new(), kept).is_ok()
+}
+
+/// Makes a call, which is not refused.
+fn calls(host: &mut Host, kept: &mut Kept, call: App<'_>) -> bool {
+    drive_to(host, &[Input::Call(call)], &mut Written::new(), kept) == Ok(0)
+}
+
+/// Whether a table has the values that are known, and else those that it had at first.
+fn is_known(kept: &Kept, first: &Table, table: &Table) -> bool {
+    for attribute in 1..=21 {
+        if value_of(table, attribute)
+            != kept.value(attribute).unwrap_or(value_of(first, attribute))
+        {
+            return false;
+        }
+    }
+    true
+}
+
+fn value_of(table: &Table, attribute: u16) -> &[u8] {
+    match table.get(attribute) {
+        Some(_) => table.value(attribute),
+        None => &[],
+    }
+}
+
+fn play(rt: &impl Abort, alloc: Global, events: &[Event], written: usize) {
+    let mut host = ready(rt, alloc, SETTING);
+    let first = read_table(rt, alloc, DOOR);
+    let mut kept = Kept {
+        values: ArrayVec::new(),
+    };
+    for (place, event) in events.iter().enumerate() {
+        assert!(rt; happens(rt, &mut host, &mut kept, *event), "{place}");
+        assert!(rt;
+            is_known(&kept, &first, host.table()),
+            "the values at {place}"
+        );
+    }
+    assert!(rt; kept.values.len() == written);
+    drop(first);
+    drop(host);
+}
+
+#[test]
+fn copy_of_the_values(rt: HostRuntime) {
+    play(&rt, rt.alloc(), DAY, 4);
+}
