@@ -1,5 +1,5 @@
 -- Where no notice is shown nothing is noted, and so no memory is refused for it.
-use Rattle.std.proofs.Common.{◌≡◌, ℕ, zero, suc, Bool, true, false, List, [], ◌∷◌, Option, Some, None, refl, ap, inl, inr, ◌∙◌}
+use Rattle.std.proofs.Common.{◌≡◌, ℕ, zero, suc, Bool, true, false, List, [], ◌∷◌, ◌++◌, Option, Some, None, refl, ap, subst, inl, inr, ◌∙◌, append-nil}
 use Rattle.att_table.specs.Table.{Contents}
 use Rattle.gatt_host.specs.Whole.{Whole}
 use Rattle.le_h4.specs.Division.{division}
@@ -9,8 +9,12 @@ use Rattle.scripts.specs.declared.act.Act.TheVariants as line
 use Rattle.gatt_commands.specs.declared.acts.Refused.{Refused}
 use Rattle.gatt_commands.specs.declared.notes.Notes.{Notes}
 use Rattle.gatt_commands.specs.Doing.{NotesAct, NotesReplacing, NotesUnless}
-use Rattle.gatt_commands.specs.Exchange.{Exchanges, ExchangesAll, HandsOver, NotesFirst, Pair}
+use Rattle.gatt_commands.specs.Exchange.{Exchanges, ExchangesAll, HandsOver, NotesFirst, Pair, pair_of}
+use Rattle.gatt_commands.specs.Lines.{outcome_text}
 use Rattle.gatt_commands.specs.Notices.{IsBegun}
+use Rattle.gatt_commands.specs.Runs.{ShowsNothingUnasked}
+use Rattle.octets.specs.Number.{Octets}
+use Rattle.std.specs.Io.KnownBytes.{Appends}
 
 unless-unshown : (told : Option Refused) (host : Whole) (old new : Notes) → NotesUnless told host old new → old.shows ≡ false → new ≡ old
 unless-unshown None host old new noted unshown = noted.deaf unshown
@@ -54,3 +58,19 @@ shown_where false act next told begun heard before after fresh noted same exchan
     exchanges-unshown exchanges.count before after exchanges.exchanges (ap (λ (notes : Notes). notes.shows) first ∙ fresh.shown) in
     let kept : after.notes.is_refused ≡ false = ap (λ (notes : Notes). notes.is_refused) (last ∙ first) ∙ fresh.kept in
     cc (kept, refused)
+
+pub shows_nothing_unasked : ShowsNothingUnasked
+shows_nothing_unasked names act old new held holds is =
+    let begun : Notes = is.done.begun in
+    let first : is.heard ≡ begun = act-unshown act old.next is.refused is.acted.host begun is.heard is.done.noted is.done.fresh.shown in
+    let last : is.last ≡ is.heard =
+    exchanges-unshown is.exchanges.count (pair_of is.acted.host is.acted.sim is.heard) (pair_of new.host is.quiet is.last) is.exchanges.exchanges
+    (ap (λ (notes : Notes). notes.shows) first ∙ is.done.fresh.shown) in
+    let none : is.last.text.items ≡ [] = ap (λ (notes : Notes). notes.text.items) (last ∙ first) ∙ is.done.fresh.none in
+    let brought : Octets = outcome_text names is.refused is.quiet.phones in (
+      is.refused,
+      is.acted,
+      is.quiet,
+      is.done.does,
+      subst (Appends held holds) (ap (λ (octets : Octets). brought ++ octets) none ∙ append-nil brought) is.printed,
+    )

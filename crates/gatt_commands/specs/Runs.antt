@@ -55,6 +55,11 @@ pub record RunsLine (shows : Bool) (names : List Octets) (act : Act) (old new : 
   pub told : new.sim ≡ with_told_phones quiet (length names)
   pub next : new.next ≡ acted.next
 
+-- where no notice is asked for, what is printed is what the line has brought, and nothing else
+abbrev pub ShowsNothingUnasked : Type 0
+ShowsNothingUnasked = (names : List Octets) (act : Act) (old new : Stage) (held holds : Option Octets) → RunsLine false names act old new held holds
+    → (refused : Option Refused) × (acted : Stage) × (quiet : Simulated) × Does act refused old acted × Appends held holds (outcome_text names refused quiet.phones)
+
 -- or host and controller do not come to an end, and nothing is printed
 pub record FailsToExchange (fault : ShellFault) (heard : Notes) (old new : Stage) (held holds : Option Octets) : Type 0 where
   pub last : Notes

@@ -11,7 +11,7 @@ ghost use Rattle.gatt_commands.specs.Doing.{stage_of};
 ghost use Rattle.gatt_commands.specs.KeyFile.{keys_in, AreRefusedAs as KeysAreRefusedAs};
 ghost use Rattle.gatt_commands.specs.Lines.{IsRunCommandFault, IsRunFault, IsScriptRunFault};
 ghost use Rattle.gatt_commands.specs.RowsFile.{rows_in, AreRefusedAs};
-ghost use Rattle.gatt_commands.specs.Runs.{files_of, simulated, EndsAmong, EndsAtLine, EndsEarly, HostRuns, Runs, RunsAll, RunsFile, RunsFiles, RunsLine};
+ghost use Rattle.gatt_commands.specs.Runs.{EndsAmong, EndsAtLine, EndsEarly, HostRuns, Runs, RunsAll, RunsFile, RunsFiles, RunsLine, ShowsNothingUnasked, files_of, simulated};
 ghost use Rattle.gatt_commands.specs.ScriptFile.{script_in};
 ghost use Rattle.gatt_commands.specs.TableFile.{table_in, IsRefusedAs};
 ghost use Rattle.gatt_commands.specs.Turns.{IsPast, OfTable, OfNext, OfKeys, OfRows, OfScript};
@@ -88,6 +88,8 @@ pub fn run_script<T: Read, N: Read, K: Read, R: Read, S: Read, V: Write, W: Writ
         (files_of (T.remaining table.old) (option_map N.remaining next.old) (K.remaining keys.old) (R.remaining rows.old) (S.remaining script.old))
         (W.contents writer.old) (W.contents writer.new) (HasWritten V.contents rows_writer.old) (HasWrittenFront V.contents rows_writer.old) }
     ensures faults { IfErr result IsRunCommandFault }
+    // And of each line, whatever is done:
+    ensures unasked { ShowsNothingUnasked }
 {
     let table = read_table(alloc, table)?;
     let next = read_next(alloc, next)?;

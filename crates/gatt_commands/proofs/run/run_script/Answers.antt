@@ -5,6 +5,7 @@ use Rattle.gatt_commands.specs.TableFile.{table_in}
 use Rattle.gatt_commands.proofs.RunFaults.{run_at_all}
 use Rattle.gatt_commands.proofs.RunOrders.{accepted, script_accepted, script_refused}
 use Rattle.gatt_commands.proofs.run.run_script.Goals as goal
+use Rattle.gatt_commands.proofs.Unshown.{shows_nothing_unasked}
 
 pub returns-in_err-rows-clause-table_first : goal.returns-in_err-rows-clause-table_first
 returns-in_err-rows-clause-table_first g c = λ past. accepted (g.T.Read.remaining c.args.table.now) table_in c.in_ok-table.table c.in_ok-table.ensures.table
@@ -43,3 +44,18 @@ returns-clause-runs g c = λ past. record {
 
 pub returns-clause-faults : goal.returns-clause-faults
 returns-clause-faults g c = run_at_all c.run_files.result c.run_files.ensures.faults
+
+pub returns-clause-unasked : goal.returns-clause-unasked
+returns-clause-unasked g c = shows_nothing_unasked
+
+pub returns-in_err-keys-clause-unasked : goal.returns-in_err-keys-clause-unasked
+returns-in_err-keys-clause-unasked g c = shows_nothing_unasked
+
+pub returns-in_err-next-clause-unasked : goal.returns-in_err-next-clause-unasked
+returns-in_err-next-clause-unasked g c = shows_nothing_unasked
+
+pub returns-in_err-rows-clause-unasked : goal.returns-in_err-rows-clause-unasked
+returns-in_err-rows-clause-unasked g c = shows_nothing_unasked
+
+pub returns-in_err-table-clause-unasked : goal.returns-in_err-table-clause-unasked
+returns-in_err-table-clause-unasked g c = shows_nothing_unasked
