@@ -3,6 +3,8 @@ ghost use Rattle.att_table.specs.declared.table_fault.TableFault.TheVariants.{Ou
 ghost use Rattle.att_table.specs.TableFault.{number_of};
 
 use std::alloc::AllocError;
+use std::error::Error;
+use std::fmt;
 
 /// A key of a table file that has to be there.
 #[derive(Clone, Copy, Debug, PartialEq, Eq)]
@@ -67,6 +69,41 @@ impl TableFault {
         }
     }
 }
+
+impl fmt::Display for Name {
+    fn fmt<W: fmt::Write>(&self, f: &mut fmt::Formatter<W>) -> fmt::Result {
+        f.write_str(match self {
+            Name::Service => "service",
+            Name::Uuid => "uuid",
+            Name::Properties => "properties",
+            Name::Value => "value",
+        })
+    }
+}
+
+impl fmt::Display for TableFault {
+    fn fmt<W: fmt::Write>(&self, f: &mut fmt::Formatter<W>) -> fmt::Result {
+        f.write_str(match self {
+            TableFault::NotToml => "it is not TOML",
+            TableFault::Missing(name) => {
+                return write!(f, "a key that has to be there is not: {name}");
+            }
+            TableFault::BadUuid => "a uuid is none, or is one that may not stand there",
+            TableFault::BadHex => "a value is not an even number of hexadecimal digits",
+            TableFault::TooLong => "a value of more than 512 octets, or a max out of its range",
+            TableFault::BadSecurity => "a need with a key_size out of its range, or with another key",
+            TableFault::BadProperty => {
+                "a property that is unknown or not allowed there, or a config with nothing to configure"
+            }
+            TableFault::TooMany => "more attributes, configurations or octets than a table may have",
+            TableFault::BadInclude => "an include of a service that does not stand before",
+            TableFault::OutOfMemory => "memory was refused",
+            TableFault::Shape => "a key that is unknown, or of another TOML type than its own",
+        })
+    }
+}
+
+impl Error for TableFault {}
 
 impl From<AllocError> for TableFault {
     ghost from_gives = { λ _ fault. fault ≡ OutOfMemory };

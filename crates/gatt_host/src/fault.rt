@@ -33,9 +33,9 @@ pub enum Fault {
 impl fmt::Display for Fault {
     fn fmt<W: fmt::Write>(&self, f: &mut fmt::Formatter<W>) -> fmt::Result {
         match self {
-            Fault::Table(fault) => write!(f, "table: {}", table_words(*fault)),
-            Fault::Keys(fault) => write!(f, "keys: {}", key_words(*fault)),
-            Fault::Rows(fault) => write_rows_fault(*fault, f),
+            Fault::Table(fault) => write!(f, "table: {fault}"),
+            Fault::Keys(fault) => write!(f, "keys: {fault}"),
+            Fault::Rows(fault) => write!(f, "rows: {fault}"),
             Fault::Open(fault) => write!(f, "{fault}"),
             Fault::Host(fault) => write!(f, "{fault}"),
             Fault::Call(fault) => write!(f, "{fault}"),
@@ -44,53 +44,6 @@ impl fmt::Display for Fault {
 }
 
 impl Error for Fault {}
-
-/// Why a table file is refused.
-fn table_words(fault: TableFault) -> &'static str {
-    match fault {
-        TableFault::NotToml => "it is not TOML",
-        TableFault::Missing(_) => "a key that has to be there is not",
-        TableFault::BadUuid => "a uuid is none, or is one that may not stand there",
-        TableFault::BadHex => "a value is not an even number of hexadecimal digits",
-        TableFault::TooLong => "a value of more than 512 octets, or a max out of its range",
-        TableFault::BadSecurity => "a need with a key_size out of its range, or with another key",
-        TableFault::BadProperty => {
-            "a property that is unknown or not allowed there, or a config with nothing to configure"
-        }
-        TableFault::TooMany => "more attributes, configurations or octets than a table may have",
-        TableFault::BadInclude => "an include of a service that does not stand before",
-        TableFault::OutOfMemory => "memory was refused",
-        TableFault::Shape => "a key that is unknown, or of another TOML type than its own",
-    }
-}
-
-/// Why a key file is refused.
-fn key_words(fault: KeyFault) -> &'static str {
-    match fault {
-        KeyFault::NotToml => "it is not TOML",
-        KeyFault::Missing => "a key that has to be there is not",
-        KeyFault::BadAddress => "an address or a kind is none",
-        KeyFault::BadHex => "a rand or an ltk is not that many hexadecimal digits",
-        KeyFault::BadSize => "a size is out of its range",
-        KeyFault::Twice => "an earlier entry has the same peer, rand and ediv",
-        KeyFault::TooMany => "more than 64 entries",
-        KeyFault::OutOfMemory => "memory was refused",
-        KeyFault::Shape => "a key that is unknown, or of another TOML type than its own",
-        KeyFault::NotZero => "a secure key with another rand or ediv than 0",
-    }
-}
-
-/// Why a rows file is refused, and at which line.
-fn write_rows_fault<W: fmt::Write>(fault: RowsFault, f: &mut fmt::Formatter<W>) -> fmt::Result {
-    match fault {
-        RowsFault::BadLine(line) => {
-            write!(f, "rows: line {line} says nothing that a rows file may say")
-        }
-        RowsFault::Twice(line) => write!(f, "rows: line {line} says what an earlier one has said"),
-        RowsFault::TooMany => write!(f, "rows: more of them than a rows file may have"),
-        RowsFault::OutOfMemory => write!(f, "rows: memory was refused"),
-    }
-}
 
 impl From<TableFault> for Fault {
     ghost from_gives = { λ fault result. result ≡ Table fault };

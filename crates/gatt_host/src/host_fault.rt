@@ -54,7 +54,9 @@ impl fmt::Display for HostFault {
                 f,
                 "the event {code:02x} is too short for its fields, or has another length than it states"
             ),
-            HostFault::Init(_) => write!(f, "the controller could not be initialised"),
+            HostFault::Init(fault) => {
+                write!(f, "the controller could not be initialised: {fault}")
+            }
             HostFault::Hardware(code) => {
                 write!(f, "the controller reports an error of its own, {code:02x}")
             }

@@ -3,6 +3,8 @@ ghost use Rattle.gatt_subs.specs.declared.rows_fault.RowsFault.TheVariants.{OutO
 ghost use Rattle.gatt_subs.specs.RowsFault.{number_of};
 
 use std::alloc::AllocError;
+use std::error::Error;
+use std::fmt;
 
 /// Why a rows file is refused: its first line with a fault. Lines count from 1, blank ones too.
 #[derive(Clone, Copy, Debug, PartialEq, Eq)]
@@ -30,6 +32,21 @@ impl RowsFault {
         }
     }
 }
+
+impl fmt::Display for RowsFault {
+    fn fmt<W: fmt::Write>(&self, f: &mut fmt::Formatter<W>) -> fmt::Result {
+        match self {
+            RowsFault::BadLine(line) => {
+                write!(f, "line {line} says nothing that a rows file may say")
+            }
+            RowsFault::Twice(line) => write!(f, "line {line} says what an earlier one has said"),
+            RowsFault::TooMany => f.write_str("more of them than a rows file may have"),
+            RowsFault::OutOfMemory => f.write_str("memory was refused"),
+        }
+    }
+}
+
+impl Error for RowsFault {}
 
 impl From<AllocError> for RowsFault {
     ghost from_gives = { λ _ fault. fault ≡ OutOfMemory };

@@ -9,6 +9,7 @@ mod event;
 pub mod event_code;
 mod event_form;
 mod init;
+mod init_words;
 pub mod opcode;
 mod peer;
 

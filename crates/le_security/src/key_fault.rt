@@ -3,6 +3,8 @@ ghost use Rattle.le_security.specs.declared.key_fault.KeyFault.TheVariants.{OutO
 ghost use Rattle.le_security.specs.KeyFault.{number_of};
 
 use std::alloc::AllocError;
+use std::error::Error;
+use std::fmt;
 
 /// Why a key file is refused: the first fault of the file, read from its beginning.
 #[derive(Clone, Copy, Debug, PartialEq, Eq)]
@@ -50,6 +52,25 @@ impl KeyFault {
         }
     }
 }
+
+impl fmt::Display for KeyFault {
+    fn fmt<W: fmt::Write>(&self, f: &mut fmt::Formatter<W>) -> fmt::Result {
+        f.write_str(match self {
+            KeyFault::NotToml => "it is not TOML",
+            KeyFault::Missing => "a key that has to be there is not",
+            KeyFault::BadAddress => "an address or a kind is none",
+            KeyFault::BadHex => "a rand or an ltk is not that many hexadecimal digits",
+            KeyFault::BadSize => "a size is out of its range",
+            KeyFault::Twice => "an earlier entry has the same peer, rand and ediv",
+            KeyFault::TooMany => "more than 64 entries",
+            KeyFault::OutOfMemory => "memory was refused",
+            KeyFault::Shape => "a key that is unknown, or of another TOML type than its own",
+            KeyFault::NotZero => "a secure key with another rand or ediv than 0",
+        })
+    }
+}
+
+impl Error for KeyFault {}
 
 impl From<AllocError> for KeyFault {
     ghost from_gives = { λ _ fault. fault ≡ OutOfMemory };
