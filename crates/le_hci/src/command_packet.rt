@@ -68,7 +68,7 @@ fn append(octets: &[u8], out: &mut ArrayVec<u8, 260>)
     requires { array_vec_len out.old + length octets.now ≤ 260 }
     ensures { out.new.items ≡ out.old.items ++ octets.now }
 {
-    let _ = out.try_extend_from_slice(octets);
+    out.try_extend_from_slice(octets).unwrap();
 }
 
 fn write_advertising_parameters(opcode: u16, own_address_type: u8, out: &mut ArrayVec<u8, 260>)

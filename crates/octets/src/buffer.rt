@@ -36,7 +36,7 @@ fn set_length<const N: usize>(buffer: &mut ArrayVec<u8, N>, length: usize)
     if length < before {
         buffer.truncate(length);
     } else if before < length {
-        let _ = buffer.try_extend_from_slice(&ZEROS[..length - before]);
+        buffer.try_extend_from_slice(&ZEROS[..length - before]).unwrap();
     }
 }
 

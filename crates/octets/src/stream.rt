@@ -287,7 +287,7 @@ impl<const N: usize> Sink for ArraySink<N> {
             self.refused_writes = one_more(self.refused_writes);
             return Err(Failed);
         }
-        let _ = self.octets.try_extend_from_slice(&buf[..count]);
+        self.octets.try_extend_from_slice(&buf[..count]).unwrap();
         Ok(count)
     }
 }

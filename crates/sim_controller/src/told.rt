@@ -154,8 +154,8 @@ fn write_event(code: u8, first: &[u8], others: &[u8], out: &mut ArrayVec<u8, 260
     out.push(indicator::EVENT);
     out.push(code);
     out.push((first.len() + others.len()) as u8);
-    let _ = out.try_extend_from_slice(first);
-    let _ = out.try_extend_from_slice(others);
+    out.try_extend_from_slice(first).unwrap();
+    out.try_extend_from_slice(others).unwrap();
 }
 
 /// Connection Complete: Core 5.0, Vol 2 Part E, 7.7.65.1.
@@ -184,9 +184,9 @@ fn write_connection(phone: u8, peer: &Peer, out: &mut ArrayVec<u8, 260>)
         CLOCK_ACCURACY,
     ];
     let mut others: ArrayVec<u8, 13> = ArrayVec::new();
-    // There is room, so these are proved to take all octets.
-    let _ = others.try_extend_from_slice(&peer.address);
-    let _ = others.try_extend_from_slice(&connection);
+    // There is room: each `unwrap` is proved, and tests nothing.
+    others.try_extend_from_slice(&peer.address).unwrap();
+    others.try_extend_from_slice(&connection).unwrap();
     write_event(event_code::LE_META, &first, &others, out);
 }
 
@@ -197,8 +197,8 @@ fn write_key_request(phone: u8, rand: &[u8; 8], ediv: u16, out: &mut ArrayVec<u8
     let [low, high] = handle_of(phone).to_le_bytes();
     let [ediv_low, ediv_high] = ediv.to_le_bytes();
     let mut others: ArrayVec<u8, 10> = ArrayVec::new();
-    let _ = others.try_extend_from_slice(rand);
-    let _ = others.try_extend_from_slice(&[ediv_low, ediv_high]);
+    others.try_extend_from_slice(rand).unwrap();
+    others.try_extend_from_slice(&[ediv_low, ediv_high]).unwrap();
     let first = [event_code::LE_LONG_TERM_KEY_REQUEST, low, high];
     write_event(event_code::LE_META, &first, &others, out);
 }

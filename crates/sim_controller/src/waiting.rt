@@ -45,5 +45,5 @@ pub(crate) fn put(waiting: &mut HeapCircularBuffer<Told>, told: Told)
     ensures told { waiting.new ≡ buffer (waiting.old.items ++ told ∷ []) 64 }
     ensures len { length waiting.new.items ≡ length waiting.old.items + 1 }
 {
-    let _ = waiting.try_push_back(told);
+    waiting.try_push_back(told).unwrap();
 }
