@@ -16,7 +16,7 @@ pub enum Who {
     Phone,
     /// It has two authenticated keys, of 16 octets and of 7: this is it by the longer one.
     Tablet,
-    /// The same by the shorter one.
+    /// It has those two keys: this is it by the shorter one.
     TabletByItsShortKey,
     /// It has a key of LE Secure Connections.
     Watch,
@@ -62,7 +62,7 @@ fn both_files(rt: &impl Abort, alloc: Global) -> String {
     }
 }
 
-/// The same by these keys.
+/// How a client stands, by these keys.
 fn standing_by(rt: &impl Abort, keys: &Keys, who: Who, encrypted: bool, until: u64) -> Standing {
     let (peer, random_number, diversifier) = key_request(who);
     let mut link = Link::new();

@@ -46,7 +46,7 @@ const LOCK_CODE: Guard = Guard {
     write: AUTHORIZED_LONG_KEY,
 };
 
-/// The same with LE Secure Connections.
+/// One that needs a key of LE Secure Connections besides.
 const SECURE_LOCK_CODE: Guard = Guard {
     properties: READ_WRITE,
     read: SECURE_LONG_KEY,
@@ -61,7 +61,7 @@ const STRANGER: Standing = Standing {
     now: 0,
 };
 
-/// The same of a client whose key is known.
+/// Such a link of a client whose key is known.
 const PLAIN: Standing = Standing {
     key_known: true,
     ..STRANGER

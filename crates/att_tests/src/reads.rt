@@ -87,7 +87,7 @@ fn reads_of_the_tablet(rt: HostRuntime) {
     play(&rt, rt.alloc(), DOOR, OF_THE_TABLET);
 }
 
-/// The same value, where it also needs a key of LE Secure Connections.
+/// That value, where it also needs a key of LE Secure Connections.
 const OF_THE_WATCH: &[Step] = &[
     Encrypted(TabletByItsShortKey),
     Pdu("0a0d00", "010a0d000c"),

@@ -19,9 +19,9 @@ pub enum Step {
     First,
     /// A PDU, and its answer.
     Pdu(&'static str, &'static str),
-    /// The same, and the handles that it writes.
+    /// A PDU, its answer, and the handles that it writes.
     Writes(&'static str, &'static str, &'static [u16]),
-    /// The same of a PDU and an answer that end with this many octets `61`.
+    /// A PDU and its answer, each of which ends with this many octets `61`.
     Long(&'static str, usize, &'static str, usize),
     /// A PDU several times, each time with this answer.
     Times(usize, &'static str, &'static str),
@@ -51,7 +51,7 @@ pub fn play(rt: &impl Abort, alloc: Global, text: &str, steps: &[Step]) {
     play_limited(rt, alloc, text, 247, steps);
 }
 
-/// The same of a server that receives PDUs of at most `rx_mtu` octets.
+/// Makes the steps of a session with a new table, whose server receives PDUs of at most `rx_mtu` octets.
 pub fn play_limited(rt: &impl Abort, alloc: Global, text: &str, rx_mtu: u16, steps: &[Step])
     requires least { 23 ≤ rx_mtu }
     requires most { rx_mtu ≤ 517 }
@@ -60,7 +60,7 @@ pub fn play_limited(rt: &impl Abort, alloc: Global, text: &str, rx_mtu: u16, ste
     play_with(rt, alloc, &mut table, rx_mtu, steps);
 }
 
-/// The same with this table.
+/// Makes the steps of a session with this table.
 fn play_with(rt: &impl Abort, alloc: Global, table: &mut Table, rx_mtu: u16, steps: &[Step])
     requires least { 23 ≤ rx_mtu }
     requires most { rx_mtu ≤ 517 }

@@ -46,7 +46,7 @@ pub fn write(
     )
 }
 
-/// The same for a Write Command, which is never answered.
+/// Does what a Write Command asks, which is never answered.
 pub fn command(
     table: &mut Table,
     row: &mut ConfigRow,

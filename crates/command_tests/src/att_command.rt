@@ -96,7 +96,7 @@ fn is_answered<R: Read>(
     att_lines(alloc, input, &mut printed) == ended && printed.as_slice() == output
 }
 
-/// The same of an input that cannot be read to its end: the front of the output is printed.
+/// Ends the test unless the front of the output is printed of an input that cannot be read to its end.
 fn breaks_off<R: Read>(rt: &impl Abort, alloc: Global, input: &mut R, output: &[u8]) {
     assert!(rt; is_broken_off(alloc, input, output));
 }

@@ -56,7 +56,7 @@ const TEXTS: &[(&str, &str, Result<(), ShellFault>, &str)] = &[
     ("service = []", "bell = 1", Err(ShellFault::Keys(9)), ""),
 ];
 
-/// The same of octets that are no text.
+/// Octets that are no text, as tables and keys, and how `check` ends.
 const OCTETS: &[(&[u8], &[u8], Result<(), ShellFault>)] = &[
     (b"service = [] # \xFF", b"", Err(ShellFault::Table(1))),
     (b"service = []", b"# \xFF", Err(ShellFault::Keys(1))),

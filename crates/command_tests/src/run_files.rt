@@ -36,7 +36,7 @@ pub fn run<V: Write, W: Write>(
     run_showing(alloc, inputs, rows, false, printed)
 }
 
-/// The same, and where `shows` is set notices are printed too.
+/// Runs over inputs, and prints notices too where `shows` is set.
 pub fn run_showing<V: Write, W: Write>(
     alloc: Global,
     inputs: &Inputs<'_>,

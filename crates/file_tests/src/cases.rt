@@ -27,7 +27,7 @@ pub fn assert_case(rt: &impl Abort, holds: bool, name: &str) {
     assert!(rt; holds, "{name}");
 }
 
-/// The same of a case that a number tells, as its place or a handle.
+/// Ends the test with the number of the case, as its place or a handle, unless the case holds.
 pub fn assert_at(rt: &impl Abort, holds: bool, number: usize) {
     assert!(rt; holds, "{number}");
 }

@@ -92,7 +92,7 @@ const LINE_CHANGES: &[(usize, &str, Result<usize, u8>)] = &[
     (7, "authenticated = true\nsecure = true\n", Err(10)),
 ];
 
-/// The same key behind those of the door, which have it already.
+/// That key behind those of the door, which have it already.
 const REPEATED: &[(usize, &str, Result<usize, u8>)] = &[
     (0, "[[key]]\n", Err(6)),
     (4, "ediv = 65536\n", Err(9)),

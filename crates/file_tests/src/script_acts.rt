@@ -69,7 +69,7 @@ const LINES: &[(&str, &[Wanted<'static>])] = &[
     ),
 ];
 
-/// The same of lines of the application.
+/// Lines of the application, and what they say.
 const APPLICATION_LINES: &[(&str, &[Wanted<'static>])] = &[
     ("update 0 -", &[Wanted::Update(0, b"")]),
     ("update 65535 0001", &[Wanted::Update(65535, b"\x00\x01")]),

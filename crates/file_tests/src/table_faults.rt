@@ -182,7 +182,7 @@ fn read(alloc: Global, text: &str) -> Result<usize, u8> {
     }
 }
 
-/// The same of a text that memory may be refused for.
+/// How many attributes a text gives for which memory may be refused, or the number of its fault.
 fn read_made(alloc: Global, text: Result<String, AllocError>) -> Result<usize, u8> {
     match text {
         Ok(text) => read(alloc, &text),

@@ -58,7 +58,7 @@ pub struct TablePath<'a>(pub &'a str);
 #[derive(Clone, Copy)]
 pub struct KeysPath<'a>(pub &'a str);
 
-/// The same of the files at two paths. Neither is opened before its turn.
+/// Judges the files at two paths. Neither is opened before its turn.
 pub fn check_paths<F: Files, W: Write>(
     alloc: Global,
     files: &F,

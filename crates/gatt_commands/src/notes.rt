@@ -39,7 +39,7 @@ impl Notes {
         }
     }
 
-    /// The same where notices are shown.
+    /// Notes each notice of a host, where notices are shown.
     fn note_all(&mut self, host: &Host)
         ensures hears { self.old.shows ≡ true → Hears host.now self.old self.new }
     {

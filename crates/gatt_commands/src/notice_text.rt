@@ -71,7 +71,7 @@ fn add_connection(text: &mut Vec<u8>, word: &[u8], handle: u16) -> Result<(), Al
     text.extend_from_slice(digits.format(u64::from(handle)).as_bytes())
 }
 
-/// The same, and the handle of an attribute.
+/// Adds what is told, the handle of the connection, and that of an attribute.
 fn add_attribute(
     text: &mut Vec<u8>,
     word: &[u8],

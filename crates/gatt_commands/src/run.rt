@@ -284,7 +284,7 @@ pub struct RunPaths<'a> {
     pub shows: bool,
 }
 
-/// The same of the files at these paths. None is opened before its turn.
+/// Runs a script by the files at these paths. None is opened before its turn.
 pub fn run_paths<F: Files, W: Write>(
     alloc: Global,
     files: &F,

@@ -27,7 +27,7 @@ pub struct Answered {
     pub touched: ArrayVec<u16, 32>,
 }
 
-/// The same, where the handles that were written go into a list of the caller's.
+/// What became of a PDU, where the handles that were written go into a list of the caller's.
 #[derive(Clone, Copy, Drop)]
 pub struct Served {
     /// There is an answer.
@@ -76,7 +76,7 @@ pub fn answer(
     }
 }
 
-/// The same, with the handles that were written in place of what `touched` holds.
+/// Answers a PDU, and puts the handles that were written in place of what `touched` holds.
 fn serve(
     table: &mut Table,
     row: &mut ConfigRow,
@@ -122,7 +122,7 @@ fn serve(
     }
 }
 
-/// The same, where `touched` holds nothing yet.
+/// Answers a PDU, where `touched` holds nothing yet.
 #[inline(always)]
 #[tactic(auto, unfolding(att_pdu::specs::Form::form_of))]
 fn serve_form(

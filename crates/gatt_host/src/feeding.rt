@@ -102,7 +102,7 @@ pub(crate) fn write_out<W: Sink>(host: &mut Host, out: &mut W) -> Result<(), Hos
     written
 }
 
-/// The same by the parts of a host, each packet by way of `packet`.
+/// Writes all that is to go to the controller, by the parts of a host: each packet by way of `packet`.
 #[inline(always)]
 fn write_owed<W: Sink>(
     state: &mut HostState,

@@ -60,7 +60,7 @@ impl Controller {
         true
     }
 
-    /// The same, where there is one.
+    /// Writes the command of initialisation, whose turn has come.
     #[cold]
     #[inline(never)]
     fn write_init_command(&mut self, out: &mut PacketBuf)
@@ -273,8 +273,8 @@ fn none_waits(controller: &Controller, slots: &Slots) -> bool
     !slots.gives()
 }
 
-/// The same before the controller is initialised, where no slot has a connection: the command of
-/// initialisation.
+/// Writes what goes out before the controller is initialised, where no slot has a connection: the
+/// command of initialisation.
 pub(crate) fn init_out(controller: &mut Controller, out: &mut PacketBuf) -> bool
     ensures goes { result ≡ is_some (next_out controller.old []) }
     ensures octets { OnTrue result (next_out controller.old [] ≡ Some out.new) }

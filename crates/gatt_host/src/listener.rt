@@ -51,7 +51,7 @@ pub(crate) fn tell<L: Listener>(host: &Host, listener: &mut L)
     }
 }
 
-/// The same where it hears.
+/// Tells each notice to a listener that hears.
 fn tell_each<L: Listener>(host: &Host, listener: &mut L)
     ensures hears { Hears (notices_told host.now) (L.heard listener.old) (L.heard listener.new) }
 {

@@ -56,7 +56,7 @@ impl HostState {
         }
     }
 
-    /// The same of the events that are rare.
+    /// Takes in an event of a kind that is rare.
     #[inline(never)]
     fn take_other_event(
         &mut self,
@@ -72,7 +72,7 @@ impl HostState {
         self.take_event(frames, octets)
     }
 
-    /// The same of any event.
+    /// Takes in an event of any kind.
     #[inline(always)]
     fn take_event(&mut self, frames: &mut [Reassembler; 8], octets: &[u8]) -> Result<(), HostFault>
         ensures taken { IsOk result → TakesEvent (event_of octets.now) self.old self.new }
@@ -166,7 +166,7 @@ fn fragment(
     join_fragment(state, frame, place, pb, bc, octets);
 }
 
-/// The same, where the fragment has to be put to those before it.
+/// Takes in a fragment that has to be put to those before it.
 #[inline(never)]
 fn join_fragment(
     state: &mut HostState,

@@ -32,7 +32,7 @@ impl HostState {
         }
     }
 
-    /// The same of a controller that is initialised.
+    /// Takes in what an initialised controller reports of connections.
     #[inline(always)]
     fn connection_reported(&mut self, frames: &mut [Reassembler; 8], event: &Event<'_>)
         requires { laws.is_ready self.old.controller ≡ true }

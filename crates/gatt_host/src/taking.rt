@@ -46,7 +46,8 @@ pub(crate) fn take(host: &mut Host, octets: &[u8]) -> Result<usize, HostFault>
     }
 }
 
-/// The same by the parts of a host. Most packets lie whole in what is fed, and are heard where they lie.
+/// Takes in octets up to the end of the next packet, by the parts of a host. Most packets lie whole in
+/// what is fed, and are heard where they lie.
 #[inline(always)]
 fn take_in(
     state: &mut HostState,

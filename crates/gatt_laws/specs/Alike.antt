@@ -1,8 +1,8 @@
 -- Two states that are alike to a peer: they differ in the octets of values that are hidden, and in what other peers alone
 -- are sent, are still to be told, and have read.
-use Rattle.std.specs.Prelude.{◌≡◌, Bool, true, false, is_none, if◌then◌else◌, List, [], map, None, Ok}
+use Rattle.std.specs.Prelude.{◌≡◌, Bool, true, false, is_none, if◌then◌else◌, List, [], map, None, Ok, Err}
 use Rattle.att_numbers.specs.Types.{Handle, Row}
-use Rattle.att_pdu.specs.Request.{FindInformationRequest, FindByTypeValueRequest, ReadByTypeRequest, ReadRequest, ReadBlobRequest, ReadMultipleRequest, ReadByGroupTypeRequest}
+use Rattle.att_pdu.specs.Request.{ExchangeMtuRequest, FindInformationRequest, FindByTypeValueRequest, ReadByTypeRequest, ReadRequest, ReadBlobRequest, ReadMultipleRequest, ReadByGroupTypeRequest, WriteRequest, PrepareWriteRequest, ExecuteWriteRequest, ConfirmationPdu, WriteCommandPdu}
 use Rattle.att_policy.specs.declared.standing.Standing.{Standing}
 use Rattle.att_reads.specs.Access.{refusal_at}
 use Rattle.att_attributes.specs.declared.attr.Attr.{Attr}
@@ -27,7 +27,13 @@ is_reading (Ok (ReadRequest handle)) = true
 is_reading (Ok (ReadBlobRequest handle offset)) = true
 is_reading (Ok (ReadMultipleRequest handles)) = true
 is_reading (Ok (ReadByGroupTypeRequest first last type)) = true
-is_reading _ = false
+is_reading (Ok (ExchangeMtuRequest client_rx_mtu)) = false
+is_reading (Ok (WriteRequest handle value)) = false
+is_reading (Ok (PrepareWriteRequest handle offset part)) = false
+is_reading (Ok (ExecuteWriteRequest flags)) = false
+is_reading (Ok ConfirmationPdu) = false
+is_reading (Ok (WriteCommandPdu handle value)) = false
+is_reading (Err fault) = false
 
 -- what was said, without the answer where it reads
 abbrev pub without_reading : Said → Said

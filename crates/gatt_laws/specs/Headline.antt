@@ -2,8 +2,8 @@
 -- refusal changes nothing.
 use Rattle.std.specs.Prelude.{◌≡◌, IfSome, if◌then◌else◌, List, [], ◌∷◌, map, Some}
 use Rattle.att_numbers.specs.Types.{Handle, Opcode, Code, Row}
-use Rattle.att_pdu.specs.Request.{Asked, ReadRequest, ReadBlobRequest, ReadMultipleRequest}
-use Rattle.att_pdu.specs.Response.{Element, OfAttribute, OfGroup, Response, ErrorResponse, FindByTypeValueResponse, ReadByTypeResponse, ReadResponse, ReadBlobResponse, ReadMultipleResponse, ReadByGroupTypeResponse}
+use Rattle.att_pdu.specs.Request.{Asked, ExchangeMtuRequest, FindInformationRequest, FindByTypeValueRequest, ReadByTypeRequest, ReadRequest, ReadBlobRequest, ReadMultipleRequest, ReadByGroupTypeRequest, WriteRequest, PrepareWriteRequest, ExecuteWriteRequest, ConfirmationPdu, WriteCommandPdu}
+use Rattle.att_pdu.specs.Response.{Element, OfAttribute, OfGroup, Response, ErrorResponse, ExchangeMtuResponse, FindInformationResponse, FindByTypeValueResponse, ReadByTypeResponse, ReadResponse, ReadBlobResponse, ReadMultipleResponse, ReadByGroupTypeResponse, WriteResponse, PrepareWriteResponse, ExecuteWriteResponse, HandleValueNotification, HandleValueIndication}
 use Rattle.att_policy.specs.declared.policy.Access.{Access}
 use Rattle.att_policy.specs.declared.policy.Access.TheVariants.{Read}
 use Rattle.att_policy.specs.declared.standing.Standing.{Standing}
@@ -25,19 +25,43 @@ Each P (handle ∷ handles) = P handle × Each P handles
 abbrev pub MayUse : Access → List Attr → Standing → Handle → Type 0
 MayUse access attributes standing handle = IsPermitted access (guard_at attributes handle) standing
 
--- the handles whose values a response sends, or tells to be equal to one that the client named
+-- the handle whose value an element of a response has, or tells to be equal to one that the client named
 abbrev pub handle_in : Element → Handle
 handle_in (OfAttribute handle octets) = handle
 handle_in (OfGroup first last value) = first
 
+-- the handles that a request names, where its response has their values and no handles
+abbrev pub handles_asked : Asked → List Handle
+handles_asked (ReadRequest handle) = handle ∷ []
+handles_asked (ReadBlobRequest handle offset) = handle ∷ []
+handles_asked (ReadMultipleRequest handles) = handles
+handles_asked (ExchangeMtuRequest client_rx_mtu) = []
+handles_asked (FindInformationRequest first last) = []
+handles_asked (FindByTypeValueRequest first last type value) = []
+handles_asked (ReadByTypeRequest first last type) = []
+handles_asked (ReadByGroupTypeRequest first last type) = []
+handles_asked (WriteRequest handle value) = []
+handles_asked (PrepareWriteRequest handle offset part) = []
+handles_asked (ExecuteWriteRequest flags) = []
+handles_asked ConfirmationPdu = []
+handles_asked (WriteCommandPdu handle value) = []
+
+-- the handles of the values that a response has
 abbrev pub handles_sent : Asked → Response → List Handle
-handles_sent (ReadRequest handle) (ReadResponse value) = handle ∷ []
-handles_sent (ReadBlobRequest handle offset) (ReadBlobResponse part) = handle ∷ []
-handles_sent (ReadMultipleRequest handles) (ReadMultipleResponse values) = handles
+handles_sent asked (ReadResponse value) = handles_asked asked
+handles_sent asked (ReadBlobResponse part) = handles_asked asked
+handles_sent asked (ReadMultipleResponse values) = handles_asked asked
 handles_sent asked (FindByTypeValueResponse groups) = map handle_in groups
 handles_sent asked (ReadByTypeResponse size values) = map handle_in values
 handles_sent asked (ReadByGroupTypeResponse size groups) = map handle_in groups
-handles_sent asked response = []
+handles_sent asked (ErrorResponse request handle code) = []
+handles_sent asked (ExchangeMtuResponse server_rx_mtu) = []
+handles_sent asked (FindInformationResponse format types) = []
+handles_sent asked WriteResponse = []
+handles_sent asked (PrepareWriteResponse handle offset part) = []
+handles_sent asked ExecuteWriteResponse = []
+handles_sent asked (HandleValueNotification handle value) = []
+handles_sent asked (HandleValueIndication handle value) = []
 
 -- each value that is sent is one that the client may then read
 abbrev pub SendsWhatMayBeRead : Type 0

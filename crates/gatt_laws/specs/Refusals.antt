@@ -2,7 +2,7 @@
 use Rattle.std.specs.Prelude.{◌≡◌, IfSome, List, ◌∷◌, ◌++◌, length, Option, Some, None, Ok, Err}
 use Rattle.att_numbers.specs.declared.opcode.TheConstants.{READ_BY_TYPE_REQUEST, READ_REQUEST, READ_BLOB_REQUEST, READ_MULTIPLE_REQUEST, WRITE_REQUEST, PREPARE_WRITE_REQUEST}
 use Rattle.att_numbers.specs.Types.{Handle, Opcode, Code, Row}
-use Rattle.att_pdu.specs.Request.{Asked, ReadByTypeRequest, ReadRequest, ReadBlobRequest, ReadMultipleRequest, WriteRequest, PrepareWriteRequest}
+use Rattle.att_pdu.specs.Request.{Asked, ExchangeMtuRequest, FindInformationRequest, FindByTypeValueRequest, ReadByTypeRequest, ReadRequest, ReadBlobRequest, ReadMultipleRequest, ReadByGroupTypeRequest, WriteRequest, PrepareWriteRequest, ExecuteWriteRequest, ConfirmationPdu, WriteCommandPdu}
 use Rattle.att_pdu.specs.Response.{ErrorResponse}
 use Rattle.att_pdu.specs.declared.uuid.Uuid.{Uuid}
 use Rattle.att_pdu.specs.Uuid.{number_of}
@@ -34,7 +34,15 @@ named_by (ReadRequest handle) = Some (record { request = READ_REQUEST; handle = 
 named_by (ReadBlobRequest handle offset) = Some (record { request = READ_BLOB_REQUEST; handle = handle; access = Read })
 named_by (WriteRequest handle value) = Some (record { request = WRITE_REQUEST; handle = handle; access = Write })
 named_by (PrepareWriteRequest handle offset part) = Some (record { request = PREPARE_WRITE_REQUEST; handle = handle; access = Write })
-named_by asked = None
+named_by (ExchangeMtuRequest client_rx_mtu) = None
+named_by (FindInformationRequest first last) = None
+named_by (FindByTypeValueRequest first last type value) = None
+named_by (ReadByTypeRequest first last type) = None
+named_by (ReadMultipleRequest handles) = None
+named_by (ReadByGroupTypeRequest first last type) = None
+named_by (ExecuteWriteRequest flags) = None
+named_by ConfirmationPdu = None
+named_by (WriteCommandPdu handle value) = None
 
 -- it is refused with its handle by the code of the first rule that is broken
 abbrev pub RefusesByTheFirstBrokenRule : Type 0

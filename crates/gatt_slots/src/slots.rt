@@ -342,7 +342,7 @@ impl Slots {
         self.hear_each(table, rows, own, here, handles, now);
     }
 
-    /// The same, slot by slot.
+    /// Has each slot hear what is raised, one after another.
     #[inline(never)]
     fn hear_each(
         &mut self,

@@ -114,7 +114,7 @@ fn raise_for(
     }
 }
 
-/// The same, slot by slot.
+/// Raises the value slot by slot.
 fn raise_each(
     slots: &mut [Slot],
     heard: &mut Heard,

@@ -89,7 +89,7 @@ impl Pending {
         }
     }
 
-    /// The same of a value that was looked up.
+    /// Raises a value that was looked up.
     #[inline(always)]
     pub fn raise_value(
         &mut self,

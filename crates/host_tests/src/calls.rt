@@ -32,7 +32,7 @@ pub fn ask(
     }
 }
 
-/// The same of another table.
+/// Another table, and what is to go out then.
 fn ask_for_table(
     rt: &impl Abort,
     alloc: Global,

@@ -97,7 +97,7 @@ fn is_whole(host: &mut Host, told: &[u8], wanted: &[u8], reads: usize) -> Option
     }
 }
 
-/// The same of a new host.
+/// Whether it is so of a new host.
 fn is_whole_of_new(
     rt: &impl Abort,
     alloc: Global,
@@ -168,7 +168,7 @@ fn fills(host: &mut Host, told: &[u8], wanted: &[u8], room: usize, fails: bool) 
     taken.taken.as_slice() == front && has_ended(host, served, told, rest.is_empty())
 }
 
-/// The same of a new host.
+/// Whether it is so of a new host.
 fn fills_by_new(
     rt: &impl Abort,
     alloc: Global,

@@ -45,7 +45,7 @@ const PASSED_OVER: &[Step] = &[
     Step::Octets(THIRD, ANSWER),
 ];
 
-/// The same of packets that are handed in whole: one that is too long is as if it were not there.
+/// Packets that are handed in whole: one that is too long is as if it were not there.
 const HANDED_IN: &[Step] = &[
     Step::Connects(0x40, Stranger, "010a200101"),
     Step::Hands(0x40, 2, "030004000a", 0, &[]),

@@ -142,7 +142,7 @@ const FAULTS: &[(usize, &str, &str, HostFault)] = &[
     ),
 ];
 
-/// The same of what has no fault, and the octets that go out.
+/// What has no fault, and the octets that go out.
 const WITHOUT_A_FAULT: &[(usize, &str, &str)] = &[
     (1, "040f040001030c", ""),
     (4, "040e0701022000000000", "01051000"),

@@ -322,7 +322,7 @@ const A_FULL_QUEUE: &[Case] = &[
     (GOES, &[Notice::Disconnected { handle: 0x40 }]),
 ];
 
-/// The same of an answer on another channel.
+/// A queue that is full for an answer on another channel.
 const A_FULL_QUEUE_FOR_PAIRING: &[Case] = &[
     (COMES, &[STRANGER]),
     (Taken::Held(18, "0a0300"), &[]),

@@ -23,7 +23,7 @@ pub type Pdus = &'static [(u16, &'static str)];
 pub enum Step {
     /// Octets from the controller, and those that the host then writes.
     Octets(&'static str, &'static str),
-    /// The same of octets from the controller that end with so many octets `61`.
+    /// Octets from the controller that end with so many octets `61`, and those that the host then writes.
     Long(&'static str, usize, &'static str),
     /// The data of a whole ACL packet that is handed in, of a connection and with these boundary flags,
     /// ends with so many octets `61`: what goes out then.
@@ -37,11 +37,11 @@ pub enum Step {
     /// The key of a link is asked for and given, and then the link is encrypted by it: what goes out
     /// then.
     Encrypts(u16, Who, Pdus),
-    /// The same where the host has no such key.
+    /// The key of a link is asked for, and the host has none.
     HasNoKey(u16, Who),
     /// A PDU of a connection, and its answer.
     Asks(u16, &'static str, &'static str),
-    /// The same of an answer that ends with so many octets `61`.
+    /// A PDU of a connection, and its answer, which ends with so many octets `61`.
     AsksForLong(u16, &'static str, &'static str, usize),
     /// A PDU of a connection several times, each time with this answer.
     Times(usize, u16, &'static str, &'static str),
@@ -51,13 +51,13 @@ pub enum Step {
     AsksOn(u16, u8, &'static str, &'static str),
     /// A call of the application, and what goes out then.
     Calls(App<'static>, Pdus),
-    /// The same of a call that brings a command: the octets that go out then.
+    /// A call that brings a command, and the octets that go out then.
     Commands(App<'static>, &'static str),
-    /// The same, refused.
+    /// A call that is refused, and for what.
     Refuses(App<'static>, AppFault),
     /// Another table, and what goes out then.
     Replaces(&'static str, Pdus),
-    /// The same, refused; the table is handed back.
+    /// Another table, which is refused and handed back.
     Keeps(&'static str, AppFault),
     /// The rows, as text.
     Rows(&'static str),

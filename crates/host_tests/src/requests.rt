@@ -85,7 +85,7 @@ fn open_the_lock(rt: &impl Abort, alloc: Global) {
     play(rt, alloc, AT_THE_DOOR, CODE_OF_THE_LOCK);
 }
 
-/// The same code, where it also needs a key of LE Secure Connections.
+/// That code, where it also needs a key of LE Secure Connections.
 const SECURE_CODE: &[Step] = &[
     Step::Connects(0x40, Tablet, ADVERTISES),
     Step::Encrypts(0x40, TabletByItsShortKey, &[]),

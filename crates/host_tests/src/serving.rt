@@ -37,7 +37,7 @@ fn serve_each(rt: &impl Abort, alloc: Global, cases: &[(u64, Result<End, HostFau
     }
 }
 
-/// The same of a new host.
+/// Whether serving leads a new host to this outcome.
 fn leads_to(rt: &impl Abort, alloc: Global, turns: u64, outcome: Result<End, HostFault>) -> bool {
     let mut host = opened(rt, alloc, SETTING);
     let is_outcome = is_outcome(&mut host, turns, outcome);

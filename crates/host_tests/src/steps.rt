@@ -52,7 +52,7 @@ fn hand(rt: &impl Abort, host: &mut Host, handle: u16, pb: u8, data: &[u8]) {
     assert!(rt; host.packet(packet).is_ok());
 }
 
-/// The same of what the controller tells: at once, or in turn with the host where a link is encrypted.
+/// What the controller tells: at once, or in turn with the host where a link is encrypted.
 fn hear(
     rt: &impl Abort,
     controller: Controller,

@@ -85,7 +85,7 @@ fn send(rt: &impl Abort, step: Step, told: &mut Octets, wanted: &mut Octets) {
     }
 }
 
-/// The same of a PDU that brings others, and of a frame on a channel.
+/// Puts a PDU that brings others, or a frame on a channel, and what is to go out for it.
 fn send_alone(rt: &impl Abort, step: Step, told: &mut Octets, wanted: &mut Octets) {
     match step {
         Step::Tells(handle, pdu, pdus) => {

@@ -132,7 +132,7 @@ impl Sender {
         true
     }
 
-    /// The same into a buffer that is not cleared.
+    /// Writes the next packet into a buffer that is not cleared.
     #[inline(always)]
     pub fn next_packet(&mut self, handle: u16, out: &mut PacketBuf) -> bool
         requires { handle < 2 ^ 12 }

@@ -168,7 +168,8 @@ fn gather(gathered: &mut Gathered, skipping: &mut usize, octets: &[u8]) -> Resul
     })
 }
 
-/// The same, header and data each by what they lack.
+/// Gathers octets to the end of a packet that is kept, or all of them: header and data each by what
+/// they lack.
 fn gather_by_parts(
     gathered: &mut Gathered,
     skipping: &mut usize,

@@ -100,7 +100,7 @@ fn with_data(size: usize, count: usize) -> Progress
     }
 }
 
-/// The same of data that is not too long.
+/// How far a packet is whose data is not too long.
 fn with_short_data(size: usize, count: usize) -> Progress
     ensures { result ≡ short_progress size count }
 {

@@ -81,7 +81,7 @@ fn feed_all(deframer: &mut Deframer, piece: &[u8], notes: &mut Notes) -> bool {
     false
 }
 
-/// The same in parts of at most `most` octets.
+/// Feeds a piece in parts of at most `most` octets.
 fn feed_parts(deframer: &mut Deframer, piece: &[u8], most: usize, notes: &mut Notes) -> bool
     requires { 0 < most }
 {
