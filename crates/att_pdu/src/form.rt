@@ -44,7 +44,8 @@ fn exchange_mtu(parameters: &[u8]) -> Option<Request<'_>>
 
 /// Core 5.0, Vol 3 Part F, 3.4.3.1.
 fn find_information(parameters: &[u8]) -> Option<Request<'_>>
-    ensures { IsForm FIND_INFORMATION_REQUEST parameters.now (find_information_form parameters.now) result }
+    ensures { IsForm FIND_INFORMATION_REQUEST parameters.now
+        (find_information_form parameters.now) result }
 {
     match parameters {
         [first_low, first_high, last_low, last_high] => Some(Request::FindInformation {
@@ -57,7 +58,8 @@ fn find_information(parameters: &[u8]) -> Option<Request<'_>>
 
 /// Core 5.0, Vol 3 Part F, 3.4.3.3.
 fn find_by_type_value(parameters: &[u8]) -> Option<Request<'_>>
-    ensures { IsForm FIND_BY_TYPE_VALUE_REQUEST parameters.now (find_by_type_value_form parameters.now) result }
+    ensures { IsForm FIND_BY_TYPE_VALUE_REQUEST parameters.now
+        (find_by_type_value_form parameters.now) result }
 {
     match parameters {
         [
@@ -121,7 +123,8 @@ fn read_blob(parameters: &[u8]) -> Option<Request<'_>>
 /// Core 5.0, Vol 3 Part F, 3.4.4.7.
 #[tactic(auto, using(crate::proofs::Handles::handles_in_pairs, crate::proofs::Handles::handles_spelled))]
 fn read_multiple(parameters: &[u8]) -> Option<Request<'_>>
-    ensures { IsForm READ_MULTIPLE_REQUEST parameters.now (read_multiple_form parameters.now) result }
+    ensures { IsForm READ_MULTIPLE_REQUEST parameters.now (read_multiple_form parameters.now) result
+        IsForm READ_MULTIPLE_REQUEST parameters.now (read_multiple_form parameters.now) result }
 {
     match parameters.as_chunks::<2>() {
         (handles, []) if handles.len() >= 2 => Some(Request::ReadMultiple { handles }),
@@ -132,7 +135,8 @@ fn read_multiple(parameters: &[u8]) -> Option<Request<'_>>
 /// Core 5.0, Vol 3 Part F, 3.4.4.9.
 #[inline(always)]
 fn read_by_group_type(parameters: &[u8]) -> Option<Request<'_>>
-    ensures { IsForm READ_BY_GROUP_TYPE_REQUEST parameters.now (read_by_group_type_form parameters.now) result }
+    ensures { IsForm READ_BY_GROUP_TYPE_REQUEST parameters.now
+        (read_by_group_type_form parameters.now) result }
 {
     match parameters {
         [first_low, first_high, last_low, last_high, uuid @ ..] => Some(Request::ReadByGroupType {
@@ -159,7 +163,8 @@ fn write(parameters: &[u8]) -> Option<Request<'_>>
 
 /// Core 5.0, Vol 3 Part F, 3.4.6.1.
 fn prepare_write(parameters: &[u8]) -> Option<Request<'_>>
-    ensures { IsForm PREPARE_WRITE_REQUEST parameters.now (prepare_write_form parameters.now) result }
+    ensures { IsForm PREPARE_WRITE_REQUEST parameters.now (prepare_write_form parameters.now) result
+        IsForm PREPARE_WRITE_REQUEST parameters.now (prepare_write_form parameters.now) result }
 {
     match parameters {
         [low, high, offset_low, offset_high, part @ ..] => Some(Request::PrepareWrite {
@@ -173,7 +178,8 @@ fn prepare_write(parameters: &[u8]) -> Option<Request<'_>>
 
 /// Core 5.0, Vol 3 Part F, 3.4.6.3.
 fn execute_write(parameters: &[u8]) -> Option<Request<'_>>
-    ensures { IsForm EXECUTE_WRITE_REQUEST parameters.now (execute_write_form parameters.now) result }
+    ensures { IsForm EXECUTE_WRITE_REQUEST parameters.now (execute_write_form parameters.now) result
+        IsForm EXECUTE_WRITE_REQUEST parameters.now (execute_write_form parameters.now) result }
 {
     match parameters {
         [0x00] => Some(Request::ExecuteWrite {
@@ -188,7 +194,8 @@ fn execute_write(parameters: &[u8]) -> Option<Request<'_>>
 
 /// Core 5.0, Vol 3 Part F, 3.4.7.3.
 fn confirmation(parameters: &[u8]) -> Option<Request<'_>>
-    ensures { IsForm HANDLE_VALUE_CONFIRMATION parameters.now (confirmation_form parameters.now) result }
+    ensures { IsForm HANDLE_VALUE_CONFIRMATION parameters.now
+        (confirmation_form parameters.now) result }
 {
     match parameters {
         [] => Some(Request::Confirmation),

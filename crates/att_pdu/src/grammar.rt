@@ -29,7 +29,8 @@ pub fn read_request(pdu: &[u8], mtu: u16) -> Result<Request<'_>, PduFault>
     ensures spelled { IfOk result (λ request. spelled (asked request) ≡ pdu.now) }
     ensures within_mtu { IfOk result (λ _. length pdu.now ≤ mtu) }
     // Nothing in the grammar is refused.
-    ensures accepted { (request : Asked) → HasOctetFields request → spelled request ≡ pdu.now → length pdu.now ≤ mtu
+    ensures accepted { (request : Asked) → HasOctetFields request → spelled request ≡ pdu.now
+        → length pdu.now ≤ mtu
         → request_of pdu.now mtu ≡ Ok request }
 {
     let [opcode, parameters @ ..] = pdu else {

@@ -75,7 +75,8 @@ impl<'a> PduBuf<'a> {
     /// ATT_MTU (Core 5.0, Vol 3 Part F, 3.4.4.4).
     #[inline(always)]
     pub fn front(&mut self, octets: &[u8])
-        ensures appended { contents self.new ≡ contents self.old ++ take (mtu_of self.old - length (contents self.old)) octets.now }
+        ensures appended { contents self.new
+            ≡ contents self.old ++ take (mtu_of self.old - length (contents self.old)) octets.now }
         ensures same_buffer { IsSameBuffer self.old self.new }
     {
         let room = usize::from(self.mtu) - self.octets.len();
@@ -87,7 +88,8 @@ impl<'a> PduBuf<'a> {
     /// 3.4.3.2 and 3.4.4.2.
     #[inline(always)]
     pub fn pair(&mut self, handle: u16, octets: &[u8]) -> bool
-        ensures { AppendsWhereFits self.old self.new (element_octets (OfAttribute handle octets.now)) result }
+        ensures { AppendsWhereFits self.old self.new
+            (element_octets (OfAttribute handle octets.now)) result }
     {
         if !self.has_room(2 + octets.len()) {
             return false;
@@ -102,7 +104,8 @@ impl<'a> PduBuf<'a> {
     /// 3 Part F, 3.4.3.2 and 3.4.3.4).
     #[inline(always)]
     pub fn numbers(&mut self, first: u16, second: u16) -> bool
-        ensures { AppendsWhereFits self.old self.new (two_octets first ++ two_octets second) result }
+        ensures { AppendsWhereFits self.old self.new (two_octets first ++ two_octets second) result
+            AppendsWhereFits self.old self.new (two_octets first ++ two_octets second) result }
     {
         if !self.has_room(4) {
             return false;
@@ -118,7 +121,8 @@ impl<'a> PduBuf<'a> {
     /// 3.4.4.10.
     #[inline(always)]
     pub fn group(&mut self, first: u16, last: u16, octets: &[u8]) -> bool
-        ensures { AppendsWhereFits self.old self.new (element_octets (OfGroup first last octets.now)) result }
+        ensures { AppendsWhereFits self.old self.new
+            (element_octets (OfGroup first last octets.now)) result }
     {
         if !self.has_room(4 + octets.len()) {
             return false;
@@ -133,7 +137,8 @@ impl<'a> PduBuf<'a> {
     /// Appends a handle, an offset and a part of a value, or answers `false` with nothing changed
     /// where they do not fit: the response of Core 5.0, Vol 3 Part F, 3.4.6.2.
     pub fn part(&mut self, handle: u16, offset: u16, octets: &[u8]) -> bool
-        ensures { AppendsWhereFits self.old self.new (two_octets handle ++ two_octets offset ++ octets.now) result }
+        ensures { AppendsWhereFits self.old self.new
+            (two_octets handle ++ two_octets offset ++ octets.now) result }
     {
         // The offset is spelled as a handle is.
         self.group(handle, offset, octets)

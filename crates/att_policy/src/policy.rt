@@ -79,8 +79,10 @@ pub fn first_broken(
     standing: &Standing,
 ) -> Option<(Rule, u8)>
     ensures exact { result ≡ first_broken_of access (option_copied guard.entry) standing.entry.now }
-    ensures permitted { IsNone result ↔ IsPermitted access (option_copied guard.entry) standing.entry.now }
-    ensures first { IfSome result (λ r. IsFirstBroken access (option_copied guard.entry) standing.entry.now r.0) }
+    ensures permitted { IsNone result ↔ IsPermitted access
+        (option_copied guard.entry) standing.entry.now }
+    ensures first { IfSome result
+        (λ r. IsFirstBroken access (option_copied guard.entry) standing.entry.now r.0) }
     ensures code { IfSome result (λ r. r.1 ≡ code_of access standing.entry.now r.0) }
 {
     let rule = first_broken_rule(access, guard, standing)?;

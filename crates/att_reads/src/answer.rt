@@ -32,11 +32,13 @@ pub fn answer_read(
 )
     requires empty { contents out.old ≡ [] }
     requires mtu { mtu_of out.old ≡ mtu }
-    ensures answer { contents out.new ≡ sent_if_any (read_answer table.now row.now standing.entry.now mtu (asked request.now)) }
+    ensures answer { contents out.new
+        ≡ sent_if_any (read_answer table.now row.now standing.entry.now mtu (asked request.now)) }
     // The answer tells nothing of values that the client may not read.
     ensures undisclosed { (other : Contents) → IsAlike standing.entry.now table.now other
         → contents out.new ≡ sent_if_any (read_answer other row.now standing.entry.now mtu (asked request.now)) }
-    ensures fits { length (sent_if_any (read_answer table.now row.now standing.entry.now mtu (asked request.now))) ≤ mtu }
+    ensures fits { length (sent_if_any
+        (read_answer table.now row.now standing.entry.now mtu (asked request.now))) ≤ mtu }
     ensures same_buffer { IsSameBuffer out.old out.new }
 {
     let reader = Reader {
@@ -51,7 +53,9 @@ pub fn answer_read(
 #[inline(always)]
 fn answer_to(reader: Reader<'_>, request: &Request<'_>, out: &mut PduBuf<'_>)
     requires { contents out.old ≡ [] }
-    ensures answer { contents out.new ≡ sent_if_any (read_answer reader.entry.table.now reader.entry.row.now reader.entry.standing.now (mtu_of out.old) (asked request.now)) }
+    ensures answer { contents out.new ≡ sent_if_any
+        (read_answer reader.entry.table.now reader.entry.row.now reader.entry.standing.now
+        (mtu_of out.old) (asked request.now)) }
     ensures same_buffer { IsSameBuffer out.old out.new }
 {
     match *request {
@@ -97,7 +101,8 @@ fn is_range(first: u16, last: u16) -> bool
 #[tactic(auto, unfolding(crate::specs::Answer::information_answer))]
 fn find_information(table: &Table, first: u16, last: u16, out: &mut PduBuf<'_>)
     requires { contents out.old ≡ [] }
-    ensures answer { contents out.new ≡ sent (information_answer table.now (mtu_of out.old) first last) }
+    ensures answer { contents out.new
+        ≡ sent (information_answer table.now (mtu_of out.old) first last) }
     ensures same_buffer { IsSameBuffer out.old out.new }
 {
     if !is_range(first, last) {
@@ -122,7 +127,9 @@ fn find_by_type_value(
     out: &mut PduBuf<'_>,
 )
     requires { contents out.old ≡ [] }
-    ensures answer { contents out.new ≡ sent (found_answer reader.entry.table.now reader.entry.row.now reader.entry.standing.now (mtu_of out.old) first last (of_16_bits attribute_type) value.now) }
+    ensures answer { contents out.new
+        ≡ sent (found_answer reader.entry.table.now reader.entry.row.now reader.entry.standing.now
+        (mtu_of out.old) first last (of_16_bits attribute_type) value.now) }
     ensures same_buffer { IsSameBuffer out.old out.new }
 {
     if !is_range(first, last) {
@@ -150,7 +157,9 @@ fn read_by_type(
     out: &mut PduBuf<'_>,
 )
     requires { contents out.old ≡ [] }
-    ensures answer { contents out.new ≡ sent (values_answer reader.entry.table.now reader.entry.row.now reader.entry.standing.now (mtu_of out.old) first last (number_of attribute_type)) }
+    ensures answer { contents out.new ≡ sent
+        (values_answer reader.entry.table.now reader.entry.row.now reader.entry.standing.now
+        (mtu_of out.old) first last (number_of attribute_type)) }
     ensures same_buffer { IsSameBuffer out.old out.new }
 {
     if !is_range(first, last) {
@@ -177,7 +186,9 @@ fn read_by_group_type(
     out: &mut PduBuf<'_>,
 )
     requires { contents out.old ≡ [] }
-    ensures answer { contents out.new ≡ sent (groups_answer reader.entry.table.now reader.entry.row.now reader.entry.standing.now (mtu_of out.old) first last (number_of attribute_type)) }
+    ensures answer { contents out.new ≡ sent
+        (groups_answer reader.entry.table.now reader.entry.row.now reader.entry.standing.now
+        (mtu_of out.old) first last (number_of attribute_type)) }
     ensures same_buffer { IsSameBuffer out.old out.new }
 {
     if !is_range(first, last) {

@@ -50,7 +50,8 @@ pub fn information(attributes: &[Attr], start: u16, out: &mut PduBuf<'_>)
 /// Appends these attributes, up to the first that has another size or does not fit.
 fn append_all(attributes: &[Attr], size: usize, out: &mut PduBuf<'_>)
     requires { 0 < size }
-    ensures appended { contents out.new ≡ with_listed (mtu_of out.old) size (contents out.old) (map information_of attributes.now) }
+    ensures appended { contents out.new
+        ≡ with_listed (mtu_of out.old) size (contents out.old) (map information_of attributes.now) }
     ensures same_buffer { IsSameBuffer out.old out.new }
 {
     for attr in attributes {
@@ -100,7 +101,8 @@ pub fn by_type_value(
 /// there are any.
 fn append_matches(reader: Reader<'_>, handles: &[u16], value: &[u8], out: &mut PduBuf<'_>) -> bool
     ensures any { result ≡ list_any (is_match reader.entry.table.now reader.entry.row.now reader.entry.standing.now value.now) handles.now }
-    ensures appended { contents out.new ≡ with_groups reader.entry.table.now (mtu_of out.old) (contents out.old)
+    ensures appended { contents out.new
+        ≡ with_groups reader.entry.table.now (mtu_of out.old) (contents out.old)
         (filter (is_match reader.entry.table.now reader.entry.row.now reader.entry.standing.now value.now) handles.now) }
     ensures same_buffer { IsSameBuffer out.old out.new }
 {
@@ -127,7 +129,8 @@ fn append_group(table: &Table, handle: u16, out: &mut PduBuf<'_>) -> bool
 /// Whether the client may read the attribute at a handle, and its whole value is this one.
 fn is_match(reader: Reader<'_>, handle: u16, value: &[u8]) -> bool
     ensures is { result ≡ is_match reader.entry.table.now reader.entry.row.now reader.entry.standing.now value.now handle }
-    ensures exists { OnTrue result (IsSome (attribute_at reader.entry.table.now.attributes handle)) }
+    ensures exists { OnTrue result (IsSome (attribute_at reader.entry.table.now.attributes handle))
+        OnTrue result (IsSome (attribute_at reader.entry.table.now.attributes handle)) }
 {
     match reader.read(handle) {
         Ok(own) => own == value,

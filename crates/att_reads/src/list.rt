@@ -57,7 +57,8 @@ impl Listing {
     #[inline(always)]
     fn append(self, table: &Table, handle: u16, front: &[u8], out: &mut PduBuf<'_>) -> bool
         requires { IsSome (attribute_at table.now.attributes handle) }
-        ensures { AppendsWhereFits out.old out.new (element_octets (element_of self table.now handle front.now)) result }
+        ensures { AppendsWhereFits out.old out.new
+            (element_octets (element_of self table.now handle front.now)) result }
     {
         match self {
             Listing::Values => out.pair(handle, front),
@@ -77,7 +78,9 @@ pub fn answer(
     out: &mut PduBuf<'_>,
 )
     requires { contents out.old ≡ [] }
-    ensures answer { contents out.new ≡ sent (list_answer listing reader.entry.table.now reader.entry.row.now reader.entry.standing.now (mtu_of out.old) start handles.now) }
+    ensures answer { contents out.new ≡ sent
+        (list_answer listing reader.entry.table.now reader.entry.row.now reader.entry.standing.now
+        (mtu_of out.old) start handles.now) }
     ensures same_buffer { IsSameBuffer out.old out.new }
 {
     let [first, rest @ ..] = handles else {
@@ -101,7 +104,9 @@ fn begin(listing: Listing, table: &Table, handle: u16, front: &[u8], out: &mut P
     requires empty { contents out.old ≡ [] }
     requires exists { IsSome (attribute_at table.now.attributes handle) }
     requires cut { length front.now ≤ cut_of listing (mtu_of out.old) }
-    ensures begun { contents out.new ≡ (request_of listing + 1) ∷ (head_of listing + length front.now) ∷ element_octets (element_of listing table.now handle front.now) }
+    ensures begun { contents out.new
+        ≡ (request_of listing + 1) ∷ (head_of listing + length front.now) ∷ element_octets
+        (element_of listing table.now handle front.now) }
     ensures same_buffer { IsSameBuffer out.old out.new }
 {
     let size = usize::from(listing.head()) + front.len();

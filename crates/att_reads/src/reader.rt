@@ -34,10 +34,16 @@ impl<'a> Reader<'a> {
     /// that reading it breaks.
     #[inline(always)]
     pub fn read(self, handle: u16) -> Result<&'a [u8], u8>
-        ensures permitted { IfOk result (λ value. refusal_at self.entry.table.now.attributes self.entry.standing.now handle ≡ None) }
-        ensures value { IfOk result (λ value. value.now ≡ value_for self.entry.table.now self.entry.row.now handle) }
-        ensures exists { IfOk result (λ value. IsSome (attribute_at self.entry.table.now.attributes handle)) }
-        ensures refused { IfErr result (λ code. refusal_at self.entry.table.now.attributes self.entry.standing.now handle ≡ Some code) }
+        ensures permitted { IfOk result
+            (λ value. refusal_at self.entry.table.now.attributes self.entry.standing.now handle
+            ≡ None) }
+        ensures value { IfOk result
+            (λ value. value.now ≡ value_for self.entry.table.now self.entry.row.now handle) }
+        ensures exists { IfOk result
+            (λ value. IsSome (attribute_at self.entry.table.now.attributes handle)) }
+        ensures refused { IfErr result
+            (λ code. refusal_at self.entry.table.now.attributes self.entry.standing.now handle
+            ≡ Some code) }
     {
         let attr = self.table.get(handle);
         let guard = attr.map(|attr| &attr.guard);

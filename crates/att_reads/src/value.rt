@@ -18,7 +18,9 @@ use att_pdu::PduBuf;
 #[tactic(auto, unfolding(crate::specs::Answer::value_answer))]
 pub fn read(reader: Reader<'_>, handle: u16, out: &mut PduBuf<'_>)
     requires { contents out.old ≡ [] }
-    ensures answer { contents out.new ≡ sent (value_answer reader.entry.table.now reader.entry.row.now reader.entry.standing.now (mtu_of out.old) handle) }
+    ensures answer { contents out.new
+        ≡ sent (value_answer reader.entry.table.now reader.entry.row.now reader.entry.standing.now
+        (mtu_of out.old) handle) }
     ensures same_buffer { IsSameBuffer out.old out.new }
 {
     match reader.read(handle) {
@@ -35,7 +37,9 @@ pub fn read(reader: Reader<'_>, handle: u16, out: &mut PduBuf<'_>)
 #[tactic(auto, unfolding(crate::specs::Answer::part_answer))]
 pub fn read_blob(reader: Reader<'_>, handle: u16, offset: u16, out: &mut PduBuf<'_>)
     requires { contents out.old ≡ [] }
-    ensures answer { contents out.new ≡ sent (part_answer reader.entry.table.now reader.entry.row.now reader.entry.standing.now (mtu_of out.old) handle offset) }
+    ensures answer { contents out.new
+        ≡ sent (part_answer reader.entry.table.now reader.entry.row.now reader.entry.standing.now
+        (mtu_of out.old) handle offset) }
     ensures same_buffer { IsSameBuffer out.old out.new }
 {
     match reader.read(handle) {
@@ -47,7 +51,8 @@ pub fn read_blob(reader: Reader<'_>, handle: u16, offset: u16, out: &mut PduBuf<
 /// Answers with the part of a value from an offset on.
 fn part(value: &[u8], handle: u16, offset: u16, out: &mut PduBuf<'_>)
     requires { contents out.old ≡ [] }
-    ensures answer { contents out.new ≡ sent (unless_refused READ_BLOB_REQUEST (offset_refusal handle offset value.now ∷ [])
+    ensures answer { contents out.new
+        ≡ sent (unless_refused READ_BLOB_REQUEST (offset_refusal handle offset value.now ∷ [])
         (ReadBlobResponse (take (mtu_of out.old - 1) (drop offset value.now)))) }
     ensures same_buffer { IsSameBuffer out.old out.new }
 {
@@ -68,7 +73,9 @@ fn part(value: &[u8], handle: u16, offset: u16, out: &mut PduBuf<'_>)
 /// judged, those too whose values do not fit any more.
 pub fn read_multiple(reader: Reader<'_>, handles: &[[u8; 2]], out: &mut PduBuf<'_>)
     requires { contents out.old ≡ [] }
-    ensures answer { contents out.new ≡ sent (multiple_answer reader.entry.table.now reader.entry.row.now reader.entry.standing.now (mtu_of out.old)
+    ensures answer { contents out.new ≡ sent
+        (multiple_answer reader.entry.table.now reader.entry.row.now reader.entry.standing.now
+        (mtu_of out.old)
         (map (from_le_bytes w16) handles.now)) }
     ensures same_buffer { IsSameBuffer out.old out.new }
 {

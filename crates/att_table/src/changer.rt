@@ -22,7 +22,8 @@ const CHANGER_LEN: u16 = 4;
 /// The handle of the first changer among the attributes of a table.
 pub fn changer_of(attributes: &[Attr], values: &FlatStore) -> Option<u16>
     requires { IsKept attributes.now values.now }
-    ensures { result ≡ changer_of (record { attributes = attributes.now; values = values_of values.now }) }
+    ensures { result
+        ≡ changer_of (record { attributes = attributes.now; values = values_of values.now }) }
 {
     for attr in attributes {
         if is_changer(attr, attributes, values) {
@@ -35,7 +36,9 @@ pub fn changer_of(attributes: &[Attr], values: &FlatStore) -> Option<u16>
 /// Whether an attribute of a table is a changer.
 fn is_changer(attr: &Attr, attributes: &[Attr], values: &FlatStore) -> bool
     requires { IsKept attributes.now values.now }
-    ensures { result ≡ is_changer (record { attributes = attributes.now; values = values_of values.now }) attr.now }
+    ensures { result
+        ≡ is_changer
+        (record { attributes = attributes.now; values = values_of values.now }) attr.now }
 {
     if attr.role != Role::Value
         || attr.kind != SERVICE_CHANGED

@@ -143,7 +143,8 @@ impl Table {
     pub fn set(&mut self, handle: u16, octets: &[u8])
         requires exists { IsSome (attribute_at self.old.attributes handle) }
         requires fits { length octets.now ≤ room_at self.old handle }
-        requires exact { is_fixed_at self.old.attributes handle ≡ true → length octets.now ≡ room_at self.old handle }
+        requires exact { is_fixed_at self.old.attributes handle ≡ true
+            → length octets.now ≡ room_at self.old handle }
         ensures attributes { self.new.attributes ≡ self.old.attributes }
         ensures values { self.new.values ≡ with_value self.old.values handle octets.now }
     {

@@ -96,7 +96,8 @@ impl FlatStore {
     pub fn push(&mut self, room: u16, octets: &[u8]) -> Result<(), AllocError>
         requires fits { length octets.now ≤ room }
         requires room { room ≤ 512 }
-        ensures ok { OnOk result (self.new ≡ self.old ++ record { room = room; octets = octets.now } ∷ []) }
+        ensures ok { OnOk result
+            (self.new ≡ self.old ++ record { room = room; octets = octets.now } ∷ []) }
         ensures err { OnErr result (self.new ≡ self.old) }
     {
         let place = Place {
@@ -154,7 +155,8 @@ fn octets_at(octets: &[u8], place: Place) -> &[u8]
 // Copies a part over the octets from a place on.
 fn write_part(octets: &mut [u8], start: usize, part: &[u8])
     requires { start + length part.now ≤ length octets.old }
-    ensures { octets.new ≡ take start octets.old ++ part.now ++ drop (start + length part.now) octets.old }
+    ensures { octets.new
+        ≡ take start octets.old ++ part.now ++ drop (start + length part.now) octets.old }
 {
     octets[start..start + part.len()].copy_from_slice(part);
 }
@@ -171,7 +173,8 @@ fn set_end(place: &mut Place, end: usize, keep: bool)
 // Appends octets, and as many zeros as there is room for.
 fn append(all: &mut Vec<u8>, octets: &[u8], room: usize) -> Result<(), AllocError>
     requires { length octets.now ≤ room }
-    ensures ok { OnOk result (all.new.items ≡ all.old.items ++ octets.now ++ replicate (room - length octets.now) 0) }
+    ensures ok { OnOk result
+        (all.new.items ≡ all.old.items ++ octets.now ++ replicate (room - length octets.now) 0) }
     ensures err { OnErr result (all.new.items ≡ all.old.items) }
 {
     all.reserve(room)?;

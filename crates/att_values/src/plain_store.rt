@@ -47,7 +47,8 @@ impl PlainStore {
     pub fn push(&mut self, room: u16, octets: &[u8]) -> Result<(), AllocError>
         requires fits { length octets.now ≤ room }
         requires room { room ≤ 512 }
-        ensures ok { OnOk result (self.new ≡ self.old ++ record { room = room; octets = octets.now } ∷ []) }
+        ensures ok { OnOk result
+            (self.new ≡ self.old ++ record { room = room; octets = octets.now } ∷ []) }
         ensures err { OnErr result (self.new ≡ self.old) }
     {
         self.slots.push(Slot {

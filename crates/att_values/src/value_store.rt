@@ -33,7 +33,9 @@ pub trait ValueStore {
         requires exists { IsSome (map.get (contents self.old) handle) }
         requires offset { offset ≤ length (value_in (contents self.old) handle) }
         requires fits { offset + length part.now ≤ room self.old handle }
-        ensures contents { contents self.new ≡ map.insert (contents self.old) handle (value_with_part keep (value_in (contents self.old) handle) offset part.now) }
+        ensures contents { contents self.new
+            ≡ map.insert (contents self.old) handle
+            (value_with_part keep (value_in (contents self.old) handle) offset part.now) }
         ensures room { room self.new ≡ room self.old };
 
     /// Sets the value at a handle.

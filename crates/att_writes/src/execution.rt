@@ -32,9 +32,11 @@ pub fn prepare(
     offset: u16,
     part: &[u8],
 ) -> Outcome
-    ensures outcome { result ≡ prepare_outcome (record { handle = handle; offset = offset; part = part.now })
+    ensures outcome { result
+        ≡ prepare_outcome (record { handle = handle; offset = offset; part = part.now })
         (prepare_fault table.now.attributes standing.entry.now queue.old (record { handle = handle; offset = offset; part = part.now })) }
-    ensures queue { queue.new ≡ queue_after queue.old (record { handle = handle; offset = offset; part = part.now })
+    ensures queue { queue.new
+        ≡ queue_after queue.old (record { handle = handle; offset = offset; part = part.now })
         (prepare_fault table.now.attributes standing.entry.now queue.old (record { handle = handle; offset = offset; part = part.now })) }
 {
     let guard = table.get(handle).map(|attr| &attr.guard);
@@ -67,8 +69,12 @@ pub fn execute(
     touched: &mut ArrayVec<u16, 32>,
 ) -> Outcome
     requires row { IsRowOf table.old.attributes row.old }
-    ensures outcome { result ≡ outcome_of EXECUTE_WRITE_REQUEST (applied_to Access.Write table.old row.old standing.entry.now queue.old) }
-    ensures touched { touched.new.items ≡ touched_by queue.old (applied_to Access.Write table.old row.old standing.entry.now queue.old) }
+    ensures outcome { result
+        ≡ outcome_of EXECUTE_WRITE_REQUEST
+        (applied_to Access.Write table.old row.old standing.entry.now queue.old) }
+    ensures touched { touched.new.items
+        ≡ touched_by queue.old
+        (applied_to Access.Write table.old row.old standing.entry.now queue.old) }
     ensures queue { queue.new ≡ [] }
     ensures left { Leaves (written_to Access.Write table.old row.old standing.entry.now queue.old) table.old table.new row.new }
 {
@@ -100,7 +106,8 @@ fn first_refused(
     ensures written { IsNone result → (row : Row)
         → applied_to Access.Write table.now row standing.entry.now (entries_in places.now octets.now)
         ≡ Ok (after_all table.now.attributes (stored_in table.now row) (entries_in places.now octets.now)) }
-    ensures fits { IsNone result → (row : Row) → AllFit table.now.attributes (stored_in table.now row) (entries_in places.now octets.now) }
+    ensures fits { IsNone result → (row : Row)
+        → AllFit table.now.attributes (stored_in table.now row) (entries_in places.now octets.now) }
 {
     let mut rest = octets;
     for (index, place) in places.iter().enumerate() {
@@ -118,8 +125,10 @@ fn first_refused(
 fn put_all(table: &mut Table, row: &mut ConfigRow, places: &[Place], octets: &[u8])
     requires sizes { sizes_of places.now ≡ length octets.now }
     requires row { IsRowOf table.old.attributes row.old }
-    requires fits { AllFit table.old.attributes (stored_in table.old row.old) (entries_in places.now octets.now) }
-    ensures { Leaves (after_all table.old.attributes (stored_in table.old row.old) (entries_in places.now octets.now)) table.old table.new row.new }
+    requires fits { AllFit table.old.attributes (stored_in table.old row.old)
+        (entries_in places.now octets.now) }
+    ensures { Leaves (after_all table.old.attributes (stored_in table.old row.old)
+        (entries_in places.now octets.now)) table.old table.new row.new }
 {
     let mut rest = octets;
     for place in places {

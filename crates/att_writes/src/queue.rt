@@ -27,7 +27,8 @@ pub(crate) struct Place {
 impl Place {
     /// The entry with this part.
     pub(crate) fn entry(self, part: &[u8]) -> EntryRef<'_>
-        ensures { entry_of result ≡ record { handle = self.handle; offset = self.offset; part = part.now } }
+        ensures { entry_of result
+            ≡ record { handle = self.handle; offset = self.offset; part = part.now } }
     {
         EntryRef {
             handle: self.handle,

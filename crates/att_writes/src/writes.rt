@@ -28,8 +28,11 @@ pub fn write(
     value: &[u8],
 ) -> Outcome
     requires row { IsRowOf table.old.attributes row.old }
-    ensures outcome { result ≡ outcome_of WRITE_REQUEST (applied_to Access.Write table.old row.old standing.entry.now (whole handle value.now ∷ [])) }
-    ensures left { Leaves (written_to Access.Write table.old row.old standing.entry.now (whole handle value.now ∷ [])) table.old table.new row.new }
+    ensures outcome { result
+        ≡ outcome_of WRITE_REQUEST (applied_to Access.Write table.old row.old standing.entry.now
+        (whole handle value.now ∷ [])) }
+    ensures left { Leaves (written_to Access.Write table.old row.old standing.entry.now
+        (whole handle value.now ∷ [])) table.old table.new row.new }
 {
     let entry = EntryRef {
         handle,
@@ -55,8 +58,11 @@ pub fn command(
     value: &[u8],
 ) -> Outcome
     requires row { IsRowOf table.old.attributes row.old }
-    ensures outcome { result ≡ outcome_of WRITE_COMMAND (applied_to Access.Command table.old row.old standing.entry.now (whole handle value.now ∷ [])) }
-    ensures left { Leaves (written_to Access.Command table.old row.old standing.entry.now (whole handle value.now ∷ [])) table.old table.new row.new }
+    ensures outcome { result
+        ≡ outcome_of WRITE_COMMAND (applied_to Access.Command table.old row.old standing.entry.now
+        (whole handle value.now ∷ [])) }
+    ensures left { Leaves (written_to Access.Command table.old row.old standing.entry.now
+        (whole handle value.now ∷ [])) table.old table.new row.new }
 {
     let entry = EntryRef {
         handle,
@@ -85,8 +91,11 @@ fn write_at_once(
     entry: EntryRef<'_>,
 ) -> Outcome
     requires row { IsRowOf table.old.attributes row.old }
-    ensures outcome { result ≡ outcome_of opcode (applied_to access table.old row.old standing.entry.now (entry_of entry.entry ∷ [])) }
-    ensures left { Leaves (written_to access table.old row.old standing.entry.now (entry_of entry.entry ∷ [])) table.old table.new row.new }
+    ensures outcome { result
+        ≡ outcome_of opcode
+        (applied_to access table.old row.old standing.entry.now (entry_of entry.entry ∷ [])) }
+    ensures left { Leaves (written_to access table.old row.old standing.entry.now
+        (entry_of entry.entry ∷ [])) table.old table.new row.new }
 {
     match fault_of(access, table, standing, &[], entry) {
         Some(code) => Outcome::Denied(opcode, entry.handle, code),
@@ -101,7 +110,8 @@ fn write_at_once(
 pub(crate) fn put(table: &mut Table, row: &mut ConfigRow, entry: EntryRef<'_>)
     requires row { IsRowOf table.old.attributes row.old }
     requires fits { Fits table.old.attributes (stored_in table.old row.old) (entry_of entry) }
-    ensures { Leaves (after_entry table.old.attributes (stored_in table.old row.old) (entry_of entry.entry)) table.old table.new row.new }
+    ensures { Leaves (after_entry table.old.attributes (stored_in table.old row.old)
+        (entry_of entry.entry)) table.old table.new row.new }
 {
     if is_configuration(table, entry.handle) {
         if let Some(&bits) = entry.part.first() {

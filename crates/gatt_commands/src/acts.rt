@@ -38,7 +38,8 @@ pub(crate) fn do_act(
 ) -> Option<Refused>
     requires drained { all_out host.old ≡ true }
     requires phone { IsOfPhoneBelow 8 act.now }
-    ensures does { Does act.now result (stage_of host.old sim.old next.old) (stage_of host.new sim.new next.new) }
+    ensures does { Does act.now result (stage_of host.old sim.old next.old)
+        (stage_of host.new sim.new next.new) }
     ensures noted { NotesAct act.now next.old result host.new notes.old notes.new }
     ensures named { (count : ℕ) → IsOfPhoneBelow count act.now → IfSome result (IsOfPhone count) }
     // What is refused leaves the controller and the table as they are.

@@ -21,16 +21,21 @@ pub fn att_lines<R: Read, W: Write>(
     // Where the input is known, all of it was answered, or what stands before the first bad line.
     ensures ok { OnOk result (IfSome (R.remaining reader.old) (λ input.
         (bad_line_of input ≡ None) × Appends (W.contents writer.old) (W.contents writer.new) (printed_for input))) }
-    ensures not_hex { (number : ℕ) → result ≡ Err (ShellFault.NotHex number) → IfSome (R.remaining reader.old) (λ input.
+    ensures not_hex { (number : ℕ) → result ≡ Err (ShellFault.NotHex number)
+        → IfSome (R.remaining reader.old) (λ input.
         (bad_line_of input ≡ Some number) × Appends (W.contents writer.old) (W.contents writer.new) (printed_for input)) }
     // An input that cannot be read on, and an output that fails, leave the front of that printed, and
     // refused memory nothing.
-    ensures unreadable { result ≡ Err ShellFault.Unreadable → IfSome (R.remaining reader.old) (λ input.
+    ensures unreadable { result ≡ Err ShellFault.Unreadable
+        → IfSome (R.remaining reader.old) (λ input.
         WritesFront (printed_for input) (W.contents writer.old) (W.contents writer.new)) }
-    ensures unwritten { result ≡ Err ShellFault.Unwritten → IfSome (R.remaining reader.old) (λ input.
+    ensures unwritten { result ≡ Err ShellFault.Unwritten
+        → IfSome (R.remaining reader.old) (λ input.
         WritesFront (printed_for input) (W.contents writer.old) (W.contents writer.new)) }
-    ensures memory { result ≡ Err ShellFault.Memory → Keeps (W.contents writer.old) (W.contents writer.new) }
-    ensures table { (number : ℕ) → result ≡ Err (ShellFault.Table number) → IsRefusedAs number door_read }
+    ensures memory { result ≡ Err ShellFault.Memory
+        → Keeps (W.contents writer.old) (W.contents writer.new) }
+    ensures table { (number : ℕ) → result ≡ Err (ShellFault.Table number)
+        → IsRefusedAs number door_read }
     ensures faults { IfErr result IsAttFault }
 {
     let mut session = Session::new(alloc)?;

@@ -27,22 +27,27 @@ pub fn check_files<T: Read, K: Read, W: Write>(
     writer: &mut W,
 ) -> Result<(), ShellFault>
     // Both files were accepted, and their attributes and keys were counted.
-    ensures ok { OnOk result (AreCounted (T.remaining table.old) (K.remaining keys.old) (W.contents writer.old) (W.contents writer.new)) }
+    ensures ok { OnOk result (AreCounted (T.remaining table.old) (K.remaining keys.old)
+        (W.contents writer.old) (W.contents writer.new)) }
     // The table file was refused for its first fault, or for want of memory, which is 10, and the
     // key file was not read.
     ensures table { (number : ℕ) → result ≡ Err (ShellFault.Table number) → number ≢ 10
         → IfSome (T.remaining table.old) (λ octets. IsRefusedAs number (table_in octets)) }
-    ensures keys_unread { (number : ℕ) → result ≡ Err (ShellFault.Table number) → keys.new ≡ keys.old }
+    ensures keys_unread { (number : ℕ) → result ≡ Err (ShellFault.Table number)
+        → keys.new ≡ keys.old }
     // The key file was refused for its first fault, or for want of memory, which is 8, and the
     // table file was accepted.
     ensures keys { (number : ℕ) → result ≡ Err (ShellFault.Keys number) → number ≢ 8
         → IfSome (K.remaining keys.old) (λ octets. AreRefusedAs number (keys_in octets)) }
     ensures table_first { (number : ℕ) → result ≡ Err (ShellFault.Keys number)
         → IfSome (T.remaining table.old) (λ octets. IsOk (table_in octets)) }
-    ensures nothing_printed { IfErr result (λ fault. fault ≢ ShellFault.Unwritten → Keeps (W.contents writer.old) (W.contents writer.new)) }
+    ensures nothing_printed { IfErr result (λ fault. fault ≢ ShellFault.Unwritten
+        → Keeps (W.contents writer.old) (W.contents writer.new)) }
     // An output is written to only where both files were accepted.
-    ensures unwritten_table { result ≡ Err ShellFault.Unwritten → IfSome (T.remaining table.old) (λ octets. IsOk (table_in octets)) }
-    ensures unwritten_keys { result ≡ Err ShellFault.Unwritten → IfSome (K.remaining keys.old) (λ octets. IsOk (keys_in octets)) }
+    ensures unwritten_table { result ≡ Err ShellFault.Unwritten
+        → IfSome (T.remaining table.old) (λ octets. IsOk (table_in octets)) }
+    ensures unwritten_keys { result ≡ Err ShellFault.Unwritten
+        → IfSome (K.remaining keys.old) (λ octets. IsOk (keys_in octets)) }
     ensures faults { IfErr result IsCheckFault }
 {
     let table = read_table(alloc, table)?;
@@ -66,7 +71,8 @@ pub fn check_paths<F: Files, W: Write>(
     keys: KeysPath<'_>,
     writer: &mut W,
 ) -> Result<(), ShellFault>
-    ensures nothing_printed { IfErr result (λ fault. fault ≢ ShellFault.Unwritten → Keeps (W.contents writer.old) (W.contents writer.new)) }
+    ensures nothing_printed { IfErr result (λ fault. fault ≢ ShellFault.Unwritten
+        → Keeps (W.contents writer.old) (W.contents writer.new)) }
     ensures faults { IfErr result IsCheckFault }
 {
     let mut table = LazyFile::new(files, table.0);

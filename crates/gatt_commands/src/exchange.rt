@@ -23,7 +23,8 @@ pub(crate) const MAX_EXCHANGED: u64 = 100_000;
 /// Host and controller hand each other packets until neither has anything to give: what the host gives
 /// goes first, so all is out before a packet of the controller goes in. What the host tells is noted.
 pub(crate) fn exchange(host: &mut Host, sim: &mut Sim, notes: &mut Notes) -> Result<(), ShellFault>
-    ensures exchanges { ExchangesUntil result (pair_of host.old sim.old notes.old) (pair_of host.new sim.new notes.new) }
+    ensures exchanges { ExchangesUntil result (pair_of host.old sim.old notes.old)
+        (pair_of host.new sim.new notes.new) }
     ensures out { IsOk result → all_out host.new ≡ true }
     ensures taken { IsOk result → sim.new.waiting ≡ [] }
     ensures faults { IfErr result IsExchangeFault }
@@ -41,7 +42,8 @@ pub(crate) fn exchange(host: &mut Host, sim: &mut Sim, notes: &mut Notes) -> Res
 
 /// Hands over the next packet, and answers whether there was one.
 fn hand_over(host: &mut Host, sim: &mut Sim, notes: &mut Notes) -> Result<bool, ShellFault>
-    ensures hands { HandsNext result (pair_of host.old sim.old notes.old) (pair_of host.new sim.new notes.new) }
+    ensures hands { HandsNext result (pair_of host.old sim.old notes.old)
+        (pair_of host.new sim.new notes.new) }
     ensures out { IfOk result (λ handed. OnFalse handed (all_out host.new ≡ true)) }
     ensures taken { IfOk result (λ handed. OnFalse handed (sim.new.waiting ≡ [])) }
     ensures faults { IfErr result IsExchangeFault }

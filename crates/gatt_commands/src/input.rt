@@ -14,7 +14,8 @@ pub const CHUNK: usize = 512;
 
 /// All octets of an input.
 pub(crate) fn read_all<R: Read>(alloc: Global, reader: &mut R) -> Result<Vec<u8>, ShellFault>
-    ensures all { IfOk result (λ octets. IfSome (R.remaining reader.old) (λ input. octets.items ≡ input)) }
+    ensures all { IfOk result
+        (λ octets. IfSome (R.remaining reader.old) (λ input. octets.items ≡ input)) }
     ensures faults { IfErr result IsInputFault }
 {
     let mut octets = Vec::new(alloc);

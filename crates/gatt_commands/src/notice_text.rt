@@ -78,7 +78,8 @@ fn add_attribute(
     handle: u16,
     attribute: u16,
 ) -> Result<(), AllocError>
-    ensures ok { OnOk result (text.new.items ≡ text.old.items ++ of_attribute word.now handle attribute) }
+    ensures ok { OnOk result
+        (text.new.items ≡ text.old.items ++ of_attribute word.now handle attribute) }
 {
     add_connection(text, word, handle)?;
     add_number(text, u64::from(attribute))

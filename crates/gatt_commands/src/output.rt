@@ -15,7 +15,8 @@ use std::io::{ErrorKind, Write};
 /// again.
 pub(crate) fn print<W: Write>(text: &[u8], writer: &mut W) -> Result<(), ShellFault>
     ensures ok { OnOk result (Appends (W.contents writer.old) (W.contents writer.new) text.now) }
-    ensures front { OnErr result (WritesFront text.now (W.contents writer.old) (W.contents writer.new)) }
+    ensures front { OnErr result
+        (WritesFront text.now (W.contents writer.old) (W.contents writer.new)) }
     ensures faults { IfErr result (λ fault. fault ≡ ShellFault.Unwritten) }
 {
     let mut rest = text;
@@ -36,8 +37,10 @@ pub(crate) fn print<W: Write>(text: &[u8], writer: &mut W) -> Result<(), ShellFa
 /// Writes octets out in hexadecimal, at most 517, and a line feed.
 pub(crate) fn print_hex_line<W: Write>(octets: &[u8], writer: &mut W) -> Result<(), ShellFault>
     requires { length octets.now ≤ 517 }
-    ensures ok { OnOk result (Appends (W.contents writer.old) (W.contents writer.new) (encode_lower octets.now ++ 10 ∷ [])) }
-    ensures front { OnErr result (WritesFront (encode_lower octets.now ++ 10 ∷ []) (W.contents writer.old) (W.contents writer.new)) }
+    ensures ok { OnOk result (Appends (W.contents writer.old) (W.contents writer.new)
+        (encode_lower octets.now ++ 10 ∷ [])) }
+    ensures front { OnErr result (WritesFront (encode_lower octets.now ++ 10 ∷ [])
+        (W.contents writer.old) (W.contents writer.new)) }
     ensures faults { IfErr result (λ fault. fault ≡ ShellFault.Unwritten) }
 {
     let mut text = [0; 2 * 517 + 1];
@@ -50,8 +53,10 @@ pub(crate) fn print_hex_line<W: Write>(octets: &[u8], writer: &mut W) -> Result<
 /// Writes a number out in decimal, and a line feed.
 #[tactic(auto, using(crate::proofs::Fronts::at_error, crate::proofs::Fronts::front_first, crate::proofs::Fronts::front_rest))]
 pub(crate) fn print_number_line<W: Write>(number: u64, writer: &mut W) -> Result<(), ShellFault>
-    ensures ok { OnOk result (Appends (W.contents writer.old) (W.contents writer.new) (decimal number ++ 10 ∷ [])) }
-    ensures front { OnErr result (WritesFront (decimal number ++ 10 ∷ []) (W.contents writer.old) (W.contents writer.new)) }
+    ensures ok { OnOk result
+        (Appends (W.contents writer.old) (W.contents writer.new) (decimal number ++ 10 ∷ [])) }
+    ensures front { OnErr result
+        (WritesFront (decimal number ++ 10 ∷ []) (W.contents writer.old) (W.contents writer.new)) }
     ensures faults { IfErr result (λ fault. fault ≡ ShellFault.Unwritten) }
 {
     let mut digits = Buffer::new();

@@ -16,7 +16,8 @@ use std::str;
 
 /// Reads a rows file, and gives its rows.
 pub(crate) fn read_rows<R: Read>(alloc: Global, reader: &mut R) -> Result<Rows, ShellFault>
-    ensures rows { IfOk result (λ rows. IfSome (R.remaining reader.old) (λ octets. rows_in octets ≡ Ok rows)) }
+    ensures rows { IfOk result
+        (λ rows. IfSome (R.remaining reader.old) (λ octets. rows_in octets ≡ Ok rows)) }
     ensures refused { (number : ℕ) → result ≡ Err (ShellFault.Rows number) → number ≢ 4
         → IfSome (R.remaining reader.old) (λ octets. AreRefusedAs number (rows_in octets)) }
     ensures faults { IfErr result IsRowsFileFault }

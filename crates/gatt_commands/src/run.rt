@@ -78,11 +78,16 @@ pub fn run_script<T: Read, N: Read, K: Read, R: Read, S: Read, V: Write, W: Writ
         → IfSome (S.remaining script.old) (λ octets. script_in (is_some next.old) octets ≡ Err (BadLine line)) }
     // And only where those in front of it are accepted: table, next, keys, rows, script. Then the run
     // begins.
-    ensures table_first { IsPast OfTable result → IfSome (T.remaining table.old) (λ octets. IsOk (table_in octets)) }
-    ensures next_second { IsPast OfNext result → IfSome next.old (λ file. IfSome (N.remaining file) (λ octets. IsOk (table_in octets))) }
-    ensures keys_third { IsPast OfKeys result → IfSome (K.remaining keys.old) (λ octets. IsOk (keys_in octets)) }
-    ensures rows_fourth { IsPast OfRows result → IfSome (R.remaining rows.old) (λ octets. IsOk (rows_in octets)) }
-    ensures script_last { IsPast OfScript result → IfSome (S.remaining script.old) (λ octets. IsOk (script_in (is_some next.old) octets)) }
+    ensures table_first { IsPast OfTable result
+        → IfSome (T.remaining table.old) (λ octets. IsOk (table_in octets)) }
+    ensures next_second { IsPast OfNext result
+        → IfSome next.old (λ file. IfSome (N.remaining file) (λ octets. IsOk (table_in octets))) }
+    ensures keys_third { IsPast OfKeys result
+        → IfSome (K.remaining keys.old) (λ octets. IsOk (keys_in octets)) }
+    ensures rows_fourth { IsPast OfRows result
+        → IfSome (R.remaining rows.old) (λ octets. IsOk (rows_in octets)) }
+    ensures script_last { IsPast OfScript result
+        → IfSome (S.remaining script.old) (λ octets. IsOk (script_in (is_some next.old) octets)) }
     // Then all that the files say is run, up to the fault that ends the run.
     ensures runs { IsPast OfScript result → RunsFiles result shows
         (files_of (T.remaining table.old) (option_map N.remaining next.old) (K.remaining keys.old) (R.remaining rows.old) (S.remaining script.old))
@@ -120,11 +125,13 @@ fn run_files<S: Read, V: Write, W: Write>(
     shows: bool,
     writer: &mut W,
 ) -> Result<(), ShellFault>
-    ensures runs { IsPast OfScript result → RunsFile result shows table next keys rows (S.remaining script.old) (W.contents writer.old) (W.contents writer.new)
+    ensures runs { IsPast OfScript result → RunsFile result shows table next keys rows
+        (S.remaining script.old) (W.contents writer.old) (W.contents writer.new)
         (HasWritten V.contents rows_writer.old) (HasWrittenFront V.contents rows_writer.old) }
     ensures script { (line : ℕ) → result ≡ Err (ShellFault.Script line)
         → IfSome (S.remaining script.old) (λ octets. script_in (is_some next) octets ≡ Err (BadLine line)) }
-    ensures script_last { IsPast OfScript result → IfSome (S.remaining script.old) (λ octets. IsOk (script_in (is_some next) octets)) }
+    ensures script_last { IsPast OfScript result
+        → IfSome (S.remaining script.old) (λ octets. IsOk (script_in (is_some next) octets)) }
     ensures faults { IfErr result IsScriptRunFault }
 {
     let octets = read_all(alloc, script)?;
@@ -153,7 +160,8 @@ fn run_host<V: Write, W: Write>(
     writer: &mut W,
 ) -> Result<(), ShellFault>
     requires { HasNamedPhones script.now }
-    ensures runs { result ≢ Err ShellFault.Memory → HostRuns result shows script.now host.old host.new next.old next.new
+    ensures runs { result ≢ Err ShellFault.Memory
+        → HostRuns result shows script.now host.old host.new next.old next.new
         (W.contents writer.old) (W.contents writer.new) (HasWritten V.contents rows_writer.old) (HasWrittenFront V.contents rows_writer.old) }
     ensures faults { IfErr result IsRunFault }
 {
@@ -182,9 +190,11 @@ fn run_lines<W: Write>(
     writer: &mut W,
 ) -> Result<(), ShellFault>
     requires { HasNamedPhones script.now }
-    ensures runs { OnOk result (RunsAll shows script.now (stage_of host.old sim.old next.old) (stage_of host.new sim.new next.new)
+    ensures runs { OnOk result (RunsAll shows script.now (stage_of host.old sim.old next.old)
+        (stage_of host.new sim.new next.new)
         (W.contents writer.old) (W.contents writer.new)) }
-    ensures ends { IfErr result (λ fault. EndsEarly fault shows script.now (stage_of host.old sim.old next.old) (stage_of host.new sim.new next.new)
+    ensures ends { IfErr result (λ fault. EndsEarly fault shows script.now
+        (stage_of host.old sim.old next.old) (stage_of host.new sim.new next.new)
         (W.contents writer.old) (W.contents writer.new)) }
     ensures faults { IfErr result IsRunFault }
 {
@@ -216,9 +226,11 @@ fn run_acts<W: Write>(
     requires few { length names.now ≤ 8 }
     requires named { All (IsOfPhoneBelow (length names.now)) acts.now }
     requires drained { all_out host.old ≡ true }
-    ensures runs { OnOk result (Runs shows names.now acts.now (stage_of host.old sim.old next.old) (stage_of host.new sim.new next.new)
+    ensures runs { OnOk result (Runs shows names.now acts.now (stage_of host.old sim.old next.old)
+        (stage_of host.new sim.new next.new)
         (W.contents writer.old) (W.contents writer.new)) }
-    ensures ends { IfErr result (λ fault. EndsAmong fault shows names.now acts.now (stage_of host.old sim.old next.old) (stage_of host.new sim.new next.new)
+    ensures ends { IfErr result (λ fault. EndsAmong fault shows names.now acts.now
+        (stage_of host.old sim.old next.old) (stage_of host.new sim.new next.new)
         (W.contents writer.old) (W.contents writer.new)) }
     ensures faults { IfErr result IsRunFault }
 {
@@ -243,9 +255,11 @@ fn run_line<W: Write>(
     requires few { length names.now ≤ 8 }
     requires named { IsOfPhoneBelow (length names.now) act.now }
     requires drained { all_out host.old ≡ true }
-    ensures runs { OnOk result (RunsLine shows names.now act.now (stage_of host.old sim.old next.old) (stage_of host.new sim.new next.new)
+    ensures runs { OnOk result (RunsLine shows names.now act.now
+        (stage_of host.old sim.old next.old) (stage_of host.new sim.new next.new)
         (W.contents writer.old) (W.contents writer.new)) }
-    ensures ends { IfErr result (λ fault. EndsAtLine fault shows names.now act.now (stage_of host.old sim.old next.old) (stage_of host.new sim.new next.new)
+    ensures ends { IfErr result (λ fault. EndsAtLine fault shows names.now act.now
+        (stage_of host.old sim.old next.old) (stage_of host.new sim.new next.new)
         (W.contents writer.old) (W.contents writer.new)) }
     ensures drained { IsOk result → all_out host.new ≡ true }
     ensures faults { IfErr result IsRunFault }

@@ -40,10 +40,13 @@ pub fn serve_on<V: Write>(
     ensures listen { result ≡ Err ShellFault.Listen → host.new ≡ host.old }
     ensures rows_left { result ≡ Err ShellFault.Listen → rows_writer.new ≡ rows_writer.old }
     // Once one was, the host was served to the end of the stream, or to the fault that stands then.
-    ensures served { result ≢ Err ShellFault.Listen → host.old.fault ≡ None → ServesStream host.old host.new None None None None }
+    ensures served { result ≢ Err ShellFault.Listen → host.old.fault ≡ None
+        → ServesStream host.old host.new None None None None }
     ensures ended { OnOk result (host.new.fault ≡ None) }
-    ensures fault { (number : ℕ) → result ≡ Err (ShellFault.Host number) → IfSome host.new.fault (λ fault. number ≡ number_of_fault fault) }
-    ensures rows { OnOk result (HasWritten V.contents rows_writer.old (text_of host.new.held.rows)) }
+    ensures fault { (number : ℕ) → result ≡ Err (ShellFault.Host number)
+        → IfSome host.new.fault (λ fault. number ≡ number_of_fault fault) }
+    ensures rows { OnOk result (HasWritten V.contents rows_writer.old (text_of host.new.held.rows))
+        OnOk result (HasWritten V.contents rows_writer.old (text_of host.new.held.rows)) }
     ensures faults { IfErr result IsServedFault }
 {
     let Ok((stream, _)) = listener.accept() else {
@@ -138,7 +141,8 @@ fn open_files<T: Read, K: Read, R: Read>(
     keys: &mut K,
     rows: &mut R,
 ) -> Result<Host, ShellFault>
-    ensures opened { IfOk result (IsOpenedWith (T.remaining table.old) (K.remaining keys.old) (R.remaining rows.old)) }
+    ensures opened { IfOk result
+        (IsOpenedWith (T.remaining table.old) (K.remaining keys.old) (R.remaining rows.old)) }
     // A file is refused for its first fault, or for want of memory.
     ensures table { (number : ℕ) → result ≡ Err (ShellFault.Table number) → number ≢ 10
         → IfSome (T.remaining table.old) (λ octets. IsRefusedAs number (table_in octets)) }

@@ -49,7 +49,8 @@ impl DoorServer {
 
     /// Serves a PDU: puts the answer into `octets` and tells whether one is due.
     pub(crate) fn answer(&mut self, pdu: &[u8], octets: &mut ArrayVec<u8, 517>) -> bool
-        ensures answer { option_map sent (answer_from self.old pdu.now) ≡ (if result then Some octets.new.items else None) }
+        ensures answer { option_map sent (answer_from self.old pdu.now)
+            ≡ (if result then Some octets.new.items else None) }
         ensures server { self.new ≡ server_after self.old pdu.now }
     {
         answer_from(&mut self.table, &mut self.row, &mut self.conn, pdu, octets)
@@ -65,8 +66,10 @@ fn answer_from(
     octets: &mut ArrayVec<u8, 517>,
 ) -> bool
     requires row { IsRowOf table.old.attributes row.old }
-    ensures answer { option_map sent (answer_from (server_with table.old row.old conn.old) pdu.now) ≡ (if result then Some octets.new.items else None) }
-    ensures server { server_with table.new row.new conn.new ≡ server_after (server_with table.old row.old conn.old) pdu.now }
+    ensures answer { option_map sent (answer_from (server_with table.old row.old conn.old) pdu.now)
+        ≡ (if result then Some octets.new.items else None) }
+    ensures server { server_with table.new row.new conn.new
+        ≡ server_after (server_with table.old row.old conn.old) pdu.now }
     ensures table { IsRowOf table.new.attributes row.new }
 {
     let mut touched = ArrayVec::new();

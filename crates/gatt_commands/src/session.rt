@@ -40,10 +40,12 @@ impl Session {
     /// Takes in octets of the input, and answers each line that they end.
     pub(crate) fn take<W: Write>(&mut self, octets: &[u8], writer: &mut W) -> Result<(), ShellFault>
         requires { self.old.number + length octets.now < 2 ^ 64 }
-        ensures passes { OnOk result (Passes self.old self.new octets.now (W.contents writer.old) (W.contents writer.new)) }
+        ensures passes { OnOk result
+            (Passes self.old self.new octets.now (W.contents writer.old) (W.contents writer.new)) }
         ensures stops { (number : ℕ) → result ≡ Err (ShellFault.NotHex number)
             → StopsAt self.old octets.now number (W.contents writer.old) (W.contents writer.new) }
-        ensures breaks_off { result ≡ Err ShellFault.Unwritten → BreaksOff self.old octets.now (W.contents writer.old) (W.contents writer.new) }
+        ensures breaks_off { result ≡ Err ShellFault.Unwritten
+            → BreaksOff self.old octets.now (W.contents writer.old) (W.contents writer.new) }
         ensures faults { IfErr result IsLineFault }
         ensures counts { OnOk result (self.new.number ≤ self.old.number + length octets.now) }
     {
@@ -55,10 +57,12 @@ impl Session {
 
     fn take_octet<W: Write>(&mut self, octet: u8, writer: &mut W) -> Result<(), ShellFault>
         requires { self.old.number + 1 < 2 ^ 64 }
-        ensures passes { OnOk result (Passes self.old self.new (octet ∷ []) (W.contents writer.old) (W.contents writer.new)) }
+        ensures passes { OnOk result (Passes self.old self.new (octet ∷ []) (W.contents writer.old)
+            (W.contents writer.new)) }
         ensures stops { (number : ℕ) → result ≡ Err (ShellFault.NotHex number)
             → StopsAt self.old (octet ∷ []) number (W.contents writer.old) (W.contents writer.new) }
-        ensures breaks_off { result ≡ Err ShellFault.Unwritten → BreaksOff self.old (octet ∷ []) (W.contents writer.old) (W.contents writer.new) }
+        ensures breaks_off { result ≡ Err ShellFault.Unwritten
+            → BreaksOff self.old (octet ∷ []) (W.contents writer.old) (W.contents writer.new) }
         ensures faults { IfErr result IsLineFault }
         ensures counts { OnOk result (self.new.number ≤ self.old.number + 1) }
     {
@@ -78,10 +82,12 @@ impl Session {
 
     /// Answers the last line, where it has begun and its line feed is missing.
     pub(crate) fn finish<W: Write>(&mut self, writer: &mut W) -> Result<(), ShellFault>
-        ensures ends { OnOk result (Ends self.old nothing (W.contents writer.old) (W.contents writer.new)) }
+        ensures ends { OnOk result
+            (Ends self.old nothing (W.contents writer.old) (W.contents writer.new)) }
         ensures stops { (number : ℕ) → result ≡ Err (ShellFault.NotHex number)
             → Ends self.old (ends_at number) (W.contents writer.old) (W.contents writer.new) }
-        ensures breaks_off { result ≡ Err ShellFault.Unwritten → EndsBroken self.old (W.contents writer.old) (W.contents writer.new) }
+        ensures breaks_off { result ≡ Err ShellFault.Unwritten
+            → EndsBroken self.old (W.contents writer.old) (W.contents writer.new) }
         ensures faults { IfErr result IsLineFault }
     {
         if self.line.is_empty() {
@@ -93,10 +99,12 @@ impl Session {
     /// Answers the line, which is not blank.
     #[tactic(auto, using(crate::proofs::Printing::answered_line, crate::proofs::Printing::unanswered_line))]
     fn answer_line<W: Write>(&mut self, writer: &mut W) -> Result<(), ShellFault>
-        ensures answered { OnOk result (AnswersLine self.old self.new (W.contents writer.old) (W.contents writer.new)) }
+        ensures answered { OnOk result
+            (AnswersLine self.old self.new (W.contents writer.old) (W.contents writer.new)) }
         ensures not_hex { (number : ℕ) → result ≡ Err (ShellFault.NotHex number)
             → (pdu_of self.old.line.items ≡ None) × (number ≡ self.old.number) × Appends (W.contents writer.old) (W.contents writer.new) [] }
-        ensures breaks_off { result ≡ Err ShellFault.Unwritten → BreaksLine self.old (W.contents writer.old) (W.contents writer.new) }
+        ensures breaks_off { result ≡ Err ShellFault.Unwritten
+            → BreaksLine self.old (W.contents writer.old) (W.contents writer.new) }
         ensures faults { IfErr result IsLineFault }
     {
         let mut octets = [0; 520];

@@ -14,7 +14,8 @@ use std::str;
 
 /// Reads a table file, and gives its table.
 pub(crate) fn read_table<R: Read>(alloc: Global, reader: &mut R) -> Result<Table, ShellFault>
-    ensures table { IfOk result (λ table. IfSome (R.remaining reader.old) (λ octets. table_in octets ≡ Ok table)) }
+    ensures table { IfOk result
+        (λ table. IfSome (R.remaining reader.old) (λ octets. table_in octets ≡ Ok table)) }
     ensures refused { (number : ℕ) → result ≡ Err (ShellFault.Table number) → number ≢ 10
         → IfSome (R.remaining reader.old) (λ octets. IsRefusedAs number (table_in octets)) }
     ensures faults { IfErr result IsTableFileFault }
@@ -30,7 +31,8 @@ pub(crate) fn read_next<R: Read>(
 ) -> Result<Option<Table>, ShellFault>
     ensures some { IfOk result (λ next. is_some next ≡ is_some reader.old) }
     ensures next { IfOk result (HasNext (option_map R.remaining reader.old)) }
-    ensures table { IsOk result → IfSome reader.old (λ file. IfSome (R.remaining file) (λ octets. IsOk (table_in octets))) }
+    ensures table { IsOk result
+        → IfSome reader.old (λ file. IfSome (R.remaining file) (λ octets. IsOk (table_in octets))) }
     ensures refused { (number : ℕ) → result ≡ Err (ShellFault.Next number) → number ≢ 10
         → IfSome reader.old (λ file. IfSome (R.remaining file) (λ octets. IsRefusedAs number (table_in octets))) }
     ensures faults { IfErr result IsNextFileFault }

@@ -30,9 +30,11 @@ pub(crate) fn print_line<W: Write>(
 ) -> Result<(), ShellFault>
     requires few { length names.now ≤ 8 }
     requires named { IfSome refused (IsOfPhone (length names.now)) }
-    ensures ok { OnOk result (Appends (W.contents writer.old) (W.contents writer.new) (line_text names.now refused sim.old notes.now)) }
+    ensures ok { OnOk result (Appends (W.contents writer.old) (W.contents writer.new)
+        (line_text names.now refused sim.old notes.now)) }
     ensures told { OnOk result (sim.new ≡ with_told_phones sim.old (length names.now)) }
-    ensures front { OnErr result (WritesFront (line_text names.now refused sim.old notes.now) (W.contents writer.old) (W.contents writer.new)) }
+    ensures front { OnErr result (WritesFront (line_text names.now refused sim.old notes.now)
+        (W.contents writer.old) (W.contents writer.new)) }
     ensures faults { IfErr result (λ fault. fault ≡ ShellFault.Unwritten) }
     ensures waiting { sim.new.waiting ≡ sim.old.waiting }
 {
@@ -51,9 +53,11 @@ fn print_outcome<W: Write>(
 ) -> Result<(), ShellFault>
     requires few { length names.now ≤ 8 }
     requires named { IfSome refused (IsOfPhone (length names.now)) }
-    ensures ok { OnOk result (Appends (W.contents writer.old) (W.contents writer.new) (outcome_text names.now refused sim.old.phones)) }
+    ensures ok { OnOk result (Appends (W.contents writer.old) (W.contents writer.new)
+        (outcome_text names.now refused sim.old.phones)) }
     ensures told { OnOk result (sim.new ≡ with_told_phones sim.old (length names.now)) }
-    ensures front { OnErr result (WritesFront (outcome_text names.now refused sim.old.phones) (W.contents writer.old) (W.contents writer.new)) }
+    ensures front { OnErr result (WritesFront (outcome_text names.now refused sim.old.phones)
+        (W.contents writer.old) (W.contents writer.new)) }
     ensures faults { IfErr result (λ fault. fault ≡ ShellFault.Unwritten) }
     ensures waiting { sim.new.waiting ≡ sim.old.waiting }
 {
@@ -70,9 +74,11 @@ fn print_phones<W: Write>(
     writer: &mut W,
 ) -> Result<(), ShellFault>
     requires { length names.now ≤ 8 }
-    ensures ok { OnOk result (Appends (W.contents writer.old) (W.contents writer.new) (phones_text names.now sim.old.phones)) }
+    ensures ok { OnOk result (Appends (W.contents writer.old) (W.contents writer.new)
+        (phones_text names.now sim.old.phones)) }
     ensures told { OnOk result (sim.new ≡ with_told_phones sim.old (length names.now)) }
-    ensures front { OnErr result (WritesFront (phones_text names.now sim.old.phones) (W.contents writer.old) (W.contents writer.new)) }
+    ensures front { OnErr result (WritesFront (phones_text names.now sim.old.phones)
+        (W.contents writer.old) (W.contents writer.new)) }
     ensures faults { IfErr result (λ fault. fault ≡ ShellFault.Unwritten) }
     ensures waiting { sim.new.waiting ≡ sim.old.waiting }
 {
@@ -91,8 +97,10 @@ fn print_refused<W: Write>(
     writer: &mut W,
 ) -> Result<(), ShellFault>
     requires { IsOfPhone (length names.now) refused }
-    ensures ok { OnOk result (Appends (W.contents writer.old) (W.contents writer.new) (refused_line names.now refused)) }
-    ensures front { OnErr result (WritesFront (refused_line names.now refused) (W.contents writer.old) (W.contents writer.new)) }
+    ensures ok { OnOk result
+        (Appends (W.contents writer.old) (W.contents writer.new) (refused_line names.now refused)) }
+    ensures front { OnErr result (WritesFront (refused_line names.now refused)
+        (W.contents writer.old) (W.contents writer.new)) }
     ensures faults { IfErr result (λ fault. fault ≡ ShellFault.Unwritten) }
 {
     match refused {
@@ -116,9 +124,11 @@ fn print_phone<W: Write>(
     writer: &mut W,
 ) -> Result<(), ShellFault>
     requires { phone < 8 }
-    ensures ok { OnOk result (Appends (W.contents writer.old) (W.contents writer.new) (phone_text name.now (phone_at sim.old phone))) }
+    ensures ok { OnOk result (Appends (W.contents writer.old) (W.contents writer.new)
+        (phone_text name.now (phone_at sim.old phone))) }
     ensures told { OnOk result (sim.new ≡ with_told_phone sim.old phone) }
-    ensures front { OnErr result (WritesFront (phone_text name.now (phone_at sim.old phone)) (W.contents writer.old) (W.contents writer.new)) }
+    ensures front { OnErr result (WritesFront (phone_text name.now (phone_at sim.old phone))
+        (W.contents writer.old) (W.contents writer.new)) }
     ensures faults { IfErr result (λ fault. fault ≡ ShellFault.Unwritten) }
     ensures waiting { sim.new.waiting ≡ sim.old.waiting }
 {
@@ -138,8 +148,10 @@ fn print_frame<W: Write>(name: &Name<'_>, octets: &[u8], writer: &mut W) -> Resu
     requires { length octets.now ≤ 521 }
     ensures ok { (frame : BasicFrame) → frame_of octets.now ≡ Ok frame
         → OnOk result (Appends (W.contents writer.old) (W.contents writer.new) (frame_line name.now frame)) }
-    ensures line { OnOk result (Appends (W.contents writer.old) (W.contents writer.new) (heard_line name.now octets.now)) }
-    ensures front { OnErr result (WritesFront (heard_line name.now octets.now) (W.contents writer.old) (W.contents writer.new)) }
+    ensures line { OnOk result
+        (Appends (W.contents writer.old) (W.contents writer.new) (heard_line name.now octets.now)) }
+    ensures front { OnErr result (WritesFront (heard_line name.now octets.now)
+        (W.contents writer.old) (W.contents writer.new)) }
     ensures faults { IfErr result (λ fault. fault ≡ ShellFault.Unwritten) }
 {
     let Ok(frame) = read_frame(octets) else {
@@ -166,8 +178,10 @@ fn sign_of(cid: u16) -> &'static [u8]
 /// Prints that the host has ended the connection of a phone, for a reason.
 #[tactic(auto, using(crate::proofs::Fronts::at_error, crate::proofs::Fronts::front_first, crate::proofs::Fronts::front_then, crate::proofs::Fronts::front_rest))]
 fn print_ended<W: Write>(name: &Name<'_>, reason: u8, writer: &mut W) -> Result<(), ShellFault>
-    ensures ok { OnOk result (Appends (W.contents writer.old) (W.contents writer.new) (ended_line name.now reason)) }
-    ensures front { OnErr result (WritesFront (ended_line name.now reason) (W.contents writer.old) (W.contents writer.new)) }
+    ensures ok { OnOk result
+        (Appends (W.contents writer.old) (W.contents writer.new) (ended_line name.now reason)) }
+    ensures front { OnErr result
+        (WritesFront (ended_line name.now reason) (W.contents writer.old) (W.contents writer.new)) }
     ensures faults { IfErr result (λ fault. fault ≡ ShellFault.Unwritten) }
 {
     print(name.as_str().as_bytes(), writer)?;

@@ -51,16 +51,22 @@ pub fn answer(
     requires mtu { mtu_of out.old ≡ conn.old.mtu }
     requires row { IsRowOf table.old.attributes row.old }
 
-    ensures answer { contents out.new ≡ sent_if_any (answer_to table.old row.old conn.old (request_of pdu.now conn.old.mtu)) }
+    ensures answer { contents out.new
+        ≡ sent_if_any (answer_to table.old row.old conn.old (request_of pdu.now conn.old.mtu)) }
     ensures due { result.due ≡ is_due (request_of pdu.now conn.old.mtu) }
     ensures confirmed { result.confirmed ≡ is_confirmation pdu.now }
-    ensures touched { result.touched.items ≡ handles_by table.old row.old conn.old (request_of pdu.now conn.old.mtu) }
-    ensures values { table.new.values ≡ (stored_by table.old row.old conn.old (request_of pdu.now conn.old.mtu)).values }
-    ensures row { row.new ≡ (stored_by table.old row.old conn.old (request_of pdu.now conn.old.mtu)).row }
-    ensures conn { conn.new ≡ conn_after table.old.attributes conn.old (request_of pdu.now conn.old.mtu) }
+    ensures touched { result.touched.items
+        ≡ handles_by table.old row.old conn.old (request_of pdu.now conn.old.mtu) }
+    ensures values { table.new.values
+        ≡ (stored_by table.old row.old conn.old (request_of pdu.now conn.old.mtu)).values }
+    ensures row { row.new
+        ≡ (stored_by table.old row.old conn.old (request_of pdu.now conn.old.mtu)).row }
+    ensures conn { conn.new
+        ≡ conn_after table.old.attributes conn.old (request_of pdu.now conn.old.mtu) }
 
     // An answer is due exactly where there is one.
-    ensures where_due { is_some (answer_to table.old row.old conn.old (request_of pdu.now conn.old.mtu)) ≡ is_due (request_of pdu.now conn.old.mtu) }
+    ensures where_due { is_some (answer_to table.old row.old conn.old
+        (request_of pdu.now conn.old.mtu)) ≡ is_due (request_of pdu.now conn.old.mtu) }
 
     // What stays.
     ensures attributes { table.new.attributes ≡ table.old.attributes }
@@ -89,13 +95,19 @@ fn serve(
     requires mtu { mtu_of out.old ≡ conn.old.mtu }
     requires row { IsRowOf table.old.attributes row.old }
 
-    ensures answer { contents out.new ≡ sent_if_any (answer_to table.old row.old conn.old (request_of pdu.now conn.old.mtu)) }
-    ensures due { result.due ≡ is_some (answer_to table.old row.old conn.old (request_of pdu.now conn.old.mtu)) }
+    ensures answer { contents out.new
+        ≡ sent_if_any (answer_to table.old row.old conn.old (request_of pdu.now conn.old.mtu)) }
+    ensures due { result.due
+        ≡ is_some (answer_to table.old row.old conn.old (request_of pdu.now conn.old.mtu)) }
     ensures confirmed { result.confirmed ≡ is_confirmation pdu.now }
-    ensures touched { touched.new.items ≡ handles_by table.old row.old conn.old (request_of pdu.now conn.old.mtu) }
-    ensures values { table.new.values ≡ (stored_by table.old row.old conn.old (request_of pdu.now conn.old.mtu)).values }
-    ensures row { row.new ≡ (stored_by table.old row.old conn.old (request_of pdu.now conn.old.mtu)).row }
-    ensures conn { conn.new ≡ conn_after table.old.attributes conn.old (request_of pdu.now conn.old.mtu) }
+    ensures touched { touched.new.items
+        ≡ handles_by table.old row.old conn.old (request_of pdu.now conn.old.mtu) }
+    ensures values { table.new.values
+        ≡ (stored_by table.old row.old conn.old (request_of pdu.now conn.old.mtu)).values }
+    ensures row { row.new
+        ≡ (stored_by table.old row.old conn.old (request_of pdu.now conn.old.mtu)).row }
+    ensures conn { conn.new
+        ≡ conn_after table.old.attributes conn.old (request_of pdu.now conn.old.mtu) }
 
     // What stays.
     ensures attributes { table.new.attributes ≡ table.old.attributes }
@@ -138,13 +150,19 @@ fn serve_form(
     requires mtu { mtu_of out.old ≡ conn.old.mtu }
     requires row { IsRowOf table.old.attributes row.old }
 
-    ensures answer { contents out.new ≡ sent_if_any (answer_to table.old row.old conn.old (request_of pdu.now conn.old.mtu)) }
-    ensures due { result.due ≡ is_some (answer_to table.old row.old conn.old (request_of pdu.now conn.old.mtu)) }
+    ensures answer { contents out.new
+        ≡ sent_if_any (answer_to table.old row.old conn.old (request_of pdu.now conn.old.mtu)) }
+    ensures due { result.due
+        ≡ is_some (answer_to table.old row.old conn.old (request_of pdu.now conn.old.mtu)) }
     ensures confirmed { result.confirmed ≡ is_confirmation pdu.now }
-    ensures touched { touched.new.items ≡ handles_by table.old row.old conn.old (request_of pdu.now conn.old.mtu) }
-    ensures values { table.new.values ≡ (stored_by table.old row.old conn.old (request_of pdu.now conn.old.mtu)).values }
-    ensures row { row.new ≡ (stored_by table.old row.old conn.old (request_of pdu.now conn.old.mtu)).row }
-    ensures conn { conn.new ≡ conn_after table.old.attributes conn.old (request_of pdu.now conn.old.mtu) }
+    ensures touched { touched.new.items
+        ≡ handles_by table.old row.old conn.old (request_of pdu.now conn.old.mtu) }
+    ensures values { table.new.values
+        ≡ (stored_by table.old row.old conn.old (request_of pdu.now conn.old.mtu)).values }
+    ensures row { row.new
+        ≡ (stored_by table.old row.old conn.old (request_of pdu.now conn.old.mtu)).row }
+    ensures conn { conn.new
+        ≡ conn_after table.old.attributes conn.old (request_of pdu.now conn.old.mtu) }
 
     // What stays.
     ensures attributes { table.new.attributes ≡ table.old.attributes }
@@ -212,15 +230,20 @@ pub fn answer_into(
 ) -> Served
     requires row { IsRowOf table.old.attributes row.old }
 
-    ensures answer { option_map sent (answer_to table.old row.old conn.old (request_of pdu.now conn.old.mtu))
+    ensures answer { option_map sent
+        (answer_to table.old row.old conn.old (request_of pdu.now conn.old.mtu))
         ≡ (if is_due (request_of pdu.now conn.old.mtu) then Some octets.new.items else None) }
     ensures due { result.due ≡ is_due (request_of pdu.now conn.old.mtu) }
     ensures fits { length octets.new.items ≤ conn.old.mtu }
     ensures confirmed { result.confirmed ≡ is_confirmation pdu.now }
-    ensures touched { touched.new.items ≡ handles_by table.old row.old conn.old (request_of pdu.now conn.old.mtu) }
-    ensures values { table.new.values ≡ (stored_by table.old row.old conn.old (request_of pdu.now conn.old.mtu)).values }
-    ensures row { row.new ≡ (stored_by table.old row.old conn.old (request_of pdu.now conn.old.mtu)).row }
-    ensures conn { conn.new ≡ conn_after table.old.attributes conn.old (request_of pdu.now conn.old.mtu) }
+    ensures touched { touched.new.items
+        ≡ handles_by table.old row.old conn.old (request_of pdu.now conn.old.mtu) }
+    ensures values { table.new.values
+        ≡ (stored_by table.old row.old conn.old (request_of pdu.now conn.old.mtu)).values }
+    ensures row { row.new
+        ≡ (stored_by table.old row.old conn.old (request_of pdu.now conn.old.mtu)).row }
+    ensures conn { conn.new
+        ≡ conn_after table.old.attributes conn.old (request_of pdu.now conn.old.mtu) }
 
     // What stays.
     ensures attributes { table.new.attributes ≡ table.old.attributes }
@@ -268,7 +291,8 @@ fn exchange_mtu(conn: &mut Conn, client_rx_mtu: u16, out: &mut PduBuf<'_>) -> Se
 
 /// Answers a request by an error.
 pub(crate) fn refuse(request_opcode: u8, handle: u16, code: u8, out: &mut PduBuf<'_>) -> Served
-    ensures served { Serves (Some (ErrorResponse request_opcode handle code)) result (contents out.new) }
+    ensures served { Serves (Some (ErrorResponse request_opcode handle code)) result
+        (contents out.new) }
     ensures confirmed { result.confirmed ≡ false }
     ensures same_buffer { IsSameBuffer out.old out.new }
 {

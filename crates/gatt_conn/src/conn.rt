@@ -164,10 +164,16 @@ impl Conn {
         touched: &mut ArrayVec<u16, 32>,
     ) -> Outcome
         requires row { IsRowOf table.old.attributes row.old }
-        ensures outcome { result ≡ outcome_of 0x18 (applied_to Access.Write table.old row.old self.old.standing self.old.queue) }
-        ensures values { table.new.values ≡ (written_to Access.Write table.old row.old self.old.standing self.old.queue).values }
-        ensures row { row.new ≡ (written_to Access.Write table.old row.old self.old.standing self.old.queue).row }
-        ensures touched { touched.new.items ≡ touched_by self.old.queue (applied_to Access.Write table.old row.old self.old.standing self.old.queue) }
+        ensures outcome { result
+            ≡ outcome_of 0x18
+            (applied_to Access.Write table.old row.old self.old.standing self.old.queue) }
+        ensures values { table.new.values
+            ≡ (written_to Access.Write table.old row.old self.old.standing self.old.queue).values }
+        ensures row { row.new
+            ≡ (written_to Access.Write table.old row.old self.old.standing self.old.queue).row }
+        ensures touched { touched.new.items
+            ≡ touched_by self.old.queue
+            (applied_to Access.Write table.old row.old self.old.standing self.old.queue) }
         ensures conn { self.new ≡ record self.old { queue = [] } }
         ensures attributes { table.new.attributes ≡ table.old.attributes }
         ensures table { IsRowOf table.new.attributes row.new }

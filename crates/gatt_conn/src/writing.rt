@@ -31,9 +31,12 @@ pub(crate) fn write(
     requires empty { contents out.old ≡ [] }
     requires untouched { touched.old.items ≡ [] }
     requires row { IsRowOf table.old.attributes row.old }
-    ensures served { Serves (answer_to table.old row.old conn.now (Ok (WriteRequest handle value.now))) result (contents out.new) }
-    ensures touched { touched.new.items ≡ handles_by table.old row.old conn.now (Ok (WriteRequest handle value.now)) }
-    ensures left { Leaves (stored_by table.old row.old conn.now (Ok (WriteRequest handle value.now))) table.old table.new row.new }
+    ensures served { Serves (answer_to table.old row.old conn.now
+        (Ok (WriteRequest handle value.now))) result (contents out.new) }
+    ensures touched { touched.new.items
+        ≡ handles_by table.old row.old conn.now (Ok (WriteRequest handle value.now)) }
+    ensures left { Leaves (stored_by table.old row.old conn.now
+        (Ok (WriteRequest handle value.now))) table.old table.new row.new }
     ensures confirmed { result.confirmed ≡ false }
     ensures same_buffer { IsSameBuffer out.old out.new }
 {
@@ -58,9 +61,12 @@ pub(crate) fn command(
 ) -> Served
     requires untouched { touched.old.items ≡ [] }
     requires row { IsRowOf table.old.attributes row.old }
-    ensures served { Serves (answer_to table.old row.old conn.now (Ok (WriteCommandPdu handle value.now))) result [] }
-    ensures touched { touched.new.items ≡ handles_by table.old row.old conn.now (Ok (WriteCommandPdu handle value.now)) }
-    ensures left { Leaves (stored_by table.old row.old conn.now (Ok (WriteCommandPdu handle value.now))) table.old table.new row.new }
+    ensures served { Serves
+        (answer_to table.old row.old conn.now (Ok (WriteCommandPdu handle value.now))) result [] }
+    ensures touched { touched.new.items
+        ≡ handles_by table.old row.old conn.now (Ok (WriteCommandPdu handle value.now)) }
+    ensures left { Leaves (stored_by table.old row.old conn.now
+        (Ok (WriteCommandPdu handle value.now))) table.old table.new row.new }
     ensures confirmed { result.confirmed ≡ false }
 {
     match att_writes::command(table, row, conn.standing(), handle, value) {
@@ -127,9 +133,12 @@ pub(crate) fn execute(
 ) -> Served
     requires empty { contents out.old ≡ [] }
     requires row { IsRowOf table.old.attributes row.old }
-    ensures served { Serves (answer_to table.old row.old conn.old (Ok (ExecuteWriteRequest ExecuteFlags.Write))) result (contents out.new) }
-    ensures touched { touched.new.items ≡ handles_by table.old row.old conn.old (Ok (ExecuteWriteRequest ExecuteFlags.Write)) }
-    ensures left { Leaves (stored_by table.old row.old conn.old (Ok (ExecuteWriteRequest ExecuteFlags.Write))) table.old table.new row.new }
+    ensures served { Serves (answer_to table.old row.old conn.old
+        (Ok (ExecuteWriteRequest ExecuteFlags.Write))) result (contents out.new) }
+    ensures touched { touched.new.items
+        ≡ handles_by table.old row.old conn.old (Ok (ExecuteWriteRequest ExecuteFlags.Write)) }
+    ensures left { Leaves (stored_by table.old row.old conn.old
+        (Ok (ExecuteWriteRequest ExecuteFlags.Write))) table.old table.new row.new }
     ensures conn { conn.new ≡ record conn.old { queue = [] } }
     ensures confirmed { result.confirmed ≡ false }
     ensures same_buffer { IsSameBuffer out.old out.new }

@@ -18,8 +18,11 @@ use att_table::{Attr, Role, Table};
 impl HostState {
     /// Does what the application asks; or refuses it, and changes nothing but that nothing is told.
     pub(crate) fn app(&mut self, call: App<'_>) -> Result<(), AppFault>
-        ensures after { IsOk result → IsOkAnd (call_happening self.old (call_of call.entry)) (λ happening. IsAfter happening self.old self.new) }
-        ensures refused { IfErr result (λ fault. call_happening self.old (call_of call.entry) ≡ Err (refused_of fault)) }
+        ensures after { IsOk result
+            → IsOkAnd (call_happening self.old (call_of call.entry))
+            (λ happening. IsAfter happening self.old self.new) }
+        ensures refused { IfErr result
+            (λ fault. call_happening self.old (call_of call.entry) ≡ Err (refused_of fault)) }
         ensures silent { OnErr result (self.new ≡ with_last LastEvent.Quiet self.old) }
     {
         let done = self.call(call);
@@ -30,8 +33,11 @@ impl HostState {
     }
 
     fn call(&mut self, call: App<'_>) -> Result<(), AppFault>
-        ensures after { IsOk result → IsOkAnd (call_happening self.old (call_of call.entry)) (λ happening. IsAfter happening self.old self.new) }
-        ensures refused { IfErr result (λ fault. call_happening self.old (call_of call.entry) ≡ Err (refused_of fault)) }
+        ensures after { IsOk result
+            → IsOkAnd (call_happening self.old (call_of call.entry))
+            (λ happening. IsAfter happening self.old self.new) }
+        ensures refused { IfErr result
+            (λ fault. call_happening self.old (call_of call.entry) ≡ Err (refused_of fault)) }
         ensures unchanged { OnErr result (self.new ≡ self.old) }
     {
         match call {
@@ -44,8 +50,11 @@ impl HostState {
 
     #[tactic(auto, using(crate::proofs::Lengths::fits_there, crate::proofs::Lengths::exact_there, crate::proofs::Lengths::none_past))]
     fn update_value(&mut self, handle: u16, value: &[u8]) -> Result<(), AppFault>
-        ensures after { IsOk result → IsOkAnd (update_happening handle value.now (attribute_at self.old.table.attributes handle)) (λ happening. IsAfter happening self.old self.new) }
-        ensures refused { IfErr result (λ fault. update_happening handle value.now (attribute_at self.old.table.attributes handle) ≡ Err (refused_of fault)) }
+        ensures after { IsOk result → IsOkAnd
+            (update_happening handle value.now (attribute_at self.old.table.attributes handle))
+            (λ happening. IsAfter happening self.old self.new) }
+        ensures refused { IfErr result (λ fault. update_happening handle value.now
+            (attribute_at self.old.table.attributes handle) ≡ Err (refused_of fault)) }
         ensures unchanged { OnErr result (self.new ≡ self.old) }
     {
         if usize::from(handle) > self.table.len() {
@@ -65,8 +74,11 @@ impl HostState {
     }
 
     fn authorize_connection(&mut self, handle: u16, until: u64) -> Result<(), AppFault>
-        ensures after { IsOk result → IsOkAnd (authorize_happening until (place_serving self.old.slots handle)) (λ happening. IsAfter happening self.old self.new) }
-        ensures refused { IfErr result (λ fault. authorize_happening until (place_serving self.old.slots handle) ≡ Err (refused_of fault)) }
+        ensures after { IsOk result
+            → IsOkAnd (authorize_happening until (place_serving self.old.slots handle))
+            (λ happening. IsAfter happening self.old self.new) }
+        ensures refused { IfErr result (λ fault. authorize_happening until
+            (place_serving self.old.slots handle) ≡ Err (refused_of fault)) }
         ensures unchanged { OnErr result (self.new ≡ self.old) }
     {
         let Some(place) = self.slots.find_serving(handle) else {
@@ -77,8 +89,11 @@ impl HostState {
     }
 
     fn end_connection(&mut self, handle: u16) -> Result<(), AppFault>
-        ensures after { IsOk result → IsOkAnd (disconnect_happening (place_serving self.old.slots handle)) (λ happening. IsAfter happening self.old self.new) }
-        ensures refused { IfErr result (λ fault. disconnect_happening (place_serving self.old.slots handle) ≡ Err (refused_of fault)) }
+        ensures after { IsOk result
+            → IsOkAnd (disconnect_happening (place_serving self.old.slots handle))
+            (λ happening. IsAfter happening self.old self.new) }
+        ensures refused { IfErr result (λ fault. disconnect_happening
+            (place_serving self.old.slots handle) ≡ Err (refused_of fault)) }
         ensures unchanged { OnErr result (self.new ≡ self.old) }
     {
         match self.slots.find_serving(handle) {
@@ -91,8 +106,11 @@ impl HostState {
     }
 
     fn tick_on(&mut self, time: u64) -> Result<(), AppFault>
-        ensures after { IsOk result → IsOkAnd (call_happening self.old (TickCall time)) (λ happening. IsAfter happening self.old self.new) }
-        ensures refused { IfErr result (λ fault. call_happening self.old (TickCall time) ≡ Err (refused_of fault)) }
+        ensures after { IsOk result
+            → IsOkAnd (call_happening self.old (TickCall time))
+            (λ happening. IsAfter happening self.old self.new) }
+        ensures refused { IfErr result
+            (λ fault. call_happening self.old (TickCall time) ≡ Err (refused_of fault)) }
         ensures unchanged { OnErr result (self.new ≡ self.old) }
     {
         if time < self.time {
@@ -105,9 +123,11 @@ impl HostState {
     /// Replaces the table by another, and gives the old one back; or refuses the new one, gives that
     /// back, and changes nothing but that nothing is told.
     pub(crate) fn replace_table(&mut self, table: Table) -> Result<Table, (AppFault, Table)>
-        ensures after { IfOk result (λ old. (old ≡ self.old.table) × (self.new ≡ after_replacing table self.old)) }
+        ensures after { IfOk result
+            (λ old. (old ≡ self.old.table) × (self.new ≡ after_replacing table self.old)) }
         ensures accepted { IsOk result → same_changer self.old.changer (changer_of table) ≡ true }
-        ensures refused { IfErr result (λ fault. replacement_happening self.old table ≡ Err (refused_of fault.0)) }
+        ensures refused { IfErr result
+            (λ fault. replacement_happening self.old table ≡ Err (refused_of fault.0)) }
         ensures given_back { IfErr result (λ fault. fault.1 ≡ table) }
         ensures silent { OnErr result (self.new ≡ with_last LastEvent.Quiet self.old) }
     {

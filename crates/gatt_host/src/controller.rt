@@ -112,9 +112,13 @@ impl Controller {
         opcode: u16,
         returned: &[u8],
     ) -> Result<bool, HostFault>
-        ensures event { IfOk result (λ followed. completed_event self.old allowed opcode returned.now ≡ Ok (Credit allowed opcode (status_of returned.now) (following_if followed self.new))) }
-        ensures after { IfOk result (λ followed. self.new ≡ answered_by self.old allowed opcode (status_of returned.now) (following_if followed self.new)) }
-        ensures stops { IfErr result (λ fault. stop_of (completed_event self.old allowed opcode returned.now) ≡ Some fault) }
+        ensures event { IfOk result
+            (λ followed. completed_event self.old allowed opcode returned.now ≡ Ok
+            (Credit allowed opcode (status_of returned.now) (following_if followed self.new))) }
+        ensures after { IfOk result (λ followed. self.new ≡ answered_by self.old allowed opcode
+            (status_of returned.now) (following_if followed self.new)) }
+        ensures stops { IfErr result
+            (λ fault. stop_of (completed_event self.old allowed opcode returned.now) ≡ Some fault) }
         ensures unchanged { IfErr result (λ fault. self.new ≡ self.old) }
     {
         if self.awaits(opcode) {
@@ -130,9 +134,13 @@ impl Controller {
     /// carried out.
     #[tactic(auto, using(crate::proofs::Refusing::stops_where_refused))]
     pub fn status(&mut self, status: u8, allowed: u8, opcode: u16) -> Result<(), HostFault>
-        ensures event { IsOk result → status_event self.old status allowed opcode ≡ Ok (Credit allowed opcode (Some status) None) }
-        ensures after { IsOk result → self.new ≡ answered_by self.old allowed opcode (Some status) None }
-        ensures stops { IfErr result (λ fault. stop_of (status_event self.old status allowed opcode) ≡ Some fault) }
+        ensures event { IsOk result
+            → status_event self.old status allowed opcode
+            ≡ Ok (Credit allowed opcode (Some status) None) }
+        ensures after { IsOk result
+            → self.new ≡ answered_by self.old allowed opcode (Some status) None }
+        ensures stops { IfErr result
+            (λ fault. stop_of (status_event self.old status allowed opcode) ≡ Some fault) }
         ensures unchanged { IfErr result (λ fault. self.new ≡ self.old) }
     {
         if self.awaits(opcode) && status != 0 {
@@ -145,9 +153,13 @@ impl Controller {
     /// Goes on after the command that initialisation awaits.
     fn advance(&mut self, allowed: u8, returned: &[u8]) -> Result<(), HostFault>
         requires { IsSome (command_awaited self.old.init) }
-        ensures follows { IsOk result → following_of (outcome_of self.old.init returned.now) ≡ Ok (Some self.new.init) }
-        ensures after { IsOk result → self.new ≡ record self.old { credit = allowed; init = self.new.init; awaiting = false } }
-        ensures stops { IfErr result (λ fault. following_stop (following_of (outcome_of self.old.init returned.now)) ≡ Some fault) }
+        ensures follows { IsOk result
+            → following_of (outcome_of self.old.init returned.now) ≡ Ok (Some self.new.init) }
+        ensures after { IsOk result
+            → self.new
+            ≡ record self.old { credit = allowed; init = self.new.init; awaiting = false } }
+        ensures stops { IfErr result (λ fault. following_stop
+            (following_of (outcome_of self.old.init returned.now)) ≡ Some fault) }
         ensures unchanged { IfErr result (λ fault. self.new ≡ self.old) }
     {
         let init = mem::replace(&mut self.init, NO_STATE);

@@ -38,12 +38,14 @@ pub fn drive<W: Sink>(
     ensures feeds { host.old.fault ≡ None
         → Feeds (items_of inputs.now) host.old host.new (W.contents out.old) (W.contents out.new) host.new.fault }
     ensures outcome { IfErr result (λ fault. host.new.fault ≡ Some fault) }
-    ensures feeding { host.old.fault ≡ None → IfErr result (λ fault. comes_of_feeding fault ≡ true) }
+    ensures feeding { host.old.fault ≡ None → IfErr result (λ fault. comes_of_feeding fault ≡ true)
+        host.old.fault ≡ None → IfErr result (λ fault. comes_of_feeding fault ≡ true) }
     ensures going_on { IsOk result → host.new.fault ≡ None }
     ensures refused { IfOk result (λ count. CountsRefused count (items_of inputs.now) host.old) }
     ensures out { IsOk result → all_out host.new ≡ true }
     ensures due { host.old.fault ≡ None → WritesAllThatIsDue host.new.fault host.new }
-    ensures failures { host.old.fault ≡ None → CountsIf (is_write host.new.fault) (W.failures out.old) (W.failures out.new) }
+    ensures failures { host.old.fault ≡ None
+        → CountsIf (is_write host.new.fault) (W.failures out.old) (W.failures out.new) }
     ensures stopped { IsSome host.old.fault → host.new ≡ host.old }
     ensures sink_stopped { IsSome host.old.fault → out.new ≡ out.old }
     // And of all that is taken in, for every start and input:
@@ -69,12 +71,14 @@ pub fn drive_to<W: Sink, L: Listener>(
     ensures heard { host.old.fault ≡ None
         → Listens (items_of inputs.now) host.old host.new host.new.fault (L.heard listener.old) (L.heard listener.new) }
     ensures outcome { IfErr result (λ fault. host.new.fault ≡ Some fault) }
-    ensures feeding { host.old.fault ≡ None → IfErr result (λ fault. comes_of_feeding fault ≡ true) }
+    ensures feeding { host.old.fault ≡ None → IfErr result (λ fault. comes_of_feeding fault ≡ true)
+        host.old.fault ≡ None → IfErr result (λ fault. comes_of_feeding fault ≡ true) }
     ensures going_on { IsOk result → host.new.fault ≡ None }
     ensures refused { IfOk result (λ count. CountsRefused count (items_of inputs.now) host.old) }
     ensures out { IsOk result → all_out host.new ≡ true }
     ensures due { host.old.fault ≡ None → WritesAllThatIsDue host.new.fault host.new }
-    ensures failures { host.old.fault ≡ None → CountsIf (is_write host.new.fault) (W.failures out.old) (W.failures out.new) }
+    ensures failures { host.old.fault ≡ None
+        → CountsIf (is_write host.new.fault) (W.failures out.old) (W.failures out.new) }
     ensures stopped { IsSome host.old.fault → host.new ≡ host.old }
     ensures sink_stopped { IsSome host.old.fault → out.new ≡ out.old }
     ensures listener_stopped { IsSome host.old.fault → listener.new ≡ listener.old }
@@ -101,14 +105,18 @@ fn take_input<W: Sink, L: Listener>(
 ) -> Result<bool, HostFault>
     requires none { host.old.fault ≡ None }
     requires drained { all_out host.old ≡ true }
-    ensures feeds { Feeds (input_items input.now) host.old host.new (W.contents out.old) (W.contents out.new) host.new.fault }
-    ensures heard { Listens (input_items input.now) host.old host.new host.new.fault (L.heard listener.old) (L.heard listener.new) }
+    ensures feeds { Feeds (input_items input.now) host.old host.new (W.contents out.old)
+        (W.contents out.new) host.new.fault }
+    ensures heard { Listens (input_items input.now) host.old host.new host.new.fault
+        (L.heard listener.old) (L.heard listener.new) }
     ensures fault { host.new.fault ≡ result_err result }
     ensures feeding { IfErr result (λ fault. comes_of_feeding fault ≡ true) }
     ensures out { IsOk result → all_out host.new ≡ true }
     ensures due { WritesAllThatIsDue host.new.fault host.new }
-    ensures failures { CountsIf (is_write host.new.fault) (W.failures out.old) (W.failures out.new) }
-    ensures refused { IfOk result (λ refused. CountsRefused (if refused then 1 else 0) (input_items input.now) host.old) }
+    ensures failures { CountsIf (is_write host.new.fault) (W.failures out.old) (W.failures out.new)
+        CountsIf (is_write host.new.fault) (W.failures out.old) (W.failures out.new) }
+    ensures refused { IfOk result
+        (λ refused. CountsRefused (if refused then 1 else 0) (input_items input.now) host.old) }
 {
     match input {
         Input::Bytes(octets) => {
@@ -128,14 +136,18 @@ fn take_call<W: Sink, L: Listener>(
 ) -> Result<bool, HostFault>
     requires none { host.old.fault ≡ None }
     requires drained { all_out host.old ≡ true }
-    ensures feeds { Feeds (ACall (call_of call.entry) ∷ []) host.old host.new (W.contents out.old) (W.contents out.new) host.new.fault }
-    ensures heard { Listens (ACall (call_of call.entry) ∷ []) host.old host.new host.new.fault (L.heard listener.old) (L.heard listener.new) }
+    ensures feeds { Feeds (ACall (call_of call.entry) ∷ []) host.old host.new (W.contents out.old)
+        (W.contents out.new) host.new.fault }
+    ensures heard { Listens (ACall (call_of call.entry) ∷ []) host.old host.new host.new.fault
+        (L.heard listener.old) (L.heard listener.new) }
     ensures fault { host.new.fault ≡ result_err result }
     ensures write { IfErr result (λ fault. fault ≡ HostFault.Write) }
     ensures out { IsOk result → all_out host.new ≡ true }
     ensures due { WritesAllThatIsDue host.new.fault host.new }
-    ensures failures { CountsIf (is_write host.new.fault) (W.failures out.old) (W.failures out.new) }
-    ensures refused { IfOk result (λ refused. CountsRefused (if refused then 1 else 0) (ACall (call_of call.entry) ∷ []) host.old) }
+    ensures failures { CountsIf (is_write host.new.fault) (W.failures out.old) (W.failures out.new)
+        CountsIf (is_write host.new.fault) (W.failures out.old) (W.failures out.new) }
+    ensures refused { IfOk result (λ refused. CountsRefused (if refused then 1 else 0)
+        (ACall (call_of call.entry) ∷ []) host.old) }
 {
     let refused = host.app(call).is_err();
     tell(host, listener);

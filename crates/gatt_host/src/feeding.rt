@@ -31,8 +31,10 @@ pub fn feed<W: Sink>(host: &mut Host, octets: &[u8], out: &mut W) -> Result<(), 
     ensures out { IsOk result → all_out host.new ≡ true }
     // Whatever stops it but the writer, all that was due before is written.
     ensures due { host.old.fault ≡ None → WritesAllThatIsDue host.new.fault host.new }
-    ensures feeding { host.old.fault ≡ None → IfErr result (λ fault. comes_of_feeding fault ≡ true) }
-    ensures failures { host.old.fault ≡ None → CountsIf (is_write host.new.fault) (W.failures out.old) (W.failures out.new) }
+    ensures feeding { host.old.fault ≡ None → IfErr result (λ fault. comes_of_feeding fault ≡ true)
+        host.old.fault ≡ None → IfErr result (λ fault. comes_of_feeding fault ≡ true) }
+    ensures failures { host.old.fault ≡ None
+        → CountsIf (is_write host.new.fault) (W.failures out.old) (W.failures out.new) }
     ensures stopped { IsSome host.old.fault → host.new ≡ host.old }
     ensures sink_stopped { IsSome host.old.fault → out.new ≡ out.old }
     // And of all that is taken in, for every start and input:
@@ -61,8 +63,10 @@ pub fn feed_to<W: Sink, L: Listener>(
     ensures out { IsOk result → all_out host.new ≡ true }
     // Whatever stops it but the writer, all that was due before is written.
     ensures due { host.old.fault ≡ None → WritesAllThatIsDue host.new.fault host.new }
-    ensures feeding { host.old.fault ≡ None → IfErr result (λ fault. comes_of_feeding fault ≡ true) }
-    ensures failures { host.old.fault ≡ None → CountsIf (is_write host.new.fault) (W.failures out.old) (W.failures out.new) }
+    ensures feeding { host.old.fault ≡ None → IfErr result (λ fault. comes_of_feeding fault ≡ true)
+        host.old.fault ≡ None → IfErr result (λ fault. comes_of_feeding fault ≡ true) }
+    ensures failures { host.old.fault ≡ None
+        → CountsIf (is_write host.new.fault) (W.failures out.old) (W.failures out.new) }
     ensures stopped { IsSome host.old.fault → host.new ≡ host.old }
     ensures sink_stopped { IsSome host.old.fault → out.new ≡ out.old }
     ensures listener_stopped { IsSome host.old.fault → listener.new ≡ listener.old }
@@ -88,12 +92,14 @@ pub fn feed_to<W: Sink, L: Listener>(
 #[inline(always)]
 pub(crate) fn write_out<W: Sink>(host: &mut Host, out: &mut W) -> Result<(), HostFault>
     requires { host.old.fault ≡ None }
-    ensures feeds { Feeds [] host.old host.new (W.contents out.old) (W.contents out.new) host.new.fault }
+    ensures feeds { Feeds [] host.old host.new (W.contents out.old)
+        (W.contents out.new) host.new.fault }
     ensures fault { result ≡ outcome_of host.new.fault }
     ensures write { IfErr result (λ fault. fault ≡ HostFault.Write) }
     ensures out { IsOk result → all_out host.new ≡ true }
     ensures due { WritesAllThatIsDue host.new.fault host.new }
-    ensures failures { CountsIf (is_write host.new.fault) (W.failures out.old) (W.failures out.new) }
+    ensures failures { CountsIf (is_write host.new.fault) (W.failures out.old) (W.failures out.new)
+        CountsIf (is_write host.new.fault) (W.failures out.old) (W.failures out.new) }
 {
     let written = write_owed(&mut host.state, &mut host.packet, out);
     if written.is_err() {
@@ -110,11 +116,13 @@ fn write_owed<W: Sink>(
     out: &mut W,
 ) -> Result<(), HostFault>
     requires { IsHeldByOne state.old }
-    ensures feeds { (frames : Frames) (stream : Deframing) → Feeds [] (going state.old frames stream)
+    ensures feeds { (frames : Frames) (stream : Deframing)
+        → Feeds [] (going state.old frames stream)
         (record (going state.new frames stream) { fault = result_err result }) (W.contents out.old) (W.contents out.new) (result_err result) }
     ensures write { IfErr result (λ fault. fault ≡ HostFault.Write) }
     ensures out { IsOk result → is_drained state.new.controller (open_slots state.new) ≡ true }
-    ensures failures { CountsIf (is_write (result_err result)) (W.failures out.old) (W.failures out.new) }
+    ensures failures { CountsIf (is_write (result_err result)) (W.failures out.old)
+        (W.failures out.new) }
 {
     while state.next_out(packet) {
         if write_all(packet.as_slice(), out).is_err() {

@@ -32,7 +32,8 @@ impl Controller {
     /// Takes in that the command with this opcode is sent.
     fn sent(&mut self, opcode: u16)
         requires { nat_lt 0 self.old.credit ≡ true }
-        ensures { (command : Commanded) → opcode ≡ opcode_of command → self.new ≡ controller_after self.old (command ∷ []) }
+        ensures { (command : Commanded) → opcode ≡ opcode_of command
+            → self.new ≡ controller_after self.old (command ∷ []) }
     {
         if self.init.command().is_some() {
             self.awaiting = true;
@@ -48,8 +49,10 @@ impl Controller {
     fn init_command_out(&mut self, out: &mut PacketBuf) -> bool
         requires { nat_lt 0 self.old.credit ≡ true }
         ensures goes { result ≡ is_some (init_command self.old) }
-        ensures octets { OnTrue result (option_map command_octets (init_command self.old) ≡ Some out.new) }
-        ensures after { (command : Commanded) → init_command self.old ≡ Some command → self.new ≡ controller_after self.old (command ∷ []) }
+        ensures octets { OnTrue result
+            (option_map command_octets (init_command self.old) ≡ Some out.new) }
+        ensures after { (command : Commanded) → init_command self.old ≡ Some command
+            → self.new ≡ controller_after self.old (command ∷ []) }
         ensures unchanged { OnFalse result (self.new ≡ self.old) }
         ensures out_unchanged { OnFalse result (out.new ≡ out.old) }
     {
@@ -67,7 +70,8 @@ impl Controller {
         requires credit { nat_lt 0 self.old.credit ≡ true }
         requires due { is_some (init_command self.old) ≡ true }
         ensures octets { option_map command_octets (init_command self.old) ≡ Some out.new }
-        ensures after { (command : Commanded) → init_command self.old ≡ Some command → self.new ≡ controller_after self.old (command ∷ []) }
+        ensures after { (command : Commanded) → init_command self.old ≡ Some command
+            → self.new ≡ controller_after self.old (command ∷ []) }
     {
         let Some(command) = self.init.command() else {
             unreachable!()
@@ -133,7 +137,8 @@ fn packet_out(slots: &mut Slots, out: &mut PacketBuf) -> bool
 #[inline(always)]
 fn slot_command_out(slots: &mut Slots, out: &mut PacketBuf) -> Option<u16>
     ensures opcode { result ≡ option_map opcode_of (command_in slots.old) }
-    ensures octets { (command : Commanded) → command_in slots.old ≡ Some command → out.new ≡ command_octets command }
+    ensures octets { (command : Commanded) → command_in slots.old ≡ Some command
+        → out.new ≡ command_octets command }
     ensures after { slots.new ≡ with_first has_command (option_map without_command) slots.old }
     ensures unchanged { OnFalse (is_some result) (slots.new ≡ slots.old) }
     ensures out_unchanged { OnFalse (is_some result) (out.new ≡ out.old) }
@@ -152,7 +157,8 @@ fn command_at_out(slots: &mut Slots, place: usize, out: &mut PacketBuf) -> u16
     requires place { place < length slots.old }
     requires due { has_command (kept_at slots.old place) ≡ true }
     ensures opcode { Some result ≡ option_map opcode_of (command_due (kept_at slots.old place)) }
-    ensures octets { (command : Commanded) → command_due (kept_at slots.old place) ≡ Some command → out.new ≡ command_octets command }
+    ensures octets { (command : Commanded) → command_due (kept_at slots.old place) ≡ Some command
+        → out.new ≡ command_octets command }
     ensures after { slots.new ≡ slots_at place without_command slots.old }
 {
     let Some(command) = slots.command(place) else {
@@ -167,7 +173,8 @@ fn command_at_out(slots: &mut Slots, place: usize, out: &mut PacketBuf) -> u16
 #[inline(always)]
 fn command_out(controller: &mut Controller, slots: &mut Slots, out: &mut PacketBuf) -> bool
     ensures goes { result ≡ is_some (command_next controller.old slots.old) }
-    ensures octets { OnTrue result (option_map command_octets (command_next controller.old slots.old) ≡ Some out.new) }
+    ensures octets { OnTrue result
+        (option_map command_octets (command_next controller.old slots.old) ≡ Some out.new) }
     ensures controller { controller.new ≡ controller_then controller.old slots.old }
     ensures controller_unchanged { OnFalse result (controller.new ≡ controller.old) }
     ensures slots { OnTrue result (slots.new ≡ slots_commanded controller.old slots.old) }
@@ -206,9 +213,11 @@ pub fn next_out(controller: &mut Controller, slots: &mut Slots, out: &mut Packet
     ensures controller { controller.new ≡ controller_then controller.old slots.old }
     ensures slots { slots.new ≡ slots_then controller.old slots.old }
     // It is the first of what is owed; and where there is nothing, nothing is owed.
-    ensures first { (final : State) (owed : List Octets) → IsOwing final owed controller.old slots.old
+    ensures first { (final : State) (owed : List Octets)
+        → IsOwing final owed controller.old slots.old
         → OnTrue result (OwesTheRest final owed out.new controller.new slots.new) }
-    ensures done { (final : State) (owed : List Octets) → IsOwing final owed controller.old slots.old
+    ensures done { (final : State) (owed : List Octets)
+        → IsOwing final owed controller.old slots.old
         → OnFalse result (IsDone final owed controller.old slots.old) }
     ensures controller_unchanged { OnFalse result (controller.new ≡ controller.old) }
     ensures slots_unchanged { OnFalse result (slots.new ≡ slots.old) }
@@ -256,9 +265,11 @@ fn has_command(controller: &Controller, slots: &Slots) -> bool
 pub fn is_drained(controller: &Controller, slots: &Slots) -> bool
     ensures drained { result ≡ is_drained controller.now slots.now }
     // Then nothing is owed, and else something is.
-    ensures done { (final : State) (owed : List Octets) → IsOwing final owed controller.now slots.now
+    ensures done { (final : State) (owed : List Octets)
+        → IsOwing final owed controller.now slots.now
         → OnTrue result (IsDone final owed controller.now slots.now) }
-    ensures owing { (final : State) (owed : List Octets) → IsOwing final owed controller.now slots.now → OnFalse result (owed ≢ []) }
+    ensures owing { (final : State) (owed : List Octets)
+        → IsOwing final owed controller.now slots.now → OnFalse result (owed ≢ []) }
 {
     none_waits(controller, slots)
 }

@@ -74,7 +74,8 @@ impl Host {
     pub fn drained(&self) -> bool
         ensures out { result ≡ all_out self.now }
         // Then all that its input brings has gone out.
-        ensures all { (start : Start) (input : List Item) (gone : List Octets) → StandsAt (course start input) gone self.now → self.now.fault ≡ None
+        ensures all { (start : Start) (input : List Item) (gone : List Octets)
+            → StandsAt (course start input) gone self.now → self.now.fault ≡ None
             → OnTrue result ((course start input).gone ≡ gone) }
     {
         is_out(&self.state, self.fault)
@@ -102,7 +103,8 @@ impl Host {
     #[tactic(auto, using(crate::proofs::Promises::keeps_the_policy, crate::proofs::Promises::keeps_connections_apart))]
     pub fn packet(&mut self, packet: PacketRef<'_>) -> Result<(), HostFault>
         requires drained { all_out self.old ≡ true }
-        ensures takes { self.old.fault ≡ None → Takes (APacket (seen packet.entry)) self.old self.new }
+        ensures takes { self.old.fault ≡ None
+            → Takes (APacket (seen packet.entry)) self.old self.new }
         ensures told { TellsOf (APacket (seen packet.entry)) self.old self.new }
         ensures outcome { result ≡ outcome_of self.new.fault }
         // No reader and no writer has a part in it.
@@ -130,7 +132,8 @@ impl Host {
     #[tactic(auto, using(crate::proofs::Promises::keeps_the_policy, crate::proofs::Promises::keeps_connections_apart))]
     pub fn take(&mut self, octets: &[u8]) -> Result<usize, HostFault>
         requires drained { all_out self.old ≡ true }
-        ensures takes { self.old.fault ≡ None → Leads (items_taken octets.now result) [] self.old self.new }
+        ensures takes { self.old.fault ≡ None
+            → Leads (items_taken octets.now result) [] self.old self.new }
         ensures told { TellsOfAll (items_taken octets.now result) self.old self.new }
         ensures up_to { IfOk result (λ used. TakesUpToAPacket octets.now used self.old) }
         ensures within { IfOk result (λ used. used ≤ length octets.now) }
@@ -155,9 +158,11 @@ impl Host {
     #[tactic(auto, using(crate::proofs::Promises::keeps_the_policy, crate::proofs::Promises::keeps_connections_apart))]
     pub fn app(&mut self, call: App<'_>) -> Result<(), AppFault>
         requires drained { all_out self.old ≡ true }
-        ensures takes { self.old.fault ≡ None → Takes (ACall (call_of call.entry)) self.old self.new }
+        ensures takes { self.old.fault ≡ None → Takes (ACall (call_of call.entry)) self.old self.new
+            self.old.fault ≡ None → Takes (ACall (call_of call.entry)) self.old self.new }
         ensures told { TellsOf (ACall (call_of call.entry)) self.old self.new }
-        ensures refused { (start : Start) (input : List Item) (gone : List Octets) → StandsAt (course start input) gone self.old → self.old.fault ≡ None
+        ensures refused { (start : Start) (input : List Item) (gone : List Octets)
+            → StandsAt (course start input) gone self.old → self.old.fault ≡ None
             → refusal_of result ≡ call_refusal (course start input).intake (call_of call.entry) }
         ensures stopped { IsSome self.old.fault → result ≡ Err AppFault.Stopped }
         ensures fault { self.new.fault ≡ self.old.fault }
@@ -179,7 +184,8 @@ impl Host {
         requires drained { all_out self.old ≡ true }
         ensures takes { self.old.fault ≡ None → Takes (ATable table) self.old self.new }
         ensures told { TellsOf (ATable table) self.old self.new }
-        ensures refused { (start : Start) (input : List Item) (gone : List Octets) → StandsAt (course start input) gone self.old → self.old.fault ≡ None
+        ensures refused { (start : Start) (input : List Item) (gone : List Octets)
+            → StandsAt (course start input) gone self.old → self.old.fault ≡ None
             → replacing_refusal_of result ≡ replacement_refusal (course start input).intake table }
         ensures given { IfOk result (λ old. old ≡ self.old.held.table) }
         ensures given_back { IfErr result (λ refused. refused.1 ≡ table) }
@@ -228,7 +234,8 @@ impl Host {
     pub fn rows(&self) -> &Rows
         ensures held { result.now ≡ self.now.held.rows }
         // As a list: the bond of each peer of the keys, and nothing else.
-        ensures course { (start : Start) (input : List Item) (gone : List Octets) → StandsAt (course start input) gone self.now
+        ensures course { (start : Start) (input : List Item) (gone : List Octets)
+            → StandsAt (course start input) gone self.now
             → result.now ≡ rows_of (course start input).intake.state }
     {
         &self.state.rows
@@ -237,7 +244,8 @@ impl Host {
     /// The table that stands, with its values.
     pub fn table(&self) -> &Table
         ensures held { result.now ≡ self.now.held.table }
-        ensures course { (start : Start) (input : List Item) (gone : List Octets) → StandsAt (course start input) gone self.now
+        ensures course { (start : Start) (input : List Item) (gone : List Octets)
+            → StandsAt (course start input) gone self.now
             → result.now ≡ (course start input).intake.state.room.table }
     {
         &self.state.table
@@ -248,7 +256,8 @@ impl Host {
     #[tactic(auto, using(crate::proofs::whole::Deadlines::tells_from_the_deadline))]
     pub fn deadline(&self) -> Option<u64>
         ensures held { result ≡ slots_deadline self.now.held.slots }
-        ensures course { (start : Start) (input : List Item) (gone : List Octets) → StandsAt (course start input) gone self.now
+        ensures course { (start : Start) (input : List Item) (gone : List Octets)
+            → StandsAt (course start input) gone self.now
             → result ≡ deadline (course start input).intake.state }
         // And of every state, for every time:
         ensures told { TellsFromTheDeadlineOn }
@@ -259,7 +268,8 @@ impl Host {
     /// Who is connected: each connection that is there, in the order of the slots.
     pub fn connections(&self) -> Connections<'_>
         ensures held { result ≡ connections_in self.now.held.slots }
-        ensures course { (start : Start) (input : List Item) (gone : List Octets) → StandsAt (course start input) gone self.now
+        ensures course { (start : Start) (input : List Item) (gone : List Octets)
+            → StandsAt (course start input) gone self.now
             → result ≡ connections_of (course start input).intake.state }
     {
         Connections {

@@ -119,7 +119,8 @@ impl HostState {
     pub(crate) fn update(&mut self, handle: u16, value: &[u8])
         requires exists { IsSome (attribute_at self.old.table.attributes handle) }
         requires fits { length value.now ≤ room_at self.old.table handle }
-        requires exact { is_fixed_at self.old.table.attributes handle ≡ true → length value.now ≡ room_at self.old.table handle }
+        requires exact { is_fixed_at self.old.table.attributes handle ≡ true
+            → length value.now ≡ room_at self.old.table handle }
         ensures { self.new ≡ after_update handle value.now self.old }
     {
         self.table.set(handle, value);
@@ -197,8 +198,10 @@ impl HostState {
     pub(crate) fn ask(&mut self, place: usize, pdu: &[u8])
         requires place { place < length self.old.slots }
         requires there { IsSome (kept_at self.old place) }
-        requires row { IfSome (kept_at self.old place) (λ kept. IsRowOf self.old.table.attributes (row_in_force (row_at self.old kept) kept)) }
-        ensures { IfSome (kept_at self.old place) (λ kept. Serves place pdu.now kept self.old self.new) }
+        requires row { IfSome (kept_at self.old place)
+            (λ kept. IsRowOf self.old.table.attributes (row_in_force (row_at self.old kept) kept)) }
+        ensures { IfSome (kept_at self.old place)
+            (λ kept. Serves place pdu.now kept self.old self.new) }
     {
         let handle = self.slots.handle(place);
         let brought = self.slots.serve(
@@ -254,7 +257,8 @@ impl HostState {
     fn hear_link(&mut self, place: usize, before: Option<KeyFacts>, due: bool)
         requires place { place < length self.old.slots }
         requires there { IsSome (kept_at self.old place) }
-        ensures { IfSome (kept_at self.old place) (λ kept. self.new ≡ with_last (LastEvent.LinkChanged kept.handle before kept.link.key)
+        ensures { IfSome (kept_at self.old place)
+            (λ kept. self.new ≡ with_last (LastEvent.LinkChanged kept.handle before kept.link.key)
             (after_end (Some place) (if due then option_to_list self.old.changer else []) [] self.old)) }
     {
         let handle = self.slots.handle(place);
@@ -273,7 +277,8 @@ impl HostState {
     /// Ends an event: the connection of a slot hears that the table was replaced, if it is to, and all
     /// of what is then due.
     fn hear_changes(&mut self, place: usize, due: bool, last: LastEvent)
-        ensures { self.new ≡ with_last last (after_end (Some place) (if due then option_to_list self.old.changer else []) [] self.old) }
+        ensures { self.new ≡ with_last last (after_end (Some place)
+            (if due then option_to_list self.old.changer else []) [] self.old) }
     {
         self.last = last;
         match self.changer {
@@ -316,8 +321,11 @@ impl HostState {
         opcode: u16,
         returned: &[u8],
     ) -> Result<(), HostFault>
-        ensures credits { IsOk result → Credits (completed_event self.old.controller allowed opcode returned.now) allowed opcode (status_of returned.now) self.old self.new }
-        ensures stops { IfErr result (λ fault. stop_of (completed_event self.old.controller allowed opcode returned.now) ≡ Some fault) }
+        ensures credits { IsOk result → Credits
+            (completed_event self.old.controller allowed opcode returned.now) allowed opcode
+            (status_of returned.now) self.old self.new }
+        ensures stops { IfErr result (λ fault. stop_of
+            (completed_event self.old.controller allowed opcode returned.now) ≡ Some fault) }
         ensures unchanged { OnErr result (self.new ≡ self.old) }
     {
         let followed = self.controller.completed(allowed, opcode, returned)?;
@@ -328,8 +336,11 @@ impl HostState {
 
     /// A command is under way, or refused.
     pub(crate) fn status(&mut self, status: u8, allowed: u8, opcode: u16) -> Result<(), HostFault>
-        ensures credits { IsOk result → Credits (status_event self.old.controller status allowed opcode) allowed opcode (Some status) self.old self.new }
-        ensures stops { IfErr result (λ fault. stop_of (status_event self.old.controller status allowed opcode) ≡ Some fault) }
+        ensures credits { IsOk result
+            → Credits (status_event self.old.controller status allowed opcode) allowed opcode
+            (Some status) self.old self.new }
+        ensures stops { IfErr result (λ fault. stop_of
+            (status_event self.old.controller status allowed opcode) ≡ Some fault) }
         ensures unchanged { OnErr result (self.new ≡ self.old) }
     {
         self.controller.status(status, allowed, opcode)?;
@@ -407,7 +418,8 @@ impl HostState {
 
 /// What is told of a connection that has no room for an answer, where that is so.
 fn ended_if(ended: bool, handle: u16) -> LastEvent
-    ensures { result ≡ (if ended then LastEvent.Ended handle REMOTE_USER_TERMINATED else LastEvent.Quiet) }
+    ensures { result
+        ≡ (if ended then LastEvent.Ended handle REMOTE_USER_TERMINATED else LastEvent.Quiet) }
 {
     if ended {
         LastEvent::Ended {

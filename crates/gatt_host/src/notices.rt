@@ -63,7 +63,8 @@ impl HostState {
         handle: u16,
         brought: Brought,
     ) -> Option<Notice<'_>>
-        ensures notice { option_map notice_of result ≡ slice_get (served_told self.now place handle brought) at }
+        ensures notice { option_map notice_of result
+            ≡ slice_get (served_told self.now place handle brought) at }
         ensures value { IfSome result (HasTheValue self.now.table) }
         ensures few { IsSome result → at < 34 }
     {
@@ -76,7 +77,8 @@ impl HostState {
 
     /// What it wrote at a handle.
     fn write_notice(&self, place: usize, handle: u16, attribute: u16) -> Notice<'_>
-        ensures notice { notice_of result ≡ write_told self.now.table.attributes (row_there self.now place) handle attribute }
+        ensures notice { notice_of result
+            ≡ write_told self.now.table.attributes (row_there self.now place) handle attribute }
         ensures value { HasTheValue self.now.table result }
     {
         match self.table.get(attribute) {
@@ -96,7 +98,8 @@ impl HostState {
 
 /// The value at a handle: no octets where there is no attribute.
 fn value_at(table: &Table, handle: u16) -> &[u8]
-    ensures { IsSome (attribute_at table.now.attributes handle) → result.now ≡ value_at table.now.values handle }
+    ensures { IsSome (attribute_at table.now.attributes handle)
+        → result.now ≡ value_at table.now.values handle }
 {
     match table.get(handle) {
         Some(_) => table.value(handle),
@@ -119,7 +122,8 @@ fn link_notice(
     before: Option<KeyFacts>,
     after: Option<KeyFacts>,
 ) -> Option<Notice<'static>>
-    ensures notice { option_map notice_of result ≡ slice_get (link_change_told handle before after) at }
+    ensures notice { option_map notice_of result
+        ≡ slice_get (link_change_told handle before after) at }
     ensures few { IsSome result → at < 2 }
 {
     match (before, after) {
@@ -145,7 +149,8 @@ fn link_notice(
 
 /// What a request brought, beside what it wrote.
 fn brought_notice(at: usize, handle: u16, brought: Brought) -> Option<Notice<'static>>
-    ensures notice { option_map notice_of result ≡ slice_get (map (Confirmed handle) (option_to_list brought.confirmed)
+    ensures notice { option_map notice_of result
+        ≡ slice_get (map (Confirmed handle) (option_to_list brought.confirmed)
         ++ (if brought.ended then Ending handle remote_user_terminated ∷ [] else [])) at }
     ensures few { IsSome result → at < 2 }
 {

@@ -37,7 +37,8 @@ impl Host {
         config: Config,
     ) -> Result<Host, OpenFault>
         ensures config { (result ≡ Err OpenFault.BadConfig) ↔ (is_configured config ≡ false) }
-        ensures opened { IfOk result (λ host. StandsAt (course (start_of table keys rows config) []) [] host) }
+        ensures opened { IfOk result
+            (λ host. StandsAt (course (start_of table keys rows config) []) [] host) }
         ensures no_fault { IfOk result (λ host. host.fault ≡ None) }
     {
         let mut rows = rows;

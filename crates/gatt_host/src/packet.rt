@@ -45,7 +45,8 @@ impl HostState {
     ) -> Result<(), HostFault>
         ensures taken { IsOk result → TakesEvent (event_of octets.now) self.old self.new }
         ensures frames { frames.new ≡ frames_after_event self.old (event_of octets.now) frames.old }
-        ensures stops { IfErr result (λ fault. event_stop (event_of octets.now) self.old ≡ Some fault) }
+        ensures stops { IfErr result
+            (λ fault. event_stop (event_of octets.now) self.old ≡ Some fault) }
         ensures unchanged { OnErr result (self.new ≡ self.old) }
         ensures frames_unchanged { OnErr result (frames.new ≡ frames.old) }
     {
@@ -65,7 +66,8 @@ impl HostState {
     ) -> Result<(), HostFault>
         ensures taken { IsOk result → TakesEvent (event_of octets.now) self.old self.new }
         ensures frames { frames.new ≡ frames_after_event self.old (event_of octets.now) frames.old }
-        ensures stops { IfErr result (λ fault. event_stop (event_of octets.now) self.old ≡ Some fault) }
+        ensures stops { IfErr result
+            (λ fault. event_stop (event_of octets.now) self.old ≡ Some fault) }
         ensures unchanged { OnErr result (self.new ≡ self.old) }
         ensures frames_unchanged { OnErr result (frames.new ≡ frames.old) }
     {
@@ -77,7 +79,8 @@ impl HostState {
     fn take_event(&mut self, frames: &mut [Reassembler; 8], octets: &[u8]) -> Result<(), HostFault>
         ensures taken { IsOk result → TakesEvent (event_of octets.now) self.old self.new }
         ensures frames { frames.new ≡ frames_after_event self.old (event_of octets.now) frames.old }
-        ensures stops { IfErr result (λ fault. event_stop (event_of octets.now) self.old ≡ Some fault) }
+        ensures stops { IfErr result
+            (λ fault. event_stop (event_of octets.now) self.old ≡ Some fault) }
         ensures unchanged { OnErr result (self.new ≡ self.old) }
         ensures frames_unchanged { OnErr result (frames.new ≡ frames.old) }
     {
@@ -110,7 +113,8 @@ impl HostState {
     fn frame(&mut self, place: usize, octets: &[u8])
         requires there { IsThere self.old.slots place }
         requires rows { HasRowsOfTheTable self.old }
-        ensures { IsAfter (frame_happening place (of_frame (frame_of octets.now))) self.old self.new }
+        ensures { IsAfter (frame_happening place (of_frame (frame_of octets.now))) self.old self.new
+            IsAfter (frame_happening place (of_frame (frame_of octets.now))) self.old self.new }
     {
         match read_frame(octets) {
             Ok(frame) => match frame.cid {
@@ -134,7 +138,8 @@ pub(crate) fn acl(
     octets: &[u8],
 )
     requires rows { HasRowsOfTheTable state.old }
-    ensures after { IsAfter (acl_happening state.old handle pb bc octets.now frames.old) state.old state.new }
+    ensures after { IsAfter
+        (acl_happening state.old handle pb bc octets.now frames.old) state.old state.new }
     ensures frames { frames.new ≡ frames_after_acl state.old handle pb bc octets.now frames.old }
 {
     match state.slots.find_serving(handle) {
@@ -155,7 +160,8 @@ fn fragment(
 )
     requires there { IsThere state.old.slots place }
     requires rows { HasRowsOfTheTable state.old }
-    ensures after { IsAfter (fragment_happening place (fragment_of pb bc octets.now) frame.old) state.old state.new }
+    ensures after { IsAfter
+        (fragment_happening place (fragment_of pb bc octets.now) frame.old) state.old state.new }
     ensures left { frame.new ≡ fragment_left (fragment_of pb bc octets.now) frame.old }
 {
     if is_whole(pb, bc, octets) {
@@ -178,7 +184,8 @@ fn join_fragment(
 )
     requires there { IsThere state.old.slots place }
     requires rows { HasRowsOfTheTable state.old }
-    ensures after { IsAfter (fragment_happening place (fragment_of pb bc octets.now) frame.old) state.old state.new }
+    ensures after { IsAfter
+        (fragment_happening place (fragment_of pb bc octets.now) frame.old) state.old state.new }
     ensures left { frame.new ≡ fragment_left (fragment_of pb bc octets.now) frame.old }
 {
     match join(frame, pb, bc, octets) {
@@ -202,8 +209,11 @@ fn is_whole(pb: u8, bc: u8, octets: &[u8]) -> bool
 
 /// Puts a fragment to those before it.
 fn join(frame: &mut Reassembler, pb: u8, bc: u8, octets: &[u8]) -> Piece
-    ensures after { frame.new ≡ option_map_or (with_fragment frame.old) (fragment_of pb bc octets.now) frame.old }
-    ensures given { frame_given result frame.new ≡ option_and_then (λ fragment. (with_fragment frame.old fragment).frame) (fragment_of pb bc octets.now) }
+    ensures after { frame.new
+        ≡ option_map_or (with_fragment frame.old) (fragment_of pb bc octets.now) frame.old }
+    ensures given { frame_given result frame.new
+        ≡ option_and_then (λ fragment. (with_fragment frame.old fragment).frame)
+        (fragment_of pb bc octets.now) }
     ensures whole { result ≡ Piece.Frame → IsSome frame.new.frame }
 {
     if bc != 0 {
@@ -224,7 +234,8 @@ pub(crate) fn packet(
 ) -> Result<(), HostFault>
     requires rows { HasRowsOfTheTable state.old }
     requires drained { is_drained state.old.controller (open_slots state.old) ≡ true }
-    ensures leads { LeadsBy (seen packet.entry) state.old frames.old state.new frames.new (result_err result) }
+    ensures leads { LeadsBy (seen packet.entry) state.old frames.old state.new frames.new
+        (result_err result) }
     ensures told { IsOk result → TellsOfPacket (seen packet.entry) state.old frames.old state.new }
     ensures not_own { IfErr result (λ fault. is_own fault ≡ false) }
     ensures unchanged { OnErr result (state.new ≡ state.old) }
@@ -239,7 +250,8 @@ fn take_packet(
     packet: PacketRef<'_>,
 ) -> Result<(), HostFault>
     requires rows { HasRowsOfTheTable state.old }
-    ensures taken { IsOk result → TakesPacket (seen packet.entry) state.old frames.old state.new frames.new }
+    ensures taken { IsOk result
+        → TakesPacket (seen packet.entry) state.old frames.old state.new frames.new }
     ensures stops { IfErr result (λ fault. packet_stop (seen packet.entry) state.old ≡ Some fault) }
     ensures unchanged { OnErr result (state.new ≡ state.old) }
     ensures frames_unchanged { OnErr result (frames.new ≡ frames.old) }

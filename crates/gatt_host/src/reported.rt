@@ -22,8 +22,10 @@ impl HostState {
     /// counts.
     #[inline(always)]
     pub(crate) fn reported(&mut self, frames: &mut [Reassembler; 8], event: &Event<'_>)
-        ensures after { IsAfter (reported_happening self.old (report_of event.now)) self.old self.new }
-        ensures frames { frames.new ≡ frames_after (reported_happening self.old (report_of event.now)) frames.old }
+        ensures after { IsAfter
+            (reported_happening self.old (report_of event.now)) self.old self.new }
+        ensures frames { frames.new
+            ≡ frames_after (reported_happening self.old (report_of event.now)) frames.old }
     {
         if self.controller.is_ready() {
             self.connection_reported(frames, event);
@@ -36,8 +38,10 @@ impl HostState {
     #[inline(always)]
     fn connection_reported(&mut self, frames: &mut [Reassembler; 8], event: &Event<'_>)
         requires { laws.is_ready self.old.controller ≡ true }
-        ensures after { IsAfter (connection_happening self.old (report_of event.now)) self.old self.new }
-        ensures frames { frames.new ≡ frames_after (connection_happening self.old (report_of event.now)) frames.old }
+        ensures after { IsAfter
+            (connection_happening self.old (report_of event.now)) self.old self.new }
+        ensures frames { frames.new
+            ≡ frames_after (connection_happening self.old (report_of event.now)) frames.old }
     {
         match *event {
             Event::DisconnectionComplete { status, handle, .. } => self.gone(status, handle),
@@ -68,7 +72,8 @@ impl HostState {
 
     /// A connection has ended.
     fn gone(&mut self, status: u8, handle: u16)
-        ensures { IsAfter (if status == 0 then at_found (place_holding self.old.slots handle) Gone else Passes) self.old self.new }
+        ensures { IsAfter (if status == 0 then at_found
+            (place_holding self.old.slots handle) Gone else Passes) self.old self.new }
     {
         if status != 0 {
             return self.nothing();
@@ -81,7 +86,8 @@ impl HostState {
 
     /// Encryption of a link was changed, or could not be.
     fn encryption_changed(&mut self, status: u8, handle: u16, enabled: u8)
-        ensures { IsAfter (at_found (place_serving self.old.slots handle) (Encrypted status enabled)) self.old self.new }
+        ensures { IsAfter (at_found (place_serving self.old.slots handle)
+            (Encrypted status enabled)) self.old self.new }
     {
         match self.slots.find_serving(handle) {
             Some(place) => self.encrypt(place, status, enabled),
@@ -91,7 +97,8 @@ impl HostState {
 
     /// The key of a link was refreshed, or could not be.
     fn key_refreshed(&mut self, status: u8, handle: u16)
-        ensures { IsAfter (at_found (place_serving self.old.slots handle) (Refreshed status)) self.old self.new }
+        ensures { IsAfter
+            (at_found (place_serving self.old.slots handle) (Refreshed status)) self.old self.new }
     {
         match self.slots.find_serving(handle) {
             Some(place) => self.refresh(place, status),
@@ -101,7 +108,8 @@ impl HostState {
 
     /// The key of a link is asked for.
     fn key_asked(&mut self, handle: u16, random_number: [u8; 8], diversifier: u16)
-        ensures { IsAfter (at_found (place_serving self.old.slots handle) (KeyAsked random_number diversifier)) self.old self.new }
+        ensures { IsAfter (at_found (place_serving self.old.slots handle)
+            (KeyAsked random_number diversifier)) self.old self.new }
     {
         match self.slots.find_serving(handle) {
             Some(place) => self.ask_key(place, random_number, diversifier),
@@ -122,7 +130,8 @@ impl HostState {
     )
         requires { laws.is_ready self.old.controller ≡ true }
         ensures after { IsAfter (coming self.old status handle role peer) self.old self.new }
-        ensures frames { frames.new ≡ frames_after (coming self.old status handle role peer) frames.old }
+        ensures frames { frames.new
+            ≡ frames_after (coming self.old status handle role peer) frames.old }
     {
         if status != 0 || role != PERIPHERAL || handle > LAST_CONNECTION_HANDLE {
             return self.nothing();

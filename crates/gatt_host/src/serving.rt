@@ -45,10 +45,14 @@ pub fn serve<R: Source, W: Sink>(
     ensures out { IsOk result → all_out host.new ≡ true }
     ensures due { host.old.fault ≡ None → WritesAllThatIsDue host.new.fault host.new }
     ensures fault { IfErr result (λ fault. host.new.fault ≡ Some fault) }
-    ensures reads { host.old.fault ≡ None → Reads result turns (R.reads reader.old) (R.reads reader.new) }
-    ensures ends { host.old.fault ≡ None → CountsIf (is_ok result) (R.ends reader.old) (R.ends reader.new) }
-    ensures read_failures { host.old.fault ≡ None → CountsIf (is_read host.new.fault) (R.failures reader.old) (R.failures reader.new) }
-    ensures write_failures { host.old.fault ≡ None → CountsIf (is_write host.new.fault) (W.failures writer.old) (W.failures writer.new) }
+    ensures reads { host.old.fault ≡ None
+        → Reads result turns (R.reads reader.old) (R.reads reader.new) }
+    ensures ends { host.old.fault ≡ None
+        → CountsIf (is_ok result) (R.ends reader.old) (R.ends reader.new) }
+    ensures read_failures { host.old.fault ≡ None
+        → CountsIf (is_read host.new.fault) (R.failures reader.old) (R.failures reader.new) }
+    ensures write_failures { host.old.fault ≡ None
+        → CountsIf (is_write host.new.fault) (W.failures writer.old) (W.failures writer.new) }
     ensures stopped { IsSome host.old.fault → host.new ≡ host.old }
     ensures reader_stopped { IsSome host.old.fault → reader.new ≡ reader.old }
     ensures writer_stopped { IsSome host.old.fault → writer.new ≡ writer.old }
@@ -79,10 +83,14 @@ pub fn serve_to<R: Source, W: Sink, L: Listener>(
     ensures out { IsOk result → all_out host.new ≡ true }
     ensures due { host.old.fault ≡ None → WritesAllThatIsDue host.new.fault host.new }
     ensures fault { IfErr result (λ fault. host.new.fault ≡ Some fault) }
-    ensures reads { host.old.fault ≡ None → Reads result turns (R.reads reader.old) (R.reads reader.new) }
-    ensures ends { host.old.fault ≡ None → CountsIf (is_ok result) (R.ends reader.old) (R.ends reader.new) }
-    ensures read_failures { host.old.fault ≡ None → CountsIf (is_read host.new.fault) (R.failures reader.old) (R.failures reader.new) }
-    ensures write_failures { host.old.fault ≡ None → CountsIf (is_write host.new.fault) (W.failures writer.old) (W.failures writer.new) }
+    ensures reads { host.old.fault ≡ None
+        → Reads result turns (R.reads reader.old) (R.reads reader.new) }
+    ensures ends { host.old.fault ≡ None
+        → CountsIf (is_ok result) (R.ends reader.old) (R.ends reader.new) }
+    ensures read_failures { host.old.fault ≡ None
+        → CountsIf (is_read host.new.fault) (R.failures reader.old) (R.failures reader.new) }
+    ensures write_failures { host.old.fault ≡ None
+        → CountsIf (is_write host.new.fault) (W.failures writer.old) (W.failures writer.new) }
     ensures stopped { IsSome host.old.fault → host.new ≡ host.old }
     ensures reader_stopped { IsSome host.old.fault → reader.new ≡ reader.old }
     ensures writer_stopped { IsSome host.old.fault → writer.new ≡ writer.old }
@@ -109,11 +117,13 @@ pub fn serve_to<R: Source, W: Sink, L: Listener>(
 /// Reads into `octets`, and gives what was read: nothing at the end of the input.
 fn read_turn<'a, R: Source>(reader: &mut R, octets: &'a mut [u8; TURN]) -> Result<&'a [u8], Failed>
     ensures within { IfOk result (λ read. length read.now ≤ 512) }
-    ensures consumed { IfOk result (λ read. Consumes (R.remaining reader.old) (R.remaining reader.new) read.now) }
+    ensures consumed { IfOk result
+        (λ read. Consumes (R.remaining reader.old) (R.remaining reader.new) read.now) }
     ensures at_end { IfOk result (λ read. read.now ≡ [] → IsAtEnd (R.remaining reader.new)) }
     ensures kept { OnErr result (Keeps (R.remaining reader.old) (R.remaining reader.new)) }
     ensures reads { CountsOne (R.reads reader.old) (R.reads reader.new) }
-    ensures ends { IfOk result (λ read. CountsIf (length read.now == 0) (R.ends reader.old) (R.ends reader.new)) }
+    ensures ends { IfOk result
+        (λ read. CountsIf (length read.now == 0) (R.ends reader.old) (R.ends reader.new)) }
     ensures no_end { OnErr result (CountsNone (R.ends reader.old) (R.ends reader.new)) }
     ensures failures { CountsFailure (R.failures reader.old) (R.failures reader.new) result }
 {

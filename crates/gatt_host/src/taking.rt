@@ -63,7 +63,8 @@ fn take_in(
     ensures told { TellsOfAll (items_taken octets.now result)
         (record { held = state.old; frames = frames.old; stream = deframer.old; fault = None })
         (record { held = state.new; frames = frames.new; stream = deframer.new; fault = result_err result }) }
-    ensures up_to { IfOk result (λ used. TakesUpToAPacket octets.now used (going state.old frames.old deframer.old)) }
+    ensures up_to { IfOk result
+        (λ used. TakesUpToAPacket octets.now used (going state.old frames.old deframer.old)) }
     ensures not_own { IfErr result (λ fault. is_own fault ≡ false) }
     ensures unchanged { OnErr result (state.new ≡ state.old) }
     ensures within { IfOk result (λ used. used ≤ length octets.now) }

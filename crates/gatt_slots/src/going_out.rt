@@ -148,7 +148,8 @@ impl Slots {
     pub fn next_packet(&mut self, place: usize, out: &mut PacketBuf) -> bool
         requires { place < length self.old }
         ensures gives { result ≡ gives (kept_at self.old place) }
-        ensures packet { OnTrue result (option_and_then packet_of (kept_at self.old place) ≡ Some out.new) }
+        ensures packet { OnTrue result
+            (option_and_then packet_of (kept_at self.old place) ≡ Some out.new) }
         ensures after { OnTrue result (self.new ≡ slots_at place without_packet self.old) }
         ensures unchanged { OnFalse result (self.new ≡ self.old) }
         ensures out_unchanged { OnFalse result (out.new ≡ out.old) }

@@ -86,7 +86,9 @@ fn queue_value(opcode: u8, handle: u16, value: &[u8], mtu: u16, sender: &mut Sen
     requires least { 23 ≤ mtu }
     requires most { mtu ≤ 517 }
     requires room { length sender.old.outgoing.queue < 16 }
-    ensures { sender.new.outgoing ≡ with_pdu sender.old.outgoing (ATT, opcode ∷ two_octets handle ++ take (mtu - 3) value.now) }
+    ensures { sender.new.outgoing
+        ≡ with_pdu sender.old.outgoing
+        (ATT, opcode ∷ two_octets handle ++ take (mtu - 3) value.now) }
 {
     let [low, high] = handle.to_le_bytes();
     let front = &value[..value.len().min(usize::from(mtu) - 3)];
@@ -96,7 +98,8 @@ fn queue_value(opcode: u8, handle: u16, value: &[u8], mtu: u16, sender: &mut Sen
 /// The row of the peer's bond where the link has a key, else the connection's own.
 #[inline(always)]
 fn row_in_force<'a>(link: &Link, peer: &Peer, own: &'a ConfigRow, rows: &'a Rows) -> &'a ConfigRow
-    ensures { result.now ≡ (if is_some link.now.key then unwrap_or (row_of rows.now peer.now) own.now else own.now) }
+    ensures { result.now
+        ≡ (if is_some link.now.key then unwrap_or (row_of rows.now peer.now) own.now else own.now) }
 {
     if link.facts().is_some() {
         if let Some(row) = rows.row(peer) {
@@ -109,7 +112,8 @@ fn row_in_force<'a>(link: &Link, peer: &Peer, own: &'a ConfigRow, rows: &'a Rows
 impl Slot {
     /// Which bits the row in force has at a handle: none where no connection has the slot.
     pub(crate) fn bits(&self, rows: &Rows, handle: u16) -> u8
-        ensures { result ≡ bits_at (option_map_or (λ kept. row_in_force (row_of rows.now kept.peer) kept) self.now []) handle }
+        ensures { result ≡ bits_at (option_map_or
+            (λ kept. row_in_force (row_of rows.now kept.peer) kept) self.now []) handle }
     {
         if self.used == Use::Free {
             return 0;
@@ -121,7 +125,8 @@ impl Slot {
     /// the value waits.
     #[inline(always)]
     pub(crate) fn raise(&mut self, raised: &Raised<'_>, rows: &Rows, now: u64) -> bool
-        ensures raised { self.new ≡ raised_by raised.now.table now rows.now raised.now.handle self.old }
+        ensures raised { self.new
+            ≡ raised_by raised.now.table now rows.now raised.now.handle self.old }
         ensures unnotified { OnFalse result (gives self.new ≡ gives self.old) }
     {
         if self.used != Use::Live {

@@ -38,7 +38,8 @@ impl Marks {
     /// Takes in that anything may have become of a slot.
     pub(crate) fn change(&mut self, place: usize)
         requires { place < 8 }
-        ensures { (slots : Held) (slot : Option Kept) → place < length slots → IsMarked slots self.old → IsMarked (set slots place slot) self.new }
+        ensures { (slots : Held) (slot : Option Kept) → place < length slots
+            → IsMarked slots self.old → IsMarked (set slots place slot) self.new }
     {
         self.commands.add(place);
         self.packets.add(place);
@@ -50,7 +51,8 @@ impl Marks {
     #[inline(always)]
     pub(crate) fn serve(&mut self, place: usize, ended: bool)
         requires { place < 8 }
-        ensures { (slots : Held) (slot : Option Kept) → place < length slots → IsMarked slots self.old → (ended ≡ false → GoesOn (kept_at slots place) slot)
+        ensures { (slots : Held) (slot : Option Kept) → place < length slots
+            → IsMarked slots self.old → (ended ≡ false → GoesOn (kept_at slots place) slot)
             → IsMarked (set slots place slot) self.new }
     {
         if ended {
@@ -64,7 +66,8 @@ impl Marks {
     #[inline(always)]
     pub(crate) fn go_on(&mut self, place: usize, giving: bool)
         requires { place < 8 }
-        ensures { (slots : Held) (slot : Option Kept) → place < length slots → IsMarked slots self.old → GoesOn (kept_at slots place) slot
+        ensures { (slots : Held) (slot : Option Kept) → place < length slots
+            → IsMarked slots self.old → GoesOn (kept_at slots place) slot
             → (giving ≡ false → gives slot ≡ false) → IsMarked (set slots place slot) self.new }
     {
         if giving {

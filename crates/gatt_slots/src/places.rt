@@ -35,7 +35,8 @@ impl Places {
     pub(crate) fn add(&mut self, place: usize)
         requires { place < 8 }
         ensures added { bit_at self.new.bits place ≡ 1 }
-        ensures others { (other : ℕ) → other ≢ place → bit_at self.new.bits other ≡ bit_at self.old.bits other }
+        ensures others { (other : ℕ) → other ≢ place
+            → bit_at self.new.bits other ≡ bit_at self.old.bits other }
     {
         self.bits |= 1 << place;
     }
@@ -45,7 +46,8 @@ impl Places {
     pub(crate) fn remove(&mut self, place: usize)
         requires { place < 8 }
         ensures removed { bit_at self.new.bits place ≡ 0 }
-        ensures others { (other : ℕ) → other < 8 → other ≢ place → bit_at self.new.bits other ≡ bit_at self.old.bits other }
+        ensures others { (other : ℕ) → other < 8 → other ≢ place
+            → bit_at self.new.bits other ≡ bit_at self.old.bits other }
         ensures fewer { bit_at self.old.bits place ≡ 1 → self.new.bits < self.old.bits }
     {
         self.bits &= !(1 << place);

@@ -48,11 +48,17 @@ impl Slot {
         written: &mut ArrayVec<u16, 32>,
     ) -> Brought
         requires there { IsSome self.old }
-        requires row { IfSome self.old (λ kept. IsRowOf table.old.attributes (row_in_force (row_of rows.old kept.peer) kept)) }
-        ensures after { self.new ≡ option_map (λ kept. kept_served table.old now (row_of rows.old kept.peer) pdu.now kept) self.old }
-        ensures table { IfSome self.old (λ kept. table.new ≡ table_after table.old now (row_of rows.old kept.peer) pdu.now kept) }
-        ensures bond { IfSome self.old (λ kept. ChangesBond (bond_served table.old now changer (row_of rows.old kept.peer) pdu.now kept) kept.peer rows.old rows.new) }
-        ensures written { IfSome self.old (λ kept. written.new.items ≡ handles_of table.old now (row_of rows.old kept.peer) pdu.now kept) }
+        requires row { IfSome self.old
+            (λ kept. IsRowOf table.old.attributes (row_in_force (row_of rows.old kept.peer) kept)) }
+        ensures after { self.new
+            ≡ option_map
+            (λ kept. kept_served table.old now (row_of rows.old kept.peer) pdu.now kept) self.old }
+        ensures table { IfSome self.old (λ kept. table.new
+            ≡ table_after table.old now (row_of rows.old kept.peer) pdu.now kept) }
+        ensures bond { IfSome self.old (λ kept. ChangesBond (bond_served table.old now changer
+            (row_of rows.old kept.peer) pdu.now kept) kept.peer rows.old rows.new) }
+        ensures written { IfSome self.old (λ kept. written.new.items
+            ≡ handles_of table.old now (row_of rows.old kept.peer) pdu.now kept) }
         ensures ended { IfSome self.old (λ kept. result.ended ≡ is_full pdu.now kept) }
         ensures confirmed { IfSome self.old (λ kept. result.confirmed ≡ confirmed_of pdu.now kept) }
     {
@@ -90,8 +96,10 @@ impl Slot {
 /// Whether an answer is due and there is no room for it.
 #[inline(always)]
 fn is_full(conn: &Conn, sender: &Sender, pdu: &[u8]) -> bool
-    ensures full { result ≡ (is_due (request_of pdu.now conn.now.mtu) && (length sender.now.outgoing.queue == 16)) }
-    ensures room { OnFalse result (is_due (request_of pdu.now conn.now.mtu) ≡ true → length sender.now.outgoing.queue < 16) }
+    ensures full { result
+        ≡ (is_due (request_of pdu.now conn.now.mtu) && (length sender.now.outgoing.queue == 16)) }
+    ensures room { OnFalse result
+        (is_due (request_of pdu.now conn.now.mtu) ≡ true → length sender.now.outgoing.queue < 16) }
 {
     sender.backlog() == MAX_PDUS && answer_due(pdu, conn.mtu())
 }
@@ -109,7 +117,8 @@ fn knows_change(link: &Link, pending: &Pending, changer: Option<u16>) -> bool
 
 /// Takes in a confirmation, if there is one, and gives the handle of the value that it confirms.
 fn take_confirmation(confirmed: bool, pending: &mut Pending) -> Option<u16>
-    ensures pending { pending.new ≡ (if confirmed then after_confirmation pending.old else pending.old) }
+    ensures pending { pending.new
+        ≡ (if confirmed then after_confirmation pending.old else pending.old) }
     ensures confirmed { result ≡ (if confirmed then confirmed_handle pending.old else None) }
 {
     if confirmed { pending.confirm() } else { None }
@@ -139,12 +148,16 @@ fn answer_by_row(
     sender: &mut Sender,
     written: &mut ArrayVec<u16, 32>,
 ) -> Served
-    requires row { IsRowOf table.old.attributes (if has_key then unwrap_or (row_of rows.old peer.now) own.old else own.old) }
-    requires room { is_due (request_of pdu.now conn.old.mtu) ≡ true → length sender.old.outgoing.queue < 16 }
+    requires row { IsRowOf table.old.attributes
+        (if has_key then unwrap_or (row_of rows.old peer.now) own.old else own.old) }
+    requires room { is_due (request_of pdu.now conn.old.mtu) ≡ true
+        → length sender.old.outgoing.queue < 16 }
     ensures queued { sender.new.outgoing ≡ with_pdus sender.old.outgoing
         (map att_pdu (option_to_list (answer_to table.old (if has_key then unwrap_or (row_of rows.old peer.now) own.old else own.old) conn.old (request_of pdu.now conn.old.mtu)))) }
     ensures confirmed { result.confirmed ≡ is_confirmation pdu.now }
-    ensures written { written.new.items ≡ handles_by table.old (if has_key then unwrap_or (row_of rows.old peer.now) own.old else own.old) conn.old (request_of pdu.now conn.old.mtu) }
+    ensures written { written.new.items ≡ handles_by table.old
+        (if has_key then unwrap_or (row_of rows.old peer.now) own.old else own.old) conn.old
+        (request_of pdu.now conn.old.mtu) }
     ensures table { table.new ≡ record table.old {
       values =
           (stored_by table.old (if has_key then unwrap_or (row_of rows.old peer.now) own.old else own.old) conn.old (request_of pdu.now conn.old.mtu)).values;
@@ -153,7 +166,8 @@ fn answer_by_row(
         (stored_by table.old (if has_key then unwrap_or (row_of rows.old peer.now) own.old else own.old) conn.old (request_of pdu.now conn.old.mtu)).row }
     ensures bond { ChangesBond (bond_after has_key
         (stored_by table.old (if has_key then unwrap_or (row_of rows.old peer.now) own.old else own.old) conn.old (request_of pdu.now conn.old.mtu)).row) peer.now rows.old rows.new }
-    ensures conn { conn.new ≡ conn_after table.old.attributes conn.old (request_of pdu.now conn.old.mtu) }
+    ensures conn { conn.new
+        ≡ conn_after table.old.attributes conn.old (request_of pdu.now conn.old.mtu) }
 {
     if has_key {
         if let Some(row) = rows.of(peer) {
@@ -174,14 +188,19 @@ fn answer(
     written: &mut ArrayVec<u16, 32>,
 ) -> Served
     requires row { IsRowOf table.old.attributes row.old }
-    requires room { is_due (request_of pdu.now conn.old.mtu) ≡ true → length sender.old.outgoing.queue < 16 }
+    requires room { is_due (request_of pdu.now conn.old.mtu) ≡ true
+        → length sender.old.outgoing.queue < 16 }
     ensures queued { sender.new.outgoing ≡ with_pdus sender.old.outgoing
         (map att_pdu (option_to_list (answer_to table.old row.old conn.old (request_of pdu.now conn.old.mtu)))) }
     ensures confirmed { result.confirmed ≡ is_confirmation pdu.now }
-    ensures written { written.new.items ≡ handles_by table.old row.old conn.old (request_of pdu.now conn.old.mtu) }
-    ensures table { table.new ≡ record table.old { values = (stored_by table.old row.old conn.old (request_of pdu.now conn.old.mtu)).values } }
-    ensures row { row.new ≡ (stored_by table.old row.old conn.old (request_of pdu.now conn.old.mtu)).row }
-    ensures conn { conn.new ≡ conn_after table.old.attributes conn.old (request_of pdu.now conn.old.mtu) }
+    ensures written { written.new.items
+        ≡ handles_by table.old row.old conn.old (request_of pdu.now conn.old.mtu) }
+    ensures table { table.new ≡ record table.old { values =
+        (stored_by table.old row.old conn.old (request_of pdu.now conn.old.mtu)).values } }
+    ensures row { row.new
+        ≡ (stored_by table.old row.old conn.old (request_of pdu.now conn.old.mtu)).row }
+    ensures conn { conn.new
+        ≡ conn_after table.old.attributes conn.old (request_of pdu.now conn.old.mtu) }
 {
     let Ok(room) = sender.room() else {
         return answer_nothing(table, row, conn, pdu, written);
@@ -209,10 +228,14 @@ fn answer_nothing(
     ensures due { result.due ≡ false }
     ensures none { answer_to table.old row.old conn.old (request_of pdu.now conn.old.mtu) ≡ None }
     ensures confirmed { result.confirmed ≡ is_confirmation pdu.now }
-    ensures written { written.new.items ≡ handles_by table.old row.old conn.old (request_of pdu.now conn.old.mtu) }
-    ensures table { table.new ≡ record table.old { values = (stored_by table.old row.old conn.old (request_of pdu.now conn.old.mtu)).values } }
-    ensures row { row.new ≡ (stored_by table.old row.old conn.old (request_of pdu.now conn.old.mtu)).row }
-    ensures conn { conn.new ≡ conn_after table.old.attributes conn.old (request_of pdu.now conn.old.mtu) }
+    ensures written { written.new.items
+        ≡ handles_by table.old row.old conn.old (request_of pdu.now conn.old.mtu) }
+    ensures table { table.new ≡ record table.old { values =
+        (stored_by table.old row.old conn.old (request_of pdu.now conn.old.mtu)).values } }
+    ensures row { row.new
+        ≡ (stored_by table.old row.old conn.old (request_of pdu.now conn.old.mtu)).row }
+    ensures conn { conn.new
+        ≡ conn_after table.old.attributes conn.old (request_of pdu.now conn.old.mtu) }
 {
     let mut unsent = ArrayVec::new();
     answer_into(table, row, conn, pdu, &mut unsent, written)

@@ -163,7 +163,9 @@ impl Slots {
         requires share { 0 < share }
         requires acl_len_least { 27 ≤ acl_len }
         requires acl_len_most { acl_len ≤ 251 }
-        ensures { self.new ≡ at_place place (λ slot. Some (come handle peer key_known rx_mtu share acl_len)) self.old }
+        ensures { self.new
+            ≡ at_place place
+            (λ slot. Some (come handle peer key_known rx_mtu share acl_len)) self.old }
     {
         self.slots[place].come(handle, peer, key_known, rx_mtu, share, acl_len);
         self.handles.came(place, handle);
@@ -183,7 +185,8 @@ impl Slots {
     /// The controller asked for the key of the link of a slot: it is looked up, and a reply is due.
     pub fn ask_key(&mut self, place: usize, keys: &Keys, random_number: [u8; 8], diversifier: u16)
         requires { place < length self.old }
-        ensures { self.new ≡ slots_at place (λ kept. after_key_asked (answer_of keys.now kept.peer random_number diversifier) kept) self.old }
+        ensures { self.new ≡ slots_at place (λ kept. after_key_asked
+            (answer_of keys.now kept.peer random_number diversifier) kept) self.old }
     {
         self.slots[place].ask_key(keys, random_number, diversifier);
         self.marks.change(place);
@@ -193,8 +196,11 @@ impl Slots {
     /// had none. Where it lost its key the connection is ended.
     pub fn encrypt(&mut self, place: usize, status: u8, enabled: u8) -> bool
         requires { place < length self.old }
-        ensures after { self.new ≡ slots_at place (after_link_step (Encryption status enabled)) self.old }
-        ensures gained { IfSome (kept_at self.old place) (λ kept. result ≡ gained_encryption kept.link.key (after_step kept.link (Encryption status enabled)).key) }
+        ensures after { self.new
+            ≡ slots_at place (after_link_step (Encryption status enabled)) self.old }
+        ensures gained { IfSome (kept_at self.old place)
+            (λ kept. result ≡ gained_encryption kept.link.key
+            (after_step kept.link (Encryption status enabled)).key) }
     {
         let gained = self.slots[place].encrypt(status, enabled);
         self.marks.change(place);
@@ -205,7 +211,8 @@ impl Slots {
     pub fn refresh(&mut self, place: usize, status: u8) -> bool
         requires { place < length self.old }
         ensures after { self.new ≡ slots_at place (after_link_step (Refresh status)) self.old }
-        ensures gained { IfSome (kept_at self.old place) (λ kept. result ≡ gained_encryption kept.link.key (after_step kept.link (Refresh status)).key) }
+        ensures gained { IfSome (kept_at self.old place) (λ kept. result
+            ≡ gained_encryption kept.link.key (after_step kept.link (Refresh status)).key) }
     {
         let gained = self.slots[place].refresh(status);
         self.marks.change(place);
@@ -225,7 +232,8 @@ impl Slots {
     pub fn signal(&mut self, place: usize, channel: u16, payload: &[u8]) -> bool
         requires { place < length self.old }
         ensures after { self.new ≡ slots_at place (after_signal channel payload.now) self.old }
-        ensures ended { IfSome (kept_at self.old place) (λ kept. result ≡ has_no_room (channel_answer channel payload.now) kept) }
+        ensures ended { IfSome (kept_at self.old place)
+            (λ kept. result ≡ has_no_room (channel_answer channel payload.now) kept) }
     {
         let ended = self.slots[place].signal(channel, payload);
         self.marks.change(place);
@@ -275,13 +283,22 @@ impl Slots {
     ) -> Brought
         requires place { place < length self.old }
         requires there { IsSome (kept_at self.old place) }
-        requires row { IfSome (kept_at self.old place) (λ kept. IsRowOf table.old.attributes (row_in_force (row_of rows.old kept.peer) kept)) }
-        ensures after { self.new ≡ slots_at place (λ kept. kept_served table.old now (row_of rows.old kept.peer) pdu.now kept) self.old }
-        ensures table { IfSome (kept_at self.old place) (λ kept. table.new ≡ table_after table.old now (row_of rows.old kept.peer) pdu.now kept) }
-        ensures bond { IfSome (kept_at self.old place) (λ kept. ChangesBond (bond_served table.old now changer (row_of rows.old kept.peer) pdu.now kept) kept.peer rows.old rows.new) }
-        ensures written { IfSome (kept_at self.old place) (λ kept. written.new.items ≡ handles_of table.old now (row_of rows.old kept.peer) pdu.now kept) }
-        ensures ended { IfSome (kept_at self.old place) (λ kept. result.ended ≡ is_full pdu.now kept) }
-        ensures confirmed { IfSome (kept_at self.old place) (λ kept. result.confirmed ≡ confirmed_of pdu.now kept) }
+        requires row { IfSome (kept_at self.old place)
+            (λ kept. IsRowOf table.old.attributes (row_in_force (row_of rows.old kept.peer) kept)) }
+        ensures after { self.new
+            ≡ slots_at place
+            (λ kept. kept_served table.old now (row_of rows.old kept.peer) pdu.now kept) self.old }
+        ensures table { IfSome (kept_at self.old place) (λ kept. table.new
+            ≡ table_after table.old now (row_of rows.old kept.peer) pdu.now kept) }
+        ensures bond { IfSome (kept_at self.old place)
+            (λ kept. ChangesBond (bond_served table.old now changer
+            (row_of rows.old kept.peer) pdu.now kept) kept.peer rows.old rows.new) }
+        ensures written { IfSome (kept_at self.old place) (λ kept. written.new.items
+            ≡ handles_of table.old now (row_of rows.old kept.peer) pdu.now kept) }
+        ensures ended { IfSome (kept_at self.old place)
+            (λ kept. result.ended ≡ is_full pdu.now kept) }
+        ensures confirmed { IfSome (kept_at self.old place)
+            (λ kept. result.confirmed ≡ confirmed_of pdu.now kept) }
     {
         let brought = self.slots[place].serve(table, rows, changer, now, pdu, written);
         self.marks.serve(place, brought.ended);
@@ -332,7 +349,8 @@ impl Slots {
         handles: &[u16],
         now: u64,
     )
-        ensures heard { self.new ≡ all_heard table.now now rows.now own here.now handles.now self.old }
+        ensures heard { self.new
+            ≡ all_heard table.now now rows.now own here.now handles.now self.old }
         ensures count { length self.new ≡ length self.old }
     {
         // Most events tell no connection anything.
@@ -353,7 +371,8 @@ impl Slots {
         handles: &[u16],
         now: u64,
     )
-        ensures heard { self.new ≡ all_heard table.now now rows.now own here.now handles.now self.old }
+        ensures heard { self.new
+            ≡ all_heard table.now now rows.now own here.now handles.now self.old }
         ensures count { length self.new ≡ length self.old }
     {
         let before = self.marks;
@@ -391,7 +410,8 @@ fn hear_in(
 ) -> Heard
     requires few { length slots.old.items ≤ 8 }
     requires covered { CoversHeard slots.old.items before }
-    ensures heard { slots.new.items ≡ all_heard table.now now rows.now own here.now handles.now slots.old.items }
+    ensures heard { slots.new.items
+        ≡ all_heard table.now now rows.now own here.now handles.now slots.old.items }
     ensures count { length slots.new.items ≡ length slots.old.items }
     ensures covered { CoversHeard slots.new.items result }
 {

@@ -27,7 +27,8 @@ impl Heard {
     #[inline(always)]
     fn take(&mut self, place: usize, told: bool, waiting: bool)
         requires { place < 8 }
-        ensures { (slots : Held) (slot : Option Kept) → CoversHeard slots self.old → (told ≡ false → gives slot ≡ gives (kept_at slots place))
+        ensures { (slots : Held) (slot : Option Kept) → CoversHeard slots self.old
+            → (told ≡ false → gives slot ≡ gives (kept_at slots place))
             → (waiting ≡ false → waits slot ≡ false) → CoversHeard (set slots place slot) self.new }
     {
         if told {
@@ -55,7 +56,8 @@ pub(crate) fn hear_all(
 ) -> Heard
     requires few { length slots.old ≤ 8 }
     requires covered { CoversHeard slots.old before }
-    ensures heard { slots.new ≡ all_heard table.now now rows.now own here.now handles.now slots.old }
+    ensures heard { slots.new ≡ all_heard table.now now rows.now own here.now handles.now slots.old
+        slots.new ≡ all_heard table.now now rows.now own here.now handles.now slots.old }
     ensures covered { CoversHeard slots.new result }
 {
     let mut heard = before;
@@ -82,7 +84,8 @@ fn raise_all(
 )
     requires few { length slots.old ≤ 8 }
     requires covered { CoversHeard slots.old heard.old }
-    ensures raised { slots.new ≡ all_raised_in_turn table.now now rows.now own others handles.now slots.old }
+    ensures raised { slots.new
+        ≡ all_raised_in_turn table.now now rows.now own others handles.now slots.old }
     ensures covered { CoversHeard slots.new heard.new }
     ensures count { length slots.new ≡ length slots.old }
 {
@@ -126,7 +129,8 @@ fn raise_each(
 )
     requires few { length slots.old ≤ 8 }
     requires covered { CoversHeard slots.old heard.old }
-    ensures raised { slots.new ≡ all_raised raised.now.table now rows.now own others raised.now.handle slots.old }
+    ensures raised { slots.new
+        ≡ all_raised raised.now.table now rows.now own others raised.now.handle slots.old }
     ensures covered { CoversHeard slots.new heard.new }
 {
     for place in 0..slots.len() {
@@ -157,7 +161,9 @@ fn raise_at(
     requires few { length slots.old ≤ 8 }
     requires place { place < length slots.old }
     requires covered { CoversHeard slots.old heard.old }
-    ensures slots { slots.new ≡ set slots.old place (raised_by raised.now.table now rows.now raised.now.handle (kept_at slots.old place)) }
+    ensures slots { slots.new
+        ≡ set slots.old place
+        (raised_by raised.now.table now rows.now raised.now.handle (kept_at slots.old place)) }
     ensures covered { CoversHeard slots.new heard.new }
 {
     let notified = slots[place].raise(raised, rows, now);
@@ -191,8 +197,10 @@ fn release_at(
 )
     requires few { length slots.old ≤ 8 }
     requires place { place < length slots.old }
-    ensures slots { slots.new ≡ set slots.old place (heard_by table.now now rows.now [] (kept_at slots.old place)) }
-    ensures packets { Covers Packet heard.old.packets.bits slots.old → Covers Packet heard.new.packets.bits slots.new }
+    ensures slots { slots.new
+        ≡ set slots.old place (heard_by table.now now rows.now [] (kept_at slots.old place)) }
+    ensures packets { Covers Packet heard.old.packets.bits slots.old
+        → Covers Packet heard.new.packets.bits slots.new }
     ensures waiting { waits (kept_at slots.new place) ≡ true → heard.new.waiting ≡ true }
     ensures still { heard.old.waiting ≡ true → heard.new.waiting ≡ true }
 {

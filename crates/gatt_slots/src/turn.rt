@@ -100,7 +100,8 @@ impl Slot {
 
     /// The controller asked for the key of the link: it is looked up, and a reply is due.
     pub fn ask_key(&mut self, keys: &Keys, random_number: [u8; 8], diversifier: u16)
-        ensures { self.new ≡ option_map (λ kept. after_key_asked (answer_of keys.now kept.peer random_number diversifier) kept) self.old }
+        ensures { self.new ≡ option_map (λ kept. after_key_asked
+            (answer_of keys.now kept.peer random_number diversifier) kept) self.old }
     {
         let found = keys.answer(&self.peer, random_number, diversifier);
         self.link.request(found);
@@ -110,8 +111,10 @@ impl Slot {
     /// Encryption of the link was changed, or could not be: `true` where it has a key now and had
     /// none. Where it lost its key the connection is ended.
     pub fn encrypt(&mut self, status: u8, enabled: u8) -> bool
-        ensures after { self.new ≡ option_map (after_link_step (Encryption status enabled)) self.old }
-        ensures gained { IfSome self.old (λ kept. result ≡ gained_encryption kept.link.key (after_step kept.link (Encryption status enabled)).key) }
+        ensures after { self.new ≡ option_map (after_link_step (Encryption status enabled)) self.old
+            self.new ≡ option_map (after_link_step (Encryption status enabled)) self.old }
+        ensures gained { IfSome self.old (λ kept. result ≡ gained_encryption kept.link.key
+            (after_step kept.link (Encryption status enabled)).key) }
     {
         let had_key = self.link.facts().is_some();
         self.link.encryption(status, enabled);
@@ -121,7 +124,8 @@ impl Slot {
     /// The key of the link was refreshed, or could not be.
     pub fn refresh(&mut self, status: u8) -> bool
         ensures after { self.new ≡ option_map (after_link_step (Refresh status)) self.old }
-        ensures gained { IfSome self.old (λ kept. result ≡ gained_encryption kept.link.key (after_step kept.link (Refresh status)).key) }
+        ensures gained { IfSome self.old (λ kept. result
+            ≡ gained_encryption kept.link.key (after_step kept.link (Refresh status)).key) }
     {
         let had_key = self.link.facts().is_some();
         self.link.refresh(status);
@@ -145,7 +149,8 @@ impl Slot {
     /// connection is ended, since there is no room for the answer.
     pub fn signal(&mut self, channel: u16, payload: &[u8]) -> bool
         ensures after { self.new ≡ option_map (after_signal channel payload.now) self.old }
-        ensures ended { IfSome self.old (λ kept. result ≡ has_no_room (channel_answer channel payload.now) kept) }
+        ensures ended { IfSome self.old
+            (λ kept. result ≡ has_no_room (channel_answer channel payload.now) kept) }
     {
         match channel {
             LE_SIGNALLING => match signalling(payload) {
@@ -212,7 +217,8 @@ impl Slot {
     /// Takes in that a table replaces another: what is configured stays where it has its meaning, and
     /// nothing is prepared or waits any more.
     pub fn replace(&mut self, old: &Table, new: &Table)
-        ensures { self.new ≡ option_map (after_table old.now.attributes new.now.attributes) self.old }
+        ensures { self.new ≡ option_map (after_table old.now.attributes new.now.attributes) self.old
+            self.new ≡ option_map (after_table old.now.attributes new.now.attributes) self.old }
     {
         self.row.keep(old, new);
         if self.used == Use::Live {

@@ -64,7 +64,8 @@ pub fn fit_entries(entries: &[RowEntry], peer: &Peer, table: &Table) -> ConfigRo
 #[tactic(auto, using(crate::proofs::Supported::supports))]
 fn set_supported(row: &mut ConfigRow, table: &Table, handle: u16, bits: u8)
     requires { IsRowOf table.now.attributes row.old }
-    ensures after { row.new ≡ (if is_supported table.now.attributes (handle, bits) then with_bits row.old handle bits else row.old) }
+    ensures after { row.new ≡ (if is_supported table.now.attributes
+        (handle, bits) then with_bits row.old handle bits else row.old) }
     ensures table { IsRowOf table.now.attributes row.new }
 {
     if table.supports(handle, bits) {

@@ -47,11 +47,13 @@ impl<'a> Raised<'a> {
     #[inline(always)]
     #[tactic(auto, using(crate::proofs::Unheard::unheard))]
     pub fn of(table: &'a Table, handle: u16) -> Option<Raised<'a>>
-        ensures raised { IfSome result (λ raised. raised ≡ record { table = table.now; handle = handle }) }
+        ensures raised { IfSome result
+            (λ raised. raised ≡ record { table = table.now; handle = handle }) }
         ensures value { IfSome result (λ raised. is_value_at table.now.attributes handle ≡ true) }
         ensures used { IfSome result (λ raised. 0 < handle) }
         ensures most { IfSome result (λ raised. handle ≤ 1024) }
-        ensures none { IsNone result → (row : Row) (standing : Standing) → may_hear_at table.now.attributes row standing handle ≡ false }
+        ensures none { IsNone result → (row : Row) (standing : Standing)
+            → may_hear_at table.now.attributes row standing handle ≡ false }
     {
         let attr = table.get(handle)?;
         if attr.role != Role::Value || attr.guard.properties.configuration_bits() == 0 {
@@ -87,8 +89,10 @@ impl<'a> Raised<'a> {
     /// How a connection is told of it, if it may hear of it.
     #[inline(always)]
     pub(crate) fn telling(&self, row: &ConfigRow, standing: &Standing) -> Option<Telling>
-        ensures may { is_some result ≡ may_hear_at self.now.table.attributes row.now standing.entry.now self.now.handle }
-        ensures indicated { IfSome result (λ telling. is_indication telling ≡ wants_indications row.now self.now.handle) }
+        ensures may { is_some result
+            ≡ may_hear_at self.now.table.attributes row.now standing.entry.now self.now.handle }
+        ensures indicated { IfSome result
+            (λ telling. is_indication telling ≡ wants_indications row.now self.now.handle) }
     {
         let bits = bits_for(row, self.handle);
         if !is_heard(self.guard, self.unguarded, bits, standing) {

@@ -78,8 +78,10 @@ impl Pending {
         standing: &Standing,
         backlog: usize,
     ) -> bool
-        ensures notified { result ≡ is_notified self.old table.now.attributes row.now standing.entry.now handle backlog }
-        ensures pending { self.new ≡ after_raise self.old table.now.attributes row.now standing.entry.now handle }
+        ensures notified { result
+            ≡ is_notified self.old table.now.attributes row.now standing.entry.now handle backlog }
+        ensures pending { self.new
+            ≡ after_raise self.old table.now.attributes row.now standing.entry.now handle }
         ensures room { OnTrue result (backlog < 8) }
         ensures value { OnTrue result (is_value_at table.now.attributes handle ≡ true) }
     {
@@ -125,8 +127,10 @@ impl Pending {
         backlog: usize,
         now: u64,
     ) -> Option<u16>
-        ensures due { result ≡ released_handle self.old table.now.attributes row.now standing.entry.now backlog }
-        ensures pending { self.new ≡ after_release self.old table.now.attributes row.now standing.entry.now backlog now }
+        ensures due { result
+            ≡ released_handle self.old table.now.attributes row.now standing.entry.now backlog }
+        ensures pending { self.new
+            ≡ after_release self.old table.now.attributes row.now standing.entry.now backlog now }
         ensures room { IfSome result (λ handle. backlog < 8) }
         ensures value { IfSome result (λ handle. is_value_at table.now.attributes handle ≡ true) }
     {
@@ -248,8 +252,10 @@ fn take_due(
     standing: &Standing,
 ) -> Option<u16>
     requires { HaveOnePlace waiting.old.items }
-    ensures due { result ≡ first_of (from_due (is_indicated table.now.attributes row.now standing.entry.now) waiting.old.items) }
-    ensures rest { waiting.new.items ≡ rest_of (from_due (is_indicated table.now.attributes row.now standing.entry.now) waiting.old.items) }
+    ensures due { result ≡ first_of (from_due
+        (is_indicated table.now.attributes row.now standing.entry.now) waiting.old.items) }
+    ensures rest { waiting.new.items ≡ rest_of (from_due
+        (is_indicated table.now.attributes row.now standing.entry.now) waiting.old.items) }
     ensures value { IfSome result (λ handle. is_value_at table.now.attributes handle ≡ true) }
     ensures places { HaveOnePlace waiting.new.items }
 {

@@ -114,7 +114,8 @@ impl Rows {
         peers: &[Peer],
         table: &Table,
     ) -> Result<Vec<Bond>, AllocError>
-        ensures { IfOk result (λ bonds. bonds.items ≡ map (fitted_bond table.now self.now) peers.now) }
+        ensures { IfOk result
+            (λ bonds. bonds.items ≡ map (fitted_bond table.now self.now) peers.now) }
     {
         let changer = table.changer();
         let mut bonds = Vec::new(alloc);
@@ -149,8 +150,10 @@ impl Rows {
     /// then the peers that are owed. Where the sink fails, the front of that is written.
     #[tactic(auto, using(crate::proofs::ReadBack::reads_back, crate::proofs::RowsFitted::fitted_can_be_written))]
     pub fn text<W: Sink>(&self, sink: &mut W) -> Result<(), Failed>
-        ensures ok { OnOk result (Appends (W.contents sink.old) (W.contents sink.new) (text_of self.now)) }
-        ensures front { OnErr result (WritesFront (text_of self.now) (W.contents sink.old) (W.contents sink.new)) }
+        ensures ok { OnOk result
+            (Appends (W.contents sink.old) (W.contents sink.new) (text_of self.now)) }
+        ensures front { OnErr result
+            (WritesFront (text_of self.now) (W.contents sink.old) (W.contents sink.new)) }
         ensures failures { CountsFailure (W.failures sink.old) (W.failures sink.new) result }
         // And it is read as what the rows say, as fitted rows can be written.
         ensures read_back { ReadsBack self.now }
@@ -192,7 +195,9 @@ impl Rows {
         ensures* writes_back { sem 𝓛 (LendsRow self.entry peer.now result) }
         ensures row { IfSome result (λ row. row_of self.old peer.now ≡ Some row.now) }
         ensures none { IsNone result → IsNone (row_of self.old peer.now) }
-        ensures changes { (row : Row) → ChangesBond (with_row row) peer.now self.old (with_bond self.old peer.now (with_row row)) }
+        ensures changes { (row : Row)
+            → ChangesBond (with_row row) peer.now self.old
+            (with_bond self.old peer.now (with_row row)) }
     {
         let place = place_of(&self.peers, peer)?;
         Some(&mut self.bonds[place].row)
@@ -203,7 +208,8 @@ impl Rows {
     pub fn set(&mut self, peer: &Peer, handle: u16, bits: u8)
         requires handle { 0 < handle }
         requires bits { bits ≤ 3 }
-        requires room { IfSome (row_of self.old peer.now) (λ row. HasOneEntryEach row → IsTrue (has_room row handle)) }
+        requires room { IfSome (row_of self.old peer.now)
+            (λ row. HasOneEntryEach row → IsTrue (has_room row handle)) }
         ensures { ChangesBond (with_set handle bits) peer.now self.old self.new }
     {
         if let Some(place) = place_of(&self.peers, peer) {
@@ -222,8 +228,11 @@ impl Rows {
 
     /// Keeps of each row what has its meaning in the table that replaces another.
     pub fn keep(&mut self, old: &Table, new: &Table)
-        ensures kept { self.new ≡ record self.old { bonds = map (kept_bond old.now.attributes new.now.attributes) self.old.bonds } }
-        ensures each { (peer : Peer) → bond_of self.new peer ≡ option_map (kept_bond old.now.attributes new.now.attributes) (bond_of self.old peer) }
+        ensures kept { self.new ≡ record self.old { bonds = map
+            (kept_bond old.now.attributes new.now.attributes) self.old.bonds } }
+        ensures each { (peer : Peer)
+            → bond_of self.new peer
+            ≡ option_map (kept_bond old.now.attributes new.now.attributes) (bond_of self.old peer) }
     {
         keep_rows(&mut self.bonds, old, new);
     }
@@ -231,8 +240,11 @@ impl Rows {
     /// Sets that each peer whose row asks for indications of this changer is owed one, and no other.
     pub fn owe_changes(&mut self, changer: Option<u16>)
         requires most { IfSome changer (λ handle. handle ≤ 1024) }
-        ensures owed { self.new ≡ record self.old { bonds = map (with_changes_owed changer) self.old.bonds } }
-        ensures each { (peer : Peer) → bond_of self.new peer ≡ option_map (with_changes_owed changer) (bond_of self.old peer) }
+        ensures owed { self.new
+            ≡ record self.old { bonds = map (with_changes_owed changer) self.old.bonds } }
+        ensures each { (peer : Peer)
+            → bond_of self.new peer
+            ≡ option_map (with_changes_owed changer) (bond_of self.old peer) }
     {
         owe_where_wanted(&mut self.bonds, changer);
     }
@@ -250,7 +262,8 @@ fn owe_where_wanted(bonds: &mut Vec<Bond>, changer: Option<u16>)
 
 /// Keeps of the row of each bond what has its meaning in the table that replaces another.
 fn keep_rows(bonds: &mut Vec<Bond>, old: &Table, new: &Table)
-    ensures { bonds.new.items ≡ map (kept_bond old.now.attributes new.now.attributes) bonds.old.items }
+    ensures { bonds.new.items
+        ≡ map (kept_bond old.now.attributes new.now.attributes) bonds.old.items }
 {
     for place in 0..bonds.len() {
         bonds[place].row.keep(old, new);
@@ -286,7 +299,8 @@ fn set_bits(bonds: &mut Vec<Bond>, place: usize, handle: u16, bits: u8)
     requires place { place < length bonds.old.items }
     requires handle { 0 < handle }
     requires bits { bits ≤ 3 }
-    requires room { IfSome (slice_get bonds.old.items place) (λ bond. HasOneEntryEach bond.row → IsTrue (has_room bond.row handle)) }
+    requires room { IfSome (slice_get bonds.old.items place)
+        (λ bond. HasOneEntryEach bond.row → IsTrue (has_room bond.row handle)) }
     ensures { bonds.new.items ≡ bonds_with bonds.old.items place (with_set handle bits) }
 {
     bonds[place].row.set(handle, bits);

@@ -30,8 +30,10 @@ pub fn write_rows<W: Sink>(
     sink: &mut W,
 ) -> Result<(), Failed>
     requires { length bonds.now ≡ length peers.now }
-    ensures ok { OnOk result (Appends (W.contents sink.old) (W.contents sink.new) (text_in_parts peers.now bonds.now unfitted.now)) }
-    ensures front { OnErr result (WritesFront (text_in_parts peers.now bonds.now unfitted.now) (W.contents sink.old) (W.contents sink.new)) }
+    ensures ok { OnOk result (Appends (W.contents sink.old) (W.contents sink.new)
+        (text_in_parts peers.now bonds.now unfitted.now)) }
+    ensures front { OnErr result (WritesFront (text_in_parts peers.now bonds.now unfitted.now)
+        (W.contents sink.old) (W.contents sink.new)) }
     ensures failures { CountsFailure (W.failures sink.old) (W.failures sink.new) result }
 {
     write_bonds(peers, bonds, sink)?;
@@ -43,8 +45,10 @@ pub fn write_rows<W: Sink>(
 /// Writes the lines of what bonds have configured.
 fn write_bonds<W: Sink>(peers: &[Peer], bonds: &[Bond], sink: &mut W) -> Result<(), Failed>
     requires { length bonds.now ≡ length peers.now }
-    ensures ok { OnOk result (Appends (W.contents sink.old) (W.contents sink.new) (flat_map entry_line (bond_entries peers.now bonds.now))) }
-    ensures front { OnErr result (WritesFront (flat_map entry_line (bond_entries peers.now bonds.now)) (W.contents sink.old) (W.contents sink.new)) }
+    ensures ok { OnOk result (Appends (W.contents sink.old) (W.contents sink.new)
+        (flat_map entry_line (bond_entries peers.now bonds.now))) }
+    ensures front { OnErr result (WritesFront (flat_map entry_line
+        (bond_entries peers.now bonds.now)) (W.contents sink.old) (W.contents sink.new)) }
     ensures failures { CountsFailure (W.failures sink.old) (W.failures sink.new) result }
 {
     for place in 0..bonds.len() {
@@ -57,8 +61,10 @@ fn write_bonds<W: Sink>(peers: &[Peer], bonds: &[Bond], sink: &mut W) -> Result<
 /// Writes the lines of peers whose bonds are owed.
 fn write_owed_bonds<W: Sink>(peers: &[Peer], bonds: &[Bond], sink: &mut W) -> Result<(), Failed>
     requires { length bonds.now ≡ length peers.now }
-    ensures ok { OnOk result (Appends (W.contents sink.old) (W.contents sink.new) (flat_map owed_line (owed_peers peers.now bonds.now))) }
-    ensures front { OnErr result (WritesFront (flat_map owed_line (owed_peers peers.now bonds.now)) (W.contents sink.old) (W.contents sink.new)) }
+    ensures ok { OnOk result (Appends (W.contents sink.old) (W.contents sink.new)
+        (flat_map owed_line (owed_peers peers.now bonds.now))) }
+    ensures front { OnErr result (WritesFront (flat_map owed_line (owed_peers peers.now bonds.now))
+        (W.contents sink.old) (W.contents sink.new)) }
     ensures failures { CountsFailure (W.failures sink.old) (W.failures sink.new) result }
 {
     for place in 0..bonds.len() {
@@ -69,8 +75,10 @@ fn write_owed_bonds<W: Sink>(peers: &[Peer], bonds: &[Bond], sink: &mut W) -> Re
 
 /// Writes the line of a peer if it is owed.
 fn write_if<W: Sink>(owed: bool, peer: &Peer, sink: &mut W) -> Result<(), Failed>
-    ensures ok { OnOk result (Appends (W.contents sink.old) (W.contents sink.new) (if owed then owed_line peer.now else [])) }
-    ensures front { OnErr result (WritesFront (if owed then owed_line peer.now else []) (W.contents sink.old) (W.contents sink.new)) }
+    ensures ok { OnOk result (Appends (W.contents sink.old) (W.contents sink.new)
+        (if owed then owed_line peer.now else [])) }
+    ensures front { OnErr result (WritesFront (if owed then owed_line peer.now else [])
+        (W.contents sink.old) (W.contents sink.new)) }
     ensures failures { CountsFailure (W.failures sink.old) (W.failures sink.new) result }
 {
     if owed {
@@ -82,8 +90,10 @@ fn write_if<W: Sink>(owed: bool, peer: &Peer, sink: &mut W) -> Result<(), Failed
 
 /// Writes the lines of entries.
 fn write_entries<W: Sink>(entries: &[RowEntry], sink: &mut W) -> Result<(), Failed>
-    ensures ok { OnOk result (Appends (W.contents sink.old) (W.contents sink.new) (flat_map entry_line entries.now)) }
-    ensures front { OnErr result (WritesFront (flat_map entry_line entries.now) (W.contents sink.old) (W.contents sink.new)) }
+    ensures ok { OnOk result
+        (Appends (W.contents sink.old) (W.contents sink.new) (flat_map entry_line entries.now)) }
+    ensures front { OnErr result (WritesFront (flat_map entry_line entries.now)
+        (W.contents sink.old) (W.contents sink.new)) }
     ensures failures { CountsFailure (W.failures sink.old) (W.failures sink.new) result }
 {
     for entry in entries {
@@ -94,8 +104,10 @@ fn write_entries<W: Sink>(entries: &[RowEntry], sink: &mut W) -> Result<(), Fail
 
 /// Writes the lines of peers that are owed.
 fn write_owed<W: Sink>(peers: &[Peer], sink: &mut W) -> Result<(), Failed>
-    ensures ok { OnOk result (Appends (W.contents sink.old) (W.contents sink.new) (flat_map owed_line peers.now)) }
-    ensures front { OnErr result (WritesFront (flat_map owed_line peers.now) (W.contents sink.old) (W.contents sink.new)) }
+    ensures ok { OnOk result
+        (Appends (W.contents sink.old) (W.contents sink.new) (flat_map owed_line peers.now)) }
+    ensures front { OnErr result
+        (WritesFront (flat_map owed_line peers.now) (W.contents sink.old) (W.contents sink.new)) }
     ensures failures { CountsFailure (W.failures sink.old) (W.failures sink.new) result }
 {
     for peer in peers {

@@ -183,8 +183,10 @@ fn with_file<'a>(
     name: &'a str,
     about: &'a str,
 ) -> Result<Command<'a>, AllocError>
-    ensures app { IfOk result (λ added. app_of added ≡ with_rule (app_of command.entry) (file_rule name.entry.now)) }
-    ensures local { IfOk result (λ added. (out-Command added).has_globals ≡ (out-Command command.entry).has_globals) }
+    ensures app { IfOk result
+        (λ added. app_of added ≡ with_rule (app_of command.entry) (file_rule name.entry.now)) }
+    ensures local { IfOk result
+        (λ added. (out-Command added).has_globals ≡ (out-Command command.entry).has_globals) }
 {
     command.arg(file_argument(alloc, name, about))
 }
@@ -222,8 +224,10 @@ fn with_option<'a>(
     name: &'a str,
     about: &'a str,
 ) -> Result<Command<'a>, AllocError>
-    ensures app { IfOk result (λ added. app_of added ≡ with_rule (app_of command.entry) (option_rule name.entry.now)) }
-    ensures local { IfOk result (λ added. (out-Command added).has_globals ≡ (out-Command command.entry).has_globals) }
+    ensures app { IfOk result
+        (λ added. app_of added ≡ with_rule (app_of command.entry) (option_rule name.entry.now)) }
+    ensures local { IfOk result
+        (λ added. (out-Command added).has_globals ≡ (out-Command command.entry).has_globals) }
 {
     command.arg(file_option(alloc, name, about))
 }
@@ -247,8 +251,10 @@ fn with_flag<'a>(
     name: &'a str,
     about: &'a str,
 ) -> Result<Command<'a>, AllocError>
-    ensures app { IfOk result (λ added. app_of added ≡ with_rule (app_of command.entry) (flag_rule name.entry.now)) }
-    ensures local { IfOk result (λ added. (out-Command added).has_globals ≡ (out-Command command.entry).has_globals) }
+    ensures app { IfOk result
+        (λ added. app_of added ≡ with_rule (app_of command.entry) (flag_rule name.entry.now)) }
+    ensures local { IfOk result
+        (λ added. (out-Command added).has_globals ≡ (out-Command command.entry).has_globals) }
 {
     command.arg(flag_argument(alloc, name, about))
 }
@@ -317,7 +323,8 @@ pub fn chosen<'a>(alloc: Global, words: &'a [String]) -> Result<Choice<'a>, Refu
     ensures named { IfOk result (λ choice.
         option_map (λ named. named.0) (subcommand_of command_line (map string_bytes words.now))
         ≡ Some (name_of choice)) }
-    ensures files { IfOk result (HasFiles (subcommand_of command_line (map string_bytes words.now))) }
+    ensures files { IfOk result (HasFiles (subcommand_of command_line (map string_bytes words.now)))
+        IfOk result (HasFiles (subcommand_of command_line (map string_bytes words.now))) }
     ensures faultless { IfOk result (λ _.
         fault_of command_line (map string_bytes words.now) ≡ []) }
 

@@ -127,7 +127,8 @@ pub fn is_frame(octets: &[u8]) -> bool
 #[inline(always)]
 fn join(octets: &mut [u8; LARGEST], len: &mut usize, fragment: &[u8]) -> State
     requires { len.old ≤ 521 }
-    ensures joined { assembly_of result (take len.new octets.new) ≡ assembled_of (take len.old octets.old ++ fragment.now) }
+    ensures joined { assembly_of result (take len.new octets.new)
+        ≡ assembled_of (take len.old octets.old ++ fragment.now) }
     ensures within { len.new ≤ 521 }
 {
     if fragment.len() > LARGEST - *len {

@@ -98,7 +98,9 @@ impl Sender {
     /// Queues what was put into the room, as a PDU on a channel.
     pub fn push(&mut self, cid: u16)
         requires { IsSome self.old.room }
-        ensures { (payload : Octets) → self.old.room ≡ Some payload → self.new ≡ record { outgoing = with_pdu self.old.outgoing (cid, payload); room = None } }
+        ensures { (payload : Octets) → self.old.room ≡ Some payload
+            → self.new
+            ≡ record { outgoing = with_pdu self.old.outgoing (cid, payload); room = None } }
     {
         self.pdus.push(cid);
         self.lent = false;
@@ -108,7 +110,8 @@ impl Sender {
     pub fn queue(&mut self, cid: u16, first: &[u8], rest: &[u8])
         requires room { length self.old.outgoing.queue < 16 }
         requires fits { length first.now + length rest.now ≤ 517 }
-        ensures { self.new ≡ record { outgoing = with_pdu self.old.outgoing (cid, first.now ++ rest.now); room = None } }
+        ensures { self.new ≡ record { outgoing = with_pdu self.old.outgoing
+            (cid, first.now ++ rest.now); room = None } }
     {
         self.pdus.queue(cid, first, rest);
         self.lent = false;
@@ -119,8 +122,10 @@ impl Sender {
     pub fn next(&mut self, handle: u16, out: &mut ArrayVec<u8, 260>) -> bool
         requires { handle < 2 ^ 12 }
         ensures gives { result ≡ may_give self.old.outgoing }
-        ensures given { OnTrue result (option_map (acl_octets handle) (next_of self.old.outgoing.queue) ≡ Some out.new.items) }
-        ensures after { OnTrue result (self.new ≡ record self.old { outgoing = after_next self.old.outgoing }) }
+        ensures given { OnTrue result (option_map (acl_octets handle)
+            (next_of self.old.outgoing.queue) ≡ Some out.new.items) }
+        ensures after { OnTrue result
+            (self.new ≡ record self.old { outgoing = after_next self.old.outgoing }) }
         ensures unchanged { OnFalse result (self.new ≡ self.old) }
         ensures out_unchanged { OnFalse result (out.new.items ≡ out.old.items) }
     {
@@ -137,8 +142,10 @@ impl Sender {
     pub fn next_packet(&mut self, handle: u16, out: &mut PacketBuf) -> bool
         requires { handle < 2 ^ 12 }
         ensures gives { result ≡ may_give self.old.outgoing }
-        ensures given { OnTrue result (option_map (acl_octets handle) (next_of self.old.outgoing.queue) ≡ Some out.new) }
-        ensures after { OnTrue result (self.new ≡ record self.old { outgoing = after_next self.old.outgoing }) }
+        ensures given { OnTrue result
+            (option_map (acl_octets handle) (next_of self.old.outgoing.queue) ≡ Some out.new) }
+        ensures after { OnTrue result
+            (self.new ≡ record self.old { outgoing = after_next self.old.outgoing }) }
         ensures unchanged { OnFalse result (self.new ≡ self.old) }
         ensures out_unchanged { OnFalse result (out.new ≡ out.old) }
     {
@@ -220,7 +227,9 @@ fn write_fragment(
     requires gone { 0 < gone → 4 ≤ gone }
     requires least { 4 ≤ acl_len }
     requires most { acl_len ≤ 251 }
-    ensures { out.new ≡ acl_octets handle (fragment_at gone (take acl_len (drop gone (frame_of (channel, payload.now))))) }
+    ensures { out.new
+        ≡ acl_octets handle
+        (fragment_at gone (take acl_len (drop gone (frame_of (channel, payload.now))))) }
 {
     if gone == 0 {
         let header = frame_header(channel, payload.len() as u16);

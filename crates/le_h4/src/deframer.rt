@@ -74,17 +74,23 @@ impl Deframer {
     /// answers it again and changes nothing.
     pub fn feed(&mut self, octets: &[u8]) -> Result<Fed, H4Fault>
         // Whatever follows the octets that were taken, the packet that is marked comes first.
-        ensures divided { IfOk result (λ fed. (rest : Octets) → still self.old (take fed.used octets.now ++ rest)
+        ensures divided { IfOk result
+            (λ fed. (rest : Octets) → still self.old (take fed.used octets.now ++ rest)
             ≡ before (marks self.new) (still self.new rest)) }
         ensures marked { IfOk result (λ fed. IsTrue fed.packet ↔ IsSome self.new.marked) }
-        ensures spelled { IfOk result (λ fed. IfSome self.new.marked (EndsWith (self.old.gathered ++ take fed.used octets.now))) }
+        ensures spelled { IfOk result (λ fed. IfSome self.new.marked
+            (EndsWith (self.old.gathered ++ take fed.used octets.now))) }
         ensures used { IfOk result (λ fed. fed.used ≤ length octets.now) }
         ensures used_some { IfOk result (λ fed. IsSome self.new.marked → 0 < fed.used) }
-        ensures used_all { IfOk result (λ fed. IsNone self.new.marked → fed.used ≡ length octets.now) }
+        ensures used_all { IfOk result
+            (λ fed. IsNone self.new.marked → fed.used ≡ length octets.now) }
         // No whole packet is held back.
         ensures unfinished { OnOk result (still self.new [] ≡ unfinished) }
-        ensures desync { (indicator : ℕ) → (result ≡ Err (H4Fault.Desync indicator)) ↔ (still self.old octets.now ≡ lost indicator) }
-        ensures desynced { (indicator : ℕ) → result ≡ Err (H4Fault.Desync indicator) → self.new ≡ lost_at indicator }
+        ensures desync { (indicator : ℕ)
+            → (result ≡ Err (H4Fault.Desync indicator)) ↔
+            (still self.old octets.now ≡ lost indicator) }
+        ensures desynced { (indicator : ℕ) → result ≡ Err (H4Fault.Desync indicator)
+            → self.new ≡ lost_at indicator }
     {
         forget(&mut self.gathered, self.marked);
         match gather(&mut self.gathered, &mut self.skipping, octets) {
@@ -107,9 +113,11 @@ impl Deframer {
         ensures first { option_map (lying_in octets.now) result
             ≡ (if is_at_border self.now then kept_first (first_of octets.now) else None) }
         // Whatever follows the octets that it takes, the packet comes first.
-        ensures divided { IfSome result (λ whole. (rest : Octets) → still self.now (take whole.used octets.now ++ rest)
+        ensures divided { IfSome result
+            (λ whole. (rest : Octets) → still self.now (take whole.used octets.now ++ rest)
             ≡ before (seen whole.packet ∷ []) (still self.now rest)) }
-        ensures spelled { IfSome result (λ whole. Spells (take whole.used octets.now) (seen whole.packet)) }
+        ensures spelled { IfSome result
+            (λ whole. Spells (take whole.used octets.now) (seen whole.packet)) }
         ensures used { IfSome result (λ whole. whole.used ≤ length octets.now) }
         ensures used_some { IfSome result (λ whole. 0 < whole.used) }
         ensures unfinished { IfSome result (λ whole. still self.now [] ≡ unfinished) }
@@ -153,7 +161,8 @@ fn gather(gathered: &mut Gathered, skipping: &mut usize, octets: &[u8]) -> Resul
     requires fits { Fits gathered.old }
     requires unfinished { packet_in (first_of gathered.old) ≡ None }
     requires passes { 0 < skipping.old → gathered.old ≡ [] }
-    ensures gathers { Gathers skipping.old gathered.old octets.now result skipping.new gathered.new }
+    ensures gathers { Gathers skipping.old gathered.old octets.now result skipping.new gathered.new
+        Gathers skipping.old gathered.old octets.now result skipping.new gathered.new }
 {
     if !gathered.is_empty() || *skipping > 0 {
         return gather_by_parts(gathered, skipping, octets);
@@ -178,7 +187,8 @@ fn gather_by_parts(
     requires fits { Fits gathered.old }
     requires unfinished { packet_in (first_of gathered.old) ≡ None }
     requires passes { 0 < skipping.old → gathered.old ≡ [] }
-    ensures gathers { Gathers skipping.old gathered.old octets.now result skipping.new gathered.new }
+    ensures gathers { Gathers skipping.old gathered.old octets.now result skipping.new gathered.new
+        Gathers skipping.old gathered.old octets.now result skipping.new gathered.new }
 {
     let mut rest = octets;
     'packets: loop {

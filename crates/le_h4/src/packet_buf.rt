@@ -59,7 +59,8 @@ impl PacketBuf {
         requires handle { handle < 2 ^ 12 }
         requires pb { pb ≤ 3 }
         requires octets { length header.now + length octets.now ≤ 255 }
-        ensures { self.new ≡ 0x02 ∷ two_octets (handle + 2 ^ 12 * pb) ++ two_octets (length (header.now ++ octets.now))
+        ensures { self.new ≡ 0x02 ∷ two_octets (handle + 2 ^ 12 * pb) ++ two_octets
+            (length (header.now ++ octets.now))
             ++ header.now ++ octets.now }
     {
         let length = header.len() + octets.len();

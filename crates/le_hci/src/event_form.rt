@@ -127,7 +127,8 @@ fn read_number_of_completed_packets(parameters: &[u8]) -> Option<Event<'_>>
 /// As many entries as are counted.
 #[inline(always)]
 fn entries(count: u8, octets: &[u8]) -> Option<&[[u8; 4]]>
-    ensures { option_map (λ entries. map completed_packets_of entries.now) result ≡ completed_entries count octets.now }
+    ensures { option_map (λ entries. map completed_packets_of entries.now) result
+        ≡ completed_entries count octets.now }
 {
     let (entries, _) = octets.as_chunks::<4>();
     entries.get(..usize::from(count))

@@ -89,7 +89,8 @@ impl Init {
         ensures in_order { (answers : List Octets)
             → IsPrefixOf (commands_sent answers result) (commands_in_order address advertising.items (tell_shared (drop 3 answers))) }
         // Whatever the answers are, buffers that a state knows have 27 octets at least, and there is one.
-        ensures usable { (answers : List Octets) → KnowsUsable (state_after_answers answers result) }
+        ensures usable { (answers : List Octets) → KnowsUsable (state_after_answers answers result)
+            (answers : List Octets) → KnowsUsable (state_after_answers answers result) }
     {
         Init::Resetting(Settings {
             address,
@@ -134,7 +135,8 @@ impl Init {
         requires awaiting { IsSome (command_awaited self) }
         ensures exact { result ≡ outcome_of self parameters.now }
         ensures handed_back { IfErr result (λ e. e.1 ≡ self) }
-        ensures refused { (opcode status : ℕ) (returned : Octets) → opcode_awaited self ≡ Some opcode
+        ensures refused { (opcode status : ℕ) (returned : Octets)
+            → opcode_awaited self ≡ Some opcode
             → parameters.now ≡ status ∷ returned → status ≢ 0 → result ≡ Err (InitFault.Refused opcode status, self) }
     {
         let Some(command) = self.command() else {
@@ -196,7 +198,8 @@ impl Init {
 
 /// What a command returned after its status, where it was successful.
 fn values(opcode: u16, parameters: &[u8]) -> Result<&[u8], InitFault>
-    ensures { result_map_both (λ values. values.now) (λ fault. fault) result ≡ values_of opcode parameters.now }
+    ensures { result_map_both (λ values. values.now) (λ fault. fault) result
+        ≡ values_of opcode parameters.now }
 {
     match parameters {
         [] => Err(InitFault::Short),

@@ -92,7 +92,8 @@ pub fn read_entry(entries: &[Entry], element: &Value) -> Result<Entry, KeyFault>
 /// What an entry writes: `Shape` where its diversifier is out of range, `Missing` where a key that
 /// it has to have is not there.
 fn read_written<'a>(table: &'a Table) -> Result<Written<'a>, KeyFault>
-    ensures written { result_map_both written_view (λ fault. fault) result ≡ written_at (table_view table.now) }
+    ensures written { result_map_both written_view (λ fault. fault) result
+        ≡ written_at (table_view table.now) }
     ensures is_toml { IfErr result (λ fault. fault ≢ NotToml) }
 {
     let diversifier = read_diversifier(toml_tables::integer(table, "ediv"))?;

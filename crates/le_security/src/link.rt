@@ -75,7 +75,8 @@ impl Link {
     #[tactic(auto, using(crate::proofs::Links::key_of_steps))]
     pub fn facts(&self) -> Option<KeyFacts>
         ensures key { result ≡ self.now.key }
-        ensures after_any_steps { (steps : List Step) → self.now ≡ after_steps steps → result ≡ key_after steps }
+        ensures after_any_steps { (steps : List Step) → self.now ≡ after_steps steps
+            → result ≡ key_after steps }
     {
         self.key
     }

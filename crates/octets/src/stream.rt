@@ -30,7 +30,8 @@ pub trait Source {
         ensures bound { IfOk result (λ count. count ≤ length buf.old) }
         ensures octets { ReadConsumes (remaining self.old) (remaining self.new) result buf.new }
         ensures reads { CountsOne (reads self.old) (reads self.new) }
-        ensures ends { CountsIf (finds_end result (length buf.old)) (ends self.old) (ends self.new) }
+        ensures ends { CountsIf (finds_end result (length buf.old)) (ends self.old) (ends self.new)
+            CountsIf (finds_end result (length buf.old)) (ends self.old) (ends self.new) }
         ensures failures { CountsFailure (failures self.old) (failures self.new) result };
 }
 
@@ -64,7 +65,8 @@ fn one_more(counted: Option<u64>) -> Option<u64>
 /// Writes octets out, or the front of them where the sink fails.
 pub fn write_all<W: Sink>(octets: &[u8], sink: &mut W) -> Result<(), Failed>
     ensures ok { OnOk result (Appends (W.contents sink.old) (W.contents sink.new) octets.now) }
-    ensures front { OnErr result (WritesFront octets.now (W.contents sink.old) (W.contents sink.new)) }
+    ensures front { OnErr result
+        (WritesFront octets.now (W.contents sink.old) (W.contents sink.new)) }
     ensures failures { CountsFailure (W.failures sink.old) (W.failures sink.new) result }
 {
     let mut rest = octets;
@@ -278,8 +280,10 @@ impl<const N: usize> Sink for ArraySink<N> {
     fn write(&mut self, buf: &[u8]) -> Result<usize, Failed>
         ensures bound { IfOk result (λ count. count ≤ length buf.now) }
         ensures progress { IfOk result (λ count. 0 < length buf.now → 0 < count) }
-        ensures octets { WriteAppends (Some (octets_taken self.old)) (Some (octets_taken self.new)) result buf.now }
-        ensures failures { CountsFailure (failed_array_writes self.old) (failed_array_writes self.new) result }
+        ensures octets { WriteAppends (Some (octets_taken self.old))
+            (Some (octets_taken self.new)) result buf.now }
+        ensures failures { CountsFailure (failed_array_writes self.old)
+            (failed_array_writes self.new) result }
         ensures full { IfErr result (λ _. length (octets_taken self.old) ≡ N) }
     {
         let count = buf.len().min(self.octets.remaining_capacity());

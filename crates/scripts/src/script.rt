@@ -99,7 +99,8 @@ impl<'a> Script<'a> {
 
     /// Takes in what the line of a number says.
     fn take(&mut self, has_next: bool, number: u64, said: Line<'a>) -> Result<(), ScriptFault>
-        ensures { Leaves OutOfMemory (with_said has_next number self.old said.entry) result self.new }
+        ensures { Leaves OutOfMemory (with_said has_next number self.old said.entry) result self.new
+            Leaves OutOfMemory (with_said has_next number self.old said.entry) result self.new }
     {
         let act = match said {
             Line::Phone { name, act } => {
@@ -128,8 +129,10 @@ impl<'a> Script<'a> {
 fn take_name<'a>(names: &mut Vec<Name<'a>>, name: Name<'a>, number: u64) -> Result<u8, ScriptFault>
     ensures few { number_in names.old.items name.entry < MAX_PHONES
         → Leaves OutOfMemory (Ok (with_name names.old.items name.entry)) result names.new.items }
-    ensures place { IfOk result (λ place. (place ≡ number_in names.old.items name.entry) × (place < MAX_PHONES)) }
-    ensures many { MAX_PHONES ≤ number_in names.old.items name.entry → result ≡ Err (ScriptFault.BadLine number) }
+    ensures place { IfOk result
+        (λ place. (place ≡ number_in names.old.items name.entry) × (place < MAX_PHONES)) }
+    ensures many { MAX_PHONES ≤ number_in names.old.items name.entry
+        → result ≡ Err (ScriptFault.BadLine number) }
 {
     let place = number_in(names, &name);
     if place >= MAX_PHONES {
@@ -175,7 +178,8 @@ fn place_of(names: &[Name<'_>], name: &Name<'_>) -> Option<usize>
 
 /// The first line of a text that has another one, and what stands behind its line feed.
 fn first_line(text: &str) -> Option<(&str, &str)>
-    ensures first { IfSome result (λ parts. lines_of text.now ≡ parts.0.now ∷ lines_of parts.1.now) }
+    ensures first { IfSome result (λ parts. lines_of text.now ≡ parts.0.now ∷ lines_of parts.1.now)
+        IfSome result (λ parts. lines_of text.now ≡ parts.0.now ∷ lines_of parts.1.now) }
     ensures only { IfNone result (lines_of text.now ≡ text.now ∷ []) }
     ensures shorter { IfSome result (λ parts. length parts.1.now < length text.now) }
 {

@@ -41,8 +41,10 @@ pub(crate) fn tell_frame(
     requires cut_least { 1 ≤ cut }
     requires cut_most { cut ≤ 251 }
     requires some { 0 < length frame.now }
-    ensures room { IsOk result ↔ (length waiting.old.items + length (told_frame phone cut frame.now) ≤ 64) }
-    ensures told { OnOk result (waiting.new ≡ buffer (waiting.old.items ++ told_frame phone cut frame.now) 64) }
+    ensures room { IsOk result ↔
+        (length waiting.old.items + length (told_frame phone cut frame.now) ≤ 64) }
+    ensures told { OnOk result
+        (waiting.new ≡ buffer (waiting.old.items ++ told_frame phone cut frame.now) 64) }
     ensures full { IfErr result (λ fault. fault ≡ SimFault.Full) }
     ensures unchanged { OnErr result (waiting.new ≡ waiting.old) }
 {

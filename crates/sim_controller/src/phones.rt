@@ -34,7 +34,9 @@ pub(crate) fn is_here(phones: &[Phone], phone: u8) -> bool
 /// Begins the connection of a phone.
 pub(crate) fn connect(phones: &mut [Phone], phone: u8)
     requires { phone < length phones.old }
-    ensures { phones.new ≡ slice_set phones.old phone (record (slice_index_or phones.old phone absent) { link = Some new_link }) }
+    ensures { phones.new
+        ≡ slice_set phones.old phone
+        (record (slice_index_or phones.old phone absent) { link = Some new_link }) }
 {
     phones[usize::from(phone)].connect();
 }
@@ -42,7 +44,9 @@ pub(crate) fn connect(phones: &mut [Phone], phone: u8)
 /// Ends the connection of a phone.
 pub(crate) fn leave(phones: &mut [Phone], phone: u8)
     requires { phone < length phones.old }
-    ensures { phones.new ≡ slice_set phones.old phone (record (slice_index_or phones.old phone absent) { link = None }) }
+    ensures { phones.new
+        ≡ slice_set phones.old phone
+        (record (slice_index_or phones.old phone absent) { link = None }) }
 {
     phones[usize::from(phone)].leave();
 }
@@ -50,7 +54,9 @@ pub(crate) fn leave(phones: &mut [Phone], phone: u8)
 /// Completes the packets of a phone no longer by themselves.
 pub(crate) fn hold(phones: &mut [Phone], phone: u8)
     requires { phone < length phones.old }
-    ensures { phones.new ≡ slice_set phones.old phone (record (slice_index_or phones.old phone absent) { link = option_map held_link (slice_index_or phones.old phone absent).link }) }
+    ensures { phones.new ≡ slice_set phones.old phone
+        (record (slice_index_or phones.old phone absent) { link = option_map held_link
+        (slice_index_or phones.old phone absent).link }) }
 {
     phones[usize::from(phone)].hold();
 }
@@ -72,7 +78,9 @@ pub(crate) fn here_with(phones: &[Phone], handle: u16) -> Option<u8>
 /// Ends the connection of a phone by a Disconnect of the host with this reason.
 pub(crate) fn end(phones: &mut [Phone], phone: u8, reason: u8)
     requires { phone < length phones.old }
-    ensures { phones.new ≡ slice_set phones.old phone (record (slice_index_or phones.old phone absent) { link = None; ended = Some reason }) }
+    ensures { phones.new
+        ≡ slice_set phones.old phone
+        (record (slice_index_or phones.old phone absent) { link = None; ended = Some reason }) }
 {
     phones[usize::from(phone)].end(reason);
 }
@@ -88,7 +96,8 @@ pub(crate) fn is_held(phones: &[Phone], phone: u8) -> bool
 /// Whether what a fragment for a phone came to is a frame that finds no room to wait.
 pub(crate) fn hears_too_much(phones: &[Phone], phone: u8, assembled: &Assembled) -> bool
     requires { phone < length phones.now }
-    ensures { result ≡ hears_too_much (slice_index_or phones.now phone absent) (assembly assembled.now) }
+    ensures { result
+        ≡ hears_too_much (slice_index_or phones.now phone absent) (assembly assembled.now) }
 {
     phones[usize::from(phone)].hears_too_much(assembled)
 }
@@ -96,7 +105,9 @@ pub(crate) fn hears_too_much(phones: &[Phone], phone: u8, assembled: &Assembled)
 /// What a fragment for a phone comes to.
 pub(crate) fn assemble(phones: &[Phone], phone: u8, begins: bool, octets: &[u8]) -> Assembled
     requires { phone < length phones.now }
-    ensures { assembly result ≡ assembled_in (slice_index_or phones.now phone absent).link (fragment_that begins octets.now) }
+    ensures { assembly result
+        ≡ assembled_in (slice_index_or phones.now phone absent).link
+        (fragment_that begins octets.now) }
 {
     phones[usize::from(phone)].assemble(begins, octets)
 }
@@ -104,8 +115,11 @@ pub(crate) fn assemble(phones: &[Phone], phone: u8, begins: bool, octets: &[u8])
 /// Takes in what a fragment for a phone came to.
 pub(crate) fn take_in(phones: &mut [Phone], phone: u8, assembled: Assembled)
     requires phone { phone < length phones.old }
-    requires room { IsFalse (hears_too_much (slice_index_or phones.old phone absent) (assembly assembled)) }
-    ensures { phones.new ≡ slice_set phones.old phone (with_assembly (slice_index_or phones.old phone absent) (assembly assembled)) }
+    requires room { IsFalse
+        (hears_too_much (slice_index_or phones.old phone absent) (assembly assembled)) }
+    ensures { phones.new
+        ≡ slice_set phones.old phone
+        (with_assembly (slice_index_or phones.old phone absent) (assembly assembled)) }
 {
     phones[usize::from(phone)].take_in(assembled);
 }
@@ -113,11 +127,13 @@ pub(crate) fn take_in(phones: &mut [Phone], phone: u8, assembled: Assembled)
 /// Writes the first frame that waits for a phone in place of what `out` holds, where there is one.
 pub(crate) fn hear(phones: &mut [Phone], phone: u8, out: &mut ArrayVec<u8, 521>) -> bool
     requires { phone < length phones.old }
-    ensures frame { OnTrue result (slice_get (slice_index_or phones.old phone absent).heard 0 ≡ Some out.new.items) }
+    ensures frame { OnTrue result
+        (slice_get (slice_index_or phones.old phone absent).heard 0 ≡ Some out.new.items) }
     ensures none { OnFalse result ((slice_index_or phones.old phone absent).heard ≡ []) }
     ensures out_unchanged { OnFalse result (out.new.items ≡ out.old.items) }
     ensures within { length (slice_index_or phones.old phone absent).heard ≤ 16 }
-    ensures after { phones.new ≡ slice_set phones.old phone (after_hearing (slice_index_or phones.old phone absent)) }
+    ensures after { phones.new
+        ≡ slice_set phones.old phone (after_hearing (slice_index_or phones.old phone absent)) }
 {
     phones[usize::from(phone)].hear(out)
 }
@@ -126,7 +142,8 @@ pub(crate) fn hear(phones: &mut [Phone], phone: u8, out: &mut ArrayVec<u8, 521>)
 pub(crate) fn ended(phones: &mut [Phone], phone: u8) -> Option<u8>
     requires { phone < length phones.old }
     ensures reason { result ≡ (slice_index_or phones.old phone absent).ended }
-    ensures after { phones.new ≡ slice_set phones.old phone (after_telling (slice_index_or phones.old phone absent)) }
+    ensures after { phones.new
+        ≡ slice_set phones.old phone (after_telling (slice_index_or phones.old phone absent)) }
 {
     phones[usize::from(phone)].ended()
 }

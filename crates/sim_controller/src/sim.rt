@@ -147,7 +147,8 @@ impl Sim {
     /// Has the host told something of a phone that is connected.
     fn tell_of(&mut self, phone: u8, told: Told) -> Result<(), SimFault>
         requires { phone < 8 }
-        ensures { IsDone (telling_fault self.old phone (told ∷ [])) (with_told self.old (told ∷ [])) self.old self.new result }
+        ensures { IsDone (telling_fault self.old phone (told ∷ []))
+            (with_told self.old (told ∷ [])) self.old self.new result }
     {
         if !is_here(&self.phones, phone) {
             return Err(SimFault::NotHere);
@@ -181,7 +182,8 @@ impl Sim {
 
     /// Answers a command.
     fn answer(&mut self, asked: Asked) -> Result<(), SimFault>
-        ensures { IsDone (command_fault self.old asked) (after_command self.old asked) self.old self.new result }
+        ensures { IsDone (command_fault self.old asked)
+            (after_command self.old asked) self.old self.new result }
     {
         let answer = answer_to(&self.config, asked);
         match asked {
@@ -216,7 +218,8 @@ impl Sim {
     /// Writes the first packet that waits for the host in place of what `out` holds. There is none,
     /// and nothing changes, where it answers `false`.
     pub fn next_to_host(&mut self, out: &mut ArrayVec<u8, 260>) -> bool
-        ensures packet { OnTrue result (option_map (λ told. octets_of (sent_of told)) (slice_get self.old.waiting 0) ≡ Some out.new.items) }
+        ensures packet { OnTrue result (option_map (λ told. octets_of (sent_of told))
+            (slice_get self.old.waiting 0) ≡ Some out.new.items) }
         ensures none { OnFalse result (self.old.waiting ≡ []) }
         ensures out_unchanged { OnFalse result (out.new.items ≡ out.old.items) }
         ensures within { length self.old.waiting ≤ 64 }
@@ -279,11 +282,13 @@ impl Sim {
     /// of its payload. There is none, and nothing changes, where it answers `false`.
     pub fn heard(&mut self, phone: u8, out: &mut ArrayVec<u8, 521>) -> bool
         requires { phone < 8 }
-        ensures frame { OnTrue result (slice_get (phone_at self.old phone).heard 0 ≡ Some out.new.items) }
+        ensures frame { OnTrue result
+            (slice_get (phone_at self.old phone).heard 0 ≡ Some out.new.items) }
         ensures none { OnFalse result ((phone_at self.old phone).heard ≡ []) }
         ensures out_unchanged { OnFalse result (out.new.items ≡ out.old.items) }
         ensures within { length (phone_at self.old phone).heard ≤ 16 }
-        ensures after { self.new ≡ with_phone self.old phone (after_hearing (phone_at self.old phone)) }
+        ensures after { self.new
+            ≡ with_phone self.old phone (after_hearing (phone_at self.old phone)) }
     {
         hear(&mut self.phones, phone, out)
     }
@@ -292,7 +297,8 @@ impl Sim {
     pub fn ended(&mut self, phone: u8) -> Option<u8>
         requires { phone < 8 }
         ensures reason { result ≡ (phone_at self.old phone).ended }
-        ensures after { self.new ≡ with_phone self.old phone (after_telling (phone_at self.old phone)) }
+        ensures after { self.new
+            ≡ with_phone self.old phone (after_telling (phone_at self.old phone)) }
     {
         ended(&mut self.phones, phone)
     }

@@ -8,7 +8,8 @@ use toml::{Table, Value};
 /// What the table has at the key, of whatever type.
 #[tactic(auto, using(toml::proofs::Views::table_get))]
 fn get<'a>(table: &'a Table, key: &str) -> Option<&'a Value>
-    ensures { option_map (λ value. view value.now) result ≡ get_member key.now (table_view table.now) }
+    ensures { option_map (λ value. view value.now) result
+        ≡ get_member key.now (table_view table.now) }
 {
     table.get(key)
 }
@@ -43,7 +44,8 @@ pub fn integer(table: &Table, key: &str) -> Option<i64>
 
 /// The elements of the array at the key: `None` where there is no value, or one of another type.
 pub fn array<'a>(table: &'a Table, key: &str) -> Option<&'a [Value]>
-    ensures { option_map (λ items. items_view items.now) result ≡ array_at key.now (table_view table.now) }
+    ensures { option_map (λ items. items_view items.now) result
+        ≡ array_at key.now (table_view table.now) }
 {
     Some(get(table, key)?.as_array()?.as_slice())
 }

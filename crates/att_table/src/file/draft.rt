@@ -78,7 +78,8 @@ impl Draft {
     #[tactic(auto, using(crate::proofs::Services::earlier_exists))]
     pub fn earlier_service(&self, position: i64) -> Option<ServiceHandles>
         ensures service { result ≡ earlier_service self.now.attributes position }
-        ensures exists { IfSome result (λ service. IsSome (attribute_at self.now.attributes service.first)) }
+        ensures exists { IfSome result
+            (λ service. IsSome (attribute_at self.now.attributes service.first)) }
     {
         include::earlier_service(self.table.attributes(), position)
     }

@@ -82,7 +82,8 @@ fn with_property(
 
 /// The value at `value`.
 fn read_value(table: &Table) -> Result<ArrayVec<u8, 512>, TableFault>
-    ensures { result_map_both (λ octets. octets.items) (λ fault. fault) result ≡ value_read_at (table_view table.now) }
+    ensures { result_map_both (λ octets. octets.items) (λ fault. fault) result
+        ≡ value_read_at (table_view table.now) }
 {
     let text = toml_tables::text(table, "value").ok_or(TableFault::Missing(Name::Value))?;
     field::read_value(text)
@@ -96,11 +97,13 @@ pub fn read_placed(
     handle: u16,
     allowed: Properties,
 ) -> Result<Placed, TableFault>
-    ensures placed { result_map_both placed_view (λ fault. fault) result ≡ placed_of role handle allowed (table_view table.now) }
+    ensures placed { result_map_both placed_view (λ fault. fault) result
+        ≡ placed_of role handle allowed (table_view table.now) }
     ensures handle { IfOk result (λ placed. placed.attr.handle ≡ handle) }
     ensures fits { IfOk result (λ placed. length placed.value.items ≤ placed.attr.largest) }
     ensures largest { IfOk result (λ placed. placed.attr.largest ≤ 512) }
-    ensures exact { IfOk result (λ placed. placed.attr.fixed ≡ true → length placed.value.items ≡ placed.attr.largest) }
+    ensures exact { IfOk result
+        (λ placed. placed.attr.fixed ≡ true → length placed.value.items ≡ placed.attr.largest) }
     ensures role { IfOk result (λ placed. placed.attr.role ≡ role) }
 {
     let kind = read_value_type(table)?;
