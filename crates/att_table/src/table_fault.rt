@@ -91,11 +91,13 @@ impl fmt::Display for TableFault {
             TableFault::BadUuid => "a uuid is none, or is one that may not stand there",
             TableFault::BadHex => "a value is not an even number of hexadecimal digits",
             TableFault::TooLong => "a value of more than 512 octets, or a max out of its range",
-            TableFault::BadSecurity => "a need with a key_size out of its range, or with another key",
+            TableFault::BadSecurity =>
+                "a need with a key_size out of its range, or with another key",
             TableFault::BadProperty => {
                 "a property that is unknown or not allowed there, or a config with nothing to configure"
             }
-            TableFault::TooMany => "more attributes, configurations or octets than a table may have",
+            TableFault::TooMany =>
+                "more attributes, configurations or octets than a table may have",
             TableFault::BadInclude => "an include of a service that does not stand before",
             TableFault::OutOfMemory => "memory was refused",
             TableFault::Shape => "a key that is unknown, or of another TOML type than its own",
