@@ -2,6 +2,7 @@ pub mod Configurations
 pub mod Digits
 pub mod Facts
 pub mod Faults
+pub mod Found
 pub mod Kept
 pub mod Parsed
 pub mod Rows

@@ -21,7 +21,7 @@ use Rattle.att_table.proofs.Facts.{facts_of}
 use Rattle.att_table.proofs.Tables.{kept-length}
 
 -- what holds of each attribute holds of the one that is found
-found-all : (P : Attr → Type 0) (test : Attr → Bool) (attributes : List Attr) (attr : Attr) → All P attributes → find test attributes ≡ Some attr → P attr
+pub found-all : (P : Attr → Type 0) (test : Attr → Bool) (attributes : List Attr) (attr : Attr) → All P attributes → find test attributes ≡ Some attr → P attr
 found-all P test [] attr all = λ found. cc found
 found-all P test (first ∷ rest) attr all =
     elim (test first) as (λ passes. cond passes (Some first) (find test rest) ≡ Some attr → P attr) [
@@ -88,7 +88,7 @@ found-at test (next ∷ rest) first attr handles =
       | false ↦ λ is found. found-later test next attr rest first (found-at test rest (first + 1) attr handles.1 found)
     ] refl
 
-attribute-there : (attributes : List Attr) (handle : Handle) (attr : Attr) → 1 ≤ handle → slice_get attributes (handle - 1) ≡ Some attr → attribute_at attributes handle ≡ Some attr
+pub attribute-there : (attributes : List Attr) (handle : Handle) (attr : Attr) → 1 ≤ handle → slice_get attributes (handle - 1) ≡ Some attr → attribute_at attributes handle ≡ Some attr
 attribute-there attributes handle attr used at = grind (arith, nat_tests)
 
 -- what a changer is known to be

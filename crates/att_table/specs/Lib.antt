@@ -4,6 +4,7 @@ pub use Rattle.att_values.specs.ValueStore
 pub mod Changer
 pub mod ConfigRow
 pub mod Facts
+pub mod Find
 pub mod Table
 pub mod TableFault
 pub mod file

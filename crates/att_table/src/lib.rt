@@ -5,6 +5,7 @@ mod changer;
 mod config_row;
 pub mod examples;
 mod file;
+mod find;
 mod table;
 mod table_builder;
 mod table_fault;

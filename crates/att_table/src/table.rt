@@ -1,16 +1,17 @@
 ghost use Rattle.std.specs.Prelude.{◌≡◌, ◌+◌, ◌<◌, ◌≤◌, ◌∷◌, ◌++◌, [], true, map, length, sum_by, vec_len, IfSome, IsSome, OnOk, OnErr};
-ghost use Rattle.std.specs.Option.{option_copied};
+ghost use Rattle.std.specs.Option.{option_copied, option_map};
 ghost use Rattle.att_attributes.specs.declared.attr.Attr.{Attr};
 ghost use Rattle.att_values.specs.Cell.{value_with_part};
-ghost use Rattle.att_attributes.specs.Attributes.{attribute_at, attributes_in, configuration_bits_at, configurations_of, is_fixed_at};
+ghost use Rattle.att_attributes.specs.Attributes.{attribute_at, attributes_in, configuration_bits_at, configurations_of, is_fixed_at, is_value_at};
 ghost use Rattle.att_attributes.specs.Group.{group_ends_of, group_end_at};
 ghost use Rattle.att_attributes.specs.OfType.{handles_of_type, handles_by_type};
 ghost use Rattle.att_table.specs.Changer.{changer_of, IsOfAChanger};
 ghost use Rattle.att_table.specs.ConfigRow.{is_supported, HasRowRoom};
 ghost use Rattle.att_table.specs.Facts.{IsTable};
+ghost use Rattle.att_table.specs.Find.{value_found, value_where};
 ghost use Rattle.att_table.specs.Table.{Contents, octets_of, value_at, room_at, with_value, values_of, IsKept, IsWhole};
 
-use crate::changer;
+use crate::{changer, find};
 use att_attributes::{Attr, Role, Steps};
 use att_values::FlatStore;
 use std::marker::Model;
@@ -96,6 +97,27 @@ impl Table {
         ensures { result.now ≡ value_at self.now.values handle }
     {
         self.values.value_at(handle)
+    }
+
+    /// The value of the attribute at a handle, if there is one. That of a client characteristic
+    /// configuration is empty here.
+    pub fn value_of(&self, handle: u16) -> Option<&[u8]>
+        ensures { option_map (λ value. value.now) result ≡ value_where self.now handle }
+    {
+        self.get(handle)?;
+        Some(self.value(handle))
+    }
+
+    /// The handle of the value of the first characteristic of a type in the first service of a type,
+    /// if there is one. Types are UUIDs as numbers; one of 16 bits is written out in full (Core 5.0,
+    /// Vol 3 Part B, 2.5.1).
+    pub fn find(&self, service: u128, characteristic: u128) -> Option<u16>
+        ensures found { result ≡ value_found self.now service characteristic }
+        ensures value { IfSome result (λ handle. is_value_at self.now.attributes handle ≡ true) }
+    {
+        let declaration = find::service_of(&self.attributes, &self.values, service)?;
+        let last = self.group_end(declaration.handle);
+        find::value_among(self.in_range(declaration.handle, last), characteristic)
     }
 
     /// The last handle of the group that the attribute at a handle begins: of a service up to the
