@@ -14,7 +14,7 @@ use Rattle.att_policy.specs.declared.guard.Properties.{Properties}
 use Rattle.att_attributes.specs.declared.attr.Attr.{Attr}
 use Rattle.att_attributes.specs.declared.attr.Role.{Role}
 use Rattle.att_attributes.specs.declared.attr.Role.TheVariants.{Value as ValueRole, Descriptor}
-use Rattle.att_table.specs.declared.table_fault.Name.TheVariants.{Service as ServiceName, Uuid, Properties as PropertiesName, Value}
+use Rattle.att_table.specs.declared.table_fault.TableKey.TheVariants.{Service as ServiceName, Uuid, Properties as PropertiesName, Value}
 use Rattle.att_table.specs.declared.table_fault.TableFault.{TableFault}
 use Rattle.att_table.specs.declared.table_fault.TableFault.TheVariants.{NotToml, Missing, BadUuid, BadSecurity, BadProperty, BadInclude, TooLong, TooMany, Shape}
 use Rattle.att_table.specs.file.Field.{value_decoded, largest_of, property_named, has_all, key_size_of}

@@ -22,7 +22,7 @@ mod type_text;
 use crate::file::draft::Draft;
 use crate::file::service::Service;
 use crate::table::Table;
-use crate::table_fault::{Name, TableFault};
+use crate::table_fault::{TableFault, TableKey};
 use std::alloc::Global;
 
 impl Table {
@@ -49,7 +49,7 @@ fn read_document(alloc: Global, document: &toml::Table) -> Result<Table, TableFa
         return Err(TableFault::Shape);
     }
     let services = toml_tables::array(document, "service").ok_or(TableFault::Missing(
-        Name::Service,
+        TableKey::Service,
     ))?;
     let mut draft = Draft::new(alloc);
     part::read_all::<Service>(&mut draft, services)?;

@@ -16,4 +16,4 @@ pub use att_attributes::{
 pub use att_values::{Change, ValueStore, run};
 pub use config_row::ConfigRow;
 pub use table::Table;
-pub use table_fault::{Name, TableFault};
+pub use table_fault::{TableFault, TableKey};

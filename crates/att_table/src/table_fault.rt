@@ -8,7 +8,7 @@ use std::fmt;
 
 /// A key of a table file that has to be there.
 #[derive(Clone, Copy, Debug, PartialEq, Eq)]
-pub enum Name {
+pub enum TableKey {
     /// The array of services.
     Service,
     /// The type of a service, a characteristic or a descriptor.
@@ -25,7 +25,7 @@ pub enum TableFault {
     /// The text is not TOML.
     NotToml,
     /// A key that has to be there is not.
-    Missing(Name),
+    Missing(TableKey),
     /// A text is no UUID, or the UUID of a declaration or a client characteristic configuration
     /// where one of a value is wanted.
     BadUuid,
@@ -70,13 +70,13 @@ impl TableFault {
     }
 }
 
-impl fmt::Display for Name {
+impl fmt::Display for TableKey {
     fn fmt<W: fmt::Write>(&self, f: &mut fmt::Formatter<W>) -> fmt::Result {
         f.write_str(match self {
-            Name::Service => "service",
-            Name::Uuid => "uuid",
-            Name::Properties => "properties",
-            Name::Value => "value",
+            TableKey::Service => "service",
+            TableKey::Uuid => "uuid",
+            TableKey::Properties => "properties",
+            TableKey::Value => "value",
         })
     }
 }

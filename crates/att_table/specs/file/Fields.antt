@@ -8,7 +8,7 @@ use Rattle.att_policy.specs.declared.guard.Properties.{Properties}
 use Rattle.att_attributes.specs.declared.attr.Attr.{Attr}
 use Rattle.att_attributes.specs.declared.attr.Role.{Role}
 use Rattle.att_table.specs.declared.file.placed.Placed.{Placed}
-use Rattle.att_table.specs.declared.table_fault.Name.TheVariants.{Uuid, Properties as PropertiesName, Value}
+use Rattle.att_table.specs.declared.table_fault.TableKey.TheVariants.{Uuid, Properties as PropertiesName, Value}
 use Rattle.att_table.specs.declared.table_fault.TableFault.{TableFault}
 use Rattle.att_table.specs.declared.table_fault.TableFault.TheVariants.{Missing, BadUuid, BadProperty, Shape}
 use Rattle.att_table.specs.file.Field.{value_of, largest_of, property_named, both_of, all_of, has_all}

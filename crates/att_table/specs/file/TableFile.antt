@@ -14,7 +14,7 @@ use Rattle.att_policy.specs.declared.guard.Properties.{Properties}
 use Rattle.att_policy.specs.declared.guard.TheConstants.Properties.{READ, WRITE_WITHOUT_RESPONSE, WRITE, NOTIFY, INDICATE}
 use Rattle.att_attributes.specs.declared.attr.Attr.{Attr}
 use Rattle.att_attributes.specs.declared.attr.Role.TheVariants.{Value as ValueRole, Configuration, Descriptor}
-use Rattle.att_table.specs.declared.table_fault.Name.TheVariants.{Service}
+use Rattle.att_table.specs.declared.table_fault.TableKey.TheVariants.{Service}
 use Rattle.att_table.specs.declared.table_fault.TableFault.{TableFault}
 use Rattle.att_table.specs.declared.table_fault.TableFault.TheVariants.{NotToml, Missing, BadProperty, BadInclude, Shape}
 use Rattle.att_table.specs.file.Field.{all_of, has_any}

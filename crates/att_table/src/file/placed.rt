@@ -8,7 +8,7 @@ ghost use Rattle.toml_tables.specs.Reading.{each};
 ghost use Rattle.att_table.specs.file.Fields.{type_at, value_type_at, no_properties, property_step, properties_at, value_read_at, placed_of, placed_view};
 
 use crate::file::{field, needs, type_text};
-use crate::table_fault::{Name, TableFault};
+use crate::table_fault::{TableFault, TableKey};
 use arrayvec::ArrayVec;
 use att_attributes::{Attr, Role};
 use att_policy::{Guard, Properties};
@@ -28,7 +28,7 @@ pub struct Placed {
 pub fn read_type(table: &Table) -> Result<u128, TableFault>
     ensures { result ≡ type_at (table_view table.now) }
 {
-    let uuid = toml_tables::text(table, "uuid").ok_or(TableFault::Missing(Name::Uuid))?;
+    let uuid = toml_tables::text(table, "uuid").ok_or(TableFault::Missing(TableKey::Uuid))?;
     type_text::read_type(uuid).ok_or(TableFault::BadUuid)
 }
 
@@ -48,7 +48,7 @@ fn read_properties(table: &Table, allowed: Properties) -> Result<Properties, Tab
     ensures { result ≡ properties_at allowed (table_view table.now) }
 {
     let words = toml_tables::array(table, "properties").ok_or(TableFault::Missing(
-        Name::Properties,
+        TableKey::Properties,
     ))?;
     properties_of(words, allowed)
 }
@@ -85,7 +85,7 @@ fn read_value(table: &Table) -> Result<ArrayVec<u8, 512>, TableFault>
     ensures { result_map_both (λ octets. octets.items) (λ fault. fault) result
         ≡ value_read_at (table_view table.now) }
 {
-    let text = toml_tables::text(table, "value").ok_or(TableFault::Missing(Name::Value))?;
+    let text = toml_tables::text(table, "value").ok_or(TableFault::Missing(TableKey::Value))?;
     field::read_value(text)
 }
 
