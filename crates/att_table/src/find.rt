@@ -16,7 +16,8 @@ use att_values::FlatStore;
 #[tactic(auto, using(crate::proofs::Found::place_used))]
 pub fn service_of<'a>(attributes: &'a [Attr], values: &FlatStore, service: u128) -> Option<&'a Attr>
     requires { IsKept attributes.now values.now }
-    ensures { option_copied result ≡ service_of (record { attributes = attributes.now; values = values_of values.now }) service }
+    ensures { option_copied result ≡ service_of
+        (record { attributes = attributes.now; values = values_of values.now }) service }
 {
     let uuid = type_octets(service);
     for attr in attributes {
@@ -30,7 +31,8 @@ pub fn service_of<'a>(attributes: &'a [Attr], values: &FlatStore, service: u128)
 /// Whether an attribute declares a service of the type of these octets.
 fn declares_service(attr: &Attr, values: &FlatStore, uuid: &[u8]) -> bool
     requires { IsUsed values.now attr.now.handle }
-    ensures { result ≡ (is_service_type attr.now.kind && bytes_eq (value_at (values_of values.now) attr.now.handle) uuid.now) }
+    ensures { result ≡ (is_service_type attr.now.kind && bytes_eq
+        (value_at (values_of values.now) attr.now.handle) uuid.now) }
 {
     is_service(attr.kind) && values.value_at(attr.handle) == uuid
 }
