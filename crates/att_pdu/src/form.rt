@@ -123,8 +123,8 @@ fn read_blob(parameters: &[u8]) -> Option<Request<'_>>
 /// Core 5.0, Vol 3 Part F, 3.4.4.7.
 #[tactic(auto, using(crate::proofs::Handles::handles_in_pairs, crate::proofs::Handles::handles_spelled))]
 fn read_multiple(parameters: &[u8]) -> Option<Request<'_>>
-    ensures { IsForm READ_MULTIPLE_REQUEST parameters.now (read_multiple_form parameters.now) result
-        IsForm READ_MULTIPLE_REQUEST parameters.now (read_multiple_form parameters.now) result }
+    ensures { IsForm READ_MULTIPLE_REQUEST parameters.now
+        (read_multiple_form parameters.now) result }
 {
     match parameters.as_chunks::<2>() {
         (handles, []) if handles.len() >= 2 => Some(Request::ReadMultiple { handles }),
@@ -163,8 +163,8 @@ fn write(parameters: &[u8]) -> Option<Request<'_>>
 
 /// Core 5.0, Vol 3 Part F, 3.4.6.1.
 fn prepare_write(parameters: &[u8]) -> Option<Request<'_>>
-    ensures { IsForm PREPARE_WRITE_REQUEST parameters.now (prepare_write_form parameters.now) result
-        IsForm PREPARE_WRITE_REQUEST parameters.now (prepare_write_form parameters.now) result }
+    ensures { IsForm PREPARE_WRITE_REQUEST parameters.now
+        (prepare_write_form parameters.now) result }
 {
     match parameters {
         [low, high, offset_low, offset_high, part @ ..] => Some(Request::PrepareWrite {
@@ -178,8 +178,8 @@ fn prepare_write(parameters: &[u8]) -> Option<Request<'_>>
 
 /// Core 5.0, Vol 3 Part F, 3.4.6.3.
 fn execute_write(parameters: &[u8]) -> Option<Request<'_>>
-    ensures { IsForm EXECUTE_WRITE_REQUEST parameters.now (execute_write_form parameters.now) result
-        IsForm EXECUTE_WRITE_REQUEST parameters.now (execute_write_form parameters.now) result }
+    ensures { IsForm EXECUTE_WRITE_REQUEST parameters.now
+        (execute_write_form parameters.now) result }
 {
     match parameters {
         [0x00] => Some(Request::ExecuteWrite {

@@ -104,8 +104,8 @@ impl<'a> PduBuf<'a> {
     /// 3 Part F, 3.4.3.2 and 3.4.3.4).
     #[inline(always)]
     pub fn numbers(&mut self, first: u16, second: u16) -> bool
-        ensures { AppendsWhereFits self.old self.new (two_octets first ++ two_octets second) result
-            AppendsWhereFits self.old self.new (two_octets first ++ two_octets second) result }
+        ensures { AppendsWhereFits self.old self.new
+            (two_octets first ++ two_octets second) result }
     {
         if !self.has_room(4) {
             return false;

@@ -129,8 +129,8 @@ fn append_group(table: &Table, handle: u16, out: &mut PduBuf<'_>) -> bool
 /// Whether the client may read the attribute at a handle, and its whole value is this one.
 fn is_match(reader: Reader<'_>, handle: u16, value: &[u8]) -> bool
     ensures is { result ≡ is_match reader.entry.table.now reader.entry.row.now reader.entry.standing.now value.now handle }
-    ensures exists { OnTrue result (IsSome (attribute_at reader.entry.table.now.attributes handle))
-        OnTrue result (IsSome (attribute_at reader.entry.table.now.attributes handle)) }
+    ensures exists { OnTrue result
+        (IsSome (attribute_at reader.entry.table.now.attributes handle)) }
 {
     match reader.read(handle) {
         Ok(own) => own == value,

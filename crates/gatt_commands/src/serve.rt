@@ -45,8 +45,8 @@ pub fn serve_on<V: Write>(
     ensures ended { OnOk result (host.new.fault ≡ None) }
     ensures fault { (number : ℕ) → result ≡ Err (ShellFault.Host number)
         → IfSome host.new.fault (λ fault. number ≡ number_of_fault fault) }
-    ensures rows { OnOk result (HasWritten V.contents rows_writer.old (text_of host.new.held.rows))
-        OnOk result (HasWritten V.contents rows_writer.old (text_of host.new.held.rows)) }
+    ensures rows { OnOk result
+        (HasWritten V.contents rows_writer.old (text_of host.new.held.rows)) }
     ensures faults { IfErr result IsServedFault }
 {
     let Ok((stream, _)) = listener.accept() else {

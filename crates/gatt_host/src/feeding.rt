@@ -31,8 +31,8 @@ pub fn feed<W: Sink>(host: &mut Host, octets: &[u8], out: &mut W) -> Result<(), 
     ensures out { IsOk result → all_out host.new ≡ true }
     // Whatever stops it but the writer, all that was due before is written.
     ensures due { host.old.fault ≡ None → WritesAllThatIsDue host.new.fault host.new }
-    ensures feeding { host.old.fault ≡ None → IfErr result (λ fault. comes_of_feeding fault ≡ true)
-        host.old.fault ≡ None → IfErr result (λ fault. comes_of_feeding fault ≡ true) }
+    ensures feeding { host.old.fault ≡ None
+        → IfErr result (λ fault. comes_of_feeding fault ≡ true) }
     ensures failures { host.old.fault ≡ None
         → CountsIf (is_write host.new.fault) (W.failures out.old) (W.failures out.new) }
     ensures stopped { IsSome host.old.fault → host.new ≡ host.old }
@@ -63,8 +63,8 @@ pub fn feed_to<W: Sink, L: Listener>(
     ensures out { IsOk result → all_out host.new ≡ true }
     // Whatever stops it but the writer, all that was due before is written.
     ensures due { host.old.fault ≡ None → WritesAllThatIsDue host.new.fault host.new }
-    ensures feeding { host.old.fault ≡ None → IfErr result (λ fault. comes_of_feeding fault ≡ true)
-        host.old.fault ≡ None → IfErr result (λ fault. comes_of_feeding fault ≡ true) }
+    ensures feeding { host.old.fault ≡ None
+        → IfErr result (λ fault. comes_of_feeding fault ≡ true) }
     ensures failures { host.old.fault ≡ None
         → CountsIf (is_write host.new.fault) (W.failures out.old) (W.failures out.new) }
     ensures stopped { IsSome host.old.fault → host.new ≡ host.old }
@@ -98,8 +98,8 @@ pub(crate) fn write_out<W: Sink>(host: &mut Host, out: &mut W) -> Result<(), Hos
     ensures write { IfErr result (λ fault. fault ≡ HostFault.Write) }
     ensures out { IsOk result → all_out host.new ≡ true }
     ensures due { WritesAllThatIsDue host.new.fault host.new }
-    ensures failures { CountsIf (is_write host.new.fault) (W.failures out.old) (W.failures out.new)
-        CountsIf (is_write host.new.fault) (W.failures out.old) (W.failures out.new) }
+    ensures failures { CountsIf (is_write host.new.fault) (W.failures out.old)
+        (W.failures out.new) }
 {
     let written = write_owed(&mut host.state, &mut host.packet, out);
     if written.is_err() {

@@ -113,8 +113,8 @@ impl HostState {
     fn frame(&mut self, place: usize, octets: &[u8])
         requires there { IsThere self.old.slots place }
         requires rows { HasRowsOfTheTable self.old }
-        ensures { IsAfter (frame_happening place (of_frame (frame_of octets.now))) self.old self.new
-            IsAfter (frame_happening place (of_frame (frame_of octets.now))) self.old self.new }
+        ensures { IsAfter
+            (frame_happening place (of_frame (frame_of octets.now))) self.old self.new }
     {
         match read_frame(octets) {
             Ok(frame) => match frame.cid {

@@ -56,8 +56,8 @@ pub(crate) fn hear_all(
 ) -> Heard
     requires few { length slots.old ≤ 8 }
     requires covered { CoversHeard slots.old before }
-    ensures heard { slots.new ≡ all_heard table.now now rows.now own here.now handles.now slots.old
-        slots.new ≡ all_heard table.now now rows.now own here.now handles.now slots.old }
+    ensures heard { slots.new
+        ≡ all_heard table.now now rows.now own here.now handles.now slots.old }
     ensures covered { CoversHeard slots.new result }
 {
     let mut heard = before;

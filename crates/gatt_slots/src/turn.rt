@@ -111,8 +111,8 @@ impl Slot {
     /// Encryption of the link was changed, or could not be: `true` where it has a key now and had
     /// none. Where it lost its key the connection is ended.
     pub fn encrypt(&mut self, status: u8, enabled: u8) -> bool
-        ensures after { self.new ≡ option_map (after_link_step (Encryption status enabled)) self.old
-            self.new ≡ option_map (after_link_step (Encryption status enabled)) self.old }
+        ensures after { self.new
+            ≡ option_map (after_link_step (Encryption status enabled)) self.old }
         ensures gained { IfSome self.old (λ kept. result ≡ gained_encryption kept.link.key
             (after_step kept.link (Encryption status enabled)).key) }
     {
@@ -217,8 +217,8 @@ impl Slot {
     /// Takes in that a table replaces another: what is configured stays where it has its meaning, and
     /// nothing is prepared or waits any more.
     pub fn replace(&mut self, old: &Table, new: &Table)
-        ensures { self.new ≡ option_map (after_table old.now.attributes new.now.attributes) self.old
-            self.new ≡ option_map (after_table old.now.attributes new.now.attributes) self.old }
+        ensures { self.new
+            ≡ option_map (after_table old.now.attributes new.now.attributes) self.old }
     {
         self.row.keep(old, new);
         if self.used == Use::Live {

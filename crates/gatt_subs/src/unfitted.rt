@@ -120,8 +120,8 @@ impl Unfitted {
 
 /// The first line of a text that has another one, and what stands behind its line feed.
 fn first_line(text: &str) -> Option<(&str, &str)>
-    ensures first { IfSome result (λ parts. lines_of text.now ≡ parts.0.now ∷ lines_of parts.1.now)
-        IfSome result (λ parts. lines_of text.now ≡ parts.0.now ∷ lines_of parts.1.now) }
+    ensures first { IfSome result
+        (λ parts. lines_of text.now ≡ parts.0.now ∷ lines_of parts.1.now) }
     ensures only { IfNone result (lines_of text.now ≡ text.now ∷ []) }
     ensures shorter { IfSome result (λ parts. length parts.1.now < length text.now) }
 {

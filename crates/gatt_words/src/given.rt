@@ -18,8 +18,8 @@ pub fn words_of(rt: &(impl Env + AllocGlobal)) -> Result<Vec<String>, Refusal> {
 
 /// Why words cannot be read: one of them is no text, and so not understood, or memory was refused.
 fn unread(error: &Error) -> Refusal
-    ensures no_text { error_kind error.now ≡ ErrorKind.InvalidData → result ≡ Refusal.Misunderstood
-        error_kind error.now ≡ ErrorKind.InvalidData → result ≡ Refusal.Misunderstood }
+    ensures no_text { error_kind error.now ≡ ErrorKind.InvalidData
+        → result ≡ Refusal.Misunderstood }
     ensures memory { error_kind error.now ≢ ErrorKind.InvalidData → result ≡ Refusal.Memory }
 {
     match error.kind() {

@@ -323,8 +323,8 @@ pub fn chosen<'a>(alloc: Global, words: &'a [String]) -> Result<Choice<'a>, Refu
     ensures named { IfOk result (λ choice.
         option_map (λ named. named.0) (subcommand_of command_line (map string_bytes words.now))
         ≡ Some (name_of choice)) }
-    ensures files { IfOk result (HasFiles (subcommand_of command_line (map string_bytes words.now)))
-        IfOk result (HasFiles (subcommand_of command_line (map string_bytes words.now))) }
+    ensures files { IfOk result
+        (HasFiles (subcommand_of command_line (map string_bytes words.now))) }
     ensures faultless { IfOk result (λ _.
         fault_of command_line (map string_bytes words.now) ≡ []) }
 

@@ -161,8 +161,7 @@ fn gather(gathered: &mut Gathered, skipping: &mut usize, octets: &[u8]) -> Resul
     requires fits { Fits gathered.old }
     requires unfinished { packet_in (first_of gathered.old) ≡ None }
     requires passes { 0 < skipping.old → gathered.old ≡ [] }
-    ensures gathers { Gathers skipping.old gathered.old octets.now result skipping.new gathered.new
-        Gathers skipping.old gathered.old octets.now result skipping.new gathered.new }
+    ensures gathers { Gathers skipping.old gathered.old octets.now result skipping.new gathered.new }
 {
     if !gathered.is_empty() || *skipping > 0 {
         return gather_by_parts(gathered, skipping, octets);
@@ -187,8 +186,7 @@ fn gather_by_parts(
     requires fits { Fits gathered.old }
     requires unfinished { packet_in (first_of gathered.old) ≡ None }
     requires passes { 0 < skipping.old → gathered.old ≡ [] }
-    ensures gathers { Gathers skipping.old gathered.old octets.now result skipping.new gathered.new
-        Gathers skipping.old gathered.old octets.now result skipping.new gathered.new }
+    ensures gathers { Gathers skipping.old gathered.old octets.now result skipping.new gathered.new }
 {
     let mut rest = octets;
     'packets: loop {

@@ -89,8 +89,8 @@ impl Init {
         ensures in_order { (answers : List Octets)
             → IsPrefixOf (commands_sent answers result) (commands_in_order address advertising.items (tell_shared (drop 3 answers))) }
         // Whatever the answers are, buffers that a state knows have 27 octets at least, and there is one.
-        ensures usable { (answers : List Octets) → KnowsUsable (state_after_answers answers result)
-            (answers : List Octets) → KnowsUsable (state_after_answers answers result) }
+        ensures usable { (answers : List Octets)
+            → KnowsUsable (state_after_answers answers result) }
     {
         Init::Resetting(Settings {
             address,

@@ -30,8 +30,8 @@ pub trait Source {
         ensures bound { IfOk result (λ count. count ≤ length buf.old) }
         ensures octets { ReadConsumes (remaining self.old) (remaining self.new) result buf.new }
         ensures reads { CountsOne (reads self.old) (reads self.new) }
-        ensures ends { CountsIf (finds_end result (length buf.old)) (ends self.old) (ends self.new)
-            CountsIf (finds_end result (length buf.old)) (ends self.old) (ends self.new) }
+        ensures ends { CountsIf (finds_end result (length buf.old)) (ends self.old)
+            (ends self.new) }
         ensures failures { CountsFailure (failures self.old) (failures self.new) result };
 }
 

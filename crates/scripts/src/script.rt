@@ -99,8 +99,8 @@ impl<'a> Script<'a> {
 
     /// Takes in what the line of a number says.
     fn take(&mut self, has_next: bool, number: u64, said: Line<'a>) -> Result<(), ScriptFault>
-        ensures { Leaves OutOfMemory (with_said has_next number self.old said.entry) result self.new
-            Leaves OutOfMemory (with_said has_next number self.old said.entry) result self.new }
+        ensures { Leaves OutOfMemory
+            (with_said has_next number self.old said.entry) result self.new }
     {
         let act = match said {
             Line::Phone { name, act } => {
@@ -178,8 +178,8 @@ fn place_of(names: &[Name<'_>], name: &Name<'_>) -> Option<usize>
 
 /// The first line of a text that has another one, and what stands behind its line feed.
 fn first_line(text: &str) -> Option<(&str, &str)>
-    ensures first { IfSome result (λ parts. lines_of text.now ≡ parts.0.now ∷ lines_of parts.1.now)
-        IfSome result (λ parts. lines_of text.now ≡ parts.0.now ∷ lines_of parts.1.now) }
+    ensures first { IfSome result
+        (λ parts. lines_of text.now ≡ parts.0.now ∷ lines_of parts.1.now) }
     ensures only { IfNone result (lines_of text.now ≡ text.now ∷ []) }
     ensures shorter { IfSome result (λ parts. length parts.1.now < length text.now) }
 {

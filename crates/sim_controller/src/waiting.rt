@@ -27,8 +27,8 @@ pub(crate) fn tell_both(
 ) -> Result<(), SimFault>
     requires { waiting.old.capacity ≡ 64 }
     ensures room { IsOk result ↔ (length waiting.old.items < 63) }
-    ensures told { OnOk result (waiting.new ≡ buffer (waiting.old.items ++ first ∷ second ∷ []) 64)
-        OnOk result (waiting.new ≡ buffer (waiting.old.items ++ first ∷ second ∷ []) 64) }
+    ensures told { OnOk result
+        (waiting.new ≡ buffer (waiting.old.items ++ first ∷ second ∷ []) 64) }
     ensures full { IfErr result (λ fault. fault ≡ SimFault.Full) }
     ensures unchanged { OnErr result (waiting.new ≡ waiting.old) }
 {

@@ -25,8 +25,8 @@ pub trait Part {
 
 /// Reads each element of an array in turn, up to the first fault.
 pub fn read_all<P: Part>(draft: &mut Draft, elements: &[Value]) -> Result<(), TableFault>
-    ensures { Leaves OutOfMemory (each P.step draft.old (items_view elements.now)) result draft.new
-        Leaves OutOfMemory (each P.step draft.old (items_view elements.now)) result draft.new }
+    ensures { Leaves OutOfMemory
+        (each P.step draft.old (items_view elements.now)) result draft.new }
 {
     'elements: for element in elements {
         P::read(draft, element)?;
