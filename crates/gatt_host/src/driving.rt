@@ -38,8 +38,8 @@ pub fn drive<W: Sink>(
     ensures feeds { host.old.fault ≡ None
         → Feeds (items_of inputs.now) host.old host.new (W.contents out.old) (W.contents out.new) host.new.fault }
     ensures outcome { IfErr result (λ fault. host.new.fault ≡ Some fault) }
-    ensures feeding { host.old.fault ≡ None → IfErr result (λ fault. comes_of_feeding fault ≡ true)
-        host.old.fault ≡ None → IfErr result (λ fault. comes_of_feeding fault ≡ true) }
+    ensures feeding { host.old.fault ≡ None
+        → IfErr result (λ fault. comes_of_feeding fault ≡ true) }
     ensures going_on { IsOk result → host.new.fault ≡ None }
     ensures refused { IfOk result (λ count. CountsRefused count (items_of inputs.now) host.old) }
     ensures out { IsOk result → all_out host.new ≡ true }
@@ -71,8 +71,8 @@ pub fn drive_to<W: Sink, L: Listener>(
     ensures heard { host.old.fault ≡ None
         → Listens (items_of inputs.now) host.old host.new host.new.fault (L.heard listener.old) (L.heard listener.new) }
     ensures outcome { IfErr result (λ fault. host.new.fault ≡ Some fault) }
-    ensures feeding { host.old.fault ≡ None → IfErr result (λ fault. comes_of_feeding fault ≡ true)
-        host.old.fault ≡ None → IfErr result (λ fault. comes_of_feeding fault ≡ true) }
+    ensures feeding { host.old.fault ≡ None
+        → IfErr result (λ fault. comes_of_feeding fault ≡ true) }
     ensures going_on { IsOk result → host.new.fault ≡ None }
     ensures refused { IfOk result (λ count. CountsRefused count (items_of inputs.now) host.old) }
     ensures out { IsOk result → all_out host.new ≡ true }
@@ -113,8 +113,8 @@ fn take_input<W: Sink, L: Listener>(
     ensures feeding { IfErr result (λ fault. comes_of_feeding fault ≡ true) }
     ensures out { IsOk result → all_out host.new ≡ true }
     ensures due { WritesAllThatIsDue host.new.fault host.new }
-    ensures failures { CountsIf (is_write host.new.fault) (W.failures out.old) (W.failures out.new)
-        CountsIf (is_write host.new.fault) (W.failures out.old) (W.failures out.new) }
+    ensures failures { CountsIf (is_write host.new.fault) (W.failures out.old)
+        (W.failures out.new) }
     ensures refused { IfOk result
         (λ refused. CountsRefused (if refused then 1 else 0) (input_items input.now) host.old) }
 {
@@ -144,8 +144,8 @@ fn take_call<W: Sink, L: Listener>(
     ensures write { IfErr result (λ fault. fault ≡ HostFault.Write) }
     ensures out { IsOk result → all_out host.new ≡ true }
     ensures due { WritesAllThatIsDue host.new.fault host.new }
-    ensures failures { CountsIf (is_write host.new.fault) (W.failures out.old) (W.failures out.new)
-        CountsIf (is_write host.new.fault) (W.failures out.old) (W.failures out.new) }
+    ensures failures { CountsIf (is_write host.new.fault) (W.failures out.old)
+        (W.failures out.new) }
     ensures refused { IfOk result (λ refused. CountsRefused (if refused then 1 else 0)
         (ACall (call_of call.entry) ∷ []) host.old) }
 {

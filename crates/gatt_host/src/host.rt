@@ -158,8 +158,8 @@ impl Host {
     #[tactic(auto, using(crate::proofs::Promises::keeps_the_policy, crate::proofs::Promises::keeps_connections_apart))]
     pub fn app(&mut self, call: App<'_>) -> Result<(), AppFault>
         requires drained { all_out self.old ≡ true }
-        ensures takes { self.old.fault ≡ None → Takes (ACall (call_of call.entry)) self.old self.new
-            self.old.fault ≡ None → Takes (ACall (call_of call.entry)) self.old self.new }
+        ensures takes { self.old.fault ≡ None
+            → Takes (ACall (call_of call.entry)) self.old self.new }
         ensures told { TellsOf (ACall (call_of call.entry)) self.old self.new }
         ensures refused { (start : Start) (input : List Item) (gone : List Octets)
             → StandsAt (course start input) gone self.old → self.old.fault ≡ None
