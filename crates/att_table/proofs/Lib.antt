@@ -6,6 +6,7 @@ pub mod Found
 pub mod Kept
 pub mod Parsed
 pub mod Rows
+pub mod SearchExamples
 pub mod ServiceBefore
 pub mod Services
 pub mod Tables
