@@ -27,3 +27,5 @@ mod table_faults;
 mod tables;
 #[cfg(test)]
 mod types;
+#[cfg(test)]
+mod values;
