@@ -195,8 +195,10 @@ fn answer(
     ensures confirmed { result.confirmed ≡ is_confirmation pdu.now }
     ensures written { written.new.items
         ≡ handles_by table.old row.old conn.old (request_of pdu.now conn.old.mtu) }
-    ensures table { table.new ≡ record table.old { values =
-        (stored_by table.old row.old conn.old (request_of pdu.now conn.old.mtu)).values } }
+    ensures table { table.new ≡ record table.old {
+      values =
+          (stored_by table.old row.old conn.old (request_of pdu.now conn.old.mtu)).values;
+    } }
     ensures row { row.new
         ≡ (stored_by table.old row.old conn.old (request_of pdu.now conn.old.mtu)).row }
     ensures conn { conn.new
@@ -230,8 +232,10 @@ fn answer_nothing(
     ensures confirmed { result.confirmed ≡ is_confirmation pdu.now }
     ensures written { written.new.items
         ≡ handles_by table.old row.old conn.old (request_of pdu.now conn.old.mtu) }
-    ensures table { table.new ≡ record table.old { values =
-        (stored_by table.old row.old conn.old (request_of pdu.now conn.old.mtu)).values } }
+    ensures table { table.new ≡ record table.old {
+      values =
+          (stored_by table.old row.old conn.old (request_of pdu.now conn.old.mtu)).values;
+    } }
     ensures row { row.new
         ≡ (stored_by table.old row.old conn.old (request_of pdu.now conn.old.mtu)).row }
     ensures conn { conn.new

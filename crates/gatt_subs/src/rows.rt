@@ -228,8 +228,10 @@ impl Rows {
 
     /// Keeps of each row what has its meaning in the table that replaces another.
     pub fn keep(&mut self, old: &Table, new: &Table)
-        ensures kept { self.new ≡ record self.old { bonds = map
-            (kept_bond old.now.attributes new.now.attributes) self.old.bonds } }
+        ensures kept { self.new ≡ record self.old {
+          bonds = map
+              (kept_bond old.now.attributes new.now.attributes) self.old.bonds;
+        } }
         ensures each { (peer : Peer)
             → bond_of self.new peer
             ≡ option_map (kept_bond old.now.attributes new.now.attributes) (bond_of self.old peer) }

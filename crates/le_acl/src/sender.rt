@@ -110,8 +110,11 @@ impl Sender {
     pub fn queue(&mut self, cid: u16, first: &[u8], rest: &[u8])
         requires room { length self.old.outgoing.queue < 16 }
         requires fits { length first.now + length rest.now ≤ 517 }
-        ensures { self.new ≡ record { outgoing = with_pdu self.old.outgoing
-            (cid, first.now ++ rest.now); room = None } }
+        ensures { self.new ≡ record {
+          outgoing = with_pdu self.old.outgoing
+              (cid, first.now ++ rest.now);
+          room = None;
+        } }
     {
         self.pdus.queue(cid, first, rest);
         self.lent = false;

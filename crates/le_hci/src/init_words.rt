@@ -10,7 +10,10 @@ impl fmt::Display for InitFault {
         match self {
             InitFault::Refused(opcode, status) => {
                 let name = command_name(*opcode);
-                write!(f, "the controller answered {name} with the status {status:02x}")
+                write!(
+                    f,
+                    "the controller answered {name} with the status {status:02x}"
+                )
             }
             InitFault::BadBuffers => {
                 f.write_str("the controller has no buffer of 27 octets or more for ACL data")

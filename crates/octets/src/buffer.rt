@@ -36,7 +36,9 @@ fn set_length<const N: usize>(buffer: &mut ArrayVec<u8, N>, length: usize)
     if length < before {
         buffer.truncate(length);
     } else if before < length {
-        buffer.try_extend_from_slice(&ZEROS[..length - before]).unwrap();
+        buffer
+            .try_extend_from_slice(&ZEROS[..length - before])
+            .unwrap();
     }
 }
 

@@ -55,8 +55,10 @@ pub(crate) fn leave(phones: &mut [Phone], phone: u8)
 pub(crate) fn hold(phones: &mut [Phone], phone: u8)
     requires { phone < length phones.old }
     ensures { phones.new ≡ slice_set phones.old phone
-        (record (slice_index_or phones.old phone absent) { link = option_map held_link
-        (slice_index_or phones.old phone absent).link }) }
+        (record (slice_index_or phones.old phone absent) {
+          link = option_map held_link
+              (slice_index_or phones.old phone absent).link;
+        }) }
 {
     phones[usize::from(phone)].hold();
 }

@@ -198,7 +198,9 @@ fn write_key_request(phone: u8, rand: &[u8; 8], ediv: u16, out: &mut ArrayVec<u8
     let [ediv_low, ediv_high] = ediv.to_le_bytes();
     let mut others: ArrayVec<u8, 10> = ArrayVec::new();
     others.try_extend_from_slice(rand).unwrap();
-    others.try_extend_from_slice(&[ediv_low, ediv_high]).unwrap();
+    others
+        .try_extend_from_slice(&[ediv_low, ediv_high])
+        .unwrap();
     let first = [event_code::LE_LONG_TERM_KEY_REQUEST, low, high];
     write_event(event_code::LE_META, &first, &others, out);
 }
