@@ -4,9 +4,9 @@ ghost use Rattle.att_pdu.specs.Grammar.{request_of, is_due};
 ghost use Rattle.att_pdu.specs.PduBuf.{contents, mtu_of, IsSameBuffer};
 ghost use Rattle.att_pdu.specs.Response.{ErrorResponse, ExchangeMtuResponse, sent, sent_if_any};
 ghost use Rattle.att_table.specs.ConfigRow.{IsRowOf};
-ghost use Rattle.gatt_conn.specs.Answer.{answer_to, stored_by, handles_by, conn_after, is_confirmation};
+ghost use Rattle.gatt_conn.specs.Answer.{answer_to};
 ghost use Rattle.gatt_conn.specs.Connection.{after_exchange};
-ghost use Rattle.gatt_conn.specs.Served.{Serves};
+ghost use Rattle.gatt_conn.specs.Served.{Serves, IsAnswered};
 
 use crate::conn::Conn;
 use crate::writing::{cancel, command, execute, prepare, write};
@@ -54,24 +54,13 @@ pub fn answer(
     ensures answer { contents out.new
         ≡ sent_if_any (answer_to table.old row.old conn.old (request_of pdu.now conn.old.mtu)) }
     ensures due { result.due ≡ is_due (request_of pdu.now conn.old.mtu) }
-    ensures confirmed { result.confirmed ≡ is_confirmation pdu.now }
-    ensures touched { result.touched.items
-        ≡ handles_by table.old row.old conn.old (request_of pdu.now conn.old.mtu) }
-    ensures values { table.new.values
-        ≡ (stored_by table.old row.old conn.old (request_of pdu.now conn.old.mtu)).values }
-    ensures row { row.new
-        ≡ (stored_by table.old row.old conn.old (request_of pdu.now conn.old.mtu)).row }
-    ensures conn { conn.new
-        ≡ conn_after table.old.attributes conn.old (request_of pdu.now conn.old.mtu) }
+    ensures answered { IsAnswered pdu.now table.old table.new row.old row.new conn.old conn.new
+        result.touched.items result.confirmed }
+    ensures same_buffer { IsSameBuffer out.old out.new }
 
     // An answer is due exactly where there is one.
     ensures where_due { is_some (answer_to table.old row.old conn.old
         (request_of pdu.now conn.old.mtu)) ≡ is_due (request_of pdu.now conn.old.mtu) }
-
-    // What stays.
-    ensures attributes { table.new.attributes ≡ table.old.attributes }
-    ensures table { IsRowOf table.new.attributes row.new }
-    ensures same_buffer { IsSameBuffer out.old out.new }
 {
     let mut touched = ArrayVec::new();
     let served = serve(table, row, conn, pdu, out, &mut touched);
@@ -95,24 +84,11 @@ fn serve(
     requires mtu { mtu_of out.old ≡ conn.old.mtu }
     requires row { IsRowOf table.old.attributes row.old }
 
-    ensures answer { contents out.new
-        ≡ sent_if_any (answer_to table.old row.old conn.old (request_of pdu.now conn.old.mtu)) }
-    ensures due { result.due
-        ≡ is_some (answer_to table.old row.old conn.old (request_of pdu.now conn.old.mtu)) }
-    ensures confirmed { result.confirmed ≡ is_confirmation pdu.now }
-    ensures touched { touched.new.items
-        ≡ handles_by table.old row.old conn.old (request_of pdu.now conn.old.mtu) }
-    ensures values { table.new.values
-        ≡ (stored_by table.old row.old conn.old (request_of pdu.now conn.old.mtu)).values }
-    ensures row { row.new
-        ≡ (stored_by table.old row.old conn.old (request_of pdu.now conn.old.mtu)).row }
-    ensures conn { conn.new
-        ≡ conn_after table.old.attributes conn.old (request_of pdu.now conn.old.mtu) }
-
-    // What stays.
-    ensures attributes { table.new.attributes ≡ table.old.attributes }
-    ensures table { IsRowOf table.new.attributes row.new }
-    ensures same_buffer { IsSameBuffer out.old out.new }
+    ensures served { Serves
+        (answer_to table.old row.old conn.old (request_of pdu.now conn.old.mtu)) out.old out.new
+        result }
+    ensures answered { IsAnswered pdu.now table.old table.new row.old row.new conn.old conn.new
+        touched.new.items result.confirmed }
 {
     touched.clear();
     // Each arm is a copy for one form, the frequent ones, in which the others are never asked for.
@@ -150,24 +126,11 @@ fn serve_form(
     requires mtu { mtu_of out.old ≡ conn.old.mtu }
     requires row { IsRowOf table.old.attributes row.old }
 
-    ensures answer { contents out.new
-        ≡ sent_if_any (answer_to table.old row.old conn.old (request_of pdu.now conn.old.mtu)) }
-    ensures due { result.due
-        ≡ is_some (answer_to table.old row.old conn.old (request_of pdu.now conn.old.mtu)) }
-    ensures confirmed { result.confirmed ≡ is_confirmation pdu.now }
-    ensures touched { touched.new.items
-        ≡ handles_by table.old row.old conn.old (request_of pdu.now conn.old.mtu) }
-    ensures values { table.new.values
-        ≡ (stored_by table.old row.old conn.old (request_of pdu.now conn.old.mtu)).values }
-    ensures row { row.new
-        ≡ (stored_by table.old row.old conn.old (request_of pdu.now conn.old.mtu)).row }
-    ensures conn { conn.new
-        ≡ conn_after table.old.attributes conn.old (request_of pdu.now conn.old.mtu) }
-
-    // What stays.
-    ensures attributes { table.new.attributes ≡ table.old.attributes }
-    ensures table { IsRowOf table.new.attributes row.new }
-    ensures same_buffer { IsSameBuffer out.old out.new }
+    ensures served { Serves
+        (answer_to table.old row.old conn.old (request_of pdu.now conn.old.mtu)) out.old out.new
+        result }
+    ensures answered { IsAnswered pdu.now table.old table.new row.old row.new conn.old conn.new
+        touched.new.items result.confirmed }
 {
     match read_request(pdu, conn.mtu()) {
         Ok(Request::ExchangeMtu { client_rx_mtu }) => exchange_mtu(conn, client_rx_mtu, out),
@@ -235,19 +198,8 @@ pub fn answer_into(
         ≡ (if is_due (request_of pdu.now conn.old.mtu) then Some octets.new.items else None) }
     ensures due { result.due ≡ is_due (request_of pdu.now conn.old.mtu) }
     ensures fits { length octets.new.items ≤ conn.old.mtu }
-    ensures confirmed { result.confirmed ≡ is_confirmation pdu.now }
-    ensures touched { touched.new.items
-        ≡ handles_by table.old row.old conn.old (request_of pdu.now conn.old.mtu) }
-    ensures values { table.new.values
-        ≡ (stored_by table.old row.old conn.old (request_of pdu.now conn.old.mtu)).values }
-    ensures row { row.new
-        ≡ (stored_by table.old row.old conn.old (request_of pdu.now conn.old.mtu)).row }
-    ensures conn { conn.new
-        ≡ conn_after table.old.attributes conn.old (request_of pdu.now conn.old.mtu) }
-
-    // What stays.
-    ensures attributes { table.new.attributes ≡ table.old.attributes }
-    ensures table { IsRowOf table.new.attributes row.new }
+    ensures answered { IsAnswered pdu.now table.old table.new row.old row.new conn.old conn.new
+        touched.new.items result.confirmed }
 {
     let mut out = PduBuf::new(octets, conn.mtu());
     serve(table, row, conn, pdu, &mut out, touched)
@@ -278,10 +230,9 @@ pub(crate) fn with_answer() -> Served
 /// Serves an Exchange MTU Request: Core 5.0, Vol 3 Part F, 3.4.2.
 fn exchange_mtu(conn: &mut Conn, client_rx_mtu: u16, out: &mut PduBuf<'_>) -> Served
     requires empty { contents out.old ≡ [] }
-    ensures served { Serves (Some (ExchangeMtuResponse conn.old.rx_mtu)) result (contents out.new) }
+    ensures served { Serves (Some (ExchangeMtuResponse conn.old.rx_mtu)) out.old out.new result }
     ensures confirmed { result.confirmed ≡ false }
     ensures conn { conn.new ≡ after_exchange conn.old client_rx_mtu }
-    ensures same_buffer { IsSameBuffer out.old out.new }
 {
     let [low, high] = conn.rx_mtu().to_le_bytes();
     out.value(&[opcode::EXCHANGE_MTU_RESPONSE, low, high]);
@@ -291,10 +242,9 @@ fn exchange_mtu(conn: &mut Conn, client_rx_mtu: u16, out: &mut PduBuf<'_>) -> Se
 
 /// Answers a request by an error.
 pub(crate) fn refuse(request_opcode: u8, handle: u16, code: u8, out: &mut PduBuf<'_>) -> Served
-    ensures served { Serves (Some (ErrorResponse request_opcode handle code)) result
-        (contents out.new) }
+    ensures served { Serves (Some (ErrorResponse request_opcode handle code)) out.old out.new
+        result }
     ensures confirmed { result.confirmed ≡ false }
-    ensures same_buffer { IsSameBuffer out.old out.new }
 {
     out.error(request_opcode, handle, code);
     with_answer()

@@ -1,6 +1,7 @@
 ghost use Rattle.std.specs.Prelude.{◌≡◌, ◌≤◌, false, [], IfOk};
 ghost use Rattle.att_table.specs.ConfigRow.{IsRowOf};
 ghost use Rattle.att_writes.specs.Applied.{applied_to, written_to};
+ghost use Rattle.att_writes.specs.Leaves.{Leaves};
 ghost use Rattle.att_writes.specs.Outcome.{outcome_of};
 ghost use Rattle.att_writes.specs.Queue.{prepare_fault, queue_after, prepare_outcome, touched_by};
 ghost use Rattle.gatt_conn.specs.Answer.{entry_at};
@@ -167,16 +168,13 @@ impl Conn {
         ensures outcome { result
             ≡ outcome_of 0x18
             (applied_to Access.Write table.old row.old self.old.standing self.old.queue) }
-        ensures values { table.new.values
-            ≡ (written_to Access.Write table.old row.old self.old.standing self.old.queue).values }
-        ensures row { row.new
-            ≡ (written_to Access.Write table.old row.old self.old.standing self.old.queue).row }
+        ensures left { Leaves
+            (written_to Access.Write table.old row.old self.old.standing self.old.queue) table.old
+            table.new row.new }
         ensures touched { touched.new.items
             ≡ touched_by self.old.queue
             (applied_to Access.Write table.old row.old self.old.standing self.old.queue) }
         ensures conn { self.new ≡ record self.old { queue = [] } }
-        ensures attributes { table.new.attributes ≡ table.old.attributes }
-        ensures table { IsRowOf table.new.attributes row.new }
     {
         att_writes::execute(table, row, &self.standing, &mut self.queue, touched)
     }

@@ -1,7 +1,7 @@
 //! The requests and the command that write: Core 5.0, Vol 3 Part F, 3.4.5 and 3.4.6.
 
 ghost use Rattle.std.specs.Prelude.{◌≡◌, ◌+◌, ◌≤◌, false, [], ◌∷◌, length, Some, Ok};
-ghost use Rattle.att_pdu.specs.PduBuf.{contents, mtu_of, IsSameBuffer};
+ghost use Rattle.att_pdu.specs.PduBuf.{contents, mtu_of};
 ghost use Rattle.att_pdu.specs.Request.{WriteRequest, ExecuteWriteRequest, WriteCommandPdu};
 ghost use Rattle.att_pdu.specs.Response.{ExecuteWriteResponse};
 ghost use Rattle.att_table.specs.ConfigRow.{IsRowOf};
@@ -32,13 +32,12 @@ pub(crate) fn write(
     requires untouched { touched.old.items ≡ [] }
     requires row { IsRowOf table.old.attributes row.old }
     ensures served { Serves (answer_to table.old row.old conn.now
-        (Ok (WriteRequest handle value.now))) result (contents out.new) }
+        (Ok (WriteRequest handle value.now))) out.old out.new result }
     ensures touched { touched.new.items
         ≡ handles_by table.old row.old conn.now (Ok (WriteRequest handle value.now)) }
     ensures left { Leaves (stored_by table.old row.old conn.now
         (Ok (WriteRequest handle value.now))) table.old table.new row.new }
     ensures confirmed { result.confirmed ≡ false }
-    ensures same_buffer { IsSameBuffer out.old out.new }
 {
     match att_writes::write(table, row, conn.standing(), handle, value) {
         Outcome::Denied(opcode, handle, code) => refuse(opcode, handle, code, out),
@@ -61,8 +60,7 @@ pub(crate) fn command(
 ) -> Served
     requires untouched { touched.old.items ≡ [] }
     requires row { IsRowOf table.old.attributes row.old }
-    ensures served { Serves
-        (answer_to table.old row.old conn.now (Ok (WriteCommandPdu handle value.now))) result [] }
+    ensures due { result.due ≡ false }
     ensures touched { touched.new.items
         ≡ handles_by table.old row.old conn.now (Ok (WriteCommandPdu handle value.now)) }
     ensures left { Leaves (stored_by table.old row.old conn.now
@@ -90,13 +88,12 @@ pub(crate) fn prepare(
     requires empty { contents out.old ≡ [] }
     requires fits { 5 + length part.now ≤ mtu_of out.old }
     ensures served { Serves (Some (prepare_response (entry_at handle offset part.now)
-        (prepare_fault table.now.attributes conn.old.standing conn.old.queue (entry_at handle offset part.now)))) result (contents out.new) }
+        (prepare_fault table.now.attributes conn.old.standing conn.old.queue (entry_at handle offset part.now)))) out.old out.new result }
     ensures conn { conn.new ≡ record conn.old {
       queue = queue_after conn.old.queue (entry_at handle offset part.now)
           (prepare_fault table.now.attributes conn.old.standing conn.old.queue (entry_at handle offset part.now));
     } }
     ensures confirmed { result.confirmed ≡ false }
-    ensures same_buffer { IsSameBuffer out.old out.new }
 {
     match conn.prepare(table, handle, offset, part) {
         Outcome::Denied(opcode, handle, code) => refuse(opcode, handle, code, out),
@@ -112,10 +109,9 @@ pub(crate) fn prepare(
 #[inline(always)]
 pub(crate) fn cancel(conn: &mut Conn, out: &mut PduBuf<'_>) -> Served
     requires empty { contents out.old ≡ [] }
-    ensures served { Serves (Some ExecuteWriteResponse) result (contents out.new) }
+    ensures served { Serves (Some ExecuteWriteResponse) out.old out.new result }
     ensures conn { conn.new ≡ record conn.old { queue = [] } }
     ensures confirmed { result.confirmed ≡ false }
-    ensures same_buffer { IsSameBuffer out.old out.new }
 {
     conn.cancel();
     out.value(&[opcode::EXECUTE_WRITE_RESPONSE]);
@@ -134,14 +130,13 @@ pub(crate) fn execute(
     requires empty { contents out.old ≡ [] }
     requires row { IsRowOf table.old.attributes row.old }
     ensures served { Serves (answer_to table.old row.old conn.old
-        (Ok (ExecuteWriteRequest ExecuteFlags.Write))) result (contents out.new) }
+        (Ok (ExecuteWriteRequest ExecuteFlags.Write))) out.old out.new result }
     ensures touched { touched.new.items
         ≡ handles_by table.old row.old conn.old (Ok (ExecuteWriteRequest ExecuteFlags.Write)) }
     ensures left { Leaves (stored_by table.old row.old conn.old
         (Ok (ExecuteWriteRequest ExecuteFlags.Write))) table.old table.new row.new }
     ensures conn { conn.new ≡ record conn.old { queue = [] } }
     ensures confirmed { result.confirmed ≡ false }
-    ensures same_buffer { IsSameBuffer out.old out.new }
 {
     match conn.execute(table, row, touched) {
         Outcome::Denied(opcode, handle, code) => refuse(opcode, handle, code, out),

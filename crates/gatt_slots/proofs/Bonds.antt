@@ -2,9 +2,10 @@
 use Rattle.std.proofs.Common.{◌≡◌, Bool, true, false, Option, Some, None, refl, sym, ap, ◌∙◌}
 use Rattle.std.specs.Prelude.{◌&&◌}
 use Rattle.std.specs.Option.{option_map}
+use Rattle.att_numbers.specs.Types.{Row}
 use Rattle.gatt_slots.specs.Request.{with_owed_after}
 use Rattle.gatt_subs.specs.declared.bond.Bond.{Bond}
-use Rattle.gatt_subs.specs.Rows.{Subscriptions, bond_of, with_owed, ChangesBond}
+use Rattle.gatt_subs.specs.Rows.{Subscriptions, bond_of, row_of, with_owed, with_row, ChangesBond}
 use Rattle.le_hci.specs.declared.peer.Peer.{Peer}
 
 -- a change that is the same is the same on a bond that may not be there
@@ -67,3 +68,14 @@ pub unconfirmed_owed : (peer : Peer) (rows : Subscriptions) → ChangesBond (wit
 unconfirmed_owed peer rows =
     changes-nothing (with_owed_after false) peer rows
     (λ bond. ap (λ (owed : Bool). record { row = bond.row; owed = owed }) (and-true bond.owed))
+
+-- a row that is written in the place of a bond's is the bond's then
+with_row_there : (row then-row : Row) (found : Option Bond) → option_map (λ (bond : Bond). bond.row) found ≡ Some row
+    → option_map (λ (bond : Bond). bond.row) (option_map (with_row then-row) found) ≡ Some then-row
+with_row_there row then-row (Some bond) is = refl
+with_row_there row then-row None is = cc is
+
+pub row_put : (row then-row : Row) (peer : Peer) (old new : Subscriptions) → row_of old peer ≡ Some row → ChangesBond (with_row then-row) peer old new
+    → row_of new peer ≡ Some then-row
+row_put row then-row peer old new is changes =
+    ap (λ (found : Option Bond). option_map (λ (bond : Bond). bond.row) found) changes.bond ∙ with_row_there row then-row (bond_of old peer) is

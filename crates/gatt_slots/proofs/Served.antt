@@ -1,21 +1,20 @@
 -- What serving a PDU leaves of the bond of the peer.
 use Rattle.std.proofs.Common.{◌≡◌, ℕ, Bool, true, false, Option, Some, refl, sym, ap, ◌∙◌, subst}
-use Rattle.std.specs.Prelude.{◌&&◌, is_some, if◌then◌else◌, map, unwrap_or, IfSome, IsSome}
-use Rattle.std.specs.Option.{option_map, option_map_or, option_to_list}
+use Rattle.std.specs.Prelude.{◌&&◌, is_some, if◌then◌else◌, IfSome, IsSome}
+use Rattle.std.specs.Option.{option_map, option_map_or}
 use Rattle.att_numbers.specs.Types.{Handle, Row}
 use Rattle.att_pdu.specs.Grammar.{request_of}
 use Rattle.att_table.specs.ConfigRow.{IsRowOf}
 use Rattle.att_table.specs.Table.{Contents}
 use Rattle.gatt_conn.specs.Answer.{Question, answer_to, conn_after, stored_by, is_confirmation}
 use Rattle.gatt_conn.specs.Connection.{Connection}
-use Rattle.gatt_laws.specs.Heard.{att_pdu}
 use Rattle.gatt_laws.specs.Turn.{remote_user_terminated}
 use Rattle.gatt_laws.specs.Part.{KeyReply}
 use Rattle.gatt_slots.specs.declared.slot.Use.{Use}
 use Rattle.gatt_slots.specs.declared.slot.Use.TheVariants.{Free, Live, Ending}
-use Rattle.gatt_slots.specs.Hearing.{row_in_force, with_pdus}
+use Rattle.gatt_slots.specs.Hearing.{row_by_key, row_in_force}
 use Rattle.gatt_slots.specs.Kept.{Kept, connection_of}
-use Rattle.gatt_slots.specs.Request.{is_full, stored_of, bond_after, bond_served, confirms_changes, kept_served, own_row_after, pending_after, with_owed_after}
+use Rattle.gatt_slots.specs.Request.{with_answer, is_full, stored_of, bond_after, bond_served, confirms_changes, kept_served, own_row_after, pending_after, with_owed_after}
 use Rattle.gatt_slots.specs.Turn.{after_ending}
 use Rattle.gatt_slots.specs.Use.{kept_fields, kept_where}
 use Rattle.gatt_slots.proofs.Bonds.{changes-as, changes-twice}
@@ -59,15 +58,15 @@ module _ (table : Contents) (now : ℕ) (changer : Option Handle) (pdu : Octets)
     pub bond_of_served : (used : Use) (has_key knows : Bool) (stood : Connection) (told : Bool) → is_full pdu (kept_as true) ≡ false
         → has_key ≡ is_some link.key → stood ≡ connection_of now (kept_as true) → told ≡ is_confirmation pdu
         → knows ≡ (is_some link.key && option_map_or (is_told pending) changer false)
-        → ChangesBond (bond_after has_key (stored_by table (if has_key then unwrap_or (row_of old peer) row else row) stood (request_of pdu stood.mtu)).row) peer old mid
+        → ChangesBond (bond_after has_key (stored_by table (row_by_key has_key (row_of old peer) row) stood (request_of pdu stood.mtu)).row) peer old mid
         → ChangesBond (with_owed_after (told && knows)) peer mid new
         → IfSome (kept_where used handle peer key_known until row link conn pending sender reply reason)
         (λ kept. ChangesBond (bond_served table now changer (row_of old kept.peer) pdu kept) kept.peer old new)
     bond_of_served used has_key knows stood told spare key stands tells knows-is first second =
         stands-so used spare
-        (subst (λ (has : Bool). ChangesBond (bond_after has (stored_by table (if has then unwrap_or (row_of old peer) row else row)
+        (subst (λ (has : Bool). ChangesBond (bond_after has (stored_by table (row_by_key has (row_of old peer) row)
         (connection_of now (kept_as true)) (request_of pdu conn.mtu)).row) peer old mid) key
-        (subst (λ (by : Connection). ChangesBond (bond_after has_key (stored_by table (if has_key then unwrap_or (row_of old peer) row else row)
+        (subst (λ (by : Connection). ChangesBond (bond_after has_key (stored_by table (row_by_key has_key (row_of old peer) row)
         by (request_of pdu by.mtu)).row) peer old mid) stands first))
         (subst (λ (it : Bool). ChangesBond (with_owed_after (it && (is_some link.key && option_map_or (is_told pending) changer false))) peer mid new) tells
         (subst (λ (it : Bool). ChangesBond (with_owed_after (told && it)) peer mid new) knows-is second))
@@ -77,21 +76,20 @@ module _ (table : Contents) (now : ℕ) (changer : Option Handle) (pdu : Octets)
         → IsSome (kept_where used handle peer key_known until row link conn pending sender reply reason)
         → IfSome (kept_where used handle peer key_known until row link conn pending sender reply reason)
         (λ kept. IsRowOf table.attributes (row_in_force (row_of old kept.peer) kept))
-        → IsRowOf table.attributes (if has_key then unwrap_or (row_of old peer) row else row)
+        → IsRowOf table.attributes (row_by_key has_key (row_of old peer) row)
     row_of_table Free has_key key there of = cc there
     row_of_table Live has_key key there of =
-        subst (λ (has : Bool). IsRowOf table.attributes (if has then unwrap_or (row_of old peer) row else row)) (sym key) of
+        subst (λ (has : Bool). IsRowOf table.attributes (row_by_key has (row_of old peer) row)) (sym key) of
     row_of_table Ending has_key key there of =
-        subst (λ (has : Bool). IsRowOf table.attributes (if has then unwrap_or (row_of old peer) row else row)) (sym key) of
+        subst (λ (has : Bool). IsRowOf table.attributes (row_by_key has (row_of old peer) row)) (sym key) of
 
     -- what the fields of a slot keep is what serving leaves
     pub kept_after_serving : (used : Use) (has_key told : Bool) (stood : Connection) (row-then : Row) (conn-then : Connection) (pending-then : Indications) (sender-then : Sending)
         → is_full pdu (kept_as true) ≡ false → has_key ≡ is_some link.key → stood ≡ connection_of now (kept_as true) → told ≡ is_confirmation pdu
-        → row-then ≡ own_row_after has_key (row_of old peer) row (stored_by table (if has_key then unwrap_or (row_of old peer) row else row) stood (request_of pdu stood.mtu)).row
+        → row-then ≡ own_row_after has_key (row_of old peer) row (stored_by table (row_by_key has_key (row_of old peer) row) stood (request_of pdu stood.mtu)).row
         → conn-then ≡ conn_after table.attributes stood (request_of pdu stood.mtu)
         → pending-then ≡ (if told then after_confirmation pending else pending)
-        → sender-then.outgoing ≡ with_pdus sender.outgoing
-        (map att_pdu (option_to_list (answer_to table (if has_key then unwrap_or (row_of old peer) row else row) stood (request_of pdu stood.mtu))))
+        → sender-then.outgoing ≡ with_answer sender.outgoing (answer_to table (row_by_key has_key (row_of old peer) row) stood (request_of pdu stood.mtu))
         → kept_where used handle peer key_known until row-then link conn-then pending-then sender-then reply reason
         ≡ option_map (λ kept. kept_served table now (row_of old kept.peer) pdu kept) (kept_where used handle peer key_known until row link conn pending sender reply reason)
     kept_after_serving used has_key told stood row-then conn-then pending-then sender-then spare key stands tells row-is conn-is pending-is sender-is =
@@ -103,7 +101,7 @@ module _ (table : Contents) (now : ℕ) (changer : Option Handle) (pdu : Octets)
         ]
       where
         force : Bool → Row
-        force has = if has then unwrap_or (row_of old peer) row else row
+        force has = row_by_key has (row_of old peer) row
 
         asks : Connection → Question
         asks by = request_of pdu by.mtu
@@ -140,20 +138,20 @@ module _ (table : Contents) (now : ℕ) (changer : Option Handle) (pdu : Octets)
         pending-path : pending-then ≡ pending_after pdu pending
         pending-path = pending-is ∙ (λ i. if tells i then after_confirmation pending else pending)
 
-        sender-path : sender-then.outgoing ≡ with_pdus sender.outgoing (map att_pdu (option_to_list (answer_to table (force (is_some link.key)) stood' (asks stood'))))
-        sender-path = sender-is ∙ (λ i. with_pdus sender.outgoing (map att_pdu (option_to_list (answer_to table (force (key i)) (stands i) (asks (stands i))))))
+        sender-path : sender-then.outgoing ≡ with_answer sender.outgoing (answer_to table (force (is_some link.key)) stood' (asks stood'))
+        sender-path = sender-is ∙ (λ i. with_answer sender.outgoing (answer_to table (force (key i)) (stands i) (asks (stands i))))
 
         serves : (live : Bool) → kept_fields live handle peer key_known until row-then link conn-then pending-then sender-then reply reason
             ≡ final live (own_row_after (is_some link.key) (row_of old peer) row (stored_by table (force (is_some link.key)) stood' (asks stood')).row)
             (conn_after table.attributes stood' (asks stood')) (pending_after pdu pending)
-            (with_pdus sender.outgoing (map att_pdu (option_to_list (answer_to table (force (is_some link.key)) stood' (asks stood')))))
+            (with_answer sender.outgoing (answer_to table (force (is_some link.key)) stood' (asks stood')))
         serves live = λ i. final live (row-path i) (conn-path i) (pending-path i) (sender-path i)
 
         not-full : (live : Bool) → final live (own_row_after (is_some link.key) (row_of old peer) row (stored_by table (force (is_some link.key)) stood' (asks stood')).row)
             (conn_after table.attributes stood' (asks stood')) (pending_after pdu pending)
-            (with_pdus sender.outgoing (map att_pdu (option_to_list (answer_to table (force (is_some link.key)) stood' (asks stood')))))
+            (with_answer sender.outgoing (answer_to table (force (is_some link.key)) stood' (asks stood')))
             ≡ kept_served table now (row_of old peer) pdu (kept_as live)
         not-full live = sym (ap (λ (test : Bool). if test then after_ending remote_user_terminated (kept_as live) else
             final live (own_row_after (is_some link.key) (row_of old peer) row (stored_by table (force (is_some link.key)) stood' (asks stood')).row)
             (conn_after table.attributes stood' (asks stood')) (pending_after pdu pending)
-            (with_pdus sender.outgoing (map att_pdu (option_to_list (answer_to table (force (is_some link.key)) stood' (asks stood')))))) spare)
+            (with_answer sender.outgoing (answer_to table (force (is_some link.key)) stood' (asks stood')))) spare)

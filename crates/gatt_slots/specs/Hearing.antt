@@ -1,5 +1,5 @@
 -- What a connection hears unasked, by what its slot keeps.
-use Rattle.std.specs.Prelude.{ℕ, true, is_some, if◌then◌else◌, unwrap_or, List, [], ◌∷◌, length, map, Option}
+use Rattle.std.specs.Prelude.{ℕ, Bool, true, is_some, if◌then◌else◌, unwrap_or, List, [], ◌∷◌, length, map, Option}
 use Rattle.att_numbers.specs.Types.{Handle, Mtu, Row}
 use Rattle.att_policy.specs.declared.standing.Standing.{Standing}
 use Rattle.att_table.specs.Table.{Contents}
@@ -15,9 +15,12 @@ abbrev pub with_pdus : Outgoing → List Pdu → Outgoing
 with_pdus outgoing [] = outgoing
 with_pdus outgoing (pdu ∷ pdus) = with_pdus (with_pdu outgoing pdu) pdus
 
--- the row in force, where the peer's bond has a row
+-- the row in force: where the link has a key that of the peer's bond, if it has one, else the connection's own
+abbrev pub row_by_key : Bool → Option Row → Row → Row
+row_by_key has_key bond own = if has_key then unwrap_or bond own else own
+
 abbrev pub row_in_force : Option Row → Kept → Row
-row_in_force bond kept = if is_some kept.link.key then unwrap_or bond kept.row else kept.row
+row_in_force bond kept = row_by_key (is_some kept.link.key) bond kept.row
 
 -- by what a connection hears: what it has configured, what the policy sees of it, and its ATT_MTU
 pub record Ear : Type 0 where

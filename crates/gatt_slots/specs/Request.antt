@@ -3,6 +3,7 @@ use Rattle.std.specs.Prelude.{ℕ, Bool, false, ◌==◌, ◌&&◌, not, is_some
 use Rattle.std.specs.Option.{option_map_or, option_to_list}
 use Rattle.att_numbers.specs.Types.{Handle, Row}
 use Rattle.att_pdu.specs.Grammar.{request_of, is_due}
+use Rattle.att_pdu.specs.Response.{Response}
 use Rattle.att_table.specs.Table.{Contents}
 use Rattle.att_writes.specs.Applied.{Stored}
 use Rattle.gatt_conn.specs.Answer.{Question, answer_to, stored_by, handles_by, conn_after, is_confirmation}
@@ -15,6 +16,7 @@ use Rattle.gatt_slots.specs.Turn.{after_ending}
 use Rattle.gatt_subs.specs.declared.bond.Bond.{Bond}
 use Rattle.gatt_subs.specs.Indications.{Indications, after_confirmation, confirmed_handle, is_told}
 use Rattle.gatt_subs.specs.Rows.{with_row}
+use Rattle.le_acl.specs.Outgoing.{Outgoing}
 use Rattle.octets.specs.Number.{Octets}
 
 -- what it asks for; and the connection is ended where an answer is due and there is no room for it
@@ -63,6 +65,10 @@ bond_served table now changer row pdu kept bond =
     else with_owed_after (confirms_changes changer pdu kept)
     (bond_after (is_some kept.link.key) (stored_of table now row pdu kept).row bond)
 
+-- the answer goes out, if there is one
+abbrev pub with_answer : Outgoing → Option Response → Outgoing
+with_answer outgoing answer = with_pdus outgoing (map att_pdu (option_to_list answer))
+
 -- and what the slot keeps
 abbrev pub with_conn : Connection → Kept → Kept
 with_conn conn kept = record kept { mtu = conn.mtu; rx_mtu = conn.rx_mtu; exchanged = conn.exchanged; queue = conn.queue }
@@ -78,5 +84,5 @@ kept_served table now bond pdu kept =
     else record (with_conn (conn_after table.attributes conn asked) kept) {
       row = own_row_after (is_some kept.link.key) bond kept.row (stored_of table now bond pdu kept).row;
       pending = pending_after pdu kept.pending;
-      outgoing = with_pdus kept.outgoing (map att_pdu (option_to_list (answer_to table (row_in_force bond kept) conn asked)));
+      outgoing = with_answer kept.outgoing (answer_to table (row_in_force bond kept) conn asked);
     }

@@ -1,12 +1,12 @@
 //! What a connection hears unasked at the end of an event: Core 5.0, Vol 3 Part F, 3.4.7.
 
-ghost use Rattle.std.specs.Prelude.{◌≡◌, ◌-◌, ◌≤◌, ◌<◌, true, false, [], ◌∷◌, ◌++◌, length, take, is_some, if◌then◌else◌, unwrap_or, IfSome};
+ghost use Rattle.std.specs.Prelude.{◌≡◌, ◌-◌, ◌≤◌, ◌<◌, true, false, [], ◌∷◌, ◌++◌, length, take, is_some, IfSome};
 ghost use Rattle.std.specs.Bool.{OnTrue, OnFalse};
 ghost use Rattle.std.specs.Option.{option_map_or};
 ghost use Rattle.gatt_slots.specs.Commands.{gives};
 ghost use Rattle.gatt_slots.specs.Kept.{standing_with};
 ghost use Rattle.att_table.specs.ConfigRow.{bits_at};
-ghost use Rattle.gatt_slots.specs.Hearing.{row_in_force, told_raised, told_released};
+ghost use Rattle.gatt_slots.specs.Hearing.{row_by_key, row_in_force, told_raised, told_released};
 ghost use Rattle.gatt_slots.specs.Places.{waits};
 ghost use Rattle.gatt_slots.specs.Slots.{heard_by, raised_by};
 ghost use Rattle.gatt_subs.specs.Rows.{owes, row_of};
@@ -98,8 +98,7 @@ fn queue_value(opcode: u8, handle: u16, value: &[u8], mtu: u16, sender: &mut Sen
 /// The row of the peer's bond where the link has a key, else the connection's own.
 #[inline(always)]
 fn row_in_force<'a>(link: &Link, peer: &Peer, own: &'a ConfigRow, rows: &'a Rows) -> &'a ConfigRow
-    ensures { result.now
-        ≡ (if is_some link.now.key then unwrap_or (row_of rows.now peer.now) own.now else own.now) }
+    ensures { result.now ≡ row_by_key (is_some link.now.key) (row_of rows.now peer.now) own.now }
 {
     if link.facts().is_some() {
         if let Some(row) = rows.row(peer) {

@@ -1,14 +1,14 @@
 //! Requests of the Attribute Protocol on the connection of a slot.
 
-ghost use Rattle.std.specs.Prelude.{◌≡◌, ◌<◌, ◌≤◌, ◌==◌, ◌&&◌, true, false, IsSome, is_some, length, map, unwrap_or, if◌then◌else◌, None, IfSome};
+ghost use Rattle.std.specs.Prelude.{◌≡◌, ◌<◌, ◌≤◌, ◌==◌, ◌&&◌, true, false, IsSome, is_some, length, if◌then◌else◌, None, IfSome};
 ghost use Rattle.std.specs.Bool.{OnFalse};
-ghost use Rattle.std.specs.Option.{option_map, option_map_or, option_to_list};
+ghost use Rattle.std.specs.Option.{option_map, option_map_or};
 ghost use Rattle.att_pdu.specs.Grammar.{request_of, is_due};
 ghost use Rattle.att_table.specs.ConfigRow.{IsRowOf};
-ghost use Rattle.gatt_conn.specs.Answer.{answer_to, stored_by, handles_by, conn_after, is_confirmation};
-ghost use Rattle.gatt_laws.specs.Heard.{att_pdu};
-ghost use Rattle.gatt_slots.specs.Hearing.{row_in_force, with_pdus};
-ghost use Rattle.gatt_slots.specs.Request.{bond_after, bond_served, confirmed_of, handles_of, is_full, kept_served, own_row_after, table_after, with_owed_after};
+ghost use Rattle.gatt_conn.specs.Answer.{answer_to, stored_by};
+ghost use Rattle.gatt_conn.specs.Served.{IsAnswered};
+ghost use Rattle.gatt_slots.specs.Hearing.{row_by_key, row_in_force};
+ghost use Rattle.gatt_slots.specs.Request.{with_answer, bond_after, bond_served, confirmed_of, handles_of, is_full, kept_served, own_row_after, table_after, with_owed_after};
 ghost use Rattle.gatt_subs.specs.Indications.{after_confirmation, confirmed_handle, is_told};
 ghost use Rattle.gatt_subs.specs.Rows.{row_of, ChangesBond};
 
@@ -137,6 +137,7 @@ fn owe_unless(confirmed: bool, knows_change: bool, peer: &Peer, rows: &mut Rows)
 /// Serves a PDU by the row in force: that of the peer's bond where the link has a key, else the
 /// connection's own.
 #[inline(always)]
+#[tactic(auto, using(crate::proofs::Bonds::row_put))]
 fn answer_by_row(
     table: &mut Table,
     rows: &mut Rows,
@@ -149,25 +150,22 @@ fn answer_by_row(
     written: &mut ArrayVec<u16, 32>,
 ) -> Served
     requires row { IsRowOf table.old.attributes
-        (if has_key then unwrap_or (row_of rows.old peer.now) own.old else own.old) }
+        (row_by_key has_key (row_of rows.old peer.now) own.old) }
     requires room { is_due (request_of pdu.now conn.old.mtu) ≡ true
         → length sender.old.outgoing.queue < 16 }
-    ensures queued { sender.new.outgoing ≡ with_pdus sender.old.outgoing
-        (map att_pdu (option_to_list (answer_to table.old (if has_key then unwrap_or (row_of rows.old peer.now) own.old else own.old) conn.old (request_of pdu.now conn.old.mtu)))) }
-    ensures confirmed { result.confirmed ≡ is_confirmation pdu.now }
-    ensures written { written.new.items ≡ handles_by table.old
-        (if has_key then unwrap_or (row_of rows.old peer.now) own.old else own.old) conn.old
-        (request_of pdu.now conn.old.mtu) }
-    ensures table { table.new ≡ record table.old {
-      values =
-          (stored_by table.old (if has_key then unwrap_or (row_of rows.old peer.now) own.old else own.old) conn.old (request_of pdu.now conn.old.mtu)).values;
-    } }
-    ensures own { own.new ≡ own_row_after has_key (row_of rows.old peer.now) own.old
-        (stored_by table.old (if has_key then unwrap_or (row_of rows.old peer.now) own.old else own.old) conn.old (request_of pdu.now conn.old.mtu)).row }
-    ensures bond { ChangesBond (bond_after has_key
-        (stored_by table.old (if has_key then unwrap_or (row_of rows.old peer.now) own.old else own.old) conn.old (request_of pdu.now conn.old.mtu)).row) peer.now rows.old rows.new }
-    ensures conn { conn.new
-        ≡ conn_after table.old.attributes conn.old (request_of pdu.now conn.old.mtu) }
+    ensures queued { let by = row_by_key has_key (row_of rows.old peer.now) own.old in
+        sender.new.outgoing ≡ with_answer sender.old.outgoing
+        (answer_to table.old by conn.old (request_of pdu.now conn.old.mtu)) }
+    ensures answered { IsAnswered pdu.now table.old table.new
+        (row_by_key has_key (row_of rows.old peer.now) own.old)
+        (row_by_key has_key (row_of rows.new peer.now) own.new) conn.old conn.new written.new.items
+        result.confirmed }
+    ensures own { let by = row_by_key has_key (row_of rows.old peer.now) own.old in
+        let stored = stored_by table.old by conn.old (request_of pdu.now conn.old.mtu) in
+        own.new ≡ own_row_after has_key (row_of rows.old peer.now) own.old stored.row }
+    ensures bond { let by = row_by_key has_key (row_of rows.old peer.now) own.old in
+        let stored = stored_by table.old by conn.old (request_of pdu.now conn.old.mtu) in
+        ChangesBond (bond_after has_key stored.row) peer.now rows.old rows.new }
 {
     if has_key {
         if let Some(row) = rows.of(peer) {
@@ -190,19 +188,10 @@ fn answer(
     requires row { IsRowOf table.old.attributes row.old }
     requires room { is_due (request_of pdu.now conn.old.mtu) ≡ true
         → length sender.old.outgoing.queue < 16 }
-    ensures queued { sender.new.outgoing ≡ with_pdus sender.old.outgoing
-        (map att_pdu (option_to_list (answer_to table.old row.old conn.old (request_of pdu.now conn.old.mtu)))) }
-    ensures confirmed { result.confirmed ≡ is_confirmation pdu.now }
-    ensures written { written.new.items
-        ≡ handles_by table.old row.old conn.old (request_of pdu.now conn.old.mtu) }
-    ensures table { table.new ≡ record table.old {
-      values =
-          (stored_by table.old row.old conn.old (request_of pdu.now conn.old.mtu)).values;
-    } }
-    ensures row { row.new
-        ≡ (stored_by table.old row.old conn.old (request_of pdu.now conn.old.mtu)).row }
-    ensures conn { conn.new
-        ≡ conn_after table.old.attributes conn.old (request_of pdu.now conn.old.mtu) }
+    ensures queued { sender.new.outgoing ≡ with_answer sender.old.outgoing
+        (answer_to table.old row.old conn.old (request_of pdu.now conn.old.mtu)) }
+    ensures answered { IsAnswered pdu.now table.old table.new row.old row.new conn.old conn.new
+        written.new.items result.confirmed }
 {
     let Ok(room) = sender.room() else {
         return answer_nothing(table, row, conn, pdu, written);
@@ -229,17 +218,8 @@ fn answer_nothing(
     requires none_due { is_due (request_of pdu.now conn.old.mtu) ≡ false }
     ensures due { result.due ≡ false }
     ensures none { answer_to table.old row.old conn.old (request_of pdu.now conn.old.mtu) ≡ None }
-    ensures confirmed { result.confirmed ≡ is_confirmation pdu.now }
-    ensures written { written.new.items
-        ≡ handles_by table.old row.old conn.old (request_of pdu.now conn.old.mtu) }
-    ensures table { table.new ≡ record table.old {
-      values =
-          (stored_by table.old row.old conn.old (request_of pdu.now conn.old.mtu)).values;
-    } }
-    ensures row { row.new
-        ≡ (stored_by table.old row.old conn.old (request_of pdu.now conn.old.mtu)).row }
-    ensures conn { conn.new
-        ≡ conn_after table.old.attributes conn.old (request_of pdu.now conn.old.mtu) }
+    ensures answered { IsAnswered pdu.now table.old table.new row.old row.new conn.old conn.new
+        written.new.items result.confirmed }
 {
     let mut unsent = ArrayVec::new();
     answer_into(table, row, conn, pdu, &mut unsent, written)

@@ -22,9 +22,9 @@ use Rattle.gatt_laws.specs.Room.{Room, share_of, size_of}
 use Rattle.gatt_laws.specs.Turn.{Turn, turn_of, turn_to, live_turn, is_full as part_full, served, values_among, owed_after, bond_after as part_bond_after, remote_user_terminated}
 use Rattle.gatt_slots.proofs.parts.Kept.{becomes, connection_kept, link_key, live_there, row_kept}
 use Rattle.gatt_slots.proofs.parts.Turns.{ended_kept, full_kept, live_turned, queued_kept}
-use Rattle.gatt_slots.specs.Hearing.{row_in_force, with_pdus}
+use Rattle.gatt_slots.specs.Hearing.{row_in_force}
 use Rattle.gatt_slots.specs.Kept.{Kept, kept_of, kept_if_there, outgoing_of, connection_of}
-use Rattle.gatt_slots.specs.Request.{is_full, stored_of, handles_of, table_after, own_row_after, bond_after, bond_served, confirms_changes, kept_served, pending_after, with_conn, with_owed_after}
+use Rattle.gatt_slots.specs.Request.{with_answer, is_full, stored_of, handles_of, table_after, own_row_after, bond_after, bond_served, confirms_changes, kept_served, pending_after, with_conn, with_owed_after}
 use Rattle.gatt_slots.specs.Turn.{after_ending}
 use Rattle.gatt_subs.specs.declared.bond.Bond.{Bond}
 use Rattle.gatt_subs.specs.Indications.{is_told}
@@ -105,7 +105,7 @@ module _ (room : Room) (found : Option Row) (bond : Row) (owed : Bool) (part : P
   left = record (with_conn (conn_after room.table.attributes (connection_of room.time kept) asked) kept) {
     row = own_row_after (is_some kept.link.key) found kept.row (stored_of room.table room.time found pdu kept).row;
     pending = pending_after pdu kept.pending;
-    outgoing = with_pdus kept.outgoing (map att_pdu (option_to_list (answer_to room.table (row_in_force found kept) (connection_of room.time kept) asked)));
+    outgoing = with_answer kept.outgoing (answer_to room.table (row_in_force found kept) (connection_of room.time kept) asked);
   }
 
   row-left : then-served.part.row ≡ left.row
@@ -116,7 +116,7 @@ module _ (room : Room) (found : Option Row) (bond : Row) (owed : Bool) (part : P
   outgoing-left : outgoing_of room then-served.part part.given ≡ left.outgoing
   outgoing-left =
       queued_kept room bond owed part live bounds (map att_pdu (option_to_list (answer_to room.table (row_of bond part) conn asked)))
-      ∙ λ i. with_pdus kept.outgoing (map att_pdu (option_to_list (answer_to room.table (sym same-row i) (sym same-conn i) asked)))
+      ∙ λ i. with_answer kept.outgoing (answer_to room.table (sym same-row i) (sym same-conn i) asked)
 
   abbrev conn-left : Connection
   conn-left = conn_after room.table.attributes conn asked

@@ -17,6 +17,7 @@ returns-in-Denied-clause-served c =
     record {
       content = refused.content ∙ ap (λ (answer : Response). sent_if_any (Some answer)) (sym same);
       due = refused.due;
+      same_buffer = refused.same_buffer;
     }
 
 pub returns-in-Written-clause-served : goal.returns-in-Written-clause-served
@@ -27,4 +28,5 @@ returns-in-Written-clause-served c =
     record {
       content = repeated ∙ ap (λ (answer : Response). sent_if_any (Some answer)) (sym same);
       due = c.with_answer.ensures.due;
+      same_buffer = search;
     }

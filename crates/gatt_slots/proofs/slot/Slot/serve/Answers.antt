@@ -35,7 +35,7 @@ returns-clause-bond c =
     (sym c.is_full.ensures.full ∙ c.if-is_full.false)
     (c.is_some-has_key.ensures ∙ ap (λ (key : Option KeyFacts). is_some key) c.facts.ensures.key)
     (c.stand.ensures ∙ ap (λ (standing : Standing). record inside.conn { standing = standing }) c.standing-standing.ensures)
-    c.answer_by_row-served.ensures.confirmed c.knows_change-knows_change.ensures c.answer_by_row-served.ensures.bond c.owe_unless.ensures)
+    c.answer_by_row-served.ensures.answered.confirmed c.knows_change-knows_change.ensures c.answer_by_row-served.ensures.bond c.owe_unless.ensures)
 
 pub returns-clause-after : goal.returns-clause-after
 returns-clause-after c =
@@ -48,7 +48,7 @@ returns-clause-after c =
     (sym c.is_full.ensures.full ∙ c.if-is_full.false)
     (c.is_some-has_key.ensures ∙ ap (λ (key : Option KeyFacts). is_some key) c.facts.ensures.key)
     (c.stand.ensures ∙ ap (λ (standing : Standing). record inside.conn { standing = standing }) c.standing-standing.ensures)
-    c.answer_by_row-served.ensures.confirmed c.answer_by_row-served.ensures.own c.answer_by_row-served.ensures.conn c.take_confirmation.ensures.pending
+    c.answer_by_row-served.ensures.answered.confirmed c.answer_by_row-served.ensures.own c.answer_by_row-served.ensures.answered.conn c.take_confirmation.ensures.pending
     c.answer_by_row-served.ensures.queued
     ∙ ap (λ (self : Option Kept). option_map (λ kept. kept_served c.args.table.now c.args.now (row_of old kept.peer) c.args.pdu.now kept) self) c.self.view_is
 
