@@ -10,6 +10,7 @@ pub mod Feeds
 pub mod Due
 pub mod Opened
 pub mod Driving
+pub mod Calling
 pub mod Serving
 pub mod Owed
 pub mod Silence

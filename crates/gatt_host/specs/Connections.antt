@@ -1,5 +1,5 @@
 -- The connections that the application can see, wherever a host stands.
-use Rattle.std.specs.Prelude.{◌≡◌, not, List, [], ◌∷◌, filter_map, Option, Some, None}
+use Rattle.std.specs.Prelude.{◌≡◌, ℕ, ◌==◌, not, List, [], ◌∷◌, filter_map, find, Option, Some, None}
 use Rattle.gatt_laws.specs.Event.{Ordinal}
 use Rattle.gatt_laws.specs.Part.{Part, is_live, key_of, mtu_of}
 use Rattle.gatt_laws.specs.Room.{Room}
@@ -24,6 +24,10 @@ ordinal_seen state (Some ordinal) = Some (part_seen state.room (state.parts ordi
 -- and all that have a slot, in the order of the slots
 abbrev pub connections_of : State → List Connection
 connections_of state = filter_map (ordinal_seen state) state.slots
+
+-- the one with a handle: no two have the same
+abbrev pub connection_with : ℕ → List Connection → Option Connection
+connection_with handle connections = find (λ (connection : Connection). connection.handle == handle) connections
 
 -- the first of those that are left is handed out, as long as there is one
 abbrev pub HandsOutTheFirst : List Connection → Option Connection → List Connection → Type 0

@@ -18,3 +18,4 @@ pub mod Notices
 pub mod Telling
 pub mod Listening
 pub mod Connections
+pub mod Calling

@@ -11,10 +11,11 @@ ghost use Rattle.gatt_laws.specs.Input.{ACall};
 ghost use Rattle.octets.specs.Stream.{CountsIf};
 
 use crate::app::App;
-use crate::feeding::{feed, feed_to, write_out};
+use crate::calling::do_call;
+use crate::feeding::{feed, feed_to};
 use crate::host::Host;
 use crate::host_fault::HostFault;
-use crate::listener::{Listener, Nobody, tell};
+use crate::listener::{Listener, Nobody};
 use octets::Sink;
 
 /// What a host is handed: octets of the stream from its controller, or a call of the application.
@@ -123,34 +124,6 @@ fn take_input<W: Sink, L: Listener>(
             feed_to(host, octets, out, listener)?;
             Ok(false)
         }
-        Input::Call(call) => take_call(host, *call, out, listener),
+        Input::Call(call) => Ok(do_call(host, *call, out, listener)?.is_err()),
     }
-}
-
-/// The same of a call.
-fn take_call<W: Sink, L: Listener>(
-    host: &mut Host,
-    call: App<'_>,
-    out: &mut W,
-    listener: &mut L,
-) -> Result<bool, HostFault>
-    requires none { host.old.fault ≡ None }
-    requires drained { all_out host.old ≡ true }
-    ensures feeds { Feeds (ACall (call_of call.entry) ∷ []) host.old host.new (W.contents out.old)
-        (W.contents out.new) host.new.fault }
-    ensures heard { Listens (ACall (call_of call.entry) ∷ []) host.old host.new host.new.fault
-        (L.heard listener.old) (L.heard listener.new) }
-    ensures fault { host.new.fault ≡ result_err result }
-    ensures write { IfErr result (λ fault. fault ≡ HostFault.Write) }
-    ensures out { IsOk result → all_out host.new ≡ true }
-    ensures due { WritesAllThatIsDue host.new.fault host.new }
-    ensures failures { CountsIf (is_write host.new.fault) (W.failures out.old)
-        (W.failures out.new) }
-    ensures refused { IfOk result (λ refused. CountsRefused (if refused then 1 else 0)
-        (ACall (call_of call.entry) ∷ []) host.old) }
-{
-    let refused = host.app(call).is_err();
-    tell(host, listener);
-    write_out(host, out)?;
-    Ok(refused)
 }

@@ -10,7 +10,7 @@ ghost use Rattle.gatt_laws.specs.Input.{course, call_refusal, replacement_refusa
 ghost use Rattle.gatt_laws.specs.Start.{Start};
 ghost use Rattle.gatt_laws.specs.Telling.{TellsTheApplication};
 ghost use Rattle.gatt_host.specs.Asked.{call_of, refusal_of, replacing_refusal_of};
-ghost use Rattle.gatt_host.specs.Connections.{connections_of};
+ghost use Rattle.gatt_host.specs.Connections.{connection_with, connections_of};
 ghost use Rattle.gatt_host.specs.Credits.{most_out};
 ghost use Rattle.gatt_host.specs.Feeding.{items_taken, TakesUpToAPacket};
 ghost use Rattle.gatt_host.specs.GoingOut.{is_drained};
@@ -35,6 +35,7 @@ use crate::notice::Notice;
 use crate::{packet, taking};
 use arrayvec::ArrayVec;
 use att_table::Table;
+use gatt_slots::Connection;
 use gatt_subs::Rows;
 use le_acl::Reassembler;
 use le_h4::{Deframer, PacketBuf, PacketRef};
@@ -276,6 +277,21 @@ impl Host {
             slots: &self.state.slots,
             place: 0,
         }
+    }
+
+    /// The connection with a handle, if one is there.
+    pub fn connection(&self, handle: u16) -> Option<Connection>
+        ensures held { result ≡ connection_with handle (connections_in self.now.held.slots) }
+        ensures course { (start : Start) (input : List Item) (gone : List Octets)
+            → StandsAt (course start input) gone self.now
+            → result ≡ connection_with handle (connections_of (course start input).intake.state) }
+    {
+        for connection in self.connections() {
+            if connection.handle == handle {
+                return Some(connection);
+            }
+        }
+        None
     }
 
     /// The table with its values, the keys and the rows, to go on with: also after a fault.

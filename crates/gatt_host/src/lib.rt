@@ -2,6 +2,7 @@
 #![tactic(auto)]
 
 mod app;
+mod calling;
 mod calls;
 mod config;
 mod connections;
@@ -25,8 +26,11 @@ mod serving;
 mod taking;
 
 pub use app::{App, AppFault};
+pub use arrayvec::ArrayVec;
+pub use att_numbers::attribute_type::from_16_bits;
 pub use att_policy::KeyFacts;
-pub use att_table::{Table, TableFault};
+pub use att_table::{Table, TableFault, TableKey};
+pub use calling::{call, call_to};
 pub use config::{Config, OpenFault};
 pub use connections::Connections;
 pub use driving::{Input, drive, drive_to};
@@ -37,7 +41,8 @@ pub use gatt_subs::{Rows, RowsFault};
 pub use host::Host;
 pub use host_fault::HostFault;
 pub use iter::Notices;
-pub use le_hci::Peer;
+pub use le_h4::PacketRef;
+pub use le_hci::{InitFault, Peer};
 pub use le_security::{KeyFault, Keys};
 pub use listener::Listener;
 pub use notice::Notice;

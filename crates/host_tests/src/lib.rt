@@ -7,6 +7,8 @@ mod a_day;
 #[cfg(test)]
 mod a_lock;
 #[cfg(test)]
+mod calling;
+#[cfg(test)]
 mod calls;
 #[cfg(test)]
 mod changed_tables;

@@ -131,11 +131,13 @@ fn play_connections(rt: &impl Abort, alloc: Global, cases: &[(Taken, &[Connectio
 fn are(host: &Host, connections: &[Connection]) -> bool {
     let mut seen = host.connections();
     for connection in connections {
-        if seen.next() != Some(*connection) {
+        if seen.next() != Some(*connection)
+            || host.connection(connection.handle) != Some(*connection)
+        {
             return false;
         }
     }
-    seen.next().is_none()
+    seen.next().is_none() && host.connection(0x42).is_none()
 }
 
 #[test]

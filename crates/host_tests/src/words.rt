@@ -1,6 +1,8 @@
 //! What faults say.
 
-use gatt_host::{AppFault, Fault, HostFault, KeyFault, OpenFault, RowsFault, TableFault};
+use gatt_host::{
+    AppFault, Fault, HostFault, InitFault, KeyFault, OpenFault, RowsFault, TableFault, TableKey,
+};
 use std::alloc::Global;
 use std::process::Abort;
 
@@ -25,6 +27,14 @@ const WORDS: &[(Fault, &str)] = &[
     (
         Fault::Host(HostFault::Desync(0x07)),
         "the octet 07 stands where a packet begins, and begins none",
+    ),
+    (
+        Fault::Table(TableFault::Missing(TableKey::Properties)),
+        "table: a key that has to be there is not: properties",
+    ),
+    (
+        Fault::Host(HostFault::Init(InitFault::Refused(0x200A, 0x0C))),
+        "the controller could not be initialised: the controller answered LE Set Advertise Enable with the status 0c",
     ),
     (
         Fault::Host(HostFault::Hardware(0x42)),

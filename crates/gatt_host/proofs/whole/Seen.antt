@@ -1,15 +1,17 @@
 -- The connections that the application can see, wherever a host stands.
-use Rattle.std.proofs.Common.{◌≡◌, Bool, true, false, ◌+◌, List, length, Some, None, refl, sym, ap, ◌∙◌}
-use Rattle.std.specs.Prelude.{not, is_some, nat_lt, if◌then◌else◌}
+use Rattle.std.proofs.Common.{◌≡◌, ℕ, Bool, true, false, ◌+◌, List, ◌∷◌, length, Option, Some, None, refl, sym, ap, ◌∙◌}
+use Rattle.std.proofs.lemmas.Bool.{eq-eqb, ne_eqb}
+use Rattle.std.specs.Prelude.{◌≢◌, not, is_some, nat_lt, if◌then◌else◌}
 use Rattle.gatt_host.proofs.whole.Slots.{slots_read}
-use Rattle.gatt_host.specs.Connections.{connections_of, ordinal_seen, part_seen}
+use Rattle.gatt_host.specs.Connections.{connection_with, connections_of, ordinal_seen, part_seen}
 use Rattle.gatt_host.specs.Owing.{Handed, slot_held}
 use Rattle.gatt_host.specs.Whole.{StandsAt, Whole}
 use Rattle.gatt_laws.specs.Controller.{command_of_init, count_before}
 use Rattle.gatt_laws.specs.Event.{Ordinal}
-use Rattle.gatt_laws.specs.Input.{Course}
+use Rattle.gatt_laws.specs.Input.{Course, Item, course}
 use Rattle.gatt_laws.specs.Part.{Part, is_live, is_there, mtu_of}
 use Rattle.gatt_laws.specs.Room.{Room}
+use Rattle.gatt_laws.specs.Start.{Start}
 use Rattle.gatt_laws.specs.State.{State, with_commands_sent}
 use Rattle.gatt_slots.specs.Connections.{connections_in, slot_seen}
 use Rattle.gatt_slots.specs.declared.connection.Connection.{Connection}
@@ -46,3 +48,20 @@ pub seen_where : (course : Course) (gone : List Octets) (whole : Whole) → Stan
 seen_where course gone whole is =
     slots_read slot_seen ordinal_seen (record { free = refl; none = λ state. refl; same = same-seen })
     course.intake.state is.stands.owed whole.held is.stands.stands
+
+-- the one with a handle, and one without it
+pub found_here : (handle : ℕ) (connection : Connection) (all rest : List Connection) → all ≡ connection ∷ rest → connection.handle ≡ handle
+    → Some connection ≡ connection_with handle all
+found_here handle connection all rest is same =
+    sym (ap (connection_with handle) is ∙ ap (λ (found : Bool). if found then Some connection else connection_with handle rest) (eq-eqb connection.handle handle same))
+
+pub found_later : (handle : ℕ) (connection : Connection) (all rest : List Connection) → all ≡ connection ∷ rest → connection.handle ≢ handle
+    → connection_with handle all ≡ connection_with handle rest
+found_later handle connection all rest is other =
+    ap (connection_with handle) is ∙ ap (λ (found : Bool). if found then Some connection else connection_with handle rest) (ne_eqb connection.handle handle other)
+
+-- as the course has it
+pub found_where : (handle : ℕ) (whole : Whole) (found : Option Connection) → found ≡ connection_with handle (connections_in whole.held.slots)
+    → (start : Start) (input : List Item) (gone : List Octets) → StandsAt (course start input) gone whole
+    → found ≡ connection_with handle (connections_of (course start input).intake.state)
+found_where handle whole found is start input gone stands = is ∙ ap (connection_with handle) (seen_where (course start input) gone whole stands)

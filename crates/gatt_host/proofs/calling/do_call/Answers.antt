@@ -2,37 +2,36 @@ use Rattle.std.proofs.Common.{[], ◌∷◌, Some, ap, ◌∙◌}
 use Rattle.gatt_host.proofs.whole.Feeds.{fault_answered, none_answered}
 use Rattle.gatt_host.proofs.whole.Hearing.{breaks_heard, call_heard, listens_going}
 use Rattle.gatt_host.specs.declared.host_fault.HostFault.{HostFault}
-use Rattle.gatt_host.proofs.whole.Driving.{call_feeds, one_refused}
+use Rattle.gatt_host.proofs.whole.Driving.{call_feeds}
 use Rattle.gatt_host.specs.Asked.{call_of}
 use Rattle.gatt_host.specs.Whole.{Whole}
 use Rattle.gatt_laws.specs.Input.{ACall}
-use Rattle.gatt_host.proofs.driving.take_call.Goals as goal
+use Rattle.gatt_host.proofs.calling.do_call.Goals as goal
 
 pub returns-in_err-write_out-clause-feeds : goal.returns-in_err-write_out-clause-feeds
 returns-in_err-write_out-clause-feeds g c =
     let new : Whole = c.write_out.new.host in
-    call_feeds (ACall (call_of c.args.call)) c.args.host.now c.app.new.self new (g.W.Sink.contents c.args.out.now) (g.W.Sink.contents c.write_out.new.out) new.fault
-    (c.app.ensures.takes c.requires.none) c.write_out.ensures.feeds
+    call_feeds (ACall (call_of c.args.call)) c.args.host.now c.app-answer.new.self new (g.W.Sink.contents c.args.out.now) (g.W.Sink.contents c.write_out.new.out) new.fault
+    (c.app-answer.ensures.takes c.requires.none) c.write_out.ensures.feeds
 
 pub returns-clause-feeds : goal.returns-clause-feeds
 returns-clause-feeds g c =
     let new : Whole = c.write_out.new.host in
-    call_feeds (ACall (call_of c.args.call)) c.args.host.now c.app.new.self new (g.W.Sink.contents c.args.out.now) (g.W.Sink.contents c.write_out.new.out) new.fault
-    (c.app.ensures.takes c.requires.none) c.write_out.ensures.feeds
+    call_feeds (ACall (call_of c.args.call)) c.args.host.now c.app-answer.new.self new (g.W.Sink.contents c.args.out.now) (g.W.Sink.contents c.write_out.new.out) new.fault
+    (c.app-answer.ensures.takes c.requires.none) c.write_out.ensures.feeds
 
 pub returns-clause-refused : goal.returns-clause-refused
-returns-clause-refused g c =
-    one_refused (call_of c.args.call) c.args.host.now c.app.result c.is_err-refused.result c.requires.none c.is_err-refused.ensures.value c.app.ensures.refused
+returns-clause-refused g c = λ start input gone is. c.app-answer.ensures.refused start input gone is c.requires.none
 
 pub returns-in_err-write_out-clause-heard : goal.returns-in_err-write_out-clause-heard
 returns-in_err-write_out-clause-heard g c =
     let new : Whole = c.write_out.new.host in
-    breaks_heard (ACall (call_of c.args.call) ∷ []) [] [] c.args.host.now c.app.new.self new (g.W.Sink.contents c.args.out.now) (g.W.Sink.contents c.write_out.new.out)
+    breaks_heard (ACall (call_of c.args.call) ∷ []) [] [] c.args.host.now c.app-answer.new.self new (g.W.Sink.contents c.args.out.now) (g.W.Sink.contents c.write_out.new.out)
     (g.L.Listener.heard c.args.listener.now) (g.L.Listener.heard c.tell.new.listener) new.fault
     (fault_answered new.fault c.in_err-write_out.field-0.0 c.in_err-write_out.ensures.fault ∙ ap (λ (why : HostFault). Some why) c.in_err-write_out.ensures.write)
-    (c.app.ensures.takes c.requires.none)
-    (call_heard (ACall (call_of c.args.call)) c.args.host.now c.app.new.self (g.L.Listener.heard c.args.listener.now) (g.L.Listener.heard c.tell.new.listener)
-    c.requires.none (c.app.ensures.fault ∙ c.requires.none) c.app.ensures.told c.tell.ensures.hears)
+    (c.app-answer.ensures.takes c.requires.none)
+    (call_heard (ACall (call_of c.args.call)) c.args.host.now c.app-answer.new.self (g.L.Listener.heard c.args.listener.now) (g.L.Listener.heard c.tell.new.listener)
+    c.requires.none (c.app-answer.ensures.fault ∙ c.requires.none) c.app-answer.ensures.told c.tell.ensures.hears)
     c.write_out.ensures.feeds
 
 pub returns-clause-heard : goal.returns-clause-heard
@@ -40,5 +39,5 @@ returns-clause-heard g c =
     let new : Whole = c.write_out.new.host in
     listens_going (ACall (call_of c.args.call) ∷ []) c.args.host.now new (g.L.Listener.heard c.args.listener.now) (g.L.Listener.heard c.tell.new.listener) new.fault
     (none_answered new.fault c.in_ok-write_out.ensures.fault)
-    (call_heard (ACall (call_of c.args.call)) c.args.host.now c.app.new.self (g.L.Listener.heard c.args.listener.now) (g.L.Listener.heard c.tell.new.listener)
-    c.requires.none (c.app.ensures.fault ∙ c.requires.none) c.app.ensures.told c.tell.ensures.hears)
+    (call_heard (ACall (call_of c.args.call)) c.args.host.now c.app-answer.new.self (g.L.Listener.heard c.args.listener.now) (g.L.Listener.heard c.tell.new.listener)
+    c.requires.none (c.app-answer.ensures.fault ∙ c.requires.none) c.app-answer.ensures.told c.tell.ensures.hears)

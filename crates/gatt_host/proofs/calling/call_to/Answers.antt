@@ -1,0 +1,71 @@
+use Rattle.std.proofs.Common.{◌≡◌, List, [], ◌∷◌, Option, None, sym, ap, ◌∙◌}
+use Rattle.gatt_host.proofs.calling.call_to.Goals as goal
+use Rattle.gatt_host.proofs.whole.Calling.{answer_as, call_behind, call_listens, call_refused, error_told, stopped_answers}
+use Rattle.gatt_host.proofs.whole.Driving.{past_fault}
+use Rattle.gatt_host.proofs.whole.Feeds.{fault_answered, none_answered}
+use Rattle.gatt_host.proofs.whole.Hearing.{past_heard}
+use Rattle.gatt_host.proofs.whole.HearingTurns.{nothing_heard}
+use Rattle.gatt_host.specs.Asked.{call_of}
+use Rattle.gatt_host.specs.Calling.{answer_told}
+use Rattle.gatt_host.specs.declared.fault.Fault.TheVariants as told
+use Rattle.gatt_host.specs.declared.host_fault.HostFault.{HostFault}
+use Rattle.gatt_host.specs.Whole.{Whole}
+use Rattle.gatt_laws.specs.Input.{ACall}
+use Rattle.gatt_laws.specs.Notice.{Notice}
+
+pub returns-in_err-feed-clause-feeds : goal.returns-in_err-feed-clause-feeds
+returns-in_err-feed-clause-feeds g c = λ none.
+    let new : Whole = c.feed.new.host in
+    past_fault [] (ACall (call_of c.args.call) ∷ []) c.args.host.now new (g.W.Sink.contents c.args.out.now) (g.W.Sink.contents c.feed.new.out) c.in_err-feed.field-0.0
+    (fault_answered new.fault c.in_err-feed.field-0.0 c.in_err-feed.ensures.outcome) (c.in_err-feed.ensures.feeding none) (c.feed.ensures.feeds none)
+
+pub returns-in_err-feed-clause-heard : goal.returns-in_err-feed-clause-heard
+returns-in_err-feed-clause-heard g c = λ none.
+    let new : Whole = c.feed.new.host in
+    let known : Option (List Notice) = g.L.Listener.heard c.args.listener.now in
+    past_heard [] (ACall (call_of c.args.call) ∷ []) c.args.host.now new (g.W.Sink.contents c.args.out.now) (g.W.Sink.contents c.feed.new.out) known known c.in_err-feed.field-0.0
+    (fault_answered new.fault c.in_err-feed.field-0.0 c.in_err-feed.ensures.outcome) (c.in_err-feed.ensures.feeding none) (c.feed.ensures.feeds none)
+    (nothing_heard c.args.host.now new (g.W.Sink.contents c.args.out.now) (g.W.Sink.contents c.feed.new.out) known new.fault (c.feed.ensures.feeds none))
+
+pub returns-in_err-feed-clause-answers : goal.returns-in_err-feed-clause-answers
+returns-in_err-feed-clause-answers g c = λ none.
+    stopped_answers (call_of c.args.call) c.args.host.now c.feed.new.host.fault c.in_err-feed.field-0.0
+    (fault_answered c.feed.new.host.fault c.in_err-feed.field-0.0 c.in_err-feed.ensures.outcome) c.from_residual.result
+    (error_told c.from_residual.result (told.Host c.in_err-feed.field-0.0) c.from_residual.ensures.1 (λ found is. is))
+
+pub returns-in_err-do_call-clause-feeds : goal.returns-in_err-do_call-clause-feeds
+returns-in_err-do_call-clause-feeds g c = λ none.
+    call_behind (call_of c.args.call) c.args.host.now c.feed.new.host c.do_call.new.host (g.W.Sink.contents c.args.out.now) (g.W.Sink.contents c.feed.new.out) (g.W.Sink.contents c.do_call.new.out)
+    (none_answered c.feed.new.host.fault c.in_ok-feed.ensures.outcome) (c.feed.ensures.feeds none) c.do_call.new.host.fault c.do_call.ensures.feeds
+
+pub returns-in_err-do_call-clause-heard : goal.returns-in_err-do_call-clause-heard
+returns-in_err-do_call-clause-heard g c = λ none.
+    call_listens (call_of c.args.call) c.args.host.now c.feed.new.host c.do_call.new.host (g.W.Sink.contents c.args.out.now) (g.W.Sink.contents c.feed.new.out) (g.W.Sink.contents c.do_call.new.out)
+    (none_answered c.feed.new.host.fault c.in_ok-feed.ensures.outcome) (c.feed.ensures.feeds none) c.do_call.new.host.fault
+    (g.L.Listener.heard c.args.listener.now) (g.L.Listener.heard c.do_call.new.listener) c.do_call.ensures.heard
+
+pub returns-in_err-do_call-clause-answers : goal.returns-in_err-do_call-clause-answers
+returns-in_err-do_call-clause-answers g c = λ none.
+    stopped_answers (call_of c.args.call) c.args.host.now c.do_call.new.host.fault c.in_err-do_call.field-0.0 c.in_err-do_call.ensures.fault c.from_residual-in_err-do_call.result
+    (error_told c.from_residual-in_err-do_call.result (told.Host c.in_err-do_call.field-0.0) c.from_residual-in_err-do_call.ensures.1 (λ found is. is))
+
+pub returns-clause-feeds : goal.returns-clause-feeds
+returns-clause-feeds g c = λ none.
+    call_behind (call_of c.args.call) c.args.host.now c.feed.new.host c.do_call.new.host (g.W.Sink.contents c.args.out.now) (g.W.Sink.contents c.feed.new.out) (g.W.Sink.contents c.do_call.new.out)
+    (none_answered c.feed.new.host.fault c.in_ok-feed.ensures.outcome) (c.feed.ensures.feeds none) c.do_call.new.host.fault c.do_call.ensures.feeds
+
+pub returns-clause-heard : goal.returns-clause-heard
+returns-clause-heard g c = λ none.
+    call_listens (call_of c.args.call) c.args.host.now c.feed.new.host c.do_call.new.host (g.W.Sink.contents c.args.out.now) (g.W.Sink.contents c.feed.new.out) (g.W.Sink.contents c.do_call.new.out)
+    (none_answered c.feed.new.host.fault c.in_ok-feed.ensures.outcome) (c.feed.ensures.feeds none) c.do_call.new.host.fault
+    (g.L.Listener.heard c.args.listener.now) (g.L.Listener.heard c.do_call.new.listener) c.do_call.ensures.heard
+
+pub returns-clause-answers : goal.returns-clause-answers
+returns-clause-answers g c = λ none. record {
+  answer = c.in_ok-do_call.field-0;
+  told = answer_as c.in_ok-do_call.field-0 c.map_err.result c.map_err.ensures.cases (λ refused found is. is)
+      ∙ ap (λ (found : Option HostFault). answer_told found c.in_ok-do_call.field-0) (sym c.in_ok-do_call.ensures.fault);
+  refused = λ still.
+      call_refused (call_of c.args.call) c.args.host.now c.feed.new.host c.do_call.new.host (g.W.Sink.contents c.args.out.now) (g.W.Sink.contents c.feed.new.out) (g.W.Sink.contents c.do_call.new.out)
+      (none_answered c.feed.new.host.fault c.in_ok-feed.ensures.outcome) (c.feed.ensures.feeds none) c.in_ok-do_call.field-0 c.in_ok-do_call.ensures.refused;
+}
