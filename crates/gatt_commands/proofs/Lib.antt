@@ -2,8 +2,11 @@ pub mod Appending
 pub mod Doing
 pub mod Exchanging
 pub mod Fronts
+pub mod Hearing
 pub mod Inputs
 pub mod KeyFiles
+pub mod Loop
+pub mod LoopExamples
 pub mod Noting
 pub mod Printing
 pub mod Reports

@@ -10,15 +10,15 @@ use Rattle.sim_controller.specs.Phone.{Phone, absent, after_hearing}
 use Rattle.sim_controller.specs.Simulated.{Simulated, phone_at, with_phone}
 
 -- one phone is replaced
-phone-set : (phones : List Phone) (place : ℕ) → slice_set phones place (slice_index_or phones place absent) ≡ phones
-phone-set [] place = grind (arith, common_steps)
-phone-set (phone ∷ phones) zero = grind (arith, common_steps)
-phone-set (phone ∷ phones) (suc place) = ap (λ (rest : List Phone). phone ∷ rest) (phone-set phones place)
+pub phone_set : (phones : List Phone) (place : ℕ) → slice_set phones place (slice_index_or phones place absent) ≡ phones
+phone_set [] place = grind (arith, common_steps)
+phone_set (phone ∷ phones) zero = grind (arith, common_steps)
+phone_set (phone ∷ phones) (suc place) = ap (λ (rest : List Phone). phone ∷ rest) (phone_set phones place)
 
-set-twice : (phones : List Phone) (place : ℕ) (first second : Phone) → slice_set (slice_set phones place first) place second ≡ slice_set phones place second
-set-twice [] place first second = grind (arith, common_steps)
-set-twice (phone ∷ phones) zero first second = grind (arith, common_steps)
-set-twice (phone ∷ phones) (suc place) first second = ap (λ (rest : List Phone). phone ∷ rest) (set-twice phones place first second)
+pub set_twice : (phones : List Phone) (place : ℕ) (first second : Phone) → slice_set (slice_set phones place first) place second ≡ slice_set phones place second
+set_twice [] place first second = grind (arith, common_steps)
+set_twice (phone ∷ phones) zero first second = grind (arith, common_steps)
+set_twice (phone ∷ phones) (suc place) first second = ap (λ (rest : List Phone). phone ∷ rest) (set_twice phones place first second)
 
 -- what a phone is then, where none is still none
 pub heard_then : (phones : List Phone) (place : ℕ)
@@ -57,7 +57,7 @@ told_more name frame place old mid new held between holds so_far first after app
       ended = ap (λ (phone : Phone). phone.ended) hears ∙ so_far.ended;
       link = ap (λ (phone : Phone). phone.link) hears ∙ so_far.link;
       others =
-          λ phone. ap (λ (phones : List Phone). record mid { phones = phones }) (set-twice mid.phones place (after_hearing (phone_at mid place)) phone)
+          λ phone. ap (λ (phones : List Phone). record mid { phones = phones }) (set_twice mid.phones place (after_hearing (phone_at mid place)) phone)
           ∙ so_far.others phone;
     })
 
@@ -67,12 +67,12 @@ phone_still zero phones = refl
 phone_still (suc count) [] = refl
 phone_still (suc count) (phone ∷ phones) = phone_still count phones
 
-phone-told : (count : ℕ) (phones : List Phone)
+pub phone_told : (count : ℕ) (phones : List Phone)
     → slice_set (told_phones count phones) count (told_phone (slice_index_or (told_phones count phones) count absent)) ≡ told_phones (suc count) phones
-phone-told zero [] = grind (arith, common_steps)
-phone-told zero (phone ∷ phones) = grind (arith, common_steps)
-phone-told (suc count) [] = grind (arith, common_steps)
-phone-told (suc count) (phone ∷ phones) = ap (λ (rest : List Phone). told_phone phone ∷ rest) (phone-told count phones)
+phone_told zero [] = grind (arith, common_steps)
+phone_told zero (phone ∷ phones) = grind (arith, common_steps)
+phone_told (suc count) [] = grind (arith, common_steps)
+phone_told (suc count) (phone ∷ phones) = ap (λ (rest : List Phone). told_phone phone ∷ rest) (phone_told count phones)
 
 pub text_next : (count : ℕ) (names : List Octets) (phones : List Phone) → count < length names
     → phones_text (take (suc count) names) phones
@@ -114,5 +114,5 @@ phones_more count names name old mid new held between holds below named so_far a
           (appends-append held between holds (phones_text (take count names) old.phones) (phone_text (slice_index_or names count []) (phone_at old count)) so_far.appended text);
       after =
           after ∙ ap (λ (sim : Simulated). with_told_phone sim count) so_far.after
-          ∙ ap (λ (phones : List Phone). record old { phones = phones }) (phone-told count old.phones);
+          ∙ ap (λ (phones : List Phone). record old { phones = phones }) (phone_told count old.phones);
     })

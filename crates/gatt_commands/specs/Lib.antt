@@ -6,6 +6,7 @@ pub mod Fault
 pub mod Input
 pub mod KeyFile
 pub mod Lines
+pub mod Loop
 pub mod Notices
 pub mod Opening
 pub mod RowsFile

@@ -10,6 +10,7 @@ ghost use Rattle.sim_controller.specs.Simulated.{at_start};
 ghost use Rattle.gatt_commands.specs.Doing.{stage_of};
 ghost use Rattle.gatt_commands.specs.KeyFile.{keys_in, AreRefusedAs as KeysAreRefusedAs};
 ghost use Rattle.gatt_commands.specs.Lines.{IsRunCommandFault, IsRunFault, IsScriptRunFault};
+ghost use Rattle.gatt_commands.specs.Loop.{ClosesTheLoop};
 ghost use Rattle.gatt_commands.specs.RowsFile.{rows_in, AreRefusedAs};
 ghost use Rattle.gatt_commands.specs.Runs.{EndsAmong, EndsAtLine, EndsEarly, HostRuns, Runs, RunsAll, RunsFile, RunsFiles, RunsLine, ShowsNothingUnasked, files_of, simulated};
 ghost use Rattle.gatt_commands.specs.ScriptFile.{script_in};
@@ -95,6 +96,8 @@ pub fn run_script<T: Read, N: Read, K: Read, R: Read, S: Read, V: Write, W: Writ
     ensures faults { IfErr result IsRunCommandFault }
     // And of each line, whatever is done:
     ensures unasked { ShowsNothingUnasked }
+    // And of what the phones hear, line by line and in the whole run:
+    ensures closed { ClosesTheLoop }
 {
     let table = read_table(alloc, table)?;
     let next = read_next(alloc, next)?;

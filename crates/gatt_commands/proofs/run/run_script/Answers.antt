@@ -5,6 +5,7 @@ use Rattle.gatt_commands.specs.TableFile.{table_in}
 use Rattle.gatt_commands.proofs.RunFaults.{run_at_all}
 use Rattle.gatt_commands.proofs.RunOrders.{accepted, script_accepted, script_refused}
 use Rattle.gatt_commands.proofs.run.run_script.Goals as goal
+use Rattle.gatt_commands.proofs.Loop.{closes_the_loop}
 use Rattle.gatt_commands.proofs.Unshown.{shows_nothing_unasked}
 
 pub returns-in_err-rows-clause-table_first : goal.returns-in_err-rows-clause-table_first
@@ -59,3 +60,18 @@ returns-in_err-rows-clause-unasked g c = shows_nothing_unasked
 
 pub returns-in_err-table-clause-unasked : goal.returns-in_err-table-clause-unasked
 returns-in_err-table-clause-unasked g c = shows_nothing_unasked
+
+pub returns-clause-closed : goal.returns-clause-closed
+returns-clause-closed g c = closes_the_loop
+
+pub returns-in_err-keys-clause-closed : goal.returns-in_err-keys-clause-closed
+returns-in_err-keys-clause-closed g c = closes_the_loop
+
+pub returns-in_err-next-clause-closed : goal.returns-in_err-next-clause-closed
+returns-in_err-next-clause-closed g c = closes_the_loop
+
+pub returns-in_err-rows-clause-closed : goal.returns-in_err-rows-clause-closed
+returns-in_err-rows-clause-closed g c = closes_the_loop
+
+pub returns-in_err-table-clause-closed : goal.returns-in_err-table-clause-closed
+returns-in_err-table-clause-closed g c = closes_the_loop
