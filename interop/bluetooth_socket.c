@@ -1,5 +1,6 @@
 /* Gives a program a sequenced-packet socket in place of the kernel's L2CAP socket, by LD_PRELOAD, and
- * an adapter in place of the kernel's, of which it is told that it is up and has an address.
+ * an adapter in place of the kernel's, of which it is told that it is up and has an address. Where the
+ * kernel has no ciphers, a socket that does nothing stands in for them.
  *
  * The socket is joined to PHONE.att, where clients.py stands in for a kernel with an adapter; a
  * security level is asked for at PHONE.security, one octet, and answered by the level that is
@@ -55,7 +56,7 @@ struct device {
 };
 
 static struct {
-	int is_ours, is_connected;
+	int is_ours, is_connected, is_cipher;
 	uint8_t level;
 	struct address local, remote;
 } sockets[DESCRIPTORS];
@@ -106,6 +107,13 @@ int socket(int domain, int type, int protocol)
 {
 	int fd;
 
+	if (domain == AF_ALG) {
+		/* btvirt opens the kernel's ciphers as it starts a controller, whether they are used or not. */
+		fd = REAL(socket)(domain, type, protocol);
+		if (fd < 0 && (fd = REAL(socket)(AF_UNIX, type, 0)) >= 0 && fd < DESCRIPTORS)
+			sockets[fd].is_cipher = 1;
+		return fd;
+	}
 	if (domain != AF_BLUETOOTH)
 		return REAL(socket)(domain, type, protocol);
 	if ((type & 0xf) == SOCK_RAW && protocol == PROTOCOL_HCI)
@@ -125,6 +133,8 @@ int socket(int domain, int type, int protocol)
 
 int bind(int fd, const struct sockaddr *address, socklen_t size)
 {
+	if (fd >= 0 && fd < DESCRIPTORS && sockets[fd].is_cipher)
+		return 0;
 	if (!is_ours(fd))
 		return REAL(bind)(fd, address, size);
 	memcpy(&sockets[fd].local, address, size < sizeof(struct address) ? size : sizeof(struct address));
@@ -212,8 +222,8 @@ int setsockopt(int fd, int level, int option, const void *value, socklen_t size)
 
 int close(int fd)
 {
-	if (is_ours(fd))
-		sockets[fd].is_ours = 0;
+	if (fd >= 0 && fd < DESCRIPTORS)
+		sockets[fd].is_ours = sockets[fd].is_cipher = 0;
 	return REAL(close)(fd);
 }
 

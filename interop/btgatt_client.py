@@ -14,7 +14,7 @@ import subprocess
 import sys
 import tempfile
 
-from clients import HERE, Kernel, Session, compiled_socket
+from clients import HERE, ROOT, Kernel, Session, compiled_socket
 from controller import ATT, recorded_frames
 from part import Part
 from phones import PHONES
@@ -74,6 +74,11 @@ SERVICES = {
         service(8, 12, WIDE, include(9, 4, 7, "fff0"), characteristic(10, 0x02, WIDE_VALUE, WIDE_DESCRIPTOR)),
     ],
 }
+
+TOLD = [
+    service(1, 4, "1801", characteristic(2, 0x20, "2a05", "2902")),
+    service(5, 10, "fff0", characteristic(6, 0x12, "fff2", "2902"), characteristic(9, 0x0A, "fff4")),
+]
 
 
 def spaced(octets):
@@ -251,8 +256,8 @@ def main():
             part.end()
         call = [client, "-d", "00:00:00:00:00:99"]
 
-        def opened(table, keys, name):
-            return Kernel(program, room, preload, table, keys, PHONES, f"{recordings}/btgatt_{name}.btsnoop")
+        def opened(table, keys, name, rows=None):
+            return Kernel(program, room, preload, table, keys, PHONES, f"{recordings}/btgatt_{name}.btsnoop", rows)
 
         def begun(kernel, name, options):
             """Starts a client, and returns it with what it prints until it has discovered all."""
@@ -301,6 +306,26 @@ def main():
             acting.close()
             hearing.close()
             closed(kernel, table)
+
+        # A peer that is owed the news of a changed table comes back to a program that has begun anew,
+        # with a table file whose Service Changed says that all handles are affected.
+        with open(f"{ROOT}/examples/porch_next.toml", encoding="utf-8") as file:
+            text = file.read().replace('"00000000"', '"0100ffff"')
+        table, rows = f"{room}/porch_told.toml", f"{room}/porch.rows"
+        for path, content in ((table, text), (rows, "1 c0:00:00:00:00:01 4 2\n! 1 c0:00:00:00:00:01\n")):
+            with open(path, "w", encoding="utf-8") as file:
+                file.write(content)
+        kernel = opened(table, KEYS, "owed", rows)
+        session, _ = begun(kernel, "owner", "")
+        session.say("get-security", "Security level:")
+        told = "Service Changed handled - start: 0x0001 end: 0xffff"
+        printed = plain(session.say("set-security 2", told))
+        part.check("porch_told.toml: what is owed", printed.endswith(told) or printed, True)
+        part.check("porch_told.toml: what it discovers anew", listed(session.say("get-security", "Security level: 2")), TOLD)
+        session.close()
+        closed(kernel, "porch_told.toml")
+        with open(rows, encoding="utf-8") as file:
+            part.check("porch_told.toml: what is owed once that is confirmed", file.read(), "1 c0:00:00:00:00:01 4 2\n")
     part.end()
 
 

@@ -32,7 +32,7 @@ class Kernel:
 
     def __init__(self, program, room, preload, table, keys, phones, recording, rows=None):
         self.room, self.preload, self.phones = room, preload, phones
-        self.controller = Controller(program, f"{ROOT}/{table}", f"{ROOT}/{keys}", recording, rows)
+        self.controller = Controller(program, os.path.join(ROOT, table), os.path.join(ROOT, keys), recording, rows)
         self.links = {}
         self.listening = []
         for name in phones:

@@ -126,13 +126,30 @@ class Link:
         self.controller.end(self.handle, USER_ENDED)
 
 
+def free_port():
+    with socket.socket() as free:
+        free.bind(("127.0.0.1", 0))
+        return free.getsockname()[1]
+
+
+def joined(port, serving):
+    """Returns a connection to the program, once it listens."""
+    until = time.monotonic() + PATIENCE
+    while time.monotonic() < until and serving.poll() is None:
+        try:
+            stream = socket.create_connection(("127.0.0.1", port))
+            stream.setsockopt(socket.IPPROTO_TCP, socket.TCP_NODELAY, 1)
+            return stream
+        except OSError:
+            time.sleep(0.02)
+    raise AssertionError("the program does not listen")
+
+
 class Controller:
     """Starts `gatt_shell serve`, and plays its controller."""
 
-    def __init__(self, program, table, keys, recording=None, rows=None, room=None):
-        with socket.socket() as free:
-            free.bind(("127.0.0.1", 0))
-            port = free.getsockname()[1]
+    def __init__(self, program, table, keys, recording=None, rows=None):
+        port = free_port()
         words = [program, "serve", table, keys, f"127.0.0.1:{port}"] + (["--rows", rows] if rows else [])
         self.serving = subprocess.Popen(words, stdin=subprocess.DEVNULL, stdout=subprocess.DEVNULL, stderr=subprocess.PIPE)
         self.recording = Recording(recording) if recording else None
@@ -140,22 +157,11 @@ class Controller:
         self.links = {}
         self.advertising = threading.Event()
         self.faults = []
-        self.stream = self.joined(port)
+        self.stream = joined(port, self.serving)
         self.reader = threading.Thread(target=self.read, daemon=True)
         self.reader.start()
         if not self.advertising.wait(PATIENCE):
             raise AssertionError("the host does not advertise")
-
-    def joined(self, port):
-        until = time.monotonic() + PATIENCE
-        while time.monotonic() < until and self.serving.poll() is None:
-            try:
-                stream = socket.create_connection(("127.0.0.1", port))
-                stream.setsockopt(socket.IPPROTO_TCP, socket.TCP_NODELAY, 1)
-                return stream
-            except OSError:
-                time.sleep(0.02)
-        raise AssertionError("the program does not listen")
 
     def close(self):
         """Ends the connection, and returns how the program ended and what it told."""
