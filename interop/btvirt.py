@@ -192,7 +192,7 @@ class Host:
 def visit(part, host, path, table, report, phone, key, link, change):
     part.check(f"{path}: the connection of {phone.address}", host.connect(phone, report), 0)
     central = Central(part, f"{path}: {phone.address}", host)
-    table.mtu, table.configured, table.queue = 23, {}, []
+    table.begin({})
     if change:
         part.check(f"{path}: encryption", host.encrypt(phone, key), change)
     central.ask(scapy.ATT_Exchange_MTU_Request(mtu=120), ("mtu", 247))

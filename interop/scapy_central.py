@@ -157,7 +157,7 @@ def prepare(central, table, link):
 
 def visit(part, controller, path, table, name, encrypts, link, mtu):
     with_link = controller.connect(PHONES[name])
-    table.mtu, table.configured, table.queue = 23, {}, []
+    table.begin({})
     central = Central(part, f"{path}: {name}", with_link)
     if encrypts:
         part.check(f"{path}: {name} encrypts", with_link.encrypt(), True)

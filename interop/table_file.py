@@ -44,6 +44,7 @@ class Link:
     size: int = 0
     is_authenticated: bool = False
     is_secure: bool = False
+    is_authorized: bool = False
 
 
 class Table:
@@ -53,8 +54,13 @@ class Table:
             self.ranges = []
             for service in tomllib.load(file)["service"]:
                 self.add_service(service)
-        self.configured = {}
+        self.begin({})
+
+    def begin(self, configured):
+        """A connection begins, of a client that has configured this."""
+        self.configured = configured
         self.mtu = 23
+        self.is_exchanged = False
         self.queue = []
 
     def add(self, kind, value, **more):
@@ -108,7 +114,11 @@ class Table:
             return 0x01
         if not it.bits & access:
             return 0x02 if access == READ else 0x03
-        needs = it.read if access == READ else it.write
+        return self.unmet(it.read if access == READ else it.write, link)
+
+    @staticmethod
+    def unmet(needs, link):
+        """The code of the first need that a connection does not meet, or None."""
         size = 16 if needs.get("secure") else needs.get("key_size", 0)
         wants_authenticated = needs.get("authenticated") or needs.get("secure")
         if (needs.get("encrypted") or wants_authenticated or size) and not link.size:
@@ -119,7 +129,7 @@ class Table:
             return 0x0C
         if needs.get("secure") and not link.is_secure:
             return 0x05
-        return 0x08 if needs.get("authorized") else None
+        return 0x08 if needs.get("authorized") and not link.is_authorized else None
 
     # What is due: a word and what it is about, or an error with its opcode, handle and code.
 
@@ -246,3 +256,93 @@ class Table:
             self.put(it, part)
         else:
             it.value = it.value[:offset] + part + (it.value[offset + len(part) :] if it.is_fixed else b"")
+
+    # A PDU as it comes, in its own form or not.
+
+    def answer(self, pdu, link):
+        """The octets of the answer that is due to a PDU, or None."""
+        if not pdu or pdu[0] in IGNORED:
+            return None
+        opcode, body = pdu[0], pdu[1:]
+        if opcode == 0x52:
+            if len(body) >= 2 and len(pdu) <= self.mtu:
+                self.write(int.from_bytes(body[:2], "little"), body[2:], link, COMMAND)
+            return None
+        if opcode not in FORMS:
+            return None if opcode & 0x40 else bytes((1, opcode, 0, 0, 0x06))
+        if not FORMS[opcode](body) or len(pdu) > self.mtu:
+            return bytes((1, opcode, 0, 0, 0x04))
+        return written(self.due(opcode, body, link))
+
+    def due(self, opcode, body, link):
+        first, last = int.from_bytes(body[:2], "little"), int.from_bytes(body[2:4], "little")
+        if opcode == 0x02:
+            if not self.is_exchanged:
+                self.mtu, self.is_exchanged = max(23, min(first, RECEIVED)), True
+            return ("mtu", RECEIVED)
+        if opcode in (0x04, 0x06, 0x08, 0x10) and (first == 0 or first > last):
+            return self.error(opcode, first, 0x01)
+        if opcode == 0x04:
+            return self.find_information(first, last)
+        if opcode == 0x06:
+            return self.find_by_type_value(first, last, number_of(body[4:6]), body[6:], link)
+        if opcode == 0x08:
+            return self.read_by_type(first, last, number_of(body[4:]), link)
+        if opcode == 0x10:
+            return self.read_by_group_type(first, last, number_of(body[4:]), link)
+        if opcode == 0x0A:
+            return self.read(first, link)
+        if opcode == 0x0C:
+            return self.read_blob(first, last, link)
+        if opcode == 0x0E:
+            return self.read_multiple([int.from_bytes(body[at : at + 2], "little") for at in range(0, len(body), 2)], link)
+        if opcode == 0x12:
+            return self.write(first, body[2:], link)
+        if opcode == 0x16:
+            return self.prepare(first, last, body[4:], link)
+        return self.execute(body[0], link)
+
+
+# What the program receives, and what it passes over: responses, notifications, indications, confirmations.
+RECEIVED = 247
+IGNORED = {0x01, 0x03, 0x05, 0x07, 0x09, 0x0B, 0x0D, 0x0F, 0x11, 0x13, 0x17, 0x19, 0x1B, 0x1D, 0x1E}
+# The forms of requests, behind the opcode.
+FORMS = {
+    0x02: lambda it: len(it) == 2,
+    0x04: lambda it: len(it) == 4,
+    0x06: lambda it: len(it) >= 6,
+    0x08: lambda it: len(it) in (6, 20),
+    0x0A: lambda it: len(it) == 2,
+    0x0C: lambda it: len(it) == 4,
+    0x0E: lambda it: len(it) >= 4 and len(it) % 2 == 0,
+    0x10: lambda it: len(it) in (6, 20),
+    0x12: lambda it: len(it) >= 2,
+    0x16: lambda it: len(it) >= 4,
+    0x18: lambda it: it in (b"\0", b"\1"),
+}
+
+
+def number_of(kind):
+    return int.from_bytes(kind, "little") << 96 | BASE if len(kind) == 2 else int.from_bytes(kind, "little")
+
+
+def written(due):
+    """What is due, as octets."""
+    word, *rest = due
+    if word == "error":
+        return bytes((1, rest[0], *rest[1].to_bytes(2, "little"), rest[2]))
+    if word == "mtu":
+        return b"\x03" + rest[0].to_bytes(2, "little")
+    if word == "information":
+        rows = [handle.to_bytes(2, "little") + octets(kind) for handle, kind in rest[0]]
+        return bytes((5, 1 if len(rows[0]) == 4 else 2)) + b"".join(rows)
+    if word == "prepared":
+        return b"\x17" + rest[0].to_bytes(2, "little") + rest[1].to_bytes(2, "little") + rest[2]
+    if word in ("value", "part", "joined"):
+        return bytes(({"value": 0x0B, "part": 0x0D, "joined": 0x0F}[word],)) + rest[0]
+    if word in ("written", "executed"):
+        return b"\x13" if word == "written" else b"\x19"
+    rows = [b"".join(it if isinstance(it, bytes) else it.to_bytes(2, "little") for it in row) for row in rest[0]]
+    if word == "ranges":
+        return b"\x07" + b"".join(rows)
+    return bytes((0x09 if word == "values" else 0x11, len(rows[0]))) + b"".join(rows)
