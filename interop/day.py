@@ -49,7 +49,8 @@ class Day:
     def act(self):
         chance = self.random.random()
         if chance < 0.1:
-            self.update(self.random.randint(1, len(self.table.attributes) + 1))
+            values = [it.handle + 1 for it in self.table.attributes if it.kind == CHARACTERISTIC]
+            self.update(self.random.choice((*values, self.random.randint(1, len(self.table.attributes) + 1))))
         elif chance < 0.12:
             self.until = self.random.choice((ALWAYS, self.now + 5000))
             self.lines.append(f"allow {self.name} {self.until}")
