@@ -23,7 +23,7 @@ PATIENCE = 20
 def compiled_socket(room):
     """Compiles what is preloaded into a client, into a folder."""
     path = f"{room}/bluetooth_socket.so"
-    subprocess.run(["cc", "-shared", "-fPIC", "-O1", "-Wall", "-Wno-address-of-packed-member", "-o", path, f"{HERE}/bluetooth_socket.c", "-ldl"], check=True)
+    subprocess.run(["cc", "-shared", "-fPIC", "-O1", "-Wall", "-o", path, f"{HERE}/bluetooth_socket.c", "-ldl"], check=True)
     return path
 
 

@@ -58,10 +58,17 @@ class Table:
 
     def begin(self, configured):
         """A connection begins, of a client that has configured this."""
-        self.configured = configured
-        self.mtu = 23
-        self.is_exchanged = False
-        self.queue = []
+        self.enter({"configured": configured, "mtu": 23, "is_exchanged": False, "queue": []})
+
+    def enter(self, state):
+        """The next PDUs come from the connection with this state."""
+        self.configured, self.mtu = state["configured"], state["mtu"]
+        self.is_exchanged, self.queue = state["is_exchanged"], state["queue"]
+        # The values that a PDU has written.
+        self.changed = []
+
+    def state(self):
+        return {"configured": self.configured, "mtu": self.mtu, "is_exchanged": self.is_exchanged, "queue": self.queue}
 
     def add(self, kind, value, **more):
         self.attributes.append(Attribute(len(self.attributes) + 1, kind, value, **more))
@@ -212,6 +219,11 @@ class Table:
             self.configured[it.handle] = value
         else:
             it.value = value + it.value[len(value) :] if it.is_fixed else value
+            self.note(it)
+
+    def note(self, it):
+        if it not in self.changed:
+            self.changed.append(it)
 
     def write(self, handle, value, link, access=WRITE):
         code = self.refusal(handle, link, access)
@@ -243,7 +255,7 @@ class Table:
             if code:
                 for other, value in zip(self.attributes, before[0]):
                     other.value = value
-                self.configured = before[1]
+                self.configured, self.changed = before[1], []
                 return self.error(0x18, handle, code)
             self.put_at(it, offset, part)
         return ("executed",)
@@ -256,11 +268,13 @@ class Table:
             self.put(it, part)
         else:
             it.value = it.value[:offset] + part + (it.value[offset + len(part) :] if it.is_fixed else b"")
+            self.note(it)
 
     # A PDU as it comes, in its own form or not.
 
     def answer(self, pdu, link):
         """The octets of the answer that is due to a PDU, or None."""
+        self.changed = []
         if not pdu or pdu[0] in IGNORED:
             return None
         opcode, body = pdu[0], pdu[1:]
