@@ -19,6 +19,8 @@ mod machine;
 #[cfg(test)]
 mod octet_order;
 #[cfg(test)]
+mod remembering;
+#[cfg(test)]
 mod run_command;
 #[cfg(test)]
 mod run_files;

@@ -1,8 +1,9 @@
 //! The command `run`: the order in which its files are judged, and the rows that it writes.
 
 use crate::closed::Closed;
+use crate::remembering::Remembering;
 use att_table::examples::{DOOR, PORCH, PORCH_NEXT};
-use gatt_commands::{ShellFault, run_script};
+use gatt_commands::{RowsOut, RowsStore, ShellFault, run_script};
 use le_security::examples::KEYS;
 use std::alloc::Global;
 use std::io::Write;
@@ -44,6 +45,17 @@ pub fn run_showing<V: Write, W: Write>(
     shows: bool,
     printed: &mut W,
 ) -> Result<(), ShellFault> {
+    run_saving(alloc, inputs, &mut RowsOut::new(rows), shows, printed)
+}
+
+/// Runs over inputs, and has a store save the rows.
+fn run_saving<S: RowsStore, W: Write>(
+    alloc: Global,
+    inputs: &Inputs<'_>,
+    store: &mut S,
+    shows: bool,
+    printed: &mut W,
+) -> Result<(), ShellFault> {
     run_script(
         alloc,
         &mut inputs.table.as_bytes(),
@@ -51,7 +63,7 @@ pub fn run_showing<V: Write, W: Write>(
         &mut inputs.keys.as_bytes(),
         &mut inputs.rows.as_bytes(),
         &mut inputs.script.as_bytes(),
-        rows,
+        store,
         shows,
         printed,
     )
@@ -260,4 +272,35 @@ fn is_unwritten(alloc: Global, wanted: &[u8]) -> bool {
     let mut printed: Vec<u8> = Vec::new(alloc);
     run(alloc, &GOOD, &mut Closed, &mut printed) == Err(ShellFault::Unwritten)
         && printed.as_slice() == wanted
+}
+
+/// A phone with a key subscribes to the battery level, and is answered.
+const SUBSCRIBES: Inputs<'static> = Inputs {
+    rows: "",
+    script: "connect P 1 c0:00:00:00:00:01\nencrypt P 0101010101010101 257\nP < 1207000100\n",
+    ..GOOD
+};
+
+#[test]
+fn saves_the_rows_once_where_the_output_fails(rt: HostRuntime) {
+    assert!(&rt; is_saved_once(rt.alloc(), &SUBSCRIBES, SUBSCRIBED));
+}
+
+/// Whether a run whose output fails has asked once for this text of the rows to be saved.
+fn is_saved_once(alloc: Global, inputs: &Inputs<'_>, text: &str) -> bool {
+    let mut store = Remembering::new();
+    run_saving(alloc, inputs, &mut store, false, &mut Closed) == Err(ShellFault::Unwritten)
+        && store.has_saved(1, text)
+}
+
+#[test]
+fn saves_no_rows_where_a_file_is_refused(rt: HostRuntime) {
+    assert!(&rt; is_unsaved(rt.alloc(), &GOOD_ROWS));
+}
+
+/// Whether a run is refused for its script, and no rows are to be saved.
+fn is_unsaved(alloc: Global, inputs: &Inputs<'_>) -> bool {
+    let mut store = Remembering::new();
+    run_saving(alloc, inputs, &mut store, false, &mut Closed) == Err(ShellFault::Script(2))
+        && store.has_saved(0, "")
 }

@@ -3,7 +3,7 @@
 use arrayvec::ArrayVec;
 use att_table::Table;
 use att_table::examples::DOOR;
-use gatt_commands::{ShellFault, TURNS, serve_on};
+use gatt_commands::{RowsOut, ShellFault, TURNS, serve_on};
 use gatt_host::{Config, Host};
 use gatt_subs::Rows;
 use le_security::Keys;
@@ -173,7 +173,8 @@ fn is_served(
     rows: &str,
 ) -> bool {
     let mut written: Vec<u8> = Vec::new(alloc);
-    serve_on(listener, host, &mut written) == ended && written.as_slice() == rows.as_bytes()
+    let served = serve_on(listener, host, &mut RowsOut::new(&mut written));
+    served == ended && written.as_slice() == rows.as_bytes()
 }
 
 /// Compares what has come back with these packets, one behind the other, and then the end.

@@ -11,11 +11,13 @@ pub mod Noting
 pub mod Printing
 pub mod Reports
 pub mod RowsFiles
+pub mod RowsWritten
 pub mod RunEnds
 pub mod RunFaults
 pub mod RunOrders
 pub mod Running
 pub mod ScriptFiles
+pub mod ServeEnds
 pub mod ServeFaults
 pub mod Sessions
 pub mod TableFiles

@@ -53,6 +53,14 @@ never_past has_next text (Ok done) fault was refusal later = absurd was
 never_past has_next text (Err passed_on) fault was refusal later =
     past has_next text fault refusal (subst (λ (f : ShellFault). place_of OfScript < place_of_fault f) was later)
 
+-- nor where memory is refused before
+pub refused_never_past : (outer : Result Unit ShellFault) (fault : ShellFault)
+    → IsErrAnd outer (λ passed_on. passed_on ≡ fault) → fault ≡ Memory → IsPast OfScript outer → ⊥
+refused_never_past (Ok done) fault was is later = absurd was
+refused_never_past (Err passed_on) fault was is later =
+    let past : place_of OfScript < place_of_fault Memory = subst (λ (f : ShellFault). place_of OfScript < place_of_fault f) (was ∙ is) later in
+    omega (arith, past)
+
 -- what is judged where a next table was read is judged where one was given
 pub script_refused : (known : Option (List ℕ)) (judged given : Bool) (line : ℕ) → judged ≡ given
     → IfSome known (λ octets. script_in judged octets ≡ Err (BadLine line)) → IfSome known (λ octets. script_in given octets ≡ Err (BadLine line))

@@ -10,10 +10,11 @@ pub mod Loop
 pub mod Notices
 pub mod Opening
 pub mod RowsFile
+pub mod RowsOut
 pub mod Runs
+pub mod Saving
 pub mod ScriptFile
 pub mod Serving
 pub mod Session
 pub mod TableFile
 pub mod Turns
-pub mod Written

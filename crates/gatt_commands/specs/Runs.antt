@@ -23,6 +23,7 @@ use Rattle.gatt_commands.specs.Lines.{outcome_text, with_told_phones}
 use Rattle.gatt_commands.specs.Notices.{IsBegun}
 use Rattle.gatt_commands.specs.Opening.{IsOpened}
 use Rattle.gatt_commands.specs.RowsFile.{rows_in}
+use Rattle.gatt_commands.specs.Saving.{Save, Saves}
 use Rattle.gatt_commands.specs.ScriptFile.{script_in}
 use Rattle.gatt_commands.specs.TableFile.{table_in, HasNext}
 
@@ -130,36 +131,36 @@ pub record EndsInLines (fault : ShellFault) (shows : Bool) (script : Acts) (old 
 abbrev pub EndsEarly : ShellFault → Bool → Acts → Stage → Stage → Option Octets → Option Octets → Type 0
 EndsEarly fault shows script old new held holds = ((silent : Notes) × FailsToExchange fault silent old new held holds) ⊎ EndsInLines fault shows script old new held holds
 
--- with a new controller; and then the rows that stand are written. `writes` and `writes_front` say that octets, or the front
--- of them, were written
-pub record RunsHost (shows : Bool) (script : Acts) (old new : Whole) (next next_then : Option Contents) (held holds : Option Octets) (writes : Octets → Type 0) : Type 0 where
+-- with a new controller; and then a store is asked to save the rows that stand, and does
+pub record RunsHost (shows : Bool) (script : Acts) (old new : Whole) (next next_then : Option Contents) (held holds : Option Octets) (saves saves_then : Option (List Save)) : Type 0 where
   pub sim : Simulated
   pub runs : RunsAll shows script (stage_of old (at_start simulated) next) (stage_of new sim next_then) held holds
-  pub rows : writes (text_of new.held.rows)
+  pub saved : Saves (text_of new.held.rows) true saves saves_then
 
--- or the run ends early, or the rows cannot be written; the front of the rows is written then
-pub record EndsHost (fault : ShellFault) (shows : Bool) (script : Acts) (old new : Whole) (next next_then : Option Contents) (held holds : Option Octets) (writes_front : Octets → Type 0) : Type 0 where
+-- or the run ends early, and the store is asked then; or it does not save the rows
+pub record EndsHost (fault : ShellFault) (shows : Bool) (script : Acts) (old new : Whole) (next next_then : Option Contents) (held holds : Option Octets) (saves saves_then : Option (List Save)) : Type 0 where
   pub sim : Simulated
+  pub is_saved : Bool
   pub ends :
       EndsEarly fault shows script (stage_of old (at_start simulated) next) (stage_of new sim next_then) held holds
-      ⊎ ((fault ≡ Unwritten) × RunsAll shows script (stage_of old (at_start simulated) next) (stage_of new sim next_then) held holds)
-  pub rows : writes_front (text_of new.held.rows)
+      ⊎ ((fault ≡ Unwritten) × (is_saved ≡ false) × RunsAll shows script (stage_of old (at_start simulated) next) (stage_of new sim next_then) held holds)
+  pub saved : Saves (text_of new.held.rows) is_saved saves saves_then
 
 -- by what is answered
 abbrev pub HostRuns : Result (Unit {0}) ShellFault → Bool → Acts → Whole → Whole → Option Contents → Option Contents
-    → Option Octets → Option Octets → (Octets → Type 0) → (Octets → Type 0) → Type 0
-HostRuns (Ok done) shows script old new next next_then held holds writes writes_front = RunsHost shows script old new next next_then held holds writes
-HostRuns (Err fault) shows script old new next next_then held holds writes writes_front = EndsHost fault shows script old new next next_then held holds writes_front
+    → Option Octets → Option Octets → Option (List Save) → Option (List Save) → Type 0
+HostRuns (Ok done) shows script old new next next_then held holds saves saves_then = RunsHost shows script old new next next_then held holds saves saves_then
+HostRuns (Err fault) shows script old new next next_then held holds saves saves_then = EndsHost fault shows script old new next next_then held holds saves saves_then
 
 -- with a new host, and the script of a file, as far as its octets are known
-pub record RunsFile (result : Result (Unit {0}) ShellFault) (shows : Bool) (table : Contents) (next : Option Contents) (keys : List Entry) (rows : Subscriptions) (script_file held holds : Option Octets) (writes writes_front : Octets → Type 0) : Type 0 where
+pub record RunsFile (result : Result (Unit {0}) ShellFault) (shows : Bool) (table : Contents) (next : Option Contents) (keys : List Entry) (rows : Subscriptions) (script_file held holds : Option Octets) (saves saves_then : Option (List Save)) : Type 0 where
   pub script : Acts
   pub has_script : IfSome script_file (λ octets. script_in (is_some next) octets ≡ Ok script)
   pub host : Whole
   pub opened : IsOpened table keys rows host
   pub last : Whole
   pub next_then : Option Contents
-  pub runs : HostRuns result shows script host last next next_then held holds writes writes_front
+  pub runs : HostRuns result shows script host last next next_then held holds saves saves_then
 
 -- the files of a run by their octets, where those are known
 pub record Files : Type 0 where
@@ -173,7 +174,7 @@ abbrev pub files_of : Option Octets → Option (Option Octets) → Option Octets
 files_of table next keys rows script = record { table_file = table; next_file = next; key_file = keys; rows_file = rows; script_file = script }
 
 -- what the files say is run
-pub record RunsFiles (result : Result (Unit {0}) ShellFault) (shows : Bool) (files : Files) (held holds : Option Octets) (writes writes_front : Octets → Type 0) : Type 0 where
+pub record RunsFiles (result : Result (Unit {0}) ShellFault) (shows : Bool) (files : Files) (held holds : Option Octets) (saves saves_then : Option (List Save)) : Type 0 where
   pub table : Contents
   pub next : Option Contents
   pub keys : List Entry
@@ -182,4 +183,4 @@ pub record RunsFiles (result : Result (Unit {0}) ShellFault) (shows : Bool) (fil
   pub has_next : HasNext files.next_file next
   pub has_keys : IfSome files.key_file (λ octets. keys_in octets ≡ Ok keys)
   pub has_rows : IfSome files.rows_file (λ octets. rows_in octets ≡ Ok rows)
-  pub runs : RunsFile result shows table next keys rows files.script_file held holds writes writes_front
+  pub runs : RunsFile result shows table next keys rows files.script_file held holds saves saves_then

@@ -1,5 +1,5 @@
 -- What the serving of a controller does, and what may end it: this profile's own.
-use Rattle.std.specs.Prelude.{◌≡◌, ℕ, Option, Some, None, Result, Ok, Err}
+use Rattle.std.specs.Prelude.{◌≡◌, ℕ, Bool, true, false, List, Option, Some, None, Result, Ok, Err}
 use Rattle.std.specs.Result.{result_err}
 use Rattle.gatt_host.specs.declared.host_fault.HostFault.{HostFault}
 use Rattle.gatt_host.specs.declared.serving.End.{End}
@@ -9,6 +9,7 @@ use Rattle.gatt_host.specs.Whole.{Whole}
 use Rattle.octets.specs.Number.{Octets}
 use Rattle.gatt_commands.specs.declared.fault.ShellFault.{ShellFault}
 use Rattle.gatt_commands.specs.declared.fault.ShellFault.TheVariants.{Table, Keys, Rows, Host, Unreadable, Unwritten, Listen, Memory}
+use Rattle.gatt_commands.specs.Saving.{Save, Saves}
 
 -- so many reads may be made of a connection
 abbrev pub turns : ℕ
@@ -30,6 +31,13 @@ pub record ServesBy {R W : Type 0} (remaining : R → Option Octets) (contents :
 abbrev pub told_of : Option HostFault → Result (Unit {0}) ShellFault
 told_of None = Ok tt
 told_of (Some fault) = Err (Host (number_of_fault fault))
+
+-- then a store was asked to save this text: it did where all ends well, and did not where that ends unwritten; where the host
+-- stopped with a fault, that is told, whether it did or not
+abbrev pub SavesBy : Result (Unit {0}) ShellFault → Octets → Option (List Save) → Option (List Save) → Type 0
+SavesBy (Ok done) text before after = Saves text true before after
+SavesBy (Err Unwritten) text before after = Saves text false before after
+SavesBy (Err fault) text before after = (is_done : Bool) × Saves text is_done before after
 
 -- What may end it: before the host is open
 abbrev pub IsOpeningFault : ShellFault → Type 0

@@ -1,11 +1,10 @@
 //! Output of the commands.
 
-ghost use Rattle.std.specs.Prelude.{◌≡◌, ◌≤◌, ◌*◌, ◌++◌, ◌∷◌, [], length, Ok, Err, IfErr, OnErr, OnOk};
+ghost use Rattle.std.specs.Prelude.{◌≡◌, ◌≤◌, ◌*◌, ◌++◌, ◌∷◌, [], length, IfErr, OnErr, OnOk};
 ghost use Rattle.std.specs.Fmt.{decimal};
 ghost use Rattle.hex.specs.Hex.{encode_lower};
 ghost use Rattle.std.specs.Io.KnownBytes.{Appends};
 ghost use Rattle.octets.specs.Stream.{WritesFront};
-ghost use Rattle.gatt_commands.specs.declared.fault.ShellFault.{ShellFault};
 
 use crate::fault::ShellFault;
 use itoa::Buffer;
@@ -62,16 +61,4 @@ pub(crate) fn print_number_line<W: Write>(number: u64, writer: &mut W) -> Result
     let mut digits = Buffer::new();
     print(digits.format(number).as_bytes(), writer)?;
     print(b"\n", writer)
-}
-
-/// How a run ended whose rows were written afterwards: its own fault stands before one of the rows.
-pub(crate) fn outcome_of(
-    ran: Result<(), ShellFault>,
-    written: Result<(), ShellFault>,
-) -> Result<(), ShellFault>
-    ensures fault { (fault : ShellFault) → ran ≡ Err fault → result ≡ Err fault }
-    ensures written { ran ≡ Ok tt → result ≡ written }
-{
-    ran?;
-    written
 }

@@ -1,17 +1,14 @@
-//! Rows files, as octets of an input, and as what is written at the end of a run.
+//! Rows files, as octets of an input.
 
-ghost use Rattle.std.specs.Prelude.{◌≡◌, ◌≢◌, ℕ, IfErr, IfOk, IfSome, OnErr, OnOk};
+ghost use Rattle.std.specs.Prelude.{◌≡◌, ◌≢◌, ℕ, IfErr, IfOk, IfSome};
 ghost use Rattle.octets.specs.Memory.{Gives};
-ghost use Rattle.gatt_subs.specs.RowsText.{text_of};
 ghost use Rattle.gatt_commands.specs.RowsFile.{rows_in, AreRefusedAs, IsRowsRefusal, IsRowsFileFault};
-ghost use Rattle.gatt_commands.specs.Written.{HasWritten, HasWrittenFront};
 
 use crate::fault::ShellFault;
 use crate::input;
 use gatt_subs::{Rows, RowsFault};
-use octets::{Failed, Writer};
 use std::alloc::Global;
-use std::io::{Read, Write};
+use std::io::Read;
 use std::str;
 
 /// Reads a rows file, and gives its rows.
@@ -47,24 +44,4 @@ fn rows_in(alloc: Global, octets: &[u8]) -> Result<Rows, RowsFault>
         Ok(text) => Rows::read(alloc, text),
         Err(_) => Err(RowsFault::BadLine(1)),
     }
-}
-
-/// Writes the rows out as a rows file, or the front of it where the writer fails.
-pub(crate) fn write_rows<W: Write>(rows: &Rows, writer: &mut W) -> Result<(), ShellFault>
-    ensures ok { OnOk result (HasWritten W.contents writer.old (text_of rows.now)) }
-    ensures front { OnErr result (HasWrittenFront W.contents writer.old (text_of rows.now)) }
-    ensures faults { IfErr result (λ fault. fault ≡ ShellFault.Unwritten) }
-{
-    if write_text(rows, writer).is_err() || writer.flush().is_err() {
-        return Err(ShellFault::Unwritten);
-    }
-    Ok(())
-}
-
-/// Writes the text of the rows, or the front of it where the writer fails.
-fn write_text<W: Write>(rows: &Rows, writer: &mut W) -> Result<(), Failed>
-    ensures ok { OnOk result (HasWritten W.contents writer.old (text_of rows.now)) }
-    ensures front { OnErr result (HasWrittenFront W.contents writer.old (text_of rows.now)) }
-{
-    rows.text(&mut Writer::new(writer))
 }

@@ -1,6 +1,6 @@
 //! The command `run`.
 
-ghost use Rattle.std.specs.Prelude.{◌≡◌, ◌≢◌, ◌≤◌, ℕ, true, length, is_some, Err, IfErr, IfOk, IfSome, IsOk, OnOk};
+ghost use Rattle.std.specs.Prelude.{◌≡◌, ◌≢◌, ◌⊎◌, ◌≤◌, ℕ, true, length, is_some, Err, IfErr, IfOk, IfSome, IsOk, OnOk};
 ghost use Rattle.std.specs.List.{All};
 ghost use Rattle.std.specs.Option.{option_map};
 ghost use Rattle.gatt_host.specs.Whole.{all_out};
@@ -16,7 +16,6 @@ ghost use Rattle.gatt_commands.specs.Runs.{EndsAmong, EndsAtLine, EndsEarly, Hos
 ghost use Rattle.gatt_commands.specs.ScriptFile.{script_in};
 ghost use Rattle.gatt_commands.specs.TableFile.{table_in, IsRefusedAs};
 ghost use Rattle.gatt_commands.specs.Turns.{IsPast, OfTable, OfNext, OfKeys, OfRows, OfScript};
-ghost use Rattle.gatt_commands.specs.Written.{HasWritten, HasWrittenFront};
 
 use crate::acts::do_act;
 use crate::check::{KeysPath, TablePath};
@@ -27,9 +26,10 @@ use crate::key_file::read_keys;
 use crate::lazy_file::LazyFile;
 use crate::notes::Notes;
 use crate::opening::open_host;
-use crate::output::outcome_of;
-use crate::rows_file::{read_rows, write_rows};
+use crate::rows_file::read_rows;
+use crate::rows_out::RowsOut;
 use crate::rows_path::{RowsPath, RowsReader, RowsWriter};
+use crate::rows_store::{RowsStore, save_after};
 use crate::script_file::judged_script;
 use crate::table_file::{read_next, read_table};
 use crate::told::print_line;
@@ -52,17 +52,17 @@ const SIMULATED: SimConfig = SimConfig {
 };
 
 /// Reads a table, a table to replace it by, keys, rows and a script, and runs the script with a host
-/// over a simulated controller. At the end the rows that then stand are written. Each file is read
+/// over a simulated controller. At the end the rows that then stand are saved. Each file is read
 /// only once those in front of it have been accepted. Where `shows` is set, what the application is
 /// told is printed behind what each line brings.
-pub fn run_script<T: Read, N: Read, K: Read, R: Read, S: Read, V: Write, W: Write>(
+pub fn run_script<T: Read, N: Read, K: Read, R: Read, S: Read, V: RowsStore, W: Write>(
     alloc: Global,
     table: &mut T,
     next: &mut Option<N>,
     keys: &mut K,
     rows: &mut R,
     script: &mut S,
-    rows_writer: &mut V,
+    store: &mut V,
     shows: bool,
     writer: &mut W,
 ) -> Result<(), ShellFault>
@@ -89,10 +89,19 @@ pub fn run_script<T: Read, N: Read, K: Read, R: Read, S: Read, V: Write, W: Writ
         → IfSome (R.remaining rows.old) (λ octets. IsOk (rows_in octets)) }
     ensures script_last { IsPast OfScript result
         → IfSome (S.remaining script.old) (λ octets. IsOk (script_in (is_some next.old) octets)) }
-    // Then all that the files say is run, up to the fault that ends the run.
+    // Then all that the files say is run, up to the fault that ends the run, and the rows are saved.
     ensures runs { IsPast OfScript result → RunsFiles result shows
-        (files_of (T.remaining table.old) (option_map N.remaining next.old) (K.remaining keys.old) (R.remaining rows.old) (S.remaining script.old))
-        (W.contents writer.old) (W.contents writer.new) (HasWritten V.contents rows_writer.old) (HasWrittenFront V.contents rows_writer.old) }
+        (files_of (T.remaining table.old) (option_map N.remaining next.old)
+        (K.remaining keys.old) (R.remaining rows.old) (S.remaining script.old))
+        (W.contents writer.old) (W.contents writer.new)
+        (V.saves store.old) (V.saves store.new) }
+    // Before that nothing is saved or printed; where memory is refused, it may be before or then.
+    ensures unbegun { ((store.new ≡ store.old) × (writer.new ≡ writer.old))
+        ⊎ RunsFiles result shows
+        (files_of (T.remaining table.old) (option_map N.remaining next.old)
+        (K.remaining keys.old) (R.remaining rows.old) (S.remaining script.old))
+        (W.contents writer.old) (W.contents writer.new)
+        (V.saves store.old) (V.saves store.new) }
     ensures faults { IfErr result IsRunCommandFault }
     // And of each line, whatever is done:
     ensures unasked { ShowsNothingUnasked }
@@ -103,34 +112,28 @@ pub fn run_script<T: Read, N: Read, K: Read, R: Read, S: Read, V: Write, W: Writ
     let next = read_next(alloc, next)?;
     let keys = read_keys(alloc, keys)?;
     let rows = read_rows(alloc, rows)?;
-    run_files(
-        alloc,
-        table,
-        next,
-        keys,
-        rows,
-        script,
-        rows_writer,
-        shows,
-        writer,
-    )
+    run_files(alloc, table, next, keys, rows, script, store, shows, writer)
 }
 
 /// Reads a script, and runs it with a host that has these files.
-fn run_files<S: Read, V: Write, W: Write>(
+fn run_files<S: Read, V: RowsStore, W: Write>(
     alloc: Global,
     table: Table,
     mut next: Option<Table>,
     keys: Keys,
     rows: Rows,
     script: &mut S,
-    rows_writer: &mut V,
+    store: &mut V,
     shows: bool,
     writer: &mut W,
 ) -> Result<(), ShellFault>
     ensures runs { IsPast OfScript result → RunsFile result shows table next keys rows
         (S.remaining script.old) (W.contents writer.old) (W.contents writer.new)
-        (HasWritten V.contents rows_writer.old) (HasWrittenFront V.contents rows_writer.old) }
+        (V.saves store.old) (V.saves store.new) }
+    ensures unbegun { ((store.new ≡ store.old) × (writer.new ≡ writer.old))
+        ⊎ RunsFile result shows table next keys rows
+        (S.remaining script.old) (W.contents writer.old) (W.contents writer.new)
+        (V.saves store.old) (V.saves store.new) }
     ensures script { (line : ℕ) → result ≡ Err (ShellFault.Script line)
         → IfSome (S.remaining script.old) (λ octets. script_in (is_some next) octets ≡ Err (BadLine line)) }
     ensures script_last { IsPast OfScript result
@@ -140,37 +143,33 @@ fn run_files<S: Read, V: Write, W: Write>(
     let octets = read_all(alloc, script)?;
     let script = judged_script(alloc, octets.as_slice(), next.is_some())?;
     let mut host = open_host(alloc, table, keys, rows)?;
+    let mut sim = open_sim(alloc)?;
     run_host(
-        alloc,
-        &mut host,
-        &mut next,
-        &script,
-        rows_writer,
-        shows,
-        writer,
+        alloc, &mut host, &mut sim, &mut next, &script, store, shows, writer,
     )
 }
 
-/// Runs a script with a host over a simulated controller, and then writes the rows that stand. A fault
-/// of the run stands before one of the rows.
-fn run_host<V: Write, W: Write>(
+/// Runs a script with a host over a new simulated controller, and then saves the rows that stand. A
+/// fault of the run stands before one of the store.
+fn run_host<V: RowsStore, W: Write>(
     alloc: Global,
     host: &mut Host,
+    sim: &mut Sim,
     next: &mut Option<Table>,
     script: &Script<'_>,
-    rows_writer: &mut V,
+    store: &mut V,
     shows: bool,
     writer: &mut W,
 ) -> Result<(), ShellFault>
-    requires { HasNamedPhones script.now }
-    ensures runs { result ≢ Err ShellFault.Memory
-        → HostRuns result shows script.now host.old host.new next.old next.new
-        (W.contents writer.old) (W.contents writer.new) (HasWritten V.contents rows_writer.old) (HasWrittenFront V.contents rows_writer.old) }
+    requires named { HasNamedPhones script.now }
+    requires fresh { sim.old ≡ at_start simulated }
+    ensures runs { HostRuns result shows script.now host.old host.new next.old next.new
+        (W.contents writer.old) (W.contents writer.new)
+        (V.saves store.old) (V.saves store.new) }
     ensures faults { IfErr result IsRunFault }
 {
-    let mut sim = open_sim(alloc)?;
-    let ran = run_lines(alloc, host, &mut sim, next, script, shows, writer);
-    outcome_of(ran, write_rows(host.rows(), rows_writer))
+    let ran = run_lines(alloc, host, sim, next, script, shows, writer);
+    save_after(ran, host.rows(), store)
 }
 
 /// A simulated controller, to which nothing has happened yet.
@@ -315,7 +314,7 @@ pub fn run_paths<F: Files, W: Write>(
     let mut keys = LazyFile::new(files, paths.keys.0);
     let mut rows = RowsReader::new(files, paths.rows);
     let mut script = LazyFile::new(files, paths.script.0);
-    let mut rows_writer = RowsWriter::new(files, paths.rows);
+    let mut store = RowsOut::new(RowsWriter::new(files, paths.rows));
     run_script(
         alloc,
         &mut table,
@@ -323,7 +322,7 @@ pub fn run_paths<F: Files, W: Write>(
         &mut keys,
         &mut rows,
         &mut script,
-        &mut rows_writer,
+        &mut store,
         paths.shows,
         writer,
     )

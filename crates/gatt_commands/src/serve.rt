@@ -6,18 +6,18 @@ ghost use Rattle.gatt_subs.specs.RowsText.{text_of};
 ghost use Rattle.gatt_commands.specs.KeyFile.{keys_in, AreRefusedAs as KeysAreRefusedAs};
 ghost use Rattle.gatt_commands.specs.Opening.{IsOpenedWith};
 ghost use Rattle.gatt_commands.specs.RowsFile.{rows_in, AreRefusedAs};
-ghost use Rattle.gatt_commands.specs.Serving.{told_of, IsOpeningFault, IsServeFault, IsServedFault, ServesBy, ServesStream};
+ghost use Rattle.gatt_commands.specs.Serving.{told_of, IsOpeningFault, IsServeFault, IsServedFault, SavesBy, ServesBy, ServesStream};
 ghost use Rattle.gatt_commands.specs.TableFile.{table_in, IsRefusedAs};
-ghost use Rattle.gatt_commands.specs.Written.{HasWritten};
 
 use crate::check::{KeysPath, TablePath};
 use crate::fault::ShellFault;
 use crate::key_file::read_keys;
 use crate::lazy_file::LazyFile;
 use crate::opening::open_host;
-use crate::output::outcome_of;
-use crate::rows_file::{read_rows, write_rows};
+use crate::rows_file::read_rows;
+use crate::rows_out::RowsOut;
 use crate::rows_path::{RowsPath, RowsReader, RowsWriter};
+use crate::rows_store::{RowsStore, save_after};
 use crate::table_file::read_table;
 use gatt_host::{Host, serve};
 use octets::{Reader, Writer};
@@ -29,24 +29,25 @@ use std::net::{Net, SocketAddr, TcpListener, TcpStream};
 /// How many reads may be made of a connection, that of its end among them.
 pub const TURNS: u64 = 1_000_000_000;
 
-/// Serves the controller at the other end of the first connection that is accepted, and then writes the
+/// Serves the controller at the other end of the first connection that is accepted, and then saves the
 /// rows that stand.
-pub fn serve_on<V: Write>(
+pub fn serve_on<V: RowsStore>(
     listener: &TcpListener,
     host: &mut Host,
-    rows_writer: &mut V,
+    store: &mut V,
 ) -> Result<(), ShellFault>
-    // Where no connection was accepted, nothing was served, and the rows are left as they are.
+    // Where no connection was accepted, nothing was served or saved.
     ensures listen { result ≡ Err ShellFault.Listen → host.new ≡ host.old }
-    ensures rows_left { result ≡ Err ShellFault.Listen → rows_writer.new ≡ rows_writer.old }
+    ensures unsaved { result ≡ Err ShellFault.Listen → store.new ≡ store.old }
     // Once one was, the host was served to the end of the stream, or to the fault that stands then.
     ensures served { result ≢ Err ShellFault.Listen → host.old.fault ≡ None
         → ServesStream host.old host.new None None None None }
     ensures ended { OnOk result (host.new.fault ≡ None) }
     ensures fault { (number : ℕ) → result ≡ Err (ShellFault.Host number)
         → IfSome host.new.fault (λ fault. number ≡ number_of_fault fault) }
-    ensures rows { OnOk result
-        (HasWritten V.contents rows_writer.old (text_of host.new.held.rows)) }
+    // Then the rows that stood at its end were saved.
+    ensures saved { result ≢ Err ShellFault.Listen
+        → SavesBy result (text_of host.new.held.rows) (V.saves store.old) (V.saves store.new) }
     ensures faults { IfErr result IsServedFault }
 {
     let Ok((stream, _)) = listener.accept() else {
@@ -55,7 +56,7 @@ pub fn serve_on<V: Write>(
     // Where packets can't be sent without delay, they are sent with it.
     let _ = stream.set_nodelay(true);
     let served = serve_stream(host, &mut &stream, &mut &stream);
-    outcome_of(served, write_rows(host.rows(), rows_writer))
+    save_after(served, host.rows(), store)
 }
 
 /// Serves a controller over a reader and a writer.
@@ -117,7 +118,7 @@ pub fn serve_paths<F: Files + Net<Listener = TcpListener, Stream = TcpStream>>(
     serve_on(
         &listener,
         &mut host,
-        &mut RowsWriter::new(system, paths.rows),
+        &mut RowsOut::new(RowsWriter::new(system, paths.rows)),
     )
 }
 

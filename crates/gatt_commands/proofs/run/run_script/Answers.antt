@@ -2,6 +2,7 @@ use Rattle.std.specs.Prelude.{is_some}
 use Rattle.gatt_commands.specs.KeyFile.{keys_in}
 use Rattle.gatt_commands.specs.RowsFile.{rows_in}
 use Rattle.gatt_commands.specs.TableFile.{table_in}
+use Rattle.gatt_commands.proofs.RunEnds.{or_more}
 use Rattle.gatt_commands.proofs.RunFaults.{run_at_all}
 use Rattle.gatt_commands.proofs.RunOrders.{accepted, script_accepted, script_refused}
 use Rattle.gatt_commands.proofs.run.run_script.Goals as goal
@@ -42,6 +43,21 @@ returns-clause-runs g c = λ past. record {
   has_rows = c.in_ok-rows.ensures.rows;
   runs = c.run_files.ensures.runs past;
 }
+
+pub returns-clause-unbegun : goal.returns-clause-unbegun
+returns-clause-unbegun g c = or_more
+    (λ runs. record {
+      table = c.in_ok-table.table;
+      next = c.in_ok-next.next;
+      keys = c.in_ok-keys.keys;
+      rows = c.in_ok-rows.rows;
+      has_table = c.in_ok-table.ensures.table;
+      has_next = c.in_ok-next.ensures.next;
+      has_keys = c.in_ok-keys.ensures.keys;
+      has_rows = c.in_ok-rows.ensures.rows;
+      runs = runs;
+    })
+    c.run_files.ensures.unbegun
 
 pub returns-clause-faults : goal.returns-clause-faults
 returns-clause-faults g c = run_at_all c.run_files.result c.run_files.ensures.faults

@@ -1,0 +1,36 @@
+-- A serving ends, and then the rows are saved.
+use Rattle.std.proofs.Common.{◌≡◌, Bool, Option, Some, None, List, Result, Ok, Err, refl, sym, subst, ◌∙◌}
+use Rattle.std.specs.Prelude.{IfErr}
+use Rattle.gatt_host.specs.declared.host_fault.HostFault.{HostFault}
+use Rattle.gatt_host.specs.Numbers.{number_of_fault}
+use Rattle.gatt_subs.specs.Rows.{Subscriptions}
+use Rattle.gatt_subs.specs.RowsText.{text_of}
+use Rattle.octets.specs.Number.{Octets}
+use Rattle.gatt_commands.specs.declared.fault.ShellFault.{ShellFault}
+use Rattle.gatt_commands.specs.declared.fault.ShellFault.TheVariants.{Host, Unwritten}
+use Rattle.gatt_commands.specs.Saving.{Save, Saves, SavesAfter}
+use Rattle.gatt_commands.specs.Serving.{told_of, SavesBy}
+
+module _ (text : Octets) (saves saves_then : Option (List Save)) where
+  by-answer : (ran result : Result (Unit {0}) ShellFault) → ran ≡ Ok tt → IfErr result (λ fault. fault ≡ Unwritten)
+      → SavesAfter ran result text saves saves_then → SavesBy result text saves saves_then
+  by-answer ran (Ok done) well unwritten saved = subst (λ (is_done : Bool). Saves text is_done saves saves_then) (saved.answered well) saved.saves
+  by-answer ran (Err fault) well unwritten saved =
+      subst (λ (fault : ShellFault). SavesBy (Err fault) text saves saves_then) (sym unwritten)
+      (subst (λ (is_done : Bool). Saves text is_done saves saves_then) (saved.answered well) saved.saves)
+
+  by-fault : (stands : Option HostFault) (ran result : Result (Unit {0}) ShellFault) → ran ≡ told_of stands
+      → ((fault : ShellFault) → ran ≡ Err fault → result ≡ Err fault) → (ran ≡ Ok tt → IfErr result (λ fault. fault ≡ Unwritten))
+      → SavesAfter ran result text saves saves_then → SavesBy result text saves saves_then
+  by-fault None ran result told failed unwritten saved = by-answer ran result told (unwritten told) saved
+  by-fault (Some fault) ran result told failed unwritten saved =
+      subst (λ (result : Result (Unit {0}) ShellFault). SavesBy result text saves saves_then) (sym (failed (Host (number_of_fault fault)) told))
+      (saved.is_done, saved.saves)
+
+-- of the rows that stand
+pub saves_rows : (rows held : Subscriptions) (saves saves_then : Option (List Save)) (stands : Option HostFault) (ran result : Result (Unit {0}) ShellFault) → rows ≡ held
+    → ran ≡ told_of stands → ((fault : ShellFault) → ran ≡ Err fault → result ≡ Err fault) → (ran ≡ Ok tt → IfErr result (λ fault. fault ≡ Unwritten))
+    → SavesAfter ran result (text_of rows) saves saves_then → SavesBy result (text_of held) saves saves_then
+saves_rows rows held saves saves_then stands ran result same told failed unwritten saved =
+    by-fault (text_of held) saves saves_then stands ran result told failed unwritten
+    (subst (λ (rows : Subscriptions). SavesAfter ran result (text_of rows) saves saves_then) same saved)
