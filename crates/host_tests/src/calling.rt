@@ -21,6 +21,7 @@ type Case = (App<'static>, Result<(), Fault>, &'static str);
 /// A peer wants indications, and confirms none.
 const SUBSCRIBED: &[Taken] = &[
     Taken::Packet("043e130100400001010a00000000c018000000480000"),
+    Taken::Packet("040e04010a2000"),
     Taken::Pdu("1204000200"),
 ];
 
