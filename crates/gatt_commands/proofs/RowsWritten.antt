@@ -1,5 +1,5 @@
 -- Rows that are written are flushed then.
-use Rattle.std.proofs.Common.{◌≡◌, [], Option, Some, None, refl, sym, ◌∙◌}
+use Rattle.std.proofs.Common.{[], Option, Some, None, sym, ◌∙◌}
 use Rattle.std.proofs.lemmas.List.{append-nil}
 use Rattle.std.specs.Io.KnownBytes.{Appends, Keeps}
 use Rattle.octets.specs.Number.{Octets}

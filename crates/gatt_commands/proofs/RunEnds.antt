@@ -1,5 +1,5 @@
 -- A run ends as the script does, and then the rows are saved.
-use Rattle.std.proofs.Common.{◌≡◌, ◌⊎◌, Bool, false, Option, List, Result, Ok, Err, refl, sym, subst, inl, inr}
+use Rattle.std.proofs.Common.{◌≡◌, ◌⊎◌, Bool, Option, List, Result, Ok, Err, refl, sym, subst, inl, inr}
 use Rattle.std.specs.Prelude.{IfErr, OnOk}
 use Rattle.att_table.specs.Table.{Contents}
 use Rattle.gatt_host.specs.Whole.{Whole}

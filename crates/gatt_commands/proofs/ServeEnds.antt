@@ -1,5 +1,5 @@
 -- A serving ends, and then the rows are saved.
-use Rattle.std.proofs.Common.{◌≡◌, Bool, Option, Some, None, List, Result, Ok, Err, refl, sym, subst, ◌∙◌}
+use Rattle.std.proofs.Common.{◌≡◌, Bool, Option, Some, None, List, Result, Ok, Err, sym, subst}
 use Rattle.std.specs.Prelude.{IfErr}
 use Rattle.gatt_host.specs.declared.host_fault.HostFault.{HostFault}
 use Rattle.gatt_host.specs.Numbers.{number_of_fault}
