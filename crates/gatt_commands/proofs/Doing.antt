@@ -9,9 +9,9 @@ use Rattle.gatt_host.specs.declared.app.AppFault.TheVariants.{NoSuchHandle, NotA
 use Rattle.gatt_host.specs.Numbers.{number_of_refusal}
 use Rattle.gatt_host.specs.Telling.{silent}
 use Rattle.gatt_host.specs.Whole.{StandsAt, Takes, Whole}
-use Rattle.gatt_laws.specs.Calls.{Call}
-use Rattle.gatt_laws.specs.Input.{Item, ACall, ATable, call_refusal, course, replacement_refusal}
-use Rattle.gatt_laws.specs.Start.{Start}
+use Rattle.gatt_laws.specs.machine.Calls.{Call}
+use Rattle.gatt_laws.specs.machine.Input.{Item, ACall, ATable, call_refusal, course, replacement_refusal}
+use Rattle.gatt_laws.specs.machine.Start.{Start}
 use Rattle.octets.specs.Number.{Octets}
 use Rattle.gatt_commands.specs.declared.acts.Refused.{Refused}
 use Rattle.gatt_commands.specs.declared.acts.Refused.TheVariants as refused

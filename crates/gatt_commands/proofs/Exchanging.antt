@@ -7,7 +7,7 @@ use Rattle.gatt_host.specs.Answers.{lost_fault}
 use Rattle.gatt_host.specs.declared.host_fault.HostFault.{HostFault}
 use Rattle.gatt_host.specs.declared.host_fault.HostFault.TheVariants.{Desync}
 use Rattle.gatt_host.specs.Whole.{Leads, Takes, Whole, all_out, outcome_of}
-use Rattle.gatt_laws.specs.Input.{APacket}
+use Rattle.gatt_laws.specs.machine.Input.{APacket}
 use Rattle.le_h4.specs.declared.deframer.Fed.{Fed}
 use Rattle.le_h4.specs.declared.deframer.H4Fault.{H4Fault}
 use Rattle.le_h4.specs.declared.deframer.H4Fault.TheVariants as stream

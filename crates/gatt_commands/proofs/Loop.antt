@@ -12,9 +12,9 @@ use Rattle.gatt_host.specs.declared.host_fault.HostFault.{HostFault}
 use Rattle.gatt_host.specs.Opening.{start_of}
 use Rattle.gatt_host.specs.Telling.{silent, silent_unless}
 use Rattle.gatt_host.specs.Whole.{Leads, StandsAt, Takes, Whole}
-use Rattle.gatt_laws.specs.Calls as why
-use Rattle.gatt_laws.specs.Input.{ACall, APacket, ATable, Item, course}
-use Rattle.gatt_laws.specs.Start.{Start}
+use Rattle.gatt_laws.specs.machine.Calls as why
+use Rattle.gatt_laws.specs.machine.Input.{ACall, APacket, ATable, Item, course}
+use Rattle.gatt_laws.specs.machine.Start.{Start}
 use Rattle.gatt_subs.specs.Rows.{Subscriptions}
 use Rattle.le_h4.specs.Division.{End, Lost, Unfinished, division}
 use Rattle.le_h4.specs.Packet.{Packet}

@@ -9,7 +9,7 @@ use Rattle.gatt_host.specs.declared.notice.Notice.{Notice}
 use Rattle.gatt_host.specs.Notices.{HasTheValue, notice_of}
 use Rattle.gatt_host.specs.Telling.{notices_told}
 use Rattle.gatt_host.specs.Whole.{Whole}
-use Rattle.gatt_laws.specs.Notice as law
+use Rattle.gatt_laws.specs.machine.Notice as law
 use Rattle.octets.specs.Number.{Octets}
 use Rattle.gatt_commands.specs.declared.notes.Notes.{Notes}
 use Rattle.gatt_commands.specs.Notices.{HaveTheirValues, Hears, NotesLines, NotesOne, notice_line}

@@ -4,10 +4,10 @@ use Rattle.std.specs.Option.{option_map}
 use Rattle.att_table.specs.Table.{Contents}
 use Rattle.gatt_host.specs.Telling.{silent}
 use Rattle.gatt_host.specs.Whole.{Takes, Whole, StandsAt}
-use Rattle.gatt_laws.specs.Calls.{Call, UpdateCall, AuthorizeCall, TickCall}
-use Rattle.gatt_laws.specs.Calls as why
-use Rattle.gatt_laws.specs.Input.{Item, ACall, ATable, call_refusal, course, replacement_refusal}
-use Rattle.gatt_laws.specs.Start.{Start}
+use Rattle.gatt_laws.specs.machine.Calls.{Call, UpdateCall, AuthorizeCall, TickCall}
+use Rattle.gatt_laws.specs.machine.Calls as why
+use Rattle.gatt_laws.specs.machine.Input.{Item, ACall, ATable, call_refusal, course, replacement_refusal}
+use Rattle.gatt_laws.specs.machine.Start.{Start}
 use Rattle.octets.specs.Number.{Octets}
 use Rattle.scripts.specs.declared.act.Act.{Act}
 use Rattle.scripts.specs.declared.act.Act.TheVariants as line

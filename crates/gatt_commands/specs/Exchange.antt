@@ -5,7 +5,7 @@ use Rattle.gatt_host.specs.declared.host_fault.HostFault.{HostFault}
 use Rattle.gatt_host.specs.declared.host_fault.HostFault.TheVariants.{Desync}
 use Rattle.gatt_host.specs.Numbers.{number_of_fault}
 use Rattle.gatt_host.specs.Whole.{Leads, Takes, Whole, all_out}
-use Rattle.gatt_laws.specs.Input.{APacket}
+use Rattle.gatt_laws.specs.machine.Input.{APacket}
 use Rattle.le_h4.specs.Division.{End, Unfinished, Lost, division}
 use Rattle.le_h4.specs.Packet.{Packet}
 use Rattle.octets.specs.Number.{Octets}

@@ -5,9 +5,9 @@ use Rattle.att_table.specs.Table.{Contents}
 use Rattle.gatt_host.specs.declared.host_fault.HostFault.{HostFault}
 use Rattle.gatt_host.specs.Opening.{start_of}
 use Rattle.gatt_host.specs.Whole.{StandsAt, Whole, all_out}
-use Rattle.gatt_laws.specs.Calls.{AuthorizeCall, TickCall, UpdateCall}
-use Rattle.gatt_laws.specs.Input.{ACall, APacket, ATable, Item, course}
-use Rattle.gatt_laws.specs.Start.{Start}
+use Rattle.gatt_laws.specs.machine.Calls.{AuthorizeCall, TickCall, UpdateCall}
+use Rattle.gatt_laws.specs.machine.Input.{ACall, APacket, ATable, Item, course}
+use Rattle.gatt_laws.specs.machine.Start.{Start}
 use Rattle.gatt_subs.specs.Rows.{Subscriptions}
 use Rattle.le_h4.specs.Division.{division}
 use Rattle.le_h4.specs.Packet.{Packet}

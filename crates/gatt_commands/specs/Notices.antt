@@ -9,7 +9,7 @@ use Rattle.gatt_host.specs.declared.notice.Notice.TheVariants.{Connected, Discon
 use Rattle.gatt_host.specs.Notices.{HasTheValue, notice_of}
 use Rattle.gatt_host.specs.Telling.{notices_told}
 use Rattle.gatt_host.specs.Whole.{Whole}
-use Rattle.gatt_laws.specs.Notice as law
+use Rattle.gatt_laws.specs.machine.Notice as law
 use Rattle.gatt_subs.specs.RowsText.{peer_text}
 use Rattle.hex.specs.Hex.{encode_lower}
 use Rattle.octets.specs.Number.{Octets}

@@ -5,7 +5,7 @@ use Rattle.att_table.specs.Table.{Contents}
 use Rattle.gatt_host.specs.declared.config.Config.{Config}
 use Rattle.gatt_host.specs.Opening.{start_of}
 use Rattle.gatt_host.specs.Whole.{StandsAt, Whole}
-use Rattle.gatt_laws.specs.Input.{course}
+use Rattle.gatt_laws.specs.machine.Input.{course}
 use Rattle.gatt_subs.specs.Rows.{Subscriptions}
 use Rattle.le_security.specs.declared.entry.Entry.{Entry}
 use Rattle.octets.specs.Number.{Octets}

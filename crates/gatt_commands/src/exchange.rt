@@ -4,7 +4,7 @@ ghost use Rattle.std.specs.Prelude.{◌≡◌, [], true, IfErr, IfOk, IsOk, IsSo
 ghost use Rattle.std.specs.Bool.{OnFalse, OnTrue};
 ghost use Rattle.gatt_host.specs.Answers.{lost_fault};
 ghost use Rattle.gatt_host.specs.Whole.{all_out, outcome_of, Takes};
-ghost use Rattle.gatt_laws.specs.Input.{APacket};
+ghost use Rattle.gatt_laws.specs.machine.Input.{APacket};
 ghost use Rattle.le_h4.specs.Packet.{seen};
 ghost use Rattle.gatt_commands.specs.Notices.{Hears};
 ghost use Rattle.gatt_commands.specs.Exchange.{ControllerAnswers, ExchangesUntil, HandsNext, HostAnswers, HostHears, IsQuiet, NotesTaken, pair_of};

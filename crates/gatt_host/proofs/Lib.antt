@@ -1,19 +1,7 @@
-pub mod WholeFrames
-pub mod Answering
-mod Appended
-pub mod Commands
-pub mod CommandsFirst
-pub mod Entering
-pub mod Firsts
-pub mod Nexts
-pub mod Places
-pub mod Owing
-pub mod Packets
-pub mod SlotCommands
-pub mod Readies
-pub mod Refusing
-pub mod Lengths
-pub mod Untold
+pub mod commands
+pub mod packets
+pub mod owing
+pub mod places
 pub mod standing
 pub mod asking
 pub mod meaning

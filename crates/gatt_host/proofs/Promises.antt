@@ -9,7 +9,7 @@ use Rattle.gatt_laws.proofs.Preparing.{prepares_the_same}
 use Rattle.gatt_laws.proofs.Refusals.{refuses_by_the_first_broken_rule, refuses_the_first_entry, refuses_the_first_handle, refuses_the_first_listed}
 use Rattle.gatt_laws.proofs.SameCourse.{same_view_same_packets}
 use Rattle.gatt_laws.proofs.Telling as laws
-use Rattle.gatt_laws.specs.Telling.{TellsTheApplication}
+use Rattle.gatt_laws.specs.laws.Telling.{TellsTheApplication}
 
 pub keeps_the_policy : KeepsThePolicy
 keeps_the_policy = record {

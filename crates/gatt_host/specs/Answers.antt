@@ -3,10 +3,10 @@
 use Rattle.std.specs.Prelude.{ℕ, Bool, true, false, ◌&&◌, if◌then◌else◌, Option, Some, None, Result, Ok, Err}
 use Rattle.gatt_host.specs.declared.host_fault.HostFault.{HostFault}
 use Rattle.gatt_host.specs.declared.host_fault.HostFault.TheVariants as stop
-use Rattle.gatt_laws.specs.Controller.{Controller, is_ready}
-use Rattle.gatt_laws.specs.Event.{Event}
-use Rattle.gatt_laws.specs.Packets.{Fault, Desync, BadEventCode, InitFailed, Hardware}
-use Rattle.gatt_laws.specs.State.{is_refusal}
+use Rattle.gatt_laws.specs.machine.Controller.{Controller, is_ready}
+use Rattle.gatt_laws.specs.machine.Event.{Event}
+use Rattle.gatt_laws.specs.machine.Packets.{Fault, Desync, BadEventCode, InitFailed, Hardware}
+use Rattle.gatt_laws.specs.machine.State.{is_refusal}
 use Rattle.le_h4.specs.declared.deframer.H4Fault.{H4Fault}
 use Rattle.le_h4.specs.declared.deframer.H4Fault.TheVariants as lost
 use Rattle.le_hci.specs.declared.init.Init.{Init}

@@ -11,8 +11,8 @@ use Rattle.gatt_host.specs.declared.app.AppFault.{AppFault}
 use Rattle.gatt_host.specs.declared.app.AppFault.TheVariants as fault
 use Rattle.gatt_host.specs.Held.{Held}
 use Rattle.gatt_host.specs.Meaning.{Happening, At, Updates, Ticks, Replaces}
-use Rattle.gatt_laws.specs.Calls.{Call, UpdateCall, AuthorizeCall, DisconnectCall, TickCall, Refused, NoSuchHandle, NotAValue, BadLength, NoSuchConnection, TimeWentBack, Stopped, NoServiceChanged, has_length, same_changer}
-use Rattle.gatt_laws.specs.Event.{Authorized, Ended}
+use Rattle.gatt_laws.specs.machine.Calls.{Call, UpdateCall, AuthorizeCall, DisconnectCall, TickCall, Refused, NoSuchHandle, NotAValue, BadLength, NoSuchConnection, TimeWentBack, Stopped, NoServiceChanged, has_length, same_changer}
+use Rattle.gatt_laws.specs.machine.Event.{Authorized, Ended}
 use Rattle.gatt_slots.specs.Slots.{place_serving}
 use Rattle.octets.specs.Number.{Octets}
 

@@ -6,9 +6,9 @@ use Rattle.gatt_host.specs.declared.fault.Fault.{Fault}
 use Rattle.gatt_host.specs.declared.fault.Fault.TheVariants as told
 use Rattle.gatt_host.specs.declared.host_fault.HostFault.{HostFault}
 use Rattle.gatt_host.specs.Whole.{StandsAt, Whole}
-use Rattle.gatt_laws.specs.Calls.{Call}
-use Rattle.gatt_laws.specs.Input.{Item, call_refusal, course}
-use Rattle.gatt_laws.specs.Start.{Start}
+use Rattle.gatt_laws.specs.machine.Calls.{Call}
+use Rattle.gatt_laws.specs.machine.Input.{Item, call_refusal, course}
+use Rattle.gatt_laws.specs.machine.Start.{Start}
 use Rattle.octets.specs.Number.{Octets}
 
 -- the call is refused, and why, as the course has it: wherever the host stood

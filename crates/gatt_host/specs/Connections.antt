@@ -1,9 +1,9 @@
 -- The connections that the application can see, wherever a host stands.
 use Rattle.std.specs.Prelude.{◌≡◌, ℕ, ◌==◌, not, List, [], ◌∷◌, filter_map, find, Option, Some, None}
-use Rattle.gatt_laws.specs.Event.{Ordinal}
-use Rattle.gatt_laws.specs.Part.{Part, is_live, key_of, mtu_of}
-use Rattle.gatt_laws.specs.Room.{Room}
-use Rattle.gatt_laws.specs.State.{State}
+use Rattle.gatt_laws.specs.machine.Event.{Ordinal}
+use Rattle.gatt_laws.specs.machine.Part.{Part, is_live, key_of, mtu_of}
+use Rattle.gatt_laws.specs.machine.Room.{Room}
+use Rattle.gatt_laws.specs.machine.State.{State}
 use Rattle.gatt_slots.specs.declared.connection.Connection.{Connection}
 
 -- one connection: it is ending where it does not serve any more

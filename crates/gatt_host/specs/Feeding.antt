@@ -9,8 +9,8 @@ use Rattle.gatt_host.specs.declared.host_fault.HostFault.{HostFault}
 use Rattle.gatt_host.specs.declared.host_fault.HostFault.TheVariants as stop
 use Rattle.gatt_host.specs.declared.serving.End.{End}
 use Rattle.gatt_host.specs.Whole.{Leads, StandsAt, Whole}
-use Rattle.gatt_laws.specs.Input.{Course, Item, AnOctet, ACall, TheEnd, after_item, call_refusal, course}
-use Rattle.gatt_laws.specs.Start.{Start}
+use Rattle.gatt_laws.specs.machine.Input.{Course, Item, AnOctet, ACall, TheEnd, after_item, call_refusal, course}
+use Rattle.gatt_laws.specs.machine.Start.{Start}
 use Rattle.le_h4.specs.Division.{division}
 use Rattle.le_h4.specs.Packet.{Packet}
 use Rattle.octets.specs.Number.{Octets}

@@ -4,8 +4,8 @@
 use Rattle.std.specs.Prelude.{nat_lt, Bool, ◌&&◌, not, is_some, is_none, if◌then◌else◌, List, [], ◌∷◌, Option, Some, None}
 use Rattle.std.specs.List.{list_any}
 use Rattle.std.specs.Option.{option_and_then, option_map, option_map_or, option_or}
-use Rattle.gatt_laws.specs.Controller.{Controller, controller_after}
-use Rattle.gatt_laws.specs.State.{command_octets}
+use Rattle.gatt_laws.specs.machine.Controller.{Controller, controller_after}
+use Rattle.gatt_laws.specs.machine.State.{command_octets}
 use Rattle.gatt_slots.specs.Commands.{command_due, gives, has_command, packet_of, without_command, without_packet}
 use Rattle.gatt_slots.specs.Kept.{Kept}
 use Rattle.le_hci.specs.Command.{Commanded, LeSetAdvertiseEnable}

@@ -8,12 +8,12 @@ use Rattle.gatt_host.specs.Answers.{answered_by}
 use Rattle.gatt_host.specs.declared.last_event.LastEvent.{LastEvent}
 use Rattle.gatt_host.specs.declared.last_event.LastEvent.TheVariants as last
 use Rattle.gatt_host.specs.GoingOut.{controller_then, next_out, slots_then}
-use Rattle.gatt_laws.specs.Controller.{Controller, is_ready}
-use Rattle.gatt_laws.specs.Event.{Event, Connected, Gone, Credit}
-use Rattle.gatt_laws.specs.Packets.{Fault}
-use Rattle.gatt_laws.specs.Room.{share_of, size_of}
-use Rattle.gatt_laws.specs.State.{announced, told_of}
-use Rattle.gatt_laws.specs.Turn.{channel_answer, gained_encryption, remote_user_terminated}
+use Rattle.gatt_laws.specs.machine.Controller.{Controller, is_ready}
+use Rattle.gatt_laws.specs.machine.Event.{Event, Connected, Gone, Credit}
+use Rattle.gatt_laws.specs.machine.Packets.{Fault}
+use Rattle.gatt_laws.specs.machine.Room.{share_of, size_of}
+use Rattle.gatt_laws.specs.machine.State.{announced, told_of}
+use Rattle.gatt_laws.specs.machine.Turn.{channel_answer, gained_encryption, remote_user_terminated}
 use Rattle.gatt_slots.specs.Kept.{Kept}
 use Rattle.gatt_slots.specs.declared.request.Brought.{Brought}
 use Rattle.gatt_slots.specs.Request.{table_after, bond_served, confirmed_of, kept_served, handles_of, is_full}

@@ -7,11 +7,11 @@ use Rattle.gatt_host.specs.Held.{Held}
 use Rattle.gatt_host.specs.Meaning.{Frames, Happening, IsAfter, once_heard}
 use Rattle.gatt_host.specs.Packet.{TakesEvent, acl_happening, event_stop, frames_after_acl}
 use Rattle.gatt_host.specs.Stands.{IsSound, LeadsTo, Stands}
-use Rattle.gatt_laws.specs.Calls.{Call, Refused, call_event, replacement_event}
-use Rattle.gatt_laws.specs.Event.{Ordinal, Event}
-use Rattle.gatt_laws.specs.Packets.{Fragments, arrival, arrival_event, event_or_bad, with_arrival}
-use Rattle.gatt_laws.specs.Possible.{Possible}
-use Rattle.gatt_laws.specs.State.{State}
+use Rattle.gatt_laws.specs.machine.Calls.{Call, Refused, call_event, replacement_event}
+use Rattle.gatt_laws.specs.machine.Event.{Ordinal, Event}
+use Rattle.gatt_laws.specs.machine.Packets.{Fragments, arrival, arrival_event, event_or_bad, with_arrival}
+use Rattle.gatt_laws.specs.laws.Possible.{Possible}
+use Rattle.gatt_laws.specs.machine.State.{State}
 use Rattle.le_acl.specs.Reassembler.{nothing, assembly_after}
 use Rattle.le_h4.specs.Packet.{AclPacket}
 use Rattle.le_hci.specs.declared.event.BadEvent.{BadEvent}

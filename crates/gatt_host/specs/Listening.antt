@@ -5,9 +5,9 @@ use Rattle.gatt_host.specs.declared.host_fault.HostFault.{HostFault}
 use Rattle.gatt_host.specs.declared.host_fault.HostFault.TheVariants as stop
 use Rattle.gatt_host.specs.Feeding.{octet_items}
 use Rattle.gatt_host.specs.Whole.{Leads, StandsAt, Whole}
-use Rattle.gatt_laws.specs.Input.{Item, course}
-use Rattle.gatt_laws.specs.Notice.{Notice, notices_in}
-use Rattle.gatt_laws.specs.Start.{Start}
+use Rattle.gatt_laws.specs.machine.Input.{Item, course}
+use Rattle.gatt_laws.specs.machine.Notice.{Notice, notices_in}
+use Rattle.gatt_laws.specs.machine.Start.{Start}
 use Rattle.octets.specs.Number.{Octets}
 
 -- these notices are heard behind those before, where they are known

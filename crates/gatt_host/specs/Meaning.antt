@@ -4,9 +4,9 @@ use Rattle.att_numbers.specs.Types.{Handle}
 use Rattle.att_table.specs.ConfigRow.{IsRowOf}
 use Rattle.att_table.specs.Table.{Contents}
 use Rattle.gatt_host.specs.Held.{Held, Serves, after_ask_key, after_authorize, after_coming, after_completing, after_credit, after_disconnect, after_going, after_link, after_nothing, after_replacing, after_signals, after_tick, after_update, kept_at, row_at}
-use Rattle.gatt_laws.specs.Controller.{is_ready}
-use Rattle.gatt_laws.specs.Event.{Own, Connected, Gone, KeyAsked, Encrypted, Refreshed, Asks, Signals, Authorized, Ended}
-use Rattle.gatt_laws.specs.Packets.{of_octets, peripheral, last_connection_handle}
+use Rattle.gatt_laws.specs.machine.Controller.{is_ready}
+use Rattle.gatt_laws.specs.machine.Event.{Own, Connected, Gone, KeyAsked, Encrypted, Refreshed, Asks, Signals, Authorized, Ended}
+use Rattle.gatt_laws.specs.machine.Packets.{of_octets, peripheral, last_connection_handle}
 use Rattle.gatt_slots.specs.Hearing.{row_in_force}
 use Rattle.gatt_slots.specs.Kept.{Kept}
 use Rattle.gatt_slots.specs.Slots.{place_free, place_holding, place_serving}

@@ -8,10 +8,10 @@ use Rattle.gatt_host.specs.declared.last_event.LastEvent.TheVariants as last
 use Rattle.gatt_host.specs.declared.notice.Notice.{Notice as Lent}
 use Rattle.gatt_host.specs.declared.notice.Notice.TheVariants as lent
 use Rattle.gatt_host.specs.Held.{Held}
-use Rattle.gatt_laws.specs.Notice.{Notice, Connected, Disconnected, Secured, Unsecured, Written, Configured, Confirmed, TimedOut, Ending, link_told, write_told}
+use Rattle.gatt_laws.specs.machine.Notice.{Notice, Connected, Disconnected, Secured, Unsecured, Written, Configured, Confirmed, TimedOut, Ending, link_told, write_told}
 use Rattle.att_attributes.specs.Attributes.{attribute_at}
 use Rattle.att_table.specs.Table.{Contents, value_at}
-use Rattle.gatt_laws.specs.Turn.{authentication_failure, lost_encryption, remote_user_terminated}
+use Rattle.gatt_laws.specs.machine.Turn.{authentication_failure, lost_encryption, remote_user_terminated}
 use Rattle.gatt_slots.specs.declared.request.Brought.{Brought}
 use Rattle.gatt_slots.specs.Slots.{row_there as row_of_slot}
 

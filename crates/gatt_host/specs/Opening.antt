@@ -2,8 +2,8 @@
 use Rattle.std.specs.Prelude.{Bool, ◌&&◌, if◌then◌else◌, List, []}
 use Rattle.att_table.specs.Table.{Contents}
 use Rattle.gatt_host.specs.declared.config.Config.{Config}
-use Rattle.gatt_laws.specs.Room.{Bonds, Owed}
-use Rattle.gatt_laws.specs.Start.{Start, may_be_opened}
+use Rattle.gatt_laws.specs.machine.Room.{Bonds, Owed}
+use Rattle.gatt_laws.specs.machine.Start.{Start, may_be_opened}
 use Rattle.gatt_subs.specs.Fit.{fitted_bond}
 use Rattle.gatt_subs.specs.Rows.{Subscriptions}
 use Rattle.le_security.specs.declared.entry.Entry.{Entry}

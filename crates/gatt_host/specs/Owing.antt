@@ -3,16 +3,16 @@
 use Rattle.std.specs.Prelude.{◌≡◌, ℕ, ◌≤◌, true, false, is_none, List, [], ◌∷◌, ◌++◌, map, drop, take, Option, Some, None}
 use Rattle.std.specs.List.{flat_map}
 use Rattle.gatt_host.specs.GoingOut.{next_out, is_drained, controller_then, slots_then}
-use Rattle.gatt_laws.specs.Controller.{Controller}
-use Rattle.gatt_laws.specs.Event.{Ordinal, Event}
-use Rattle.gatt_laws.specs.Part.{Part, is_live}
-use Rattle.gatt_laws.specs.Placed.{IsPlaced}
-use Rattle.gatt_laws.specs.Possible.{Possible}
-use Rattle.gatt_laws.specs.Queued.{HasBoundedQueues}
-use Rattle.gatt_laws.specs.Room.{Room, share_of, size_of}
-use Rattle.gatt_laws.specs.Settled.{has_slot, IsSettled}
-use Rattle.gatt_laws.specs.Start.{Start, new_controller, state_at, first_out}
-use Rattle.gatt_laws.specs.State.{State, with_commands_sent, commands_out, before_commands, step, out}
+use Rattle.gatt_laws.specs.machine.Controller.{Controller}
+use Rattle.gatt_laws.specs.machine.Event.{Ordinal, Event}
+use Rattle.gatt_laws.specs.machine.Part.{Part, is_live}
+use Rattle.gatt_laws.specs.laws.Placed.{IsPlaced}
+use Rattle.gatt_laws.specs.laws.Possible.{Possible}
+use Rattle.gatt_laws.specs.laws.Queued.{HasBoundedQueues}
+use Rattle.gatt_laws.specs.machine.Room.{Room, share_of, size_of}
+use Rattle.gatt_laws.specs.laws.Settled.{has_slot, IsSettled}
+use Rattle.gatt_laws.specs.machine.Start.{Start, new_controller, state_at, first_out}
+use Rattle.gatt_laws.specs.machine.State.{State, with_commands_sent, commands_out, before_commands, step, out}
 use Rattle.gatt_slots.specs.Kept.{Kept, kept_if_there}
 use Rattle.le_acl.specs.History.{packets_allowed}
 use Rattle.le_acl.specs.Outgoing.{acl_octets}

@@ -5,7 +5,7 @@ use Rattle.gatt_host.specs.declared.host_fault.HostFault.{HostFault}
 use Rattle.gatt_host.specs.declared.host_fault.HostFault.TheVariants as stop
 use Rattle.gatt_host.specs.Held.{Held, Credits}
 use Rattle.gatt_host.specs.Meaning.{Frames, Happening, frames_after, Passes, IsAfter, assembly_happening, once_heard, reported_happening, with_fragment}
-use Rattle.gatt_laws.specs.Packets.{completed_event, status_event, status_of}
+use Rattle.gatt_laws.specs.machine.Packets.{completed_event, status_event, status_of}
 use Rattle.gatt_slots.specs.Slots.{place_serving}
 use Rattle.le_acl.specs.declared.reassembler.Piece.{Piece}
 use Rattle.le_acl.specs.declared.reassembler.Piece.TheVariants as piece

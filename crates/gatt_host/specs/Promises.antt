@@ -1,12 +1,12 @@
 -- What is promised of all that a host takes in, for every start and every input: laws of the state machine at which it stands.
-use Rattle.gatt_laws.specs.Given.{IsGivenTheFront}
-use Rattle.gatt_laws.specs.Headline.{RefusalsChangeNothing, SendsWhatMayBeRead, WritesWhatMayBeWritten}
-use Rattle.gatt_laws.specs.MayBeHeard.{TellsWhatMayBeHeard}
-use Rattle.gatt_laws.specs.NothingCrosses.{LeavesConnectionsTheSame, NothingCrosses}
-use Rattle.gatt_laws.specs.OwnWrites.{ExecutesItsOwn}
-use Rattle.gatt_laws.specs.Preparing.{PreparesTheSame}
-use Rattle.gatt_laws.specs.Refusals.{RefusesByTheFirstBrokenRule, RefusesTheFirstEntry, RefusesTheFirstHandle, RefusesTheFirstListed}
-use Rattle.gatt_laws.specs.SameView.{SameViewSamePackets}
+use Rattle.gatt_laws.specs.laws.Given.{IsGivenTheFront}
+use Rattle.gatt_laws.specs.laws.Headline.{RefusalsChangeNothing, SendsWhatMayBeRead, WritesWhatMayBeWritten}
+use Rattle.gatt_laws.specs.laws.MayBeHeard.{TellsWhatMayBeHeard}
+use Rattle.gatt_laws.specs.laws.NothingCrosses.{LeavesConnectionsTheSame, NothingCrosses}
+use Rattle.gatt_laws.specs.laws.OwnWrites.{ExecutesItsOwn}
+use Rattle.gatt_laws.specs.laws.Preparing.{PreparesTheSame}
+use Rattle.gatt_laws.specs.laws.Refusals.{RefusesByTheFirstBrokenRule, RefusesTheFirstEntry, RefusesTheFirstHandle, RefusesTheFirstListed}
+use Rattle.gatt_laws.specs.laws.SameView.{SameViewSamePackets}
 
 -- each value that is sent is one that the connection may then read, or hear of; each change is one that it may then make;
 -- each refusal has the code and the handle of the first rule that is broken, and changes nothing; and what has gone out to

@@ -8,12 +8,12 @@ use Rattle.gatt_host.specs.Held.{Held}
 use Rattle.gatt_host.specs.Meaning.{Frames, Happening, Passes, IsAfter, HasRowsOfTheTable, once_heard}
 use Rattle.gatt_host.specs.Packet.{TakesEvent, acl_happening, event_stop, frames_after_acl, frames_after_event}
 use Rattle.gatt_host.specs.Stands.{Stands, IsSound}
-use Rattle.gatt_laws.specs.Calls.{Call, Refused, call_event, replacement_event}
-use Rattle.gatt_laws.specs.Event.{Ordinal}
-use Rattle.gatt_laws.specs.Input.{Course, after_packet, after_result}
-use Rattle.gatt_laws.specs.Packets.{Fault, Fragments, packet_event}
-use Rattle.gatt_laws.specs.RowsOfTheTable.{HasRowsOfItsTable}
-use Rattle.gatt_laws.specs.State.{State}
+use Rattle.gatt_laws.specs.machine.Calls.{Call, Refused, call_event, replacement_event}
+use Rattle.gatt_laws.specs.machine.Event.{Ordinal}
+use Rattle.gatt_laws.specs.machine.Input.{Course, after_packet, after_result}
+use Rattle.gatt_laws.specs.machine.Packets.{Fault, Fragments, packet_event}
+use Rattle.gatt_laws.specs.laws.RowsOfTheTable.{HasRowsOfItsTable}
+use Rattle.gatt_laws.specs.machine.State.{State}
 use Rattle.le_acl.specs.Reassembler.{assembly_after, nothing}
 use Rattle.le_h4.specs.Packet.{AclPacket, EventPacket, ScoPacket}
 use Rattle.le_hci.specs.Event.{event_of}

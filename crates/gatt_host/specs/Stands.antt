@@ -7,19 +7,19 @@ use Rattle.att_table.specs.Table.{Contents}
 use Rattle.gatt_host.specs.Held.{Held, open_slots, kept_at, after_authorize, after_ask_key, after_coming, after_completing, after_credit, after_disconnect, after_going, after_link, after_nothing, after_replacing, after_signals, after_tick, after_update, Serves}
 use Rattle.gatt_host.specs.Notices.{last_notices}
 use Rattle.gatt_host.specs.Owing.{IsOwing}
-use Rattle.gatt_laws.specs.Controller.{has_free, is_ready}
-use Rattle.gatt_laws.specs.Event.{Ordinal, Event, Nothing, Tick, Update, Of, Connected, Gone, Authorized, Ended, KeyAsked, Encrypted, Refreshed, Signals, Asks, Completed, Credit, Replaced}
-use Rattle.gatt_laws.specs.Input.{Item, course}
-use Rattle.gatt_laws.specs.Notice.{noticed}
-use Rattle.gatt_laws.specs.Packets.{completed_entries}
-use Rattle.gatt_laws.specs.Part.{Part, is_live, key_of}
-use Rattle.gatt_laws.specs.Room.{Bonds, Owed}
-use Rattle.gatt_laws.specs.Placed.{IsPlaced}
-use Rattle.gatt_laws.specs.Possible.{Possible, MayBeUpdated}
-use Rattle.gatt_laws.specs.Queued.{HasBoundedQueues}
-use Rattle.gatt_laws.specs.Settled.{IsSettled}
-use Rattle.gatt_laws.specs.Start.{Start, new_controller, state_at, first_out}
-use Rattle.gatt_laws.specs.State.{State, step, out}
+use Rattle.gatt_laws.specs.machine.Controller.{has_free, is_ready}
+use Rattle.gatt_laws.specs.machine.Event.{Ordinal, Event, Nothing, Tick, Update, Of, Connected, Gone, Authorized, Ended, KeyAsked, Encrypted, Refreshed, Signals, Asks, Completed, Credit, Replaced}
+use Rattle.gatt_laws.specs.machine.Input.{Item, course}
+use Rattle.gatt_laws.specs.machine.Notice.{noticed}
+use Rattle.gatt_laws.specs.machine.Packets.{completed_entries}
+use Rattle.gatt_laws.specs.machine.Part.{Part, is_live, key_of}
+use Rattle.gatt_laws.specs.machine.Room.{Bonds, Owed}
+use Rattle.gatt_laws.specs.laws.Placed.{IsPlaced}
+use Rattle.gatt_laws.specs.laws.Possible.{Possible, MayBeUpdated}
+use Rattle.gatt_laws.specs.laws.Queued.{HasBoundedQueues}
+use Rattle.gatt_laws.specs.laws.Settled.{IsSettled}
+use Rattle.gatt_laws.specs.machine.Start.{Start, new_controller, state_at, first_out}
+use Rattle.gatt_laws.specs.machine.State.{State, step, out}
 use Rattle.gatt_slots.specs.Kept.{Kept}
 use Rattle.gatt_slots.specs.Slots.{place_free}
 use Rattle.gatt_subs.specs.declared.bond.Bond.{Bond}

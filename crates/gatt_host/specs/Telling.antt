@@ -9,12 +9,12 @@ use Rattle.gatt_host.specs.Notices.{HasTheValue, last_notices, notice_of}
 use Rattle.gatt_host.specs.Standing.{StandsIn}
 use Rattle.gatt_host.specs.Whole.{StandsAt, Whole}
 use Rattle.att_table.specs.Table.{Contents}
-use Rattle.gatt_laws.specs.Event.{Event}
-use Rattle.gatt_laws.specs.Input.{Course, Item, course}
-use Rattle.gatt_laws.specs.Notice.{Notice, noticed, notices_in, notices_of}
-use Rattle.gatt_laws.specs.Packets.{packet_event}
-use Rattle.gatt_laws.specs.Start.{Start}
-use Rattle.gatt_laws.specs.State.{State}
+use Rattle.gatt_laws.specs.machine.Event.{Event}
+use Rattle.gatt_laws.specs.machine.Input.{Course, Item, course}
+use Rattle.gatt_laws.specs.machine.Notice.{Notice, noticed, notices_in, notices_of}
+use Rattle.gatt_laws.specs.machine.Packets.{packet_event}
+use Rattle.gatt_laws.specs.machine.Start.{Start}
+use Rattle.gatt_laws.specs.machine.State.{State}
 use Rattle.le_h4.specs.Packet.{Packet}
 use Rattle.octets.specs.Number.{Octets}
 

@@ -8,9 +8,9 @@ use Rattle.gatt_host.specs.GoingOut.{is_drained}
 use Rattle.gatt_host.specs.Held.{Held, open_slots}
 use Rattle.gatt_host.specs.Meaning.{Frames}
 use Rattle.gatt_host.specs.Standing.{StandsIn}
-use Rattle.gatt_laws.specs.Input.{Item, Course, after_packet, course}
-use Rattle.gatt_laws.specs.Packets.{Fault}
-use Rattle.gatt_laws.specs.Start.{Start}
+use Rattle.gatt_laws.specs.machine.Input.{Item, Course, after_packet, course}
+use Rattle.gatt_laws.specs.machine.Packets.{Fault}
+use Rattle.gatt_laws.specs.machine.Start.{Start}
 use Rattle.le_h4.specs.Deframer.{Deframing, still}
 use Rattle.le_h4.specs.Division.{division}
 use Rattle.le_h4.specs.Packet.{Packet}

@@ -8,7 +8,7 @@ ghost use Rattle.gatt_host.specs.Feeding.{is_write, Feeds, WritesAllThatIsDue};
 ghost use Rattle.gatt_host.specs.Listening.{Listens};
 ghost use Rattle.gatt_host.specs.Promises.{KeepsConnectionsApart, KeepsThePolicy};
 ghost use Rattle.gatt_host.specs.Whole.{all_out};
-ghost use Rattle.gatt_laws.specs.Input.{ACall};
+ghost use Rattle.gatt_laws.specs.machine.Input.{ACall};
 ghost use Rattle.octets.specs.Stream.{CountsIf};
 
 use crate::app::{App, AppFault};

@@ -4,7 +4,7 @@ ghost use Rattle.std.specs.Prelude.{◌≡◌, ◌≤◌, true, length, Err, IsO
 ghost use Rattle.att_attributes.specs.Attributes.{attribute_at};
 ghost use Rattle.att_table.specs.Changer.{changer_of};
 ghost use Rattle.att_table.specs.Table.{room_at};
-ghost use Rattle.gatt_laws.specs.Calls.{has_length, same_changer, TickCall};
+ghost use Rattle.gatt_laws.specs.machine.Calls.{has_length, same_changer, TickCall};
 ghost use Rattle.gatt_host.specs.Asked.{authorize_happening, call_happening, call_of, disconnect_happening, refused_of, replacement_happening, update_happening};
 ghost use Rattle.gatt_host.specs.Held.{after_replacing, with_last};
 ghost use Rattle.gatt_host.specs.Meaning.{IsAfter};
@@ -48,7 +48,7 @@ impl HostState {
         }
     }
 
-    #[tactic(auto, using(crate::proofs::Lengths::fits_there, crate::proofs::Lengths::exact_there, crate::proofs::Lengths::none_past))]
+    #[tactic(auto, using(crate::proofs::packets::Lengths::fits_there, crate::proofs::packets::Lengths::exact_there, crate::proofs::packets::Lengths::none_past))]
     fn update_value(&mut self, handle: u16, value: &[u8]) -> Result<(), AppFault>
         ensures after { IsOk result → IsOkAnd
             (update_happening handle value.now (attribute_at self.old.table.attributes handle))

@@ -1,8 +1,8 @@
 ghost use Rattle.std.specs.Prelude.{◌≡◌, ℕ, false, IfOk, IfErr, IfSome, IsOk, IsSome, Some, None, Ok};
-ghost use Rattle.gatt_laws.specs.Controller as laws;
-ghost use Rattle.gatt_laws.specs.Event.{Credit, Connected, Gone};
-ghost use Rattle.gatt_laws.specs.Packets.{completed_event, status_event, status_of, is_awaited, init_fault, following_of};
-ghost use Rattle.gatt_laws.specs.State.{told_of, is_refusal};
+ghost use Rattle.gatt_laws.specs.machine.Controller as laws;
+ghost use Rattle.gatt_laws.specs.machine.Event.{Credit, Connected, Gone};
+ghost use Rattle.gatt_laws.specs.machine.Packets.{completed_event, status_event, status_of, is_awaited, init_fault, following_of};
+ghost use Rattle.gatt_laws.specs.machine.State.{told_of, is_refusal};
 ghost use Rattle.gatt_host.specs.Answers.{answered_by, following_if, following_stop, stop_of, told_fault};
 ghost use Rattle.gatt_host.specs.Owing.{OwesTheFirstCommand};
 ghost use Rattle.le_hci.specs.Init.{command_awaited, first_state, outcome_of};
@@ -31,7 +31,7 @@ pub struct Controller {
 }
 
 impl Model for Controller {
-    ghost use Rattle.gatt_laws.specs.Controller as laws;
+    ghost use Rattle.gatt_laws.specs.machine.Controller as laws;
 
     ghost Value = { laws.Controller };
 
@@ -46,7 +46,7 @@ impl Model for Controller {
 impl Controller {
     /// A controller that is not initialised, and takes one command before it answers any: Core 5.0,
     /// Vol 2 Part E, 4.4.
-    #[tactic(auto, using(crate::proofs::Entering::owes_the_first_command))]
+    #[tactic(auto, using(crate::proofs::places::Entering::owes_the_first_command))]
     pub fn new(address: Option<[u8; 6]>, advertising: ArrayVec<u8, 31>) -> Controller
         ensures new { result ≡ record { credit = 1; init = first_state address advertising; awaiting = false; advertising = false; refused = false } }
         // Its first command is owed then.
@@ -132,7 +132,7 @@ impl Controller {
     /// Takes in a Command Status: the status, how many commands the controller takes now, and the
     /// opcode. No state of initialisation follows: a status of 0 only tells that the command is being
     /// carried out.
-    #[tactic(auto, using(crate::proofs::Refusing::stops_where_refused))]
+    #[tactic(auto, using(crate::proofs::places::Refusing::stops_where_refused))]
     pub fn status(&mut self, status: u8, allowed: u8, opcode: u16) -> Result<(), HostFault>
         ensures event { IsOk result
             → status_event self.old status allowed opcode

@@ -5,8 +5,8 @@ ghost use Rattle.std.specs.Prelude.{◌≡◌, ◌≢◌, ◌<◌, length, List,
 ghost use Rattle.std.specs.Bool.{OnTrue, OnFalse};
 ghost use Rattle.std.specs.List.{list_any, position};
 ghost use Rattle.std.specs.Option.{option_map};
-ghost use Rattle.gatt_laws.specs.Controller.{controller_after};
-ghost use Rattle.gatt_laws.specs.State.{State, command_octets};
+ghost use Rattle.gatt_laws.specs.machine.Controller.{controller_after};
+ghost use Rattle.gatt_laws.specs.machine.State.{State, command_octets};
 ghost use Rattle.gatt_slots.specs.Commands.{command_due, gives, has_command, without_command, without_packet};
 ghost use Rattle.gatt_slots.specs.Slots.{kept_at, slots_at};
 ghost use Rattle.gatt_host.specs.GoingOut.{command_in, command_next, controller_then, has_room, init_command, is_drained, next_out, packet_in, slots_commanded, slots_then, with_first};
@@ -206,7 +206,7 @@ fn command_out(controller: &mut Controller, slots: &mut Slots, out: &mut PacketB
 /// takes any, and else a packet of the first slot that may give one. There is nothing, and nothing
 /// changes, once all is out.
 #[inline(always)]
-#[tactic(auto, using(crate::proofs::Entering::owes_what_an_event_brings))]
+#[tactic(auto, using(crate::proofs::places::Entering::owes_what_an_event_brings))]
 pub fn next_out(controller: &mut Controller, slots: &mut Slots, out: &mut PacketBuf) -> bool
     ensures goes { result ≡ is_some (next_out controller.old slots.old) }
     ensures octets { OnTrue result (next_out controller.old slots.old ≡ Some out.new) }

@@ -5,10 +5,10 @@ ghost use Rattle.std.specs.Prelude.{◌≡◌, ◌<◌, ◌≤◌, ◌∷◌, []
 ghost use Rattle.std.specs.Bool.{OnTrue, OnFalse};
 ghost use Rattle.std.specs.Option.{option_map};
 ghost use Rattle.std.specs.Result.{result_err};
-ghost use Rattle.gatt_laws.specs.Deadline.{deadline, TellsFromTheDeadlineOn};
-ghost use Rattle.gatt_laws.specs.Input.{course, call_refusal, replacement_refusal, Item, APacket, ACall, ATable};
-ghost use Rattle.gatt_laws.specs.Start.{Start};
-ghost use Rattle.gatt_laws.specs.Telling.{TellsTheApplication};
+ghost use Rattle.gatt_laws.specs.laws.Deadline.{deadline, TellsFromTheDeadlineOn};
+ghost use Rattle.gatt_laws.specs.machine.Input.{course, call_refusal, replacement_refusal, Item, APacket, ACall, ATable};
+ghost use Rattle.gatt_laws.specs.machine.Start.{Start};
+ghost use Rattle.gatt_laws.specs.laws.Telling.{TellsTheApplication};
 ghost use Rattle.gatt_host.specs.Asked.{call_of, refusal_of, replacing_refusal_of};
 ghost use Rattle.gatt_host.specs.Connections.{connection_with, connections_of};
 ghost use Rattle.gatt_host.specs.Credits.{most_out};

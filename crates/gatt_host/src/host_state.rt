@@ -5,7 +5,7 @@ ghost use Rattle.att_attributes.specs.Attributes.{attribute_at, is_fixed_at};
 ghost use Rattle.att_table.specs.ConfigRow.{IsRowOf};
 ghost use Rattle.att_table.specs.Table.{room_at};
 ghost use Rattle.gatt_host.specs.Answers.{following_if, stop_of};
-ghost use Rattle.gatt_laws.specs.Packets.{completed_event, status_event, status_of};
+ghost use Rattle.gatt_laws.specs.machine.Packets.{completed_event, status_event, status_of};
 ghost use Rattle.le_acl.specs.Shares.{acl_len, share};
 ghost use Rattle.le_hci.specs.InitTold.{told_in};
 ghost use Rattle.gatt_host.specs.GoingOut.{is_drained};
@@ -56,7 +56,7 @@ pub(crate) struct HostState {
 impl Model for HostState {
     ghost use Rattle.std.specs.Prelude.{◌≡◌, ◌≤◌, length};
     ghost use Rattle.gatt_host.specs.Answers.{following_if, stop_of};
-    ghost use Rattle.gatt_laws.specs.Packets.{completed_event, status_event, status_of};
+    ghost use Rattle.gatt_laws.specs.machine.Packets.{completed_event, status_event, status_of};
     ghost use Rattle.le_acl.specs.Shares.{acl_len, share};
     ghost use Rattle.le_hci.specs.InitTold.{told_in};
     ghost use Rattle.gatt_host.specs.Held.{after_end, opened, Credits, Held};

@@ -2,7 +2,7 @@
 
 ghost use Rattle.std.specs.Prelude.{◌≡◌, List, Option, None, [], ◌∷◌};
 ghost use Rattle.std.specs.Bool.{OnFalse};
-ghost use Rattle.gatt_laws.specs.Notice.{Notice as Told};
+ghost use Rattle.gatt_laws.specs.machine.Notice.{Notice as Told};
 ghost use Rattle.gatt_host.specs.Listening.{Hears};
 ghost use Rattle.gatt_host.specs.Notices.{notice_of};
 ghost use Rattle.gatt_host.specs.Telling.{notices_told};

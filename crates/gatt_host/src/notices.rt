@@ -5,8 +5,8 @@ ghost use Rattle.std.specs.Option.{option_map, option_to_list};
 ghost use Rattle.att_numbers.specs.Types.{Handle};
 ghost use Rattle.att_attributes.specs.Attributes.{attribute_at};
 ghost use Rattle.att_table.specs.Table.{value_at};
-ghost use Rattle.gatt_laws.specs.Notice.{Confirmed, Ending, TimedOut, write_told};
-ghost use Rattle.gatt_laws.specs.Turn.{remote_user_terminated};
+ghost use Rattle.gatt_laws.specs.machine.Notice.{Confirmed, Ending, TimedOut, write_told};
+ghost use Rattle.gatt_laws.specs.machine.Turn.{remote_user_terminated};
 ghost use Rattle.gatt_host.specs.Notices.{last_notices, link_change_told, notice_of, row_there, served_told, HasTheValue};
 
 use crate::host_state::HostState;

@@ -2,8 +2,8 @@
 
 ghost use Rattle.std.specs.Prelude.{◌≡◌, ◌↔◌, [], false, true, replicate, None, Err, IfOk};
 ghost use Rattle.std.specs.Option.{option_map_or};
-ghost use Rattle.gatt_laws.specs.Input.{course};
-ghost use Rattle.gatt_laws.specs.Start.{is_static};
+ghost use Rattle.gatt_laws.specs.machine.Input.{course};
+ghost use Rattle.gatt_laws.specs.machine.Start.{is_static};
 ghost use Rattle.gatt_host.specs.Opening.{is_configured, start_of};
 ghost use Rattle.gatt_host.specs.Whole.{StandsAt};
 

@@ -4,7 +4,7 @@ ghost use Rattle.std.specs.Bool.{OnTrue};
 ghost use Rattle.std.specs.Prelude.{◌≡◌, ◌<◌, false, true, length, get_or, IsSome, IsOk, IfSome, IfErr, Some, OnErr};
 ghost use Rattle.std.specs.Result.{result_err};
 ghost use Rattle.std.specs.Option.{option_and_then, option_map_or};
-ghost use Rattle.gatt_laws.specs.Packets.{of_octets, of_frame};
+ghost use Rattle.gatt_laws.specs.machine.Packets.{of_octets, of_frame};
 ghost use Rattle.gatt_host.specs.GoingOut.{is_drained};
 ghost use Rattle.gatt_host.specs.Held.{kept_at, open_slots};
 ghost use Rattle.gatt_host.specs.Whole.{is_own, LeadsBy};
@@ -149,7 +149,7 @@ pub(crate) fn acl(
 }
 
 /// Takes in a fragment of the connection of a slot: a frame that it makes whole is heard, and dropped.
-#[tactic(auto, using(crate::proofs::WholeFrames::nothing_left))]
+#[tactic(auto, using(crate::proofs::packets::WholeFrames::nothing_left))]
 fn fragment(
     state: &mut HostState,
     frame: &mut Reassembler,
@@ -198,7 +198,7 @@ fn join_fragment(
 }
 
 /// Whether a fragment is a whole frame.
-#[tactic(auto, using(crate::proofs::WholeFrames::gives_frame, crate::proofs::WholeFrames::leaves_nothing))]
+#[tactic(auto, using(crate::proofs::packets::WholeFrames::gives_frame, crate::proofs::packets::WholeFrames::leaves_nothing))]
 fn is_whole(pb: u8, bc: u8, octets: &[u8]) -> bool
     ensures begins { OnTrue result (fragment_of pb bc octets.now ≡ Some (Beginning octets.now)) }
     ensures frame { OnTrue result ((assembled_of octets.now).frame ≡ Some octets.now) }

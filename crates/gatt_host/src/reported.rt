@@ -1,8 +1,8 @@
 //! What the controller reports, as what happens to the connections of a host.
 
 ghost use Rattle.std.specs.Prelude.{◌≡◌, ◌==◌, ◌<◌, ◌^◌, true, if◌then◌else◌, Some, IsSome, IfSome};
-ghost use Rattle.gatt_laws.specs.Controller as laws;
-ghost use Rattle.gatt_laws.specs.Event.{Connected, Gone, KeyAsked, Encrypted, Refreshed, Asks, Signals};
+ghost use Rattle.gatt_laws.specs.machine.Controller as laws;
+ghost use Rattle.gatt_laws.specs.machine.Event.{Connected, Gone, KeyAsked, Encrypted, Refreshed, Asks, Signals};
 ghost use Rattle.gatt_host.specs.Meaning.{at_found, coming, connection_happening, frames_after, reported_happening, IsAfter, Passes};
 ghost use Rattle.gatt_slots.specs.Slots.{place_holding, place_serving};
 ghost use Rattle.le_hci.specs.Event.{report_of};
@@ -119,7 +119,7 @@ impl HostState {
 
     /// A connection was made. It is accepted where this side is the peripheral, its handle is one and
     /// not in use, and a slot is free.
-    #[tactic(auto, using(crate::proofs::Readies::ready_told))]
+    #[tactic(auto, using(crate::proofs::commands::Readies::ready_told))]
     fn connected(
         &mut self,
         frames: &mut [Reassembler; 8],

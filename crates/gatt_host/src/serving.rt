@@ -7,7 +7,7 @@ ghost use Rattle.gatt_host.specs.Held.{with_last};
 ghost use Rattle.gatt_host.specs.Listening.{ListensServing};
 ghost use Rattle.gatt_host.specs.Promises.{KeepsConnectionsApart, KeepsThePolicy};
 ghost use Rattle.gatt_host.specs.Whole.{all_out, Takes};
-ghost use Rattle.gatt_laws.specs.Input.{TheEnd};
+ghost use Rattle.gatt_laws.specs.machine.Input.{TheEnd};
 ghost use Rattle.octets.specs.Stream.{CountsFailure, CountsIf, CountsNone, CountsOne};
 
 use crate::feeding::{feed, feed_to, stop};

@@ -37,24 +37,24 @@ use Rattle.gatt_conn.specs.Connection.{Connection, mtu_between}
 use Rattle.gatt_conn.specs.Transcript.{first_exchange}
 use Rattle.gatt_laws.proofs.Headline.{writes_what_may_be_written}
 use Rattle.gatt_laws.proofs.OwnWrites.{served_turn}
-use Rattle.gatt_laws.specs.AllowedNotices.{is_writing, MayWrite, WasAllowed, TellsWhatWasAllowed}
-use Rattle.gatt_laws.specs.AllowedNotices.{TellsNoRefusals, TellsNothingIgnored, TellsOnlyOfTheLive}
-use Rattle.gatt_laws.specs.Controller.{Slots}
-use Rattle.gatt_laws.specs.Event.{Ordinal, Own, Event, KeyAsked, Encrypted, Refreshed, Asks}
-use Rattle.gatt_laws.specs.Event.{Signals, Authorized, Ended, Of, Completed, Credit, Update, Tick}
-use Rattle.gatt_laws.specs.Event.{Replaced, Nothing}
-use Rattle.gatt_laws.specs.Event as event
-use Rattle.gatt_laws.specs.Headline.{Each, MayUse}
-use Rattle.gatt_laws.specs.Notice.{Notice, Connected, Disconnected, Secured, Unsecured, Written}
-use Rattle.gatt_laws.specs.Notice.{Configured, Confirmed, TimedOut, Ending, are_same_facts}
-use Rattle.gatt_laws.specs.Notice.{link_told, write_told, confirmation_told, end_told, live_told}
-use Rattle.gatt_laws.specs.Notice.{own_told, late_told, slot_told, noticed}
-use Rattle.gatt_laws.specs.Part.{Part, is_live, is_there, key_of, row_of, mtu_of, standing_of}
-use Rattle.gatt_laws.specs.Part.{connection_of}
-use Rattle.gatt_laws.specs.State.{State}
-use Rattle.gatt_laws.specs.Room.{Room}
-use Rattle.gatt_laws.specs.Turn.{Turn, is_full, served, turn_of}
-use Rattle.gatt_laws.specs.View.{handles_written}
+use Rattle.gatt_laws.specs.laws.AllowedNotices.{is_writing, MayWrite, WasAllowed, TellsWhatWasAllowed}
+use Rattle.gatt_laws.specs.laws.AllowedNotices.{TellsNoRefusals, TellsNothingIgnored, TellsOnlyOfTheLive}
+use Rattle.gatt_laws.specs.machine.Controller.{Slots}
+use Rattle.gatt_laws.specs.machine.Event.{Ordinal, Own, Event, KeyAsked, Encrypted, Refreshed, Asks}
+use Rattle.gatt_laws.specs.machine.Event.{Signals, Authorized, Ended, Of, Completed, Credit, Update, Tick}
+use Rattle.gatt_laws.specs.machine.Event.{Replaced, Nothing}
+use Rattle.gatt_laws.specs.machine.Event as event
+use Rattle.gatt_laws.specs.laws.Headline.{Each, MayUse}
+use Rattle.gatt_laws.specs.machine.Notice.{Notice, Connected, Disconnected, Secured, Unsecured, Written}
+use Rattle.gatt_laws.specs.machine.Notice.{Configured, Confirmed, TimedOut, Ending, are_same_facts}
+use Rattle.gatt_laws.specs.machine.Notice.{link_told, write_told, confirmation_told, end_told, live_told}
+use Rattle.gatt_laws.specs.machine.Notice.{own_told, late_told, slot_told, noticed}
+use Rattle.gatt_laws.specs.machine.Part.{Part, is_live, is_there, key_of, row_of, mtu_of, standing_of}
+use Rattle.gatt_laws.specs.machine.Part.{connection_of}
+use Rattle.gatt_laws.specs.machine.State.{State}
+use Rattle.gatt_laws.specs.machine.Room.{Room}
+use Rattle.gatt_laws.specs.machine.Turn.{Turn, is_full, served, turn_of}
+use Rattle.gatt_laws.specs.laws.View.{handles_written}
 use Rattle.gatt_subs.specs.declared.pending.Unconfirmed.{Unconfirmed}
 use Rattle.octets.specs.Number.{Octets}
 

@@ -8,13 +8,13 @@ use Rattle.att_attributes.specs.declared.attr.Attr.{Attr}
 use Rattle.att_attributes.specs.Attributes.{attribute_at, is_value}
 use Rattle.att_table.specs.Changer.{changer_of}
 use Rattle.att_table.specs.Table.{Contents}
-use Rattle.gatt_laws.specs.Calls.{Call, Refused, UpdateCall, AuthorizeCall, DisconnectCall, TickCall, NotAValue, BadLength, TimeWentBack, NoServiceChanged, holding, serving, has_length, update_event, authorize_event, disconnect_event, call_event, same_changer, replacement_event}
-use Rattle.gatt_laws.specs.Controller.{Controller, has_free, is_ready}
-use Rattle.gatt_laws.specs.Event.{Ordinal, Own, Event, Connected, Gone, KeyAsked, Encrypted, Refreshed, Asks, Signals, Of, Update, Tick, Replaced, Nothing}
-use Rattle.gatt_laws.specs.Input.{Item, AnOctet, APacket, ACall, ATable, TheEnd, Course, after_result, packet_taken, after_packet, with_unfinished, after_first, taken, unless_stopped, after_item, after_items, course}
-use Rattle.gatt_laws.specs.Packets.{Fault, following_of, is_awaited, answered, own_event, is_accepted, connection_event, reported_event, event_or_bad, of_frame, of_octets, frame_event, Fragments, Arrival, arrival, arrival_event, packet_event}
-use Rattle.gatt_laws.specs.Possible.{OwnMayCome, Possible, AllTables}
-use Rattle.gatt_laws.specs.State.{State, step}
+use Rattle.gatt_laws.specs.machine.Calls.{Call, Refused, UpdateCall, AuthorizeCall, DisconnectCall, TickCall, NotAValue, BadLength, TimeWentBack, NoServiceChanged, holding, serving, has_length, update_event, authorize_event, disconnect_event, call_event, same_changer, replacement_event}
+use Rattle.gatt_laws.specs.machine.Controller.{Controller, has_free, is_ready}
+use Rattle.gatt_laws.specs.machine.Event.{Ordinal, Own, Event, Connected, Gone, KeyAsked, Encrypted, Refreshed, Asks, Signals, Of, Update, Tick, Replaced, Nothing}
+use Rattle.gatt_laws.specs.machine.Input.{Item, AnOctet, APacket, ACall, ATable, TheEnd, Course, after_result, packet_taken, after_packet, with_unfinished, after_first, taken, unless_stopped, after_item, after_items, course}
+use Rattle.gatt_laws.specs.machine.Packets.{Fault, following_of, is_awaited, answered, own_event, is_accepted, connection_event, reported_event, event_or_bad, of_frame, of_octets, frame_event, Fragments, Arrival, arrival, arrival_event, packet_event}
+use Rattle.gatt_laws.specs.laws.Possible.{OwnMayCome, Possible, AllTables}
+use Rattle.gatt_laws.specs.machine.State.{State, step}
 use Rattle.le_acl.specs.Frame.{frame_at}
 use Rattle.le_h4.specs.Division.{is_long}
 use Rattle.le_h4.specs.Packet.{Packet, AclPacket, EventPacket, ScoPacket, First, FirstPacket, NoneYet, NoPacket, first_of}

@@ -24,7 +24,7 @@ use Rattle.att_writes.specs.SameBut.{SameBut, SameApplied}
 use Rattle.gatt_conn.specs.Answer.{Question, written_response, answer_to, Writing, writing_asked, stored_after, stored_by, handles_after, handles_by}
 use Rattle.gatt_conn.specs.Connection.{Connection}
 use Rattle.gatt_conn.specs.Transcript.{Said, Answered, Dropped, is_exchange, is_acceptance, exchange_asked, exchanged_by, first_exchange, part_asked, part_by, is_end, prepared_in}
-use Rattle.gatt_laws.specs.Alike.{is_reading, without_reading}
+use Rattle.gatt_laws.specs.laws.Alike.{is_reading, without_reading}
 
 -- the same values but for hidden ones, and the same row
 pub record SameStored (hidden : Handle → Bool) (one other : Stored) : Type 0 where

@@ -17,8 +17,8 @@ use Rattle.att_attributes.specs.Group.{is_service_type}
 use Rattle.att_table.specs.Changer.{changer_of, declares_generic_attribute, is_changer, last_service}
 use Rattle.att_table.specs.Table.{Contents, value_at}
 use Rattle.att_writes.specs.SameBut.{SameBut}
-use Rattle.gatt_laws.specs.NothingCrosses.{TablesAgree}
-use Rattle.gatt_laws.specs.TwoWorlds.{SameTable}
+use Rattle.gatt_laws.specs.laws.NothingCrosses.{TablesAgree}
+use Rattle.gatt_laws.specs.laws.TwoWorlds.{SameTable}
 use Rattle.octets.specs.Number.{Octets, two_octets}
 
 -- an attribute that is found is one of the list, and passes the test

@@ -1,12 +1,12 @@
 -- A course is that of the input before, and then the last item; and what has gone out stays.
 use Rattle.std.proofs.Common.{◌≡◌, refl, sym, ◌∙◌, ap, List, [], ◌∷◌, ◌++◌, append_assoc, Option, Some, None, Result, Ok, Err, Bool, true, false}
 use Rattle.std.proofs.lemmas.List.{append-nil}
-use Rattle.gatt_laws.specs.Calls.{call_event, replacement_event}
-use Rattle.gatt_laws.specs.Event.{Event}
-use Rattle.gatt_laws.specs.Input.{Item, AnOctet, APacket, ACall, ATable, TheEnd, Course, after_result, packet_taken, after_packet, with_unfinished, after_first, taken, unless_stopped, after_item, after_items, at_start, course}
-use Rattle.gatt_laws.specs.Laws.{GoesOn, ContinuesItsCourse, KeepsWhatIsGone}
-use Rattle.gatt_laws.specs.Packets.{Fault, packet_event}
-use Rattle.gatt_laws.specs.State.{out}
+use Rattle.gatt_laws.specs.machine.Calls.{call_event, replacement_event}
+use Rattle.gatt_laws.specs.machine.Event.{Event}
+use Rattle.gatt_laws.specs.machine.Input.{Item, AnOctet, APacket, ACall, ATable, TheEnd, Course, after_result, packet_taken, after_packet, with_unfinished, after_first, taken, unless_stopped, after_item, after_items, at_start, course}
+use Rattle.gatt_laws.specs.laws.Laws.{GoesOn, ContinuesItsCourse, KeepsWhatIsGone}
+use Rattle.gatt_laws.specs.machine.Packets.{Fault, packet_event}
+use Rattle.gatt_laws.specs.machine.State.{out}
 use Rattle.le_h4.specs.Division.{is_long}
 use Rattle.le_h4.specs.Packet.{Packet, First, FirstPacket, NoneYet, NoPacket, first_of}
 use Rattle.octets.specs.Number.{Octets}

@@ -4,10 +4,10 @@ use Rattle.std.specs.Prelude.{◌^◌, ◌||◌, min, nat_le, nat_lt, fold, filt
 use Rattle.std.specs.List.{list_any, reduce, flat_map, cons_option}
 use Rattle.std.specs.Option.{option_and_then, option_map_or}
 use Rattle.std.proofs.lemmas.List.Folds.{list_any-append}
-use Rattle.gatt_laws.specs.Controller.{Slots}
-use Rattle.gatt_laws.specs.Deadline.{slot_deadline, is_late_told, is_reached, TellsFromTheDeadlineOn}
-use Rattle.gatt_laws.specs.Notice.{Notice, TimedOut, noticed, late_told, slot_told}
-use Rattle.gatt_laws.specs.State.{State}
+use Rattle.gatt_laws.specs.machine.Controller.{Slots}
+use Rattle.gatt_laws.specs.laws.Deadline.{slot_deadline, is_late_told, is_reached, TellsFromTheDeadlineOn}
+use Rattle.gatt_laws.specs.machine.Notice.{Notice, TimedOut, noticed, late_told, slot_told}
+use Rattle.gatt_laws.specs.machine.State.{State}
 use Rattle.gatt_subs.specs.declared.pending.Unconfirmed.{Unconfirmed}
 use Rattle.gatt_subs.specs.Deadline.{late_at, late_from}
 use Rattle.gatt_subs.specs.Indications.{is_late}

@@ -3,12 +3,12 @@
 use Rattle.std.proofs.Common.{◌≡◌, ℕ, ◌+◌, Bool, true, false, List, length, Option, None, refl, ◌∙◌}
 use Rattle.std.specs.Prelude.{is_some, nat_lt, if◌then◌else◌}
 use Rattle.att_numbers.specs.Types.{Handle}
-use Rattle.gatt_laws.specs.Controller.{command_of_init, count_before, without_command}
-use Rattle.gatt_laws.specs.Event.{Ordinal, Event}
-use Rattle.gatt_laws.specs.Heard.{after_hearing}
-use Rattle.gatt_laws.specs.Part.{Part, KeyReply, is_live}
-use Rattle.gatt_laws.specs.Room.{Room, Bonds, share_of, size_of}
-use Rattle.gatt_laws.specs.State.{State, Change, change_of, finished, parts_finished, step}
+use Rattle.gatt_laws.specs.machine.Controller.{command_of_init, count_before, without_command}
+use Rattle.gatt_laws.specs.machine.Event.{Ordinal, Event}
+use Rattle.gatt_laws.specs.machine.Heard.{after_hearing}
+use Rattle.gatt_laws.specs.machine.Part.{Part, KeyReply, is_live}
+use Rattle.gatt_laws.specs.machine.Room.{Room, Bonds, share_of, size_of}
+use Rattle.gatt_laws.specs.machine.State.{State, Change, change_of, finished, parts_finished, step}
 use Rattle.gatt_subs.specs.Indications.{Indications}
 use Rattle.le_acl.specs.History.{packets_allowed}
 use Rattle.le_acl.specs.Packets.{Pdu}

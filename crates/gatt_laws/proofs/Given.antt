@@ -18,25 +18,25 @@ use Rattle.gatt_laws.proofs.Silence.{only_serves_the_live, gives_all_that_it_may
 use Rattle.std.proofs.lemmas.Bool.{ltb-true, ltb-false}
 use Rattle.std.proofs.lemmas.Bool.Decides.{nat_tests}
 use Rattle.gatt_laws.proofs.Places.{HasPlace, absent_place, step_place, run_told, ready_at, none_comes, comes_only, start_absent, completed_gone, next_grows, IsAny, ComesOnlyFrom}
-use Rattle.gatt_laws.specs.Settled.{has_slot, HaveOneSlotEach, IsSettled}
-use Rattle.gatt_laws.specs.Runs.{after_events, events_of, ArePossible}
-use Rattle.gatt_laws.specs.SameView.{packets_at, packets_in}
+use Rattle.gatt_laws.specs.laws.Settled.{has_slot, HaveOneSlotEach, IsSettled}
+use Rattle.gatt_laws.specs.laws.Runs.{after_events, events_of, ArePossible}
+use Rattle.gatt_laws.specs.laws.SameView.{packets_at, packets_in}
 use Rattle.le_hci.specs.declared.peer.Peer.{Peer}
-use Rattle.gatt_laws.specs.Controller.{Slots, is_ready, command_of_init, count_before, without_command}
-use Rattle.gatt_laws.specs.Event.{Ordinal, Own, Event, Connected, Gone, KeyAsked, Encrypted, Refreshed, Asks, Signals, Authorized, Ended, Of, Completed, Credit, Update, Tick, Replaced, Nothing}
+use Rattle.gatt_laws.specs.machine.Controller.{Slots, is_ready, command_of_init, count_before, without_command}
+use Rattle.gatt_laws.specs.machine.Event.{Ordinal, Own, Event, Connected, Gone, KeyAsked, Encrypted, Refreshed, Asks, Signals, Authorized, Ended, Of, Completed, Credit, Update, Tick, Replaced, Nothing}
 use Rattle.gatt_laws.proofs.Always.{any_tables}
 use Rattle.gatt_laws.proofs.Runs.{is_where_events_lead, means_possible_events}
 use Rattle.gatt_laws.proofs.Settled.{stays_settled, settled_at_first}
-use Rattle.gatt_laws.specs.Given.{packets_given_by_now, IsGivenTheFront}
-use Rattle.gatt_laws.specs.Input.{course}
-use Rattle.gatt_laws.specs.Start.{state_at}
-use Rattle.gatt_laws.specs.View.{peer_in}
-use Rattle.gatt_laws.specs.Heard.{heard_in_turn, hearer_of, after_hearing, att_pdu}
-use Rattle.gatt_laws.specs.Part.{Mark, Absent, Live, Ending, Part, absent, is_live, is_there, key_of, row_of, mtu_of, connection_of, with_pdus, after_ending}
-use Rattle.gatt_laws.specs.Room.{Room, Bonds, share_of, size_of}
-use Rattle.gatt_laws.specs.Silence.{IsAllGiven}
-use Rattle.gatt_laws.specs.State.{State, Change, with_completed, after_completed, part_replaced, packets_given, change_of, finished, parts_finished, step}
-use Rattle.gatt_laws.specs.Turn.{turn_to, served, is_full, request_turn, after_channel, channel_answer, with_step, lost_encryption, live_turn, turn_of, remote_user_terminated, authentication_failure}
+use Rattle.gatt_laws.specs.laws.Given.{packets_given_by_now, IsGivenTheFront}
+use Rattle.gatt_laws.specs.machine.Input.{course}
+use Rattle.gatt_laws.specs.machine.Start.{state_at}
+use Rattle.gatt_laws.specs.laws.View.{peer_in}
+use Rattle.gatt_laws.specs.machine.Heard.{heard_in_turn, hearer_of, after_hearing, att_pdu}
+use Rattle.gatt_laws.specs.machine.Part.{Mark, Absent, Live, Ending, Part, absent, is_live, is_there, key_of, row_of, mtu_of, connection_of, with_pdus, after_ending}
+use Rattle.gatt_laws.specs.machine.Room.{Room, Bonds, share_of, size_of}
+use Rattle.gatt_laws.specs.laws.Silence.{IsAllGiven}
+use Rattle.gatt_laws.specs.machine.State.{State, Change, with_completed, after_completed, part_replaced, packets_given, change_of, finished, parts_finished, step}
+use Rattle.gatt_laws.specs.machine.Turn.{turn_to, served, is_full, request_turn, after_channel, channel_answer, with_step, lost_encryption, live_turn, turn_of, remote_user_terminated, authentication_failure}
 use Rattle.gatt_subs.specs.Indications.{after_replacement}
 use Rattle.le_acl.specs.Fragment.{Fragment}
 use Rattle.le_acl.specs.Outgoing.{acl_octets}

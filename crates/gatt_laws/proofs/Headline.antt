@@ -37,7 +37,7 @@ use Rattle.att_writes.specs.Queue.{once_each, touched_by, prepare_fault, queue_a
 use Rattle.gatt_conn.specs.Answer.{entry_at, prepare_response, written_response}
 use Rattle.gatt_conn.specs.Connection.{Connection}
 use Rattle.octets.specs.Number.{Octets}
-use Rattle.gatt_laws.specs.Headline.{Each, MayUse, handle_in, handles_sent, SendsWhatMayBeRead, WritesWhatMayBeWritten, RefusalsChangeNothing}
+use Rattle.gatt_laws.specs.laws.Headline.{Each, MayUse, handle_in, handles_sent, SendsWhatMayBeRead, WritesWhatMayBeWritten, RefusalsChangeNothing}
 
 none-mapped : {A B : Type 0} (f : A → B) (x : Option A) → option_map f x ≡ None → x ≡ None
 none-mapped f None is = refl

@@ -16,20 +16,20 @@ use Rattle.gatt_laws.proofs.Always.{first-true, last-true}
 use Rattle.gatt_laws.proofs.Ends.{end_keeps}
 use Rattle.gatt_laws.proofs.Notices.{or-first}
 use Rattle.gatt_laws.proofs.Steady.{completed_steady}
-use Rattle.gatt_laws.specs.Event.{Ordinal, Own, Event, Connected, Gone, KeyAsked, Encrypted}
-use Rattle.gatt_laws.specs.Event.{Refreshed, Asks, Signals, Authorized, Ended, Of, Completed, Credit}
-use Rattle.gatt_laws.specs.Event.{Update, Tick, Replaced, Nothing}
-use Rattle.gatt_laws.specs.Notice.{Notice, Disconnected, Secured, are_both, are_same_facts}
-use Rattle.gatt_laws.specs.Notice.{link_told}
-use Rattle.gatt_laws.specs.Notice.{end_told, own_told, noticed}
-use Rattle.gatt_laws.specs.Part.{Part, come, is_live, is_there, key_of, mtu_of, with_pdus}
-use Rattle.gatt_laws.specs.Part.{after_ending}
-use Rattle.gatt_laws.specs.Room.{Room}
-use Rattle.gatt_laws.specs.RowNotices.{tells_key, TellsEachKey}
-use Rattle.gatt_laws.specs.State.{State, change_of, part_replaced}
-use Rattle.gatt_laws.specs.Turn.{Turn, turn_to, turn_of, live_turn, served, is_full}
-use Rattle.gatt_laws.specs.Turn.{after_channel, channel_answer}
-use Rattle.gatt_laws.specs.Turn.{remote_user_terminated}
+use Rattle.gatt_laws.specs.machine.Event.{Ordinal, Own, Event, Connected, Gone, KeyAsked, Encrypted}
+use Rattle.gatt_laws.specs.machine.Event.{Refreshed, Asks, Signals, Authorized, Ended, Of, Completed, Credit}
+use Rattle.gatt_laws.specs.machine.Event.{Update, Tick, Replaced, Nothing}
+use Rattle.gatt_laws.specs.machine.Notice.{Notice, Disconnected, Secured, are_both, are_same_facts}
+use Rattle.gatt_laws.specs.machine.Notice.{link_told}
+use Rattle.gatt_laws.specs.machine.Notice.{end_told, own_told, noticed}
+use Rattle.gatt_laws.specs.machine.Part.{Part, come, is_live, is_there, key_of, mtu_of, with_pdus}
+use Rattle.gatt_laws.specs.machine.Part.{after_ending}
+use Rattle.gatt_laws.specs.machine.Room.{Room}
+use Rattle.gatt_laws.specs.laws.RowNotices.{tells_key, TellsEachKey}
+use Rattle.gatt_laws.specs.machine.State.{State, change_of, part_replaced}
+use Rattle.gatt_laws.specs.machine.Turn.{Turn, turn_to, turn_of, live_turn, served, is_full}
+use Rattle.gatt_laws.specs.machine.Turn.{after_channel, channel_answer}
+use Rattle.gatt_laws.specs.machine.Turn.{remote_user_terminated}
 use Rattle.gatt_subs.specs.Indications.{after_replacement}
 use Rattle.octets.specs.Number.{Octets}
 

@@ -8,17 +8,17 @@ use Rattle.att_table.specs.Table.{Contents, value_at}
 use Rattle.gatt_laws.proofs.Always.{packet_may_come, call_may_come, replacement_may_come}
 use Rattle.gatt_laws.proofs.ItemEvents.{means_its_event}
 use Rattle.gatt_laws.proofs.Notices.{or-first, or-second, tells_each_value}
-use Rattle.gatt_laws.specs.Calls.{call_event, replacement_event}
-use Rattle.gatt_laws.specs.Event.{Event}
-use Rattle.gatt_laws.specs.Input.{Item, AnOctet, APacket, ACall, ATable, TheEnd, Intake, Course}
-use Rattle.gatt_laws.specs.Input.{after_item, after_items, at_start, course}
-use Rattle.gatt_laws.specs.ItemEvents.{event_if, event_of_first, event_taken, event_at, after_if}
-use Rattle.gatt_laws.specs.Notice.{noticed, notices_of}
-use Rattle.gatt_laws.specs.Notices.{is_value_told, sets_value, Known, values_in, is_known_anew}
-use Rattle.gatt_laws.specs.Notices.{known_after, known_in, KnowsTheValues}
-use Rattle.gatt_laws.specs.Packets.{Fragments, packet_event}
-use Rattle.gatt_laws.specs.Possible.{Possible}
-use Rattle.gatt_laws.specs.State.{State}
+use Rattle.gatt_laws.specs.machine.Calls.{call_event, replacement_event}
+use Rattle.gatt_laws.specs.machine.Event.{Event}
+use Rattle.gatt_laws.specs.machine.Input.{Item, AnOctet, APacket, ACall, ATable, TheEnd, Intake, Course}
+use Rattle.gatt_laws.specs.machine.Input.{after_item, after_items, at_start, course}
+use Rattle.gatt_laws.specs.laws.ItemEvents.{event_if, event_of_first, event_taken, event_at, after_if}
+use Rattle.gatt_laws.specs.machine.Notice.{noticed, notices_of}
+use Rattle.gatt_laws.specs.laws.Notices.{is_value_told, sets_value, Known, values_in, is_known_anew}
+use Rattle.gatt_laws.specs.laws.Notices.{known_after, known_in, KnowsTheValues}
+use Rattle.gatt_laws.specs.machine.Packets.{Fragments, packet_event}
+use Rattle.gatt_laws.specs.laws.Possible.{Possible}
+use Rattle.gatt_laws.specs.machine.State.{State}
 use Rattle.le_h4.specs.Division.{is_long}
 use Rattle.le_h4.specs.Packet.{Packet, First, FirstPacket, NoneYet, NoPacket, first_of}
 

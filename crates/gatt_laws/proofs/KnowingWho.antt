@@ -16,26 +16,26 @@ use Rattle.gatt_laws.proofs.Present.{same-peers, none-has, taken-peers, freed-pe
 use Rattle.gatt_laws.proofs.Present.{init-peers}
 use Rattle.gatt_laws.proofs.Unused.{item_unused}
 use Rattle.gatt_laws.proofs.Settled.{none_next, stays_settled, settled_at_first}
-use Rattle.gatt_laws.specs.Calls.{holding}
-use Rattle.gatt_laws.specs.Controller.{with_freed}
-use Rattle.gatt_laws.specs.Event as event
-use Rattle.gatt_laws.specs.Event.{Ordinal, Own, Event, KeyAsked, Encrypted, Refreshed, Asks}
-use Rattle.gatt_laws.specs.Event.{Signals, Authorized, Ended, Of, Completed, Credit, Update, Tick}
-use Rattle.gatt_laws.specs.Event.{Replaced, Nothing}
-use Rattle.gatt_laws.specs.Input.{Item, Course, after_item, after_items, at_start, course}
-use Rattle.gatt_laws.specs.ItemEvents.{event_at, after_if}
-use Rattle.gatt_laws.specs.Notice.{Notice, Connected, Disconnected, noticed, notices_of, notices_in}
-use Rattle.gatt_laws.specs.Part.{Part, come, is_there}
-use Rattle.gatt_laws.specs.Possible.{Possible, MayCome}
-use Rattle.gatt_laws.specs.Present.{ComesUnused}
-use Rattle.gatt_laws.specs.Present.{Present, present_in, nobody_present, peers_in, HasOneHandleEach}
-use Rattle.gatt_laws.specs.Present.{AlwaysHasOneHandleEach, IsKnowing, TellsWhoIsThere}
-use Rattle.gatt_laws.specs.Present.{KnowsWhoIsThere}
-use Rattle.gatt_laws.specs.RowNotices.{is_coming_or_going}
-use Rattle.gatt_laws.specs.Settled.{has_slot}
-use Rattle.gatt_laws.specs.Start.{Start, state_at}
-use Rattle.gatt_laws.specs.State.{State, change_of, step}
-use Rattle.gatt_laws.specs.Turn.{turn_of}
+use Rattle.gatt_laws.specs.machine.Calls.{holding}
+use Rattle.gatt_laws.specs.machine.Controller.{with_freed}
+use Rattle.gatt_laws.specs.machine.Event as event
+use Rattle.gatt_laws.specs.machine.Event.{Ordinal, Own, Event, KeyAsked, Encrypted, Refreshed, Asks}
+use Rattle.gatt_laws.specs.machine.Event.{Signals, Authorized, Ended, Of, Completed, Credit, Update, Tick}
+use Rattle.gatt_laws.specs.machine.Event.{Replaced, Nothing}
+use Rattle.gatt_laws.specs.machine.Input.{Item, Course, after_item, after_items, at_start, course}
+use Rattle.gatt_laws.specs.laws.ItemEvents.{event_at, after_if}
+use Rattle.gatt_laws.specs.machine.Notice.{Notice, Connected, Disconnected, noticed, notices_of, notices_in}
+use Rattle.gatt_laws.specs.machine.Part.{Part, come, is_there}
+use Rattle.gatt_laws.specs.laws.Possible.{Possible, MayCome}
+use Rattle.gatt_laws.specs.laws.Present.{ComesUnused}
+use Rattle.gatt_laws.specs.laws.Present.{Present, present_in, nobody_present, peers_in, HasOneHandleEach}
+use Rattle.gatt_laws.specs.laws.Present.{AlwaysHasOneHandleEach, IsKnowing, TellsWhoIsThere}
+use Rattle.gatt_laws.specs.laws.Present.{KnowsWhoIsThere}
+use Rattle.gatt_laws.specs.laws.RowNotices.{is_coming_or_going}
+use Rattle.gatt_laws.specs.laws.Settled.{has_slot}
+use Rattle.gatt_laws.specs.machine.Start.{Start, state_at}
+use Rattle.gatt_laws.specs.machine.State.{State, change_of, step}
+use Rattle.gatt_laws.specs.machine.Turn.{turn_of}
 use Rattle.le_hci.specs.declared.peer.Peer.{Peer}
 
 and-false : (test : Bool) → (test && false) ≡ false

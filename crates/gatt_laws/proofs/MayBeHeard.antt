@@ -5,9 +5,9 @@ use Rattle.std.specs.Option.{option_map, option_to_list}
 use Rattle.att_numbers.specs.Types.{Handle, Values}
 use Rattle.att_pdu.specs.Response.{Response}
 use Rattle.att_attributes.specs.declared.attr.Attr.{Attr}
-use Rattle.gatt_laws.specs.Headline.{Each}
-use Rattle.gatt_laws.specs.Heard.{Heard, heard_raised, hearer_after, heard_in_turn}
-use Rattle.gatt_laws.specs.MayBeHeard.{handle_told, handles_told, TellsWhatMayBeHeard}
+use Rattle.gatt_laws.specs.laws.Headline.{Each}
+use Rattle.gatt_laws.specs.machine.Heard.{Heard, heard_raised, hearer_after, heard_in_turn}
+use Rattle.gatt_laws.specs.laws.MayBeHeard.{handle_told, handles_told, TellsWhatMayBeHeard}
 use Rattle.gatt_subs.proofs.Heard.{both, releases_only_what_is_heard}
 use Rattle.gatt_subs.specs.Hearing.{may_hear_at, wants_indications}
 use Rattle.gatt_subs.specs.Indications.{hears, is_notified, released_handle}

@@ -11,16 +11,16 @@ use Rattle.gatt_conn.specs.Answer.{Question}
 use Rattle.gatt_conn.specs.Transcript.{Dropped}
 use Rattle.gatt_laws.proofs.Ends.{end_keeps}
 use Rattle.gatt_laws.proofs.Steady.{is_asking, live_steady, completed_steady}
-use Rattle.gatt_laws.specs.Event.{Ordinal, Own, Event, Connected, Gone, KeyAsked, Encrypted}
-use Rattle.gatt_laws.specs.Event.{Refreshed, Asks, Signals, Authorized, Ended, Of, Completed, Credit}
-use Rattle.gatt_laws.specs.Event.{Update, Tick, Replaced, Nothing}
-use Rattle.gatt_laws.specs.Part.{Part, is_live, mtu_of, after_ending}
-use Rattle.gatt_laws.specs.Room.{Room}
-use Rattle.gatt_laws.specs.RowNotices.{is_coming_or_going}
-use Rattle.gatt_laws.specs.Silence.{is_for_all}
-use Rattle.gatt_laws.specs.State.{State, change_of, part_replaced, step}
-use Rattle.gatt_laws.specs.Turn.{Turn, turn_to, turn_of, live_turn, served, is_full}
-use Rattle.gatt_laws.specs.Turn.{remote_user_terminated}
+use Rattle.gatt_laws.specs.machine.Event.{Ordinal, Own, Event, Connected, Gone, KeyAsked, Encrypted}
+use Rattle.gatt_laws.specs.machine.Event.{Refreshed, Asks, Signals, Authorized, Ended, Of, Completed, Credit}
+use Rattle.gatt_laws.specs.machine.Event.{Update, Tick, Replaced, Nothing}
+use Rattle.gatt_laws.specs.machine.Part.{Part, is_live, mtu_of, after_ending}
+use Rattle.gatt_laws.specs.machine.Room.{Room}
+use Rattle.gatt_laws.specs.laws.RowNotices.{is_coming_or_going}
+use Rattle.gatt_laws.specs.laws.Silence.{is_for_all}
+use Rattle.gatt_laws.specs.machine.State.{State, change_of, part_replaced, step}
+use Rattle.gatt_laws.specs.machine.Turn.{Turn, turn_to, turn_of, live_turn, served, is_full}
+use Rattle.gatt_laws.specs.machine.Turn.{remote_user_terminated}
 use Rattle.gatt_subs.specs.Indications.{after_replacement}
 
 pub record IsNamedAs (old new : Part) : Type 0 where

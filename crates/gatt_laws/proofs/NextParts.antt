@@ -7,13 +7,13 @@ use Rattle.att_numbers.specs.Types.{Handle, Row}
 use Rattle.att_pdu.specs.Grammar.{request_of, is_due}
 use Rattle.gatt_conn.specs.Transcript.{Dropped}
 use Rattle.gatt_laws.proofs.Silence.{only_serves_the_live}
-use Rattle.gatt_laws.specs.Event.{Ordinal, Own, Event, Connected, Gone, KeyAsked, Encrypted, Refreshed, Asks, Signals, Authorized, Ended, Of, Completed, Credit, Update, Tick, Replaced, Nothing}
-use Rattle.gatt_laws.specs.Heard.{after_hearing}
-use Rattle.gatt_laws.specs.Part.{Part, Mark, Absent, Live, Ending, absent, come, is_live, is_there, key_of, mtu_of, with_pdus, after_ending}
-use Rattle.gatt_laws.specs.Room.{Room, size_of}
-use Rattle.gatt_laws.specs.State.{State, Change, own_change, with_completed, after_completed, part_dropped, change_of, finished, packets_given}
-use Rattle.gatt_laws.specs.Turn.{Turn, turn_to, is_full, served, channel_answer, after_channel, with_step, lost_encryption, link_turn, live_turn, turn_of, authentication_failure, remote_user_terminated}
-use Rattle.gatt_laws.specs.TwoWorlds.{given_to, GivesNothingToTheAbsent}
+use Rattle.gatt_laws.specs.machine.Event.{Ordinal, Own, Event, Connected, Gone, KeyAsked, Encrypted, Refreshed, Asks, Signals, Authorized, Ended, Of, Completed, Credit, Update, Tick, Replaced, Nothing}
+use Rattle.gatt_laws.specs.machine.Heard.{after_hearing}
+use Rattle.gatt_laws.specs.machine.Part.{Part, Mark, Absent, Live, Ending, absent, come, is_live, is_there, key_of, mtu_of, with_pdus, after_ending}
+use Rattle.gatt_laws.specs.machine.Room.{Room, size_of}
+use Rattle.gatt_laws.specs.machine.State.{State, Change, own_change, with_completed, after_completed, part_dropped, change_of, finished, packets_given}
+use Rattle.gatt_laws.specs.machine.Turn.{Turn, turn_to, is_full, served, channel_answer, after_channel, with_step, lost_encryption, link_turn, live_turn, turn_of, authentication_failure, remote_user_terminated}
+use Rattle.gatt_laws.specs.laws.TwoWorlds.{given_to, GivesNothingToTheAbsent}
 use Rattle.gatt_subs.specs.Indications.{after_replacement}
 use Rattle.le_acl.specs.Outgoing.{acl_octets}
 use Rattle.le_acl.specs.Fragment.{Fragment}

@@ -13,18 +13,18 @@ use Rattle.gatt_laws.proofs.ChangersAlike.{tables_same}
 use Rattle.gatt_laws.proofs.ItemEvents.{means_its_event, looked_at, kept, same_events, item_kept, table_kept}
 use Rattle.gatt_laws.proofs.Settled.{stays_settled, is_always_settled}
 use Rattle.gatt_laws.proofs.TwoWorlds.{keeps_alike, given_alike, commands_alike}
-use Rattle.gatt_laws.specs.Alike.{is_of, Alike, Hides, may_read_at}
-use Rattle.gatt_laws.specs.Calls.{Refused, NoServiceChanged, same_changer}
-use Rattle.gatt_laws.specs.Event.{Ordinal, Event, Of, Completed, Credit, Update, Tick, Replaced, Nothing}
-use Rattle.gatt_laws.specs.Input.{Item, AnOctet, APacket, ACall, ATable, TheEnd, Course, after_item, after_items, at_start, course}
-use Rattle.gatt_laws.specs.ItemEvents.{event_if, event_at, after_if}
-use Rattle.gatt_laws.specs.NothingCrosses.{Agree, knows, knows_in, is_known, is_replaced, known_while, hidden_while, StartsAgree, ItemsAgree, InputsAgree, SparedIf, SparedIn, given_if, given_by, NothingCrosses, LeavesConnectionsTheSame}
-use Rattle.gatt_laws.specs.Part.{Part, is_live, row_of, standing_of}
-use Rattle.gatt_laws.specs.Possible.{AllTables}
-use Rattle.gatt_laws.specs.Settled.{has_slot, IsSettled}
-use Rattle.gatt_laws.specs.Start.{Start, before_first_command}
-use Rattle.gatt_laws.specs.State.{State, with_values, step}
-use Rattle.gatt_laws.specs.TwoWorlds.{SameTable, Matched, Agrees, Spared}
+use Rattle.gatt_laws.specs.laws.Alike.{is_of, Alike, Hides, may_read_at}
+use Rattle.gatt_laws.specs.machine.Calls.{Refused, NoServiceChanged, same_changer}
+use Rattle.gatt_laws.specs.machine.Event.{Ordinal, Event, Of, Completed, Credit, Update, Tick, Replaced, Nothing}
+use Rattle.gatt_laws.specs.machine.Input.{Item, AnOctet, APacket, ACall, ATable, TheEnd, Course, after_item, after_items, at_start, course}
+use Rattle.gatt_laws.specs.laws.ItemEvents.{event_if, event_at, after_if}
+use Rattle.gatt_laws.specs.laws.NothingCrosses.{Agree, knows, knows_in, is_known, is_replaced, known_while, hidden_while, StartsAgree, ItemsAgree, InputsAgree, SparedIf, SparedIn, given_if, given_by, NothingCrosses, LeavesConnectionsTheSame}
+use Rattle.gatt_laws.specs.machine.Part.{Part, is_live, row_of, standing_of}
+use Rattle.gatt_laws.specs.laws.Possible.{AllTables}
+use Rattle.gatt_laws.specs.laws.Settled.{has_slot, IsSettled}
+use Rattle.gatt_laws.specs.machine.Start.{Start, before_first_command}
+use Rattle.gatt_laws.specs.machine.State.{State, with_values, step}
+use Rattle.gatt_laws.specs.laws.TwoWorlds.{SameTable, Matched, Agrees, Spared}
 use Rattle.gatt_subs.specs.Hearing.{may_hear_at}
 use Rattle.le_hci.specs.declared.peer.Peer.{Peer}
 

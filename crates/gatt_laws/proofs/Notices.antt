@@ -22,19 +22,19 @@ use Rattle.att_writes.specs.SameBut.{is_touched}
 use Rattle.gatt_conn.specs.Answer.{Question, Writing, writing_asked, stored_after, handles_after}
 use Rattle.gatt_conn.specs.Answer.{handles_by, is_confirmation}
 use Rattle.gatt_laws.proofs.Stores.{leaves-configurations, other-value}
-use Rattle.gatt_laws.specs.Event.{Own, Event, Connected, Gone, KeyAsked, Encrypted, Refreshed, Asks}
-use Rattle.gatt_laws.specs.Event.{Signals, Authorized, Ended, Of, Completed, Credit, Update, Tick}
-use Rattle.gatt_laws.specs.Event.{Replaced, Nothing}
-use Rattle.gatt_laws.specs.Notice.{Notice, Configured, Written, write_told, end_told, live_told}
-use Rattle.gatt_laws.specs.Notice.{confirmation_told, own_told, noticed}
-use Rattle.gatt_laws.specs.Notices.{tells_value, is_value_told, sets_value, TellsEachValue}
-use Rattle.gatt_laws.specs.Part.{Part, is_live, mtu_of, row_of, connection_of, after_ending}
-use Rattle.gatt_laws.specs.Possible.{Possible}
-use Rattle.gatt_laws.specs.Room.{Room}
-use Rattle.gatt_laws.specs.State.{State, step, change_of}
-use Rattle.gatt_laws.specs.Turn.{Turn, turn_to, turn_of, live_turn, served, is_full}
-use Rattle.gatt_laws.specs.Turn.{remote_user_terminated}
-use Rattle.gatt_laws.specs.View.{handles_written}
+use Rattle.gatt_laws.specs.machine.Event.{Own, Event, Connected, Gone, KeyAsked, Encrypted, Refreshed, Asks}
+use Rattle.gatt_laws.specs.machine.Event.{Signals, Authorized, Ended, Of, Completed, Credit, Update, Tick}
+use Rattle.gatt_laws.specs.machine.Event.{Replaced, Nothing}
+use Rattle.gatt_laws.specs.machine.Notice.{Notice, Configured, Written, write_told, end_told, live_told}
+use Rattle.gatt_laws.specs.machine.Notice.{confirmation_told, own_told, noticed}
+use Rattle.gatt_laws.specs.laws.Notices.{tells_value, is_value_told, sets_value, TellsEachValue}
+use Rattle.gatt_laws.specs.machine.Part.{Part, is_live, mtu_of, row_of, connection_of, after_ending}
+use Rattle.gatt_laws.specs.laws.Possible.{Possible}
+use Rattle.gatt_laws.specs.machine.Room.{Room}
+use Rattle.gatt_laws.specs.machine.State.{State, step, change_of}
+use Rattle.gatt_laws.specs.machine.Turn.{Turn, turn_to, turn_of, live_turn, served, is_full}
+use Rattle.gatt_laws.specs.machine.Turn.{remote_user_terminated}
+use Rattle.gatt_laws.specs.laws.View.{handles_written}
 use Rattle.octets.specs.Number.{Octets}
 
 -- Handles that were written, each once.

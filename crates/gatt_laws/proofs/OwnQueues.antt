@@ -2,14 +2,14 @@
 use Rattle.std.proofs.Common.{◌≡◌, ℕ, ◌+◌, Bool, true, false, List, length, None, refl, ap, ◌∙◌}
 use Rattle.std.specs.Prelude.{is_some, nat_lt, if◌then◌else◌}
 use Rattle.att_numbers.specs.Types.{Handle}
-use Rattle.gatt_laws.specs.Controller.{command_of_init, count_before, without_command}
-use Rattle.gatt_laws.specs.Heard.{after_hearing}
-use Rattle.gatt_laws.specs.OwnQueues.{LeavesOthersPrepared}
-use Rattle.gatt_laws.specs.Part.{Part, is_live}
-use Rattle.gatt_laws.specs.Room.{Room, Bonds, share_of, size_of}
-use Rattle.gatt_laws.specs.State.{Change, own_change, change_of, finished, parts_finished, step}
+use Rattle.gatt_laws.specs.machine.Controller.{command_of_init, count_before, without_command}
+use Rattle.gatt_laws.specs.machine.Heard.{after_hearing}
+use Rattle.gatt_laws.specs.laws.OwnQueues.{LeavesOthersPrepared}
+use Rattle.gatt_laws.specs.machine.Part.{Part, is_live}
+use Rattle.gatt_laws.specs.machine.Room.{Room, Bonds, share_of, size_of}
+use Rattle.gatt_laws.specs.machine.State.{Change, own_change, change_of, finished, parts_finished, step}
 use Rattle.le_acl.specs.History.{packets_allowed}
-use Rattle.gatt_laws.specs.Turn.{turn_of}
+use Rattle.gatt_laws.specs.machine.Turn.{turn_of}
 
 given-said : (part : Part) (given : ℕ) (live : Bool) → (if live then record part { given = given } else part).said ≡ part.said
 given-said part given true = refl

@@ -14,12 +14,12 @@ use Rattle.att_writes.specs.Applied.{Stored, stored_in, stored_after, applied_to
 use Rattle.att_writes.proofs.Untouched.{keeps_others}
 use Rattle.gatt_conn.specs.Answer.{Question, written_response}
 use Rattle.gatt_laws.proofs.Ends.{end_keeps}
-use Rattle.gatt_laws.specs.Event.{Asks, Of}
-use Rattle.gatt_laws.specs.OwnWrites.{row_in, ExecutesItsOwn}
-use Rattle.gatt_laws.specs.Part.{Part, is_live, key_of, standing_of, mtu_of, prepared_of, after_ending}
-use Rattle.gatt_laws.specs.Room.{Room}
-use Rattle.gatt_laws.specs.State.{State, at_peer, at_ordinal, change_of, step}
-use Rattle.gatt_laws.specs.Turn.{Turn, turn_to, served, is_full, request_turn, live_turn, turn_of, bond_after, own_row_after, remote_user_terminated}
+use Rattle.gatt_laws.specs.machine.Event.{Asks, Of}
+use Rattle.gatt_laws.specs.laws.OwnWrites.{row_in, ExecutesItsOwn}
+use Rattle.gatt_laws.specs.machine.Part.{Part, is_live, key_of, standing_of, mtu_of, prepared_of, after_ending}
+use Rattle.gatt_laws.specs.machine.Room.{Room}
+use Rattle.gatt_laws.specs.machine.State.{State, at_peer, at_ordinal, change_of, step}
+use Rattle.gatt_laws.specs.machine.Turn.{Turn, turn_to, served, is_full, request_turn, live_turn, turn_of, bond_after, own_row_after, remote_user_terminated}
 use Rattle.le_hci.specs.declared.peer.Peer.{Peer}
 use Rattle.le_security.specs.Entry.{same_peer}
 use Rattle.le_security.proofs.Peers.{same_as_itself}

@@ -9,18 +9,18 @@ use Rattle.att_table.specs.Table.{Contents}
 use Rattle.gatt_conn.specs.Answer.{Question}
 use Rattle.gatt_conn.specs.Transcript.{Dropped}
 use Rattle.gatt_laws.proofs.Always.{always, any_tables}
-use Rattle.gatt_laws.specs.Controller.{Slots, with_taken, with_freed, command_of_init, count_before, without_command}
-use Rattle.gatt_laws.specs.Event.{Ordinal, Own, Event, Connected, Gone, KeyAsked, Encrypted, Refreshed, Asks, Signals, Authorized, Ended, Of, Completed, Credit, Update, Tick, Replaced, Nothing}
-use Rattle.gatt_laws.specs.Heard.{after_hearing}
-use Rattle.gatt_laws.specs.Input.{at_start, course}
-use Rattle.gatt_laws.specs.Part.{Part, absent, come, is_live, is_there, key_of, mtu_of, with_pdus, after_ending, after_giving}
-use Rattle.gatt_laws.specs.Placed.{WaitsOnce, IsPlaced, IsAlwaysPlaced}
-use Rattle.gatt_laws.specs.Possible.{Possible}
-use Rattle.gatt_laws.specs.Room.{Room, Bonds, share_of, size_of}
-use Rattle.gatt_laws.specs.Settled.{is_slot_of, has_slot}
-use Rattle.gatt_laws.specs.Start.{Start, before_first_command, state_at}
-use Rattle.gatt_laws.specs.State.{State, Change, slots_after, slots_for, own_change, with_completed, after_completed, part_replaced, change_of, finished, parts_finished, before_commands, step}
-use Rattle.gatt_laws.specs.Turn.{turn_to, served, is_full, request_turn, after_channel, channel_answer, with_step, lost_encryption, live_turn, turn_of, remote_user_terminated, authentication_failure}
+use Rattle.gatt_laws.specs.machine.Controller.{Slots, with_taken, with_freed, command_of_init, count_before, without_command}
+use Rattle.gatt_laws.specs.machine.Event.{Ordinal, Own, Event, Connected, Gone, KeyAsked, Encrypted, Refreshed, Asks, Signals, Authorized, Ended, Of, Completed, Credit, Update, Tick, Replaced, Nothing}
+use Rattle.gatt_laws.specs.machine.Heard.{after_hearing}
+use Rattle.gatt_laws.specs.machine.Input.{at_start, course}
+use Rattle.gatt_laws.specs.machine.Part.{Part, absent, come, is_live, is_there, key_of, mtu_of, with_pdus, after_ending, after_giving}
+use Rattle.gatt_laws.specs.laws.Placed.{WaitsOnce, IsPlaced, IsAlwaysPlaced}
+use Rattle.gatt_laws.specs.laws.Possible.{Possible}
+use Rattle.gatt_laws.specs.machine.Room.{Room, Bonds, share_of, size_of}
+use Rattle.gatt_laws.specs.laws.Settled.{is_slot_of, has_slot}
+use Rattle.gatt_laws.specs.machine.Start.{Start, before_first_command, state_at}
+use Rattle.gatt_laws.specs.machine.State.{State, Change, slots_after, slots_for, own_change, with_completed, after_completed, part_replaced, change_of, finished, parts_finished, before_commands, step}
+use Rattle.gatt_laws.specs.machine.Turn.{turn_to, served, is_full, request_turn, after_channel, channel_answer, with_step, lost_encryption, live_turn, turn_of, remote_user_terminated, authentication_failure}
 use Rattle.gatt_subs.specs.Indications.{after_replacement}
 use Rattle.le_acl.specs.History.{packets_allowed}
 use Rattle.le_acl.specs.Shares.{usable}

@@ -11,17 +11,17 @@ use Rattle.gatt_conn.specs.Answer.{Question}
 use Rattle.gatt_conn.specs.Transcript.{Dropped}
 use Rattle.gatt_laws.proofs.Ends.{end_keeps}
 use Rattle.gatt_laws.proofs.Silence.{only_serves_the_live}
-use Rattle.gatt_laws.specs.Controller.{Controller, command_of_init, count_before, without_command, is_ready}
-use Rattle.gatt_laws.specs.Event.{Ordinal, Own, Event, Connected, Gone, KeyAsked, Encrypted, Refreshed, Asks, Signals, Authorized, Ended, Of, Completed, Credit, Update, Tick, Replaced, Nothing}
-use Rattle.gatt_laws.specs.Part.{Mark, Absent, Live, Ending, Part, absent, come, is_live, is_there, key_of, mtu_of, with_pdus, after_ending}
-use Rattle.gatt_laws.specs.Possible.{Possible}
-use Rattle.gatt_laws.specs.Room.{Room}
-use Rattle.gatt_laws.specs.Runs.{after_events, ArePossible}
-use Rattle.gatt_laws.specs.Settled.{has_slot, IsSettled}
-use Rattle.gatt_laws.specs.Start.{Start, before_first_command, state_at}
-use Rattle.gatt_laws.specs.State.{State, Change, next_after, told_of, is_refusal, with_completed, after_completed, part_replaced, change_of, finished, parts_finished, step}
-use Rattle.gatt_laws.specs.Turn.{turn_to, served, is_full, request_turn, after_channel, channel_answer, with_step, lost_encryption, live_turn, turn_of, remote_user_terminated, authentication_failure}
-use Rattle.gatt_laws.specs.View.{own_coming, peer_coming, peer_in}
+use Rattle.gatt_laws.specs.machine.Controller.{Controller, command_of_init, count_before, without_command, is_ready}
+use Rattle.gatt_laws.specs.machine.Event.{Ordinal, Own, Event, Connected, Gone, KeyAsked, Encrypted, Refreshed, Asks, Signals, Authorized, Ended, Of, Completed, Credit, Update, Tick, Replaced, Nothing}
+use Rattle.gatt_laws.specs.machine.Part.{Mark, Absent, Live, Ending, Part, absent, come, is_live, is_there, key_of, mtu_of, with_pdus, after_ending}
+use Rattle.gatt_laws.specs.laws.Possible.{Possible}
+use Rattle.gatt_laws.specs.machine.Room.{Room}
+use Rattle.gatt_laws.specs.laws.Runs.{after_events, ArePossible}
+use Rattle.gatt_laws.specs.laws.Settled.{has_slot, IsSettled}
+use Rattle.gatt_laws.specs.machine.Start.{Start, before_first_command, state_at}
+use Rattle.gatt_laws.specs.machine.State.{State, Change, next_after, told_of, is_refusal, with_completed, after_completed, part_replaced, change_of, finished, parts_finished, step}
+use Rattle.gatt_laws.specs.machine.Turn.{turn_to, served, is_full, request_turn, after_channel, channel_answer, with_step, lost_encryption, live_turn, turn_of, remote_user_terminated, authentication_failure}
+use Rattle.gatt_laws.specs.laws.View.{own_coming, peer_coming, peer_in}
 use Rattle.gatt_subs.specs.Indications.{after_tick}
 use Rattle.le_hci.specs.declared.peer.Peer.{Peer}
 use Rattle.le_security.specs.Link.{Step, Encryption, Refresh}

@@ -14,16 +14,16 @@ use Rattle.gatt_conn.specs.Answer.{Question, answer_to}
 use Rattle.gatt_conn.specs.Connection.{Connection}
 use Rattle.gatt_conn.specs.Transcript.{is_exchange, exchange_asked, first_exchange, prepared_in}
 use Rattle.gatt_laws.proofs.Ends.{end_keeps}
-use Rattle.gatt_laws.specs.Event.{Ordinal, Own, Event, Connected, Gone, KeyAsked, Encrypted, Refreshed, Asks, Signals, Authorized, Ended, Of, Completed, Credit, Update, Tick, Replaced, Nothing}
-use Rattle.gatt_laws.specs.Part.{Mark, Absent, Live, Ending, Part, absent, come, is_live, is_there, key_of, row_of, mtu_of, connection_of, prepared_of, after_ending}
-use Rattle.gatt_laws.specs.Preparing.{Preparing, preparing, preparing_in, Concern, Happens, concern_of, after_asking, while_serving, prepares_nothing, after_own, after_concern, after_any, is_ending, concerns_of, IsNeverEnded, PreparesByItself, PreparesTheSame}
+use Rattle.gatt_laws.specs.machine.Event.{Ordinal, Own, Event, Connected, Gone, KeyAsked, Encrypted, Refreshed, Asks, Signals, Authorized, Ended, Of, Completed, Credit, Update, Tick, Replaced, Nothing}
+use Rattle.gatt_laws.specs.machine.Part.{Mark, Absent, Live, Ending, Part, absent, come, is_live, is_there, key_of, row_of, mtu_of, connection_of, prepared_of, after_ending}
+use Rattle.gatt_laws.specs.laws.Preparing.{Preparing, preparing, preparing_in, Concern, Happens, concern_of, after_asking, while_serving, prepares_nothing, after_own, after_concern, after_any, is_ending, concerns_of, IsNeverEnded, PreparesByItself, PreparesTheSame}
 use Rattle.gatt_laws.proofs.Runs.{is_where_events_lead}
-use Rattle.gatt_laws.specs.Controller.{command_of_init, count_before, without_command}
-use Rattle.gatt_laws.specs.Room.{Room}
-use Rattle.gatt_laws.specs.Runs.{after_events, events_of}
-use Rattle.gatt_laws.specs.Start.{Start, new_room, before_first_command, state_at}
-use Rattle.gatt_laws.specs.State.{State, own_change, after_credit, after_completed, with_completed, announced, part_replaced, change_of, step}
-use Rattle.gatt_laws.specs.Turn.{turn_to, served, is_full, request_turn, after_channel, channel_answer, with_step, lost_encryption, live_turn, turn_of, remote_user_terminated, authentication_failure}
+use Rattle.gatt_laws.specs.machine.Controller.{command_of_init, count_before, without_command}
+use Rattle.gatt_laws.specs.machine.Room.{Room}
+use Rattle.gatt_laws.specs.laws.Runs.{after_events, events_of}
+use Rattle.gatt_laws.specs.machine.Start.{Start, new_room, before_first_command, state_at}
+use Rattle.gatt_laws.specs.machine.State.{State, own_change, after_credit, after_completed, with_completed, announced, part_replaced, change_of, step}
+use Rattle.gatt_laws.specs.machine.Turn.{turn_to, served, is_full, request_turn, after_channel, channel_answer, with_step, lost_encryption, live_turn, turn_of, remote_user_terminated, authentication_failure}
 use Rattle.le_security.specs.Link.{Step, Encryption, Refresh}
 use Rattle.octets.specs.Number.{Octets}
 
@@ -83,8 +83,8 @@ channel-next : (room : Room) (part : Part) (channel : ℕ) (answer : Option Octe
     → preparing room (after_channel room part channel answer) ≡ preparing room part
 channel-next room part channel None lasts = refl
 channel-next room part channel (Some answer) lasts =
-    elim (is_full room part) as (λ (full : Bool). NotEnded (if full then after_ending part remote_user_terminated else Rattle.gatt_laws.specs.Part.with_pdus part ((channel, answer) ∷ []))
-    → preparing room (if full then after_ending part remote_user_terminated else Rattle.gatt_laws.specs.Part.with_pdus part ((channel, answer) ∷ [])) ≡ preparing room part) [
+    elim (is_full room part) as (λ (full : Bool). NotEnded (if full then after_ending part remote_user_terminated else Rattle.gatt_laws.specs.machine.Part.with_pdus part ((channel, answer) ∷ []))
+    → preparing room (if full then after_ending part remote_user_terminated else Rattle.gatt_laws.specs.machine.Part.with_pdus part ((channel, answer) ∷ [])) ≡ preparing room part) [
       | true ↦ λ ends. absurd (cc ends)
       | false ↦ λ goes_on. refl
     ] lasts
@@ -140,7 +140,7 @@ completed-next room ordinal (entry ∷ entries) part =
     ∙ elim (entry.0 == ordinal) as (λ (own : Bool). preparing room (if own then with_completed part entry.1 else part) ≡ preparing room part) [ true ↦ refl | false ↦ refl ]
 
 same-attributes : (table : Contents) (changer : Option Handle)
-    → (option_map_or (λ at. record table { values = Rattle.att_table.specs.Table.with_value table.values at Rattle.gatt_laws.specs.State.all_changed }) changer table).attributes ≡ table.attributes
+    → (option_map_or (λ at. record table { values = Rattle.att_table.specs.Table.with_value table.values at Rattle.gatt_laws.specs.machine.State.all_changed }) changer table).attributes ≡ table.attributes
 same-attributes table None = refl
 same-attributes table (Some changer) = refl
 

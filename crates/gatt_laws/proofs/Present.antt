@@ -13,23 +13,23 @@ use Rattle.att_policy.specs.declared.standing.KeyFacts.{KeyFacts}
 use Rattle.att_table.specs.ConfigRow.{bits_at}
 use Rattle.gatt_conn.specs.Answer.{is_confirmation}
 use Rattle.gatt_laws.proofs.Named.{IsNamedAs}
-use Rattle.gatt_laws.specs.Calls.{ordinal_where}
-use Rattle.gatt_laws.specs.Controller.{Slots, has_free, with_taken, with_freed}
-use Rattle.gatt_laws.specs.Event as event
-use Rattle.gatt_laws.specs.Event.{Ordinal, Own, Event, KeyAsked, Encrypted, Refreshed, Asks}
-use Rattle.gatt_laws.specs.Event.{Signals, Authorized, Ended, Of, Completed, Credit, Update, Tick}
-use Rattle.gatt_laws.specs.Event.{Replaced, Nothing}
-use Rattle.gatt_laws.specs.Notice.{Notice, Secured, Written}
-use Rattle.gatt_laws.specs.Notice.{Configured, Confirmed, TimedOut, Ending, are_same_facts}
-use Rattle.gatt_laws.specs.Notice.{link_told, write_told, confirmation_told, end_told, live_told}
-use Rattle.gatt_laws.specs.Notice.{late_told, slot_told}
-use Rattle.gatt_laws.specs.Part.{Part, come, is_live, key_of, row_of}
-use Rattle.gatt_laws.specs.Present.{Present, present_after, present_in}
-use Rattle.gatt_laws.specs.Room.{Room}
-use Rattle.gatt_laws.specs.Settled.{has_slot}
-use Rattle.gatt_laws.specs.State.{State, slots_for}
-use Rattle.gatt_laws.specs.Turn.{Turn}
-use Rattle.gatt_laws.specs.View.{handles_written}
+use Rattle.gatt_laws.specs.machine.Calls.{ordinal_where}
+use Rattle.gatt_laws.specs.machine.Controller.{Slots, has_free, with_taken, with_freed}
+use Rattle.gatt_laws.specs.machine.Event as event
+use Rattle.gatt_laws.specs.machine.Event.{Ordinal, Own, Event, KeyAsked, Encrypted, Refreshed, Asks}
+use Rattle.gatt_laws.specs.machine.Event.{Signals, Authorized, Ended, Of, Completed, Credit, Update, Tick}
+use Rattle.gatt_laws.specs.machine.Event.{Replaced, Nothing}
+use Rattle.gatt_laws.specs.machine.Notice.{Notice, Secured, Written}
+use Rattle.gatt_laws.specs.machine.Notice.{Configured, Confirmed, TimedOut, Ending, are_same_facts}
+use Rattle.gatt_laws.specs.machine.Notice.{link_told, write_told, confirmation_told, end_told, live_told}
+use Rattle.gatt_laws.specs.machine.Notice.{late_told, slot_told}
+use Rattle.gatt_laws.specs.machine.Part.{Part, come, is_live, key_of, row_of}
+use Rattle.gatt_laws.specs.laws.Present.{Present, present_after, present_in}
+use Rattle.gatt_laws.specs.machine.Room.{Room}
+use Rattle.gatt_laws.specs.laws.Settled.{has_slot}
+use Rattle.gatt_laws.specs.machine.State.{State, slots_for}
+use Rattle.gatt_laws.specs.machine.Turn.{Turn}
+use Rattle.gatt_laws.specs.laws.View.{handles_written}
 use Rattle.gatt_subs.specs.declared.pending.Unconfirmed.{Unconfirmed}
 use Rattle.le_acl.specs.Shares.{usable}
 use Rattle.le_hci.specs.declared.init.Init.{Init}

@@ -16,22 +16,22 @@ use Rattle.att_table.specs.ConfigRow.{kept_row}
 use Rattle.att_table.specs.Table.{Contents}
 use Rattle.gatt_conn.specs.Transcript.{Dropped}
 use Rattle.gatt_laws.proofs.Settled.{stays_settled, settled_at_first}
-use Rattle.gatt_laws.specs.Controller.{command_of_init, count_before, without_command, is_ready}
-use Rattle.gatt_laws.specs.Input.{at_start, course}
-use Rattle.gatt_laws.specs.Possible.{Possible}
-use Rattle.gatt_laws.specs.Room.{Room, Bonds, share_of, size_of}
-use Rattle.gatt_laws.specs.Settled.{has_slot, IsSettled}
-use Rattle.gatt_laws.specs.Start.{before_first_command}
-use Rattle.gatt_laws.specs.State.{State, Change, own_change, with_completed, after_completed, part_replaced, change_of, finished, parts_finished, step}
-use Rattle.gatt_laws.specs.Turn.{turn_to, served, is_full, request_turn, after_channel, channel_answer, with_step, lost_encryption, live_turn, turn_of, remote_user_terminated, authentication_failure}
+use Rattle.gatt_laws.specs.machine.Controller.{command_of_init, count_before, without_command, is_ready}
+use Rattle.gatt_laws.specs.machine.Input.{at_start, course}
+use Rattle.gatt_laws.specs.laws.Possible.{Possible}
+use Rattle.gatt_laws.specs.machine.Room.{Room, Bonds, share_of, size_of}
+use Rattle.gatt_laws.specs.laws.Settled.{has_slot, IsSettled}
+use Rattle.gatt_laws.specs.machine.Start.{before_first_command}
+use Rattle.gatt_laws.specs.machine.State.{State, Change, own_change, with_completed, after_completed, part_replaced, change_of, finished, parts_finished, step}
+use Rattle.gatt_laws.specs.machine.Turn.{turn_to, served, is_full, request_turn, after_channel, channel_answer, with_step, lost_encryption, live_turn, turn_of, remote_user_terminated, authentication_failure}
 use Rattle.gatt_subs.specs.Indications.{after_replacement}
 use Rattle.le_acl.specs.History.{packets_allowed}
 use Rattle.le_security.specs.Link.{Step, Encryption, Refresh}
 use Rattle.octets.specs.Number.{Octets}
-use Rattle.gatt_laws.specs.Event.{Ordinal, Own, Event, Connected, Gone, KeyAsked, Encrypted, Refreshed, Asks, Signals, Authorized, Ended, Of, Completed, Credit, Update, Tick, Replaced, Nothing}
-use Rattle.gatt_laws.specs.Heard.{Heard, hearer_of, after_hearing, heard_raised, hearer_after, heard_in_turn, att_pdu}
-use Rattle.gatt_laws.specs.Part.{Part, absent, come, is_live, is_there, key_of, row_of, mtu_of, connection_of, backlog_of, with_pdus, after_ending}
-use Rattle.gatt_laws.specs.Queued.{IsWithinBounds, HasBoundedQueues, AlwaysHasBoundedQueues}
+use Rattle.gatt_laws.specs.machine.Event.{Ordinal, Own, Event, Connected, Gone, KeyAsked, Encrypted, Refreshed, Asks, Signals, Authorized, Ended, Of, Completed, Credit, Update, Tick, Replaced, Nothing}
+use Rattle.gatt_laws.specs.machine.Heard.{Heard, hearer_of, after_hearing, heard_raised, hearer_after, heard_in_turn, att_pdu}
+use Rattle.gatt_laws.specs.machine.Part.{Part, absent, come, is_live, is_there, key_of, row_of, mtu_of, connection_of, backlog_of, with_pdus, after_ending}
+use Rattle.gatt_laws.specs.laws.Queued.{IsWithinBounds, HasBoundedQueues, AlwaysHasBoundedQueues}
 use Rattle.gatt_subs.specs.Indications.{first_of, from_due, is_notified, may_indicate, released_handle}
 use Rattle.gatt_subs.specs.Hearing.{is_indicated}
 use Rattle.gatt_subs.specs.Told.{Hearer, notification_of, indication_of}

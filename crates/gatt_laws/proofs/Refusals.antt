@@ -25,8 +25,8 @@ use Rattle.att_table.specs.Table.{Contents, value_at}
 use Rattle.att_writes.specs.Applied.{Stored, after_entry, after_entries, unless_refused as unless_entry}
 use Rattle.att_writes.specs.Entry.{Entry}
 use Rattle.att_writes.specs.Fault.{fault_of}
-use Rattle.gatt_laws.specs.Headline.{Each, MayUse}
-use Rattle.gatt_laws.specs.Refusals.{RefusesByTheFirstBrokenRule, RefusesTheFirstListed, RefusesTheFirstHandle, RefusesTheFirstEntry}
+use Rattle.gatt_laws.specs.laws.Headline.{Each, MayUse}
+use Rattle.gatt_laws.specs.laws.Refusals.{RefusesByTheFirstBrokenRule, RefusesTheFirstListed, RefusesTheFirstHandle, RefusesTheFirstEntry}
 
 pub refuses_by_the_first_broken_rule : RefusesByTheFirstBrokenRule
 unfolding value_answer part_answer after_entries

@@ -24,20 +24,20 @@ use Rattle.gatt_laws.proofs.Notices.{or-first, or-second, both-none, is_among, n
 use Rattle.gatt_laws.proofs.Notices.{none-touched}
 use Rattle.gatt_laws.proofs.Steady.{is_asking, live_steady, completed_steady}
 use Rattle.gatt_laws.proofs.Stores.{set_bits, sets_written}
-use Rattle.gatt_laws.specs.Event.{Ordinal, Own, Event, Connected, Gone, KeyAsked, Encrypted}
-use Rattle.gatt_laws.specs.Event.{Refreshed, Asks, Signals, Authorized, Ended, Of, Completed, Credit}
-use Rattle.gatt_laws.specs.Event.{Update, Tick, Replaced, Nothing}
-use Rattle.gatt_laws.specs.Notice.{Notice, Configured, Written, write_told, confirmation_told}
-use Rattle.gatt_laws.specs.Notice.{end_told, own_told, noticed}
-use Rattle.gatt_laws.specs.Part.{Part, is_live, key_of, mtu_of, row_of, connection_of, after_ending}
-use Rattle.gatt_laws.specs.Room.{Room}
-use Rattle.gatt_laws.specs.RowNotices.{tells_bits, is_bits_told, is_replacement}
-use Rattle.gatt_laws.specs.RowNotices.{is_coming_or_going, TellsEachOwnRow, TellsEachBond}
-use Rattle.gatt_laws.specs.Silence.{is_for_all}
-use Rattle.gatt_laws.specs.State.{State, change_of, step}
-use Rattle.gatt_laws.specs.Turn.{Turn, turn_to, turn_of, live_turn, served, is_full}
-use Rattle.gatt_laws.specs.Turn.{remote_user_terminated}
-use Rattle.gatt_laws.specs.View.{handles_written}
+use Rattle.gatt_laws.specs.machine.Event.{Ordinal, Own, Event, Connected, Gone, KeyAsked, Encrypted}
+use Rattle.gatt_laws.specs.machine.Event.{Refreshed, Asks, Signals, Authorized, Ended, Of, Completed, Credit}
+use Rattle.gatt_laws.specs.machine.Event.{Update, Tick, Replaced, Nothing}
+use Rattle.gatt_laws.specs.machine.Notice.{Notice, Configured, Written, write_told, confirmation_told}
+use Rattle.gatt_laws.specs.machine.Notice.{end_told, own_told, noticed}
+use Rattle.gatt_laws.specs.machine.Part.{Part, is_live, key_of, mtu_of, row_of, connection_of, after_ending}
+use Rattle.gatt_laws.specs.machine.Room.{Room}
+use Rattle.gatt_laws.specs.laws.RowNotices.{tells_bits, is_bits_told, is_replacement}
+use Rattle.gatt_laws.specs.laws.RowNotices.{is_coming_or_going, TellsEachOwnRow, TellsEachBond}
+use Rattle.gatt_laws.specs.laws.Silence.{is_for_all}
+use Rattle.gatt_laws.specs.machine.State.{State, change_of, step}
+use Rattle.gatt_laws.specs.machine.Turn.{Turn, turn_to, turn_of, live_turn, served, is_full}
+use Rattle.gatt_laws.specs.machine.Turn.{remote_user_terminated}
+use Rattle.gatt_laws.specs.laws.View.{handles_written}
 use Rattle.le_hci.specs.declared.peer.Peer.{Peer}
 use Rattle.le_security.proofs.Peers.{equal_peers}
 use Rattle.le_security.specs.Entry.{same_peer}

@@ -20,22 +20,22 @@ use Rattle.att_writes.specs.Fault.{fault_of}
 use Rattle.gatt_conn.specs.Answer.{Question, Writing, stored_after, stored_by, writing_asked}
 use Rattle.att_pdu.specs.Grammar.{request_of, is_due}
 use Rattle.att_table.specs.Changer.{changer_of}
-use Rattle.gatt_laws.specs.Controller.{command_of_init, count_before, without_command}
-use Rattle.gatt_laws.specs.Event.{Ordinal, Own, Event, Connected, Gone, KeyAsked, Encrypted, Refreshed, Asks, Signals, Authorized, Ended, Of, Completed, Credit, Update, Tick, Replaced, Nothing}
-use Rattle.gatt_laws.specs.Heard.{after_hearing}
+use Rattle.gatt_laws.specs.machine.Controller.{command_of_init, count_before, without_command}
+use Rattle.gatt_laws.specs.machine.Event.{Ordinal, Own, Event, Connected, Gone, KeyAsked, Encrypted, Refreshed, Asks, Signals, Authorized, Ended, Of, Completed, Credit, Update, Tick, Replaced, Nothing}
+use Rattle.gatt_laws.specs.machine.Heard.{after_hearing}
 use Rattle.gatt_laws.proofs.Always.{always, any_tables}
-use Rattle.gatt_laws.specs.Input.{at_start, course}
-use Rattle.gatt_laws.specs.Start.{before_first_command}
-use Rattle.gatt_laws.specs.Part.{Part, absent, come, is_live, is_there, key_of, row_of, mtu_of, connection_of, with_pdus, after_ending}
-use Rattle.gatt_laws.specs.Room.{Room, Bonds}
-use Rattle.gatt_laws.specs.State.{State, Change, own_change, with_completed, after_completed, after_credit, all_changed, announced, after_replaced, change_of, finished, parts_finished, step}
-use Rattle.gatt_laws.specs.Turn.{Turn, turn_to, served, is_full, after_channel, channel_answer, with_step, lost_encryption, live_turn, turn_of, remote_user_terminated, authentication_failure}
+use Rattle.gatt_laws.specs.machine.Input.{at_start, course}
+use Rattle.gatt_laws.specs.machine.Start.{before_first_command}
+use Rattle.gatt_laws.specs.machine.Part.{Part, absent, come, is_live, is_there, key_of, row_of, mtu_of, connection_of, with_pdus, after_ending}
+use Rattle.gatt_laws.specs.machine.Room.{Room, Bonds}
+use Rattle.gatt_laws.specs.machine.State.{State, Change, own_change, with_completed, after_completed, after_credit, all_changed, announced, after_replaced, change_of, finished, parts_finished, step}
+use Rattle.gatt_laws.specs.machine.Turn.{Turn, turn_to, served, is_full, after_channel, channel_answer, with_step, lost_encryption, live_turn, turn_of, remote_user_terminated, authentication_failure}
 use Rattle.le_hci.specs.declared.init.Init.{Init}
 use Rattle.le_hci.specs.declared.peer.Peer.{Peer}
 use Rattle.le_security.specs.Entry.{same_peer}
 use Rattle.le_security.specs.Link.{Step, Encryption, Refresh}
 use Rattle.octets.specs.Number.{Octets}
-use Rattle.gatt_laws.specs.RowsOfTheTable.{HasRowsOfItsTable, KeepsRowsOfItsTable, AlwaysHasRowsOfItsTable}
+use Rattle.gatt_laws.specs.laws.RowsOfTheTable.{HasRowsOfItsTable, KeepsRowsOfItsTable, AlwaysHasRowsOfItsTable}
 
 -- what an entry writes, and what entries write
 entry-row : (attributes : List Attr) (stored : Stored) (entry : Entry) (configuration : Bool) → is_configuration_at attributes entry.handle ≡ configuration

@@ -4,13 +4,13 @@ use Rattle.std.specs.Prelude.{if◌then◌else◌}
 use Rattle.std.specs.Option.{option_to_list}
 use Rattle.att_table.specs.Table.{Contents}
 use Rattle.gatt_laws.proofs.Always.{PossibleIfAny, packet_possible, call_possible, replacement_possible}
-use Rattle.gatt_laws.specs.Possible.{Possible, AllTables}
-use Rattle.gatt_laws.specs.Calls.{call_event, replacement_event}
-use Rattle.gatt_laws.specs.Event.{Event}
-use Rattle.gatt_laws.specs.Input.{Item, AnOctet, APacket, ACall, ATable, TheEnd, Course, after_result, packet_taken, after_packet, with_unfinished, after_first, taken, unless_stopped, after_item, after_items, at_start, course}
-use Rattle.gatt_laws.specs.Packets.{Fault, packet_event}
-use Rattle.gatt_laws.specs.Runs.{after_events, event_if, event_of_packet, event_of_first, event_meant, event_unless, event_at, events_in, events_of, IsWhereEventsLead, ArePossible, MeansPossibleEvents}
-use Rattle.gatt_laws.specs.State.{State}
+use Rattle.gatt_laws.specs.laws.Possible.{Possible, AllTables}
+use Rattle.gatt_laws.specs.machine.Calls.{call_event, replacement_event}
+use Rattle.gatt_laws.specs.machine.Event.{Event}
+use Rattle.gatt_laws.specs.machine.Input.{Item, AnOctet, APacket, ACall, ATable, TheEnd, Course, after_result, packet_taken, after_packet, with_unfinished, after_first, taken, unless_stopped, after_item, after_items, at_start, course}
+use Rattle.gatt_laws.specs.machine.Packets.{Fault, packet_event}
+use Rattle.gatt_laws.specs.laws.Runs.{after_events, event_if, event_of_packet, event_of_first, event_meant, event_unless, event_at, events_in, events_of, IsWhereEventsLead, ArePossible, MeansPossibleEvents}
+use Rattle.gatt_laws.specs.machine.State.{State}
 use Rattle.le_h4.specs.Division.{is_long}
 use Rattle.le_h4.specs.Packet.{Packet, First, FirstPacket, NoneYet, NoPacket, first_of}
 use Rattle.octets.specs.Number.{Octets}

@@ -7,17 +7,17 @@ use Rattle.gatt_laws.proofs.SameView.{same_view_same_packets_of_events}
 use Rattle.gatt_laws.proofs.Settled.{stays_settled, settled_at_first}
 use Rattle.gatt_laws.proofs.Silence.{gives_all_that_it_may}
 use Rattle.gatt_laws.proofs.Always.{any_tables}
-use Rattle.gatt_laws.specs.Controller.{is_ready}
-use Rattle.gatt_laws.specs.Event.{Ordinal, Event, Of, Completed, Credit, Update, Tick, Replaced, Nothing}
-use Rattle.gatt_laws.specs.Input.{Item, course}
-use Rattle.gatt_laws.specs.Part.{Part, nobody}
-use Rattle.gatt_laws.specs.Runs.{after_events, events_of, ArePossible}
-use Rattle.gatt_laws.specs.SameView.{Seen, without_commands, seen, IsReleased, IsKnown, IsKnownThroughout, IsReleasedThroughout, SameViewSamePackets}
-use Rattle.gatt_laws.specs.Settled.{IsSettled}
-use Rattle.gatt_laws.specs.Silence.{IsAllGiven}
-use Rattle.gatt_laws.specs.Start.{Start, state_at}
-use Rattle.gatt_laws.specs.State.{State, step}
-use Rattle.gatt_laws.specs.View.{Shown, Happens, Completes, Updates, Tells, Replaces, Writes, are_none, is_unseen, shown_written, written_in, own_counts, shown, shown_in, own_coming, peer_coming, peer_in, View}
+use Rattle.gatt_laws.specs.machine.Controller.{is_ready}
+use Rattle.gatt_laws.specs.machine.Event.{Ordinal, Event, Of, Completed, Credit, Update, Tick, Replaced, Nothing}
+use Rattle.gatt_laws.specs.machine.Input.{Item, course}
+use Rattle.gatt_laws.specs.machine.Part.{Part, nobody}
+use Rattle.gatt_laws.specs.laws.Runs.{after_events, events_of, ArePossible}
+use Rattle.gatt_laws.specs.laws.SameView.{Seen, without_commands, seen, IsReleased, IsKnown, IsKnownThroughout, IsReleasedThroughout, SameViewSamePackets}
+use Rattle.gatt_laws.specs.laws.Settled.{IsSettled}
+use Rattle.gatt_laws.specs.laws.Silence.{IsAllGiven}
+use Rattle.gatt_laws.specs.machine.Start.{Start, state_at}
+use Rattle.gatt_laws.specs.machine.State.{State, step}
+use Rattle.gatt_laws.specs.laws.View.{Shown, Happens, Completes, Updates, Tells, Replaces, Writes, are_none, is_unseen, shown_written, written_in, own_counts, shown, shown_in, own_coming, peer_coming, peer_in, View}
 use Rattle.le_hci.specs.declared.buffers.Buffers.{Buffers}
 use Rattle.le_hci.specs.declared.peer.Peer.{Peer}
 use Rattle.gatt_laws.proofs.Places.{HasPlace, absent_place, step_place, run_told, ready_at, comes_only, start_absent, IsAny, ComesOnlyFrom}

@@ -22,17 +22,17 @@ use Rattle.gatt_conn.specs.Transcript.{Dropped}
 use Rattle.gatt_laws.proofs.Ends.{end_keeps}
 use Rattle.gatt_laws.proofs.Silence.{only_serves_the_live}
 use Rattle.gatt_laws.proofs.Stores.{store, set_bits, stores_written, sets_written}
-use Rattle.gatt_laws.specs.Controller.{command_of_init, count_before, without_command}
-use Rattle.gatt_laws.specs.Event.{Ordinal, Own, Event, Connected, Gone, KeyAsked, Encrypted, Refreshed, Asks, Signals, Authorized, Ended, Of, Completed, Credit, Update, Tick, Replaced, Nothing}
-use Rattle.gatt_laws.specs.Heard.{Heard, heard_in_turn, hearer_of, with_heard, after_hearing}
-use Rattle.gatt_laws.specs.Part.{Mark, Absent, Live, Ending, Part, absent, come, is_live, is_there, key_of, row_of, mtu_of, connection_of, with_pdus, after_giving, after_ending}
-use Rattle.gatt_laws.specs.Room.{Room, Bonds, share_of, size_of}
-use Rattle.gatt_laws.specs.Runs.{after_events}
-use Rattle.gatt_laws.specs.SameView.{Seen, without_commands, seen, IsReleased, IsKnown, packets_at, LeavesWhoSeesNothing, DoesTheSameToWhoSeesTheSame, IsKnownThroughout, packets_in, SameViewSamePacketsOfEvents}
-use Rattle.gatt_laws.specs.Silence.{IsAllGiven}
-use Rattle.gatt_laws.specs.State.{State, Change, at_peer, with_values, own_change, with_completed, after_completed, announced, part_replaced, change_of, finished, parts_finished, packets_given, step}
-use Rattle.gatt_laws.specs.Turn.{Turn, turn_to, served, is_full, request_turn, after_channel, channel_answer, with_step, lost_encryption, link_turn, values_among, owed_after, live_turn, turn_of, remote_user_terminated, authentication_failure}
-use Rattle.gatt_laws.specs.View.{Written, Shown, Happens, Completes, Updates, Tells, Replaces, Writes, handles_written, values_there, bits_there, written_in, are_none, is_unseen, shown_written, own_counts, shown_counts, shown, shown_in}
+use Rattle.gatt_laws.specs.machine.Controller.{command_of_init, count_before, without_command}
+use Rattle.gatt_laws.specs.machine.Event.{Ordinal, Own, Event, Connected, Gone, KeyAsked, Encrypted, Refreshed, Asks, Signals, Authorized, Ended, Of, Completed, Credit, Update, Tick, Replaced, Nothing}
+use Rattle.gatt_laws.specs.machine.Heard.{Heard, heard_in_turn, hearer_of, with_heard, after_hearing}
+use Rattle.gatt_laws.specs.machine.Part.{Mark, Absent, Live, Ending, Part, absent, come, is_live, is_there, key_of, row_of, mtu_of, connection_of, with_pdus, after_giving, after_ending}
+use Rattle.gatt_laws.specs.machine.Room.{Room, Bonds, share_of, size_of}
+use Rattle.gatt_laws.specs.laws.Runs.{after_events}
+use Rattle.gatt_laws.specs.laws.SameView.{Seen, without_commands, seen, IsReleased, IsKnown, packets_at, LeavesWhoSeesNothing, DoesTheSameToWhoSeesTheSame, IsKnownThroughout, packets_in, SameViewSamePacketsOfEvents}
+use Rattle.gatt_laws.specs.laws.Silence.{IsAllGiven}
+use Rattle.gatt_laws.specs.machine.State.{State, Change, at_peer, with_values, own_change, with_completed, after_completed, announced, part_replaced, change_of, finished, parts_finished, packets_given, step}
+use Rattle.gatt_laws.specs.machine.Turn.{Turn, turn_to, served, is_full, request_turn, after_channel, channel_answer, with_step, lost_encryption, link_turn, values_among, owed_after, live_turn, turn_of, remote_user_terminated, authentication_failure}
+use Rattle.gatt_laws.specs.laws.View.{Written, Shown, Happens, Completes, Updates, Tells, Replaces, Writes, handles_written, values_there, bits_there, written_in, are_none, is_unseen, shown_written, own_counts, shown_counts, shown, shown_in}
 use Rattle.gatt_subs.specs.Fit.{wants_changes}
 use Rattle.gatt_subs.specs.Hearing.{is_indicated}
 use Rattle.gatt_subs.specs.Indications.{Indications, may_indicate, from_due, first_of, rest_of, unconfirmed_since, released_handle, after_release, after_tick, after_replacement}
@@ -449,7 +449,7 @@ turn-writes room bond owed part (Connected handle peer) = writes-nothing room bo
 turn-writes room bond owed part Gone = writes-nothing room bond owed part absent
 turn-writes room bond owed part (KeyAsked random_number diversifier) =
     if-writes-nothing room bond owed part
-    (Rattle.gatt_laws.specs.Turn.with_key_asked part (Rattle.le_security.specs.Keys.answer_of room.keys part.peer random_number diversifier)) (is_live part.mark)
+    (Rattle.gatt_laws.specs.machine.Turn.with_key_asked part (Rattle.le_security.specs.Keys.answer_of room.keys part.peer random_number diversifier)) (is_live part.mark)
 turn-writes room bond owed part (Encrypted status enabled) = link-writes room bond owed part (Encryption status enabled) (is_live part.mark)
 turn-writes room bond owed part (Refreshed status) = link-writes room bond owed part (Refresh status) (is_live part.mark)
 turn-writes room bond owed part (Asks pdu) =

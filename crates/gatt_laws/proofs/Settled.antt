@@ -6,16 +6,16 @@ use Rattle.std.proofs.lemmas.Bool.Decides.{nat_tests}
 use Rattle.att_numbers.specs.Types.{Handle}
 use Rattle.gatt_laws.proofs.Always.{always, any_tables}
 use Rattle.gatt_laws.proofs.Silence.{only_serves_the_live}
-use Rattle.gatt_laws.specs.Controller.{Controller, Slots, has_free, with_taken, with_freed, command_of_init, count_before, without_command, is_ready}
-use Rattle.gatt_laws.specs.Event.{Ordinal, Own, Event, Connected, Gone, KeyAsked, Encrypted, Refreshed, Asks, Signals, Authorized, Ended, Of, Completed, Credit, Update, Tick, Replaced, Nothing}
-use Rattle.gatt_laws.specs.Input.{at_start, course}
-use Rattle.gatt_laws.specs.Part.{Part, absent}
-use Rattle.gatt_laws.specs.Possible.{Possible}
-use Rattle.gatt_laws.specs.Room.{Room, Bonds}
-use Rattle.gatt_laws.specs.Settled.{is_slot_of, has_slot, HaveOneSlotEach, IsSettled, IsAlwaysSettled}
-use Rattle.gatt_laws.specs.Start.{Start, before_first_command, state_at}
-use Rattle.gatt_laws.specs.State.{State, Change, slots_after, slots_for, own_change, told_of, is_refusal, with_completed, after_completed, after_credit, part_replaced, change_of, finished, parts_finished, before_commands, step}
-use Rattle.gatt_laws.specs.Turn.{turn_of}
+use Rattle.gatt_laws.specs.machine.Controller.{Controller, Slots, has_free, with_taken, with_freed, command_of_init, count_before, without_command, is_ready}
+use Rattle.gatt_laws.specs.machine.Event.{Ordinal, Own, Event, Connected, Gone, KeyAsked, Encrypted, Refreshed, Asks, Signals, Authorized, Ended, Of, Completed, Credit, Update, Tick, Replaced, Nothing}
+use Rattle.gatt_laws.specs.machine.Input.{at_start, course}
+use Rattle.gatt_laws.specs.machine.Part.{Part, absent}
+use Rattle.gatt_laws.specs.laws.Possible.{Possible}
+use Rattle.gatt_laws.specs.machine.Room.{Room, Bonds}
+use Rattle.gatt_laws.specs.laws.Settled.{is_slot_of, has_slot, HaveOneSlotEach, IsSettled, IsAlwaysSettled}
+use Rattle.gatt_laws.specs.machine.Start.{Start, before_first_command, state_at}
+use Rattle.gatt_laws.specs.machine.State.{State, Change, slots_after, slots_for, own_change, told_of, is_refusal, with_completed, after_completed, after_credit, part_replaced, change_of, finished, parts_finished, before_commands, step}
+use Rattle.gatt_laws.specs.machine.Turn.{turn_of}
 use Rattle.gatt_subs.specs.Indications.{after_tick}
 use Rattle.le_acl.specs.Shares.{usable}
 use Rattle.le_hci.specs.Init.{command_awaited}

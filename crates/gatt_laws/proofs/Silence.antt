@@ -3,13 +3,13 @@ use Rattle.std.proofs.Common.{◌≡◌, ℕ, ◌+◌, Bool, true, false, List, 
 use Rattle.std.specs.Prelude.{is_some, nat_lt, length, if◌then◌else◌}
 use Rattle.att_numbers.specs.Types.{Handle, Values}
 use Rattle.att_attributes.specs.declared.attr.Attr.{Attr}
-use Rattle.gatt_laws.specs.Controller.{command_of_init, count_before, without_command}
-use Rattle.gatt_laws.specs.Heard.{Heard, heard_in_turn, hearer_of, with_heard, after_hearing}
-use Rattle.gatt_laws.specs.Part.{Part, is_live, after_giving}
-use Rattle.gatt_laws.specs.Room.{Room, share_of, size_of}
-use Rattle.gatt_laws.specs.Event.{Connected, Gone, KeyAsked, Encrypted, Refreshed, Asks, Signals, Authorized, Ended}
-use Rattle.gatt_laws.specs.Silence.{OnlyServesTheLive, OnlyTheLiveAct, IsAllGiven, GivesAllThatItMay}
-use Rattle.gatt_laws.specs.State.{Change, parts_finished, step, change_of}
+use Rattle.gatt_laws.specs.machine.Controller.{command_of_init, count_before, without_command}
+use Rattle.gatt_laws.specs.machine.Heard.{Heard, heard_in_turn, hearer_of, with_heard, after_hearing}
+use Rattle.gatt_laws.specs.machine.Part.{Part, is_live, after_giving}
+use Rattle.gatt_laws.specs.machine.Room.{Room, share_of, size_of}
+use Rattle.gatt_laws.specs.machine.Event.{Connected, Gone, KeyAsked, Encrypted, Refreshed, Asks, Signals, Authorized, Ended}
+use Rattle.gatt_laws.specs.laws.Silence.{OnlyServesTheLive, OnlyTheLiveAct, IsAllGiven, GivesAllThatItMay}
+use Rattle.gatt_laws.specs.machine.State.{Change, parts_finished, step, change_of}
 use Rattle.gatt_subs.specs.Told.{Hearer}
 use Rattle.le_acl.specs.History.{packets_allowed}
 

@@ -5,14 +5,14 @@ use Rattle.std.specs.Option.{option_map}
 use Rattle.std.specs.Prelude.{◌==◌, if◌then◌else◌}
 use Rattle.att_numbers.specs.Types.{Row}
 use Rattle.gatt_conn.specs.Transcript.{Said, Dropped}
-use Rattle.gatt_laws.specs.Event.{Ordinal, Own, Connected, Gone, KeyAsked, Encrypted, Refreshed}
-use Rattle.gatt_laws.specs.Event.{Asks, Signals, Authorized, Ended}
-use Rattle.gatt_laws.specs.Part.{Mark, Ending, Part, KeyReply, key_of, with_pdus, after_ending}
-use Rattle.gatt_laws.specs.Room.{Room}
-use Rattle.gatt_laws.specs.State.{with_completed, after_completed}
-use Rattle.gatt_laws.specs.Turn.{is_full, after_channel, channel_answer, with_step}
-use Rattle.gatt_laws.specs.Turn.{lost_encryption, live_turn, authentication_failure}
-use Rattle.gatt_laws.specs.Turn.{remote_user_terminated}
+use Rattle.gatt_laws.specs.machine.Event.{Ordinal, Own, Connected, Gone, KeyAsked, Encrypted, Refreshed}
+use Rattle.gatt_laws.specs.machine.Event.{Asks, Signals, Authorized, Ended}
+use Rattle.gatt_laws.specs.machine.Part.{Mark, Ending, Part, KeyReply, key_of, with_pdus, after_ending}
+use Rattle.gatt_laws.specs.machine.Room.{Room}
+use Rattle.gatt_laws.specs.machine.State.{with_completed, after_completed}
+use Rattle.gatt_laws.specs.machine.Turn.{is_full, after_channel, channel_answer, with_step}
+use Rattle.gatt_laws.specs.machine.Turn.{lost_encryption, live_turn, authentication_failure}
+use Rattle.gatt_laws.specs.machine.Turn.{remote_user_terminated}
 use Rattle.gatt_subs.specs.Indications.{Indications, after_end}
 use Rattle.le_acl.specs.Packets.{Pdu}
 use Rattle.le_security.specs.declared.entry.Key.{Key}

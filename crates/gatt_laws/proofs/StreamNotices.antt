@@ -3,12 +3,12 @@ use Rattle.std.proofs.Common.{◌≡◌, ℕ, suc, zero, Bool, true, false, cond
 use Rattle.std.specs.Prelude.{if◌then◌else◌, is_some, Result, Ok, Err}
 use Rattle.std.specs.Option.{option_map_or}
 use Rattle.gatt_laws.proofs.Streams.{EndsWithIt, ends_first}
-use Rattle.gatt_laws.specs.Event.{Event}
-use Rattle.gatt_laws.specs.Input.{Item, AnOctet, APacket, Course, after_first, after_item, after_packet, after_whole, packet_taken, stopped, taken, unless_stopped, with_unfinished}
-use Rattle.gatt_laws.specs.ItemEvents.{event_if, event_of_first, event_taken}
-use Rattle.gatt_laws.specs.Notice.{Notice, noticed, notices_in, notices_of}
-use Rattle.gatt_laws.specs.Packets.{Fault, Desync, packet_event}
-use Rattle.gatt_laws.specs.StreamNotices.{TellsOfTheDivision}
+use Rattle.gatt_laws.specs.machine.Event.{Event}
+use Rattle.gatt_laws.specs.machine.Input.{Item, AnOctet, APacket, Course, after_first, after_item, after_packet, after_whole, packet_taken, stopped, taken, unless_stopped, with_unfinished}
+use Rattle.gatt_laws.specs.laws.ItemEvents.{event_if, event_of_first, event_taken}
+use Rattle.gatt_laws.specs.machine.Notice.{Notice, noticed, notices_in, notices_of}
+use Rattle.gatt_laws.specs.machine.Packets.{Fault, Desync, packet_event}
+use Rattle.gatt_laws.specs.laws.StreamNotices.{TellsOfTheDivision}
 use Rattle.le_h4.proofs.Dividing.{division_first, division-lost, division-part}
 use Rattle.le_h4.proofs.Firsts.{first_append-packet}
 use Rattle.le_h4.specs.Division.{Division, after_first as divided, before, division, division_within, is_long}

@@ -3,10 +3,10 @@ use Rattle.std.proofs.Common.{◌≡◌, ℕ, Bool, true, false, cond, List, [],
 use Rattle.std.proofs.lemmas.List.{drop_all, length-append}
 use Rattle.std.proofs.lemmas.Bool.{cases_Bool, leb-false}
 use Rattle.std.specs.Prelude.{nat_le, ◌==◌, Result, Ok, Err}
-use Rattle.gatt_laws.specs.Event.{Event}
-use Rattle.gatt_laws.specs.Input.{Item, AnOctet, Course, stopped, packet_taken, after_packet, with_unfinished, after_first, taken, unless_stopped, after_item, after_items}
-use Rattle.gatt_laws.specs.Laws.{after_packets, after_division, whole, TakesTheDivision}
-use Rattle.gatt_laws.specs.Packets.{Fault, Desync, packet_event}
+use Rattle.gatt_laws.specs.machine.Event.{Event}
+use Rattle.gatt_laws.specs.machine.Input.{Item, AnOctet, Course, stopped, packet_taken, after_packet, with_unfinished, after_first, taken, unless_stopped, after_item, after_items}
+use Rattle.gatt_laws.specs.laws.Laws.{after_packets, after_division, whole, TakesTheDivision}
+use Rattle.gatt_laws.specs.machine.Packets.{Fault, Desync, packet_event}
 use Rattle.le_h4.proofs.Dividing.{division_first, division-part, division-lost}
 use Rattle.le_h4.proofs.Firsts.{first_append-packet}
 use Rattle.le_h4.specs.Division.{Division, End, Unfinished, Lost, before, division, is_long, after_first as divided}

@@ -9,7 +9,7 @@ use Rattle.gatt_laws.proofs.Notices.{tells_each_value}
 use Rattle.gatt_laws.proofs.RowNotices.{tells_each_bond, tells_each_own_row}
 use Rattle.gatt_laws.proofs.StreamNotices.{tells_of_the_division}
 use Rattle.gatt_laws.proofs.ToldIsSo.{tells_what_is_so}
-use Rattle.gatt_laws.specs.Telling.{TellsTheApplication}
+use Rattle.gatt_laws.specs.laws.Telling.{TellsTheApplication}
 
 pub tells_the_application : TellsTheApplication
 tells_the_application = record {

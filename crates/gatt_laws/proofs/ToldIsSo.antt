@@ -14,21 +14,21 @@ use Rattle.att_table.specs.ConfigRow.{bits_at}
 use Rattle.gatt_conn.specs.Answer.{is_confirmation}
 use Rattle.gatt_laws.proofs.Ends.{end_keeps}
 use Rattle.gatt_laws.proofs.Named.{IsNamedAs, if-live-named, end_named}
-use Rattle.gatt_laws.specs.Controller.{Slots}
-use Rattle.gatt_laws.specs.Event as event
-use Rattle.gatt_laws.specs.Event.{Ordinal, Own, Event, KeyAsked, Encrypted, Refreshed, Asks}
-use Rattle.gatt_laws.specs.Event.{Signals, Authorized, Ended, Of, Completed, Credit, Update, Tick}
-use Rattle.gatt_laws.specs.Event.{Replaced, Nothing}
-use Rattle.gatt_laws.specs.Notice.{Notice, Connected, Disconnected, Secured, Unsecured, Written}
-use Rattle.gatt_laws.specs.Notice.{Configured, Confirmed, TimedOut, Ending, are_same_facts}
-use Rattle.gatt_laws.specs.Notice.{link_told, write_told, confirmation_told, end_told, live_told}
-use Rattle.gatt_laws.specs.Notice.{late_told, slot_told, noticed}
-use Rattle.gatt_laws.specs.OwnWrites.{row_in}
-use Rattle.gatt_laws.specs.Part.{Part, come, is_live, is_there, key_of, row_of}
-use Rattle.gatt_laws.specs.State.{State, change_of, step}
-use Rattle.gatt_laws.specs.ToldIsSo.{IsSo, TellsWhatIsSo}
-use Rattle.gatt_laws.specs.Turn.{Turn, turn_to, turn_of, live_turn}
-use Rattle.gatt_laws.specs.View.{handles_written}
+use Rattle.gatt_laws.specs.machine.Controller.{Slots}
+use Rattle.gatt_laws.specs.machine.Event as event
+use Rattle.gatt_laws.specs.machine.Event.{Ordinal, Own, Event, KeyAsked, Encrypted, Refreshed, Asks}
+use Rattle.gatt_laws.specs.machine.Event.{Signals, Authorized, Ended, Of, Completed, Credit, Update, Tick}
+use Rattle.gatt_laws.specs.machine.Event.{Replaced, Nothing}
+use Rattle.gatt_laws.specs.machine.Notice.{Notice, Connected, Disconnected, Secured, Unsecured, Written}
+use Rattle.gatt_laws.specs.machine.Notice.{Configured, Confirmed, TimedOut, Ending, are_same_facts}
+use Rattle.gatt_laws.specs.machine.Notice.{link_told, write_told, confirmation_told, end_told, live_told}
+use Rattle.gatt_laws.specs.machine.Notice.{late_told, slot_told, noticed}
+use Rattle.gatt_laws.specs.laws.OwnWrites.{row_in}
+use Rattle.gatt_laws.specs.machine.Part.{Part, come, is_live, is_there, key_of, row_of}
+use Rattle.gatt_laws.specs.machine.State.{State, change_of, step}
+use Rattle.gatt_laws.specs.laws.ToldIsSo.{IsSo, TellsWhatIsSo}
+use Rattle.gatt_laws.specs.machine.Turn.{Turn, turn_to, turn_of, live_turn}
+use Rattle.gatt_laws.specs.laws.View.{handles_written}
 use Rattle.gatt_subs.specs.declared.pending.Unconfirmed.{Unconfirmed}
 use Rattle.le_hci.specs.declared.peer.Peer.{Peer}
 use Rattle.le_security.proofs.Peers.{same_as_itself}

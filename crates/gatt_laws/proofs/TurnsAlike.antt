@@ -11,13 +11,13 @@ use Rattle.gatt_conn.specs.Answer.{Question, answer_to, stored_by, handles_by}
 use Rattle.gatt_conn.specs.Connection.{Connection, mtu_between}
 use Rattle.gatt_conn.specs.Transcript.{Answered, first_exchange, prepared_in}
 use Rattle.gatt_laws.proofs.AnswersAlike.{SameStored, same_stored, same_handles, same_but_reading, same_answer, same_exchange, same_prepared}
-use Rattle.gatt_laws.specs.Alike.{without_reading, erased, is_of}
-use Rattle.gatt_laws.specs.Event.{Own, Connected, Gone, KeyAsked, Encrypted, Refreshed, Asks, Signals, Authorized, Ended}
-use Rattle.gatt_laws.specs.Part.{Part, absent, come, is_live, is_there, key_of, row_of, standing_of, mtu_of, connection_of, with_pdus, after_ending}
-use Rattle.gatt_laws.specs.Room.{Room}
-use Rattle.gatt_laws.specs.State.{with_values}
-use Rattle.gatt_laws.specs.Turn.{Turn, turn_to, is_full, bond_after, own_row_after, values_among, after_answer, with_confirmation, served, request_turn, channel_answer, after_channel, with_key_asked, with_step, lost_encryption, link_turn, live_turn, turn_of, authentication_failure, remote_user_terminated}
-use Rattle.gatt_laws.specs.TwoWorlds.{is_answer_due, finds_no_room}
+use Rattle.gatt_laws.specs.laws.Alike.{without_reading, erased, is_of}
+use Rattle.gatt_laws.specs.machine.Event.{Own, Connected, Gone, KeyAsked, Encrypted, Refreshed, Asks, Signals, Authorized, Ended}
+use Rattle.gatt_laws.specs.machine.Part.{Part, absent, come, is_live, is_there, key_of, row_of, standing_of, mtu_of, connection_of, with_pdus, after_ending}
+use Rattle.gatt_laws.specs.machine.Room.{Room}
+use Rattle.gatt_laws.specs.machine.State.{with_values}
+use Rattle.gatt_laws.specs.machine.Turn.{Turn, turn_to, is_full, bond_after, own_row_after, values_among, after_answer, with_confirmation, served, request_turn, channel_answer, after_channel, with_key_asked, with_step, lost_encryption, link_turn, live_turn, turn_of, authentication_failure, remote_user_terminated}
+use Rattle.gatt_laws.specs.laws.TwoWorlds.{is_answer_due, finds_no_room}
 use Rattle.le_hci.specs.declared.peer.Peer.{Peer}
 use Rattle.le_security.specs.Keys.{answer_of}
 use Rattle.le_security.specs.Link.{Step, Encryption, Refresh}

@@ -15,15 +15,15 @@ use Rattle.gatt_conn.specs.Transcript.{Dropped}
 use Rattle.gatt_laws.proofs.NextParts.{none_given, none_left}
 use Rattle.gatt_laws.proofs.Silence.{only_serves_the_live}
 use Rattle.gatt_laws.proofs.TurnsAlike.{both_choices, either_choice, SameTurn, OwnTurn, OtherTurn, own_turn, other_turn}
-use Rattle.gatt_laws.specs.Alike.{erased, is_of, Alike, MayNotKnow, HidesFrom, Hides}
-use Rattle.gatt_laws.specs.Controller.{Slots, command_of_init, command_for, commands_for, commands_due, count_before, without_command, enabling, controller_after}
-use Rattle.gatt_laws.specs.Event.{Ordinal, Own, Event, Of, Completed, Credit, Update, Tick, Replaced, Nothing}
-use Rattle.gatt_laws.specs.Heard.{Heard, heard_raised, hearer_of, hearer_after, after_responses, heard_in_turn, with_heard, after_hearing}
-use Rattle.gatt_laws.specs.Part.{Part, is_live, is_there, row_of, standing_of, after_giving}
-use Rattle.gatt_laws.specs.Room.{Room, Bonds, Owed}
-use Rattle.gatt_laws.specs.State.{State, Change, with_values, at_peer, after_turn, own_change, with_completed, after_completed, all_changed, announced, part_dropped, part_replaced, change_of, finished, parts_finished, with_commands_sent, before_commands, packets_given, step}
-use Rattle.gatt_laws.specs.Turn.{Turn, turn_of}
-use Rattle.gatt_laws.specs.TwoWorlds.{SameTable, Matched, finds_no_room, Spared, Agrees, KeepsAlike, given_to, given_of, GivesTheSame, NothingCrossesInARun}
+use Rattle.gatt_laws.specs.laws.Alike.{erased, is_of, Alike, MayNotKnow, HidesFrom, Hides}
+use Rattle.gatt_laws.specs.machine.Controller.{Slots, command_of_init, command_for, commands_for, commands_due, count_before, without_command, enabling, controller_after}
+use Rattle.gatt_laws.specs.machine.Event.{Ordinal, Own, Event, Of, Completed, Credit, Update, Tick, Replaced, Nothing}
+use Rattle.gatt_laws.specs.machine.Heard.{Heard, heard_raised, hearer_of, hearer_after, after_responses, heard_in_turn, with_heard, after_hearing}
+use Rattle.gatt_laws.specs.machine.Part.{Part, is_live, is_there, row_of, standing_of, after_giving}
+use Rattle.gatt_laws.specs.machine.Room.{Room, Bonds, Owed}
+use Rattle.gatt_laws.specs.machine.State.{State, Change, with_values, at_peer, after_turn, own_change, with_completed, after_completed, all_changed, announced, part_dropped, part_replaced, change_of, finished, parts_finished, with_commands_sent, before_commands, packets_given, step}
+use Rattle.gatt_laws.specs.machine.Turn.{Turn, turn_of}
+use Rattle.gatt_laws.specs.laws.TwoWorlds.{SameTable, Matched, finds_no_room, Spared, Agrees, KeepsAlike, given_to, given_of, GivesTheSame, NothingCrossesInARun}
 use Rattle.gatt_subs.proofs.Undisclosed.{tells_only_what_is_heard}
 use Rattle.gatt_subs.specs.Hearing.{may_hear_at}
 use Rattle.gatt_subs.specs.Fit.{wants_changes}
@@ -86,7 +86,7 @@ finished-erased : (room : Room) (bonds : Bonds) (handles : List Handle) (part : 
 unfolding after_hearing
 finished-erased room bonds handles part =
     let heard : Part = after_hearing room (bonds part.peer) handles part in
-    either_choice (λ (p : Part). erased p ≡ erased part) (is_live heard.mark) (record heard { given = (after_giving room (record heard { mark = Rattle.gatt_laws.specs.Part.Live })).given }) heard refl refl
+    either_choice (λ (p : Part). erased p ≡ erased part) (is_live heard.mark) (record heard { given = (after_giving room (record heard { mark = Rattle.gatt_laws.specs.machine.Part.Live })).given }) heard refl refl
 
 -- what decides what a connection may know
 abbrev bare : Part → Part

@@ -2,11 +2,11 @@
 use Rattle.std.proofs.Common.{◌≡◌, ℕ, Bool, true, false, cond, List, [], ◌∷◌, ◌++◌, map, Option, Some, None, refl, sym, ap, subst, ◌∙◌, append_assoc, append-nil}
 use Rattle.std.specs.Prelude.{Result, Ok, Err}
 use Rattle.gatt_laws.proofs.Streams.{EndsWithIt, ends_first, packet_kept, stays_stopped}
-use Rattle.gatt_laws.specs.Calls.{call_event, replacement_event}
-use Rattle.gatt_laws.specs.Event.{Event}
-use Rattle.gatt_laws.specs.Input.{Item, AnOctet, APacket, ACall, ATable, TheEnd, Course, after_first, after_item, after_items, after_packet, after_result, at_start, course, stopped, taken, unless_stopped, with_unfinished}
-use Rattle.gatt_laws.specs.Laws.{DividesOn, LeavesLessThanAPacket}
-use Rattle.gatt_laws.specs.Packets.{Fault, Desync, packet_event}
+use Rattle.gatt_laws.specs.machine.Calls.{call_event, replacement_event}
+use Rattle.gatt_laws.specs.machine.Event.{Event}
+use Rattle.gatt_laws.specs.machine.Input.{Item, AnOctet, APacket, ACall, ATable, TheEnd, Course, after_first, after_item, after_items, after_packet, after_result, at_start, course, stopped, taken, unless_stopped, with_unfinished}
+use Rattle.gatt_laws.specs.laws.Laws.{DividesOn, LeavesLessThanAPacket}
+use Rattle.gatt_laws.specs.machine.Packets.{Fault, Desync, packet_event}
 use Rattle.le_h4.proofs.Dividing.{division_first, division-part}
 use Rattle.le_h4.proofs.Firsts.{first_append-packet}
 use Rattle.le_h4.specs.Division.{Division, after_first as divided, before, division, is_long}

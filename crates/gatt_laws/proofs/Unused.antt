@@ -9,20 +9,20 @@ use Rattle.att_numbers.specs.Types.{Handle}
 use Rattle.att_table.specs.Changer.{changer_of}
 use Rattle.att_table.specs.Table.{Contents}
 use Rattle.gatt_laws.proofs.Always.{first-true, last-true}
-use Rattle.gatt_laws.specs.Calls.{Call, UpdateCall, AuthorizeCall, DisconnectCall, TickCall, NotAValue}
-use Rattle.gatt_laws.specs.Calls.{BadLength, TimeWentBack, NoServiceChanged, holding, serving}
-use Rattle.gatt_laws.specs.Calls.{has_length, update_event, authorize_event, disconnect_event, call_event}
-use Rattle.gatt_laws.specs.Calls.{same_changer, replacement_event}
-use Rattle.gatt_laws.specs.Controller.{has_free, is_ready}
-use Rattle.gatt_laws.specs.Event.{Ordinal, Own, Event, Connected, Gone, KeyAsked, Encrypted}
-use Rattle.gatt_laws.specs.Event.{Refreshed, Asks, Signals, Of, Update, Tick, Replaced, Nothing}
-use Rattle.gatt_laws.specs.Input.{Item, AnOctet, APacket, ACall, ATable, TheEnd, Intake}
-use Rattle.gatt_laws.specs.ItemEvents.{event_if, event_of_first, event_taken, event_at}
-use Rattle.gatt_laws.specs.Packets.{Fault, answered, own_event, is_accepted, connection_event}
-use Rattle.gatt_laws.specs.Packets.{reported_event, event_or_bad, of_frame, of_octets, frame_event}
-use Rattle.gatt_laws.specs.Packets.{Fragments, Arrival, arrival, arrival_event, packet_event}
-use Rattle.gatt_laws.specs.Present.{ComesUnused}
-use Rattle.gatt_laws.specs.State.{State}
+use Rattle.gatt_laws.specs.machine.Calls.{Call, UpdateCall, AuthorizeCall, DisconnectCall, TickCall, NotAValue}
+use Rattle.gatt_laws.specs.machine.Calls.{BadLength, TimeWentBack, NoServiceChanged, holding, serving}
+use Rattle.gatt_laws.specs.machine.Calls.{has_length, update_event, authorize_event, disconnect_event, call_event}
+use Rattle.gatt_laws.specs.machine.Calls.{same_changer, replacement_event}
+use Rattle.gatt_laws.specs.machine.Controller.{has_free, is_ready}
+use Rattle.gatt_laws.specs.machine.Event.{Ordinal, Own, Event, Connected, Gone, KeyAsked, Encrypted}
+use Rattle.gatt_laws.specs.machine.Event.{Refreshed, Asks, Signals, Of, Update, Tick, Replaced, Nothing}
+use Rattle.gatt_laws.specs.machine.Input.{Item, AnOctet, APacket, ACall, ATable, TheEnd, Intake}
+use Rattle.gatt_laws.specs.laws.ItemEvents.{event_if, event_of_first, event_taken, event_at}
+use Rattle.gatt_laws.specs.machine.Packets.{Fault, answered, own_event, is_accepted, connection_event}
+use Rattle.gatt_laws.specs.machine.Packets.{reported_event, event_or_bad, of_frame, of_octets, frame_event}
+use Rattle.gatt_laws.specs.machine.Packets.{Fragments, Arrival, arrival, arrival_event, packet_event}
+use Rattle.gatt_laws.specs.laws.Present.{ComesUnused}
+use Rattle.gatt_laws.specs.machine.State.{State}
 use Rattle.le_acl.specs.Frame.{frame_at}
 use Rattle.le_h4.specs.Division.{is_long}
 use Rattle.le_h4.specs.Packet.{Packet, AclPacket, EventPacket, ScoPacket, First, FirstPacket}

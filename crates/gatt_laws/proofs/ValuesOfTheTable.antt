@@ -28,17 +28,17 @@ use Rattle.att_pdu.specs.Grammar.{request_of, is_due}
 use Rattle.att_table.proofs.ServiceBefore.{of_a_changer}
 use Rattle.att_table.specs.Changer.{is_changer}
 use Rattle.gatt_conn.specs.Answer.{writing_asked}
-use Rattle.gatt_laws.specs.Event.{Ordinal, Own, Event, Connected, Gone, KeyAsked, Encrypted, Refreshed, Asks, Signals, Authorized, Ended, Of, Completed, Credit, Update, Tick, Replaced, Nothing}
-use Rattle.gatt_laws.specs.Headline.{MayUse}
+use Rattle.gatt_laws.specs.machine.Event.{Ordinal, Own, Event, Connected, Gone, KeyAsked, Encrypted, Refreshed, Asks, Signals, Authorized, Ended, Of, Completed, Credit, Update, Tick, Replaced, Nothing}
+use Rattle.gatt_laws.specs.laws.Headline.{MayUse}
 use Rattle.gatt_laws.proofs.Always.{always}
-use Rattle.gatt_laws.specs.Calls.{has_length}
-use Rattle.gatt_laws.specs.Input.{at_start, course}
-use Rattle.gatt_laws.specs.Possible.{Possible}
-use Rattle.gatt_laws.specs.ValuesOfTheTable.{AlwaysHasATable}
-use Rattle.gatt_laws.specs.Part.{Part, is_live, row_of, mtu_of, connection_of, after_ending}
-use Rattle.gatt_laws.specs.Room.{Room}
-use Rattle.gatt_laws.specs.State.{State, own_change, all_changed, change_of, step}
-use Rattle.gatt_laws.specs.Turn.{turn_to, served, is_full, live_turn, remote_user_terminated}
+use Rattle.gatt_laws.specs.machine.Calls.{has_length}
+use Rattle.gatt_laws.specs.machine.Input.{at_start, course}
+use Rattle.gatt_laws.specs.laws.Possible.{Possible}
+use Rattle.gatt_laws.specs.laws.ValuesOfTheTable.{AlwaysHasATable}
+use Rattle.gatt_laws.specs.machine.Part.{Part, is_live, row_of, mtu_of, connection_of, after_ending}
+use Rattle.gatt_laws.specs.machine.Room.{Room}
+use Rattle.gatt_laws.specs.machine.State.{State, own_change, all_changed, change_of, step}
+use Rattle.gatt_laws.specs.machine.Turn.{turn_to, served, is_full, live_turn, remote_user_terminated}
 use Rattle.gatt_laws.proofs.Headline.{written-may}
 use Rattle.octets.specs.Number.{Octets}
 

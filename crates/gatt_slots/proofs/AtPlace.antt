@@ -13,7 +13,7 @@ use Rattle.gatt_slots.specs.Commands.{has_command, without_packet}
 use Rattle.gatt_slots.specs.Kept.{Kept}
 use Rattle.gatt_slots.specs.Places.{is_some_handle, waits, GoesOn}
 use Rattle.gatt_slots.specs.Request.{is_full, kept_served, pending_after}
-use Rattle.gatt_laws.specs.Turn.{remote_user_terminated}
+use Rattle.gatt_laws.specs.machine.Turn.{remote_user_terminated}
 use Rattle.gatt_slots.specs.Turn.{after_ending}
 use Rattle.gatt_slots.specs.Slots.{Held, at_place, kept_at, slots_at}
 use Rattle.gatt_subs.specs.Indications.{Indications}

@@ -14,7 +14,7 @@ use Rattle.att_numbers.specs.Types.{Handle, Row}
 use Rattle.att_attributes.specs.declared.attr.Attr.{Attr}
 use Rattle.att_table.specs.ConfigRow.{kept_row}
 use Rattle.att_table.specs.Table.{Contents}
-use Rattle.gatt_laws.specs.Turn.{authentication_failure, channel_answer, lost_encryption, remote_user_terminated}
+use Rattle.gatt_laws.specs.machine.Turn.{authentication_failure, channel_answer, lost_encryption, remote_user_terminated}
 use Rattle.gatt_slots.proofs.Covering.{at-other, at-same, heard-at, read_at}
 use Rattle.gatt_slots.proofs.Found.{first_at, kept-is, none_at, past, some-passes}
 use Rattle.gatt_slots.specs.Commands.{without_command, without_packet}

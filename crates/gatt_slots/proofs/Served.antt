@@ -8,8 +8,8 @@ use Rattle.att_table.specs.ConfigRow.{IsRowOf}
 use Rattle.att_table.specs.Table.{Contents}
 use Rattle.gatt_conn.specs.Answer.{Question, answer_to, conn_after, stored_by, is_confirmation}
 use Rattle.gatt_conn.specs.Connection.{Connection}
-use Rattle.gatt_laws.specs.Turn.{remote_user_terminated}
-use Rattle.gatt_laws.specs.Part.{KeyReply}
+use Rattle.gatt_laws.specs.machine.Turn.{remote_user_terminated}
+use Rattle.gatt_laws.specs.machine.Part.{KeyReply}
 use Rattle.gatt_slots.specs.declared.slot.Use.{Use}
 use Rattle.gatt_slots.specs.declared.slot.Use.TheVariants.{Free, Live, Ending}
 use Rattle.gatt_slots.specs.Hearing.{row_by_key, row_in_force}

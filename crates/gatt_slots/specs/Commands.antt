@@ -1,7 +1,7 @@
 -- The command that is due for the connection of a slot, and its next packet: Core 5.0, Vol 2 Part E, 4.1.1 and 4.4.
 use Rattle.std.specs.Prelude.{Bool, false, is_some, if◌then◌else◌, Option, Some, None}
 use Rattle.std.specs.Option.{option_map, option_map_or}
-use Rattle.gatt_laws.specs.Controller.{disconnect_or, reply_due}
+use Rattle.gatt_laws.specs.machine.Controller.{disconnect_or, reply_due}
 use Rattle.gatt_slots.specs.Kept.{Kept}
 use Rattle.le_acl.specs.Outgoing.{acl_octets, after_next, may_give, next_of}
 use Rattle.le_hci.specs.Command.{Commanded}

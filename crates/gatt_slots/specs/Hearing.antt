@@ -3,7 +3,7 @@ use Rattle.std.specs.Prelude.{ℕ, Bool, true, is_some, if◌then◌else◌, unw
 use Rattle.att_numbers.specs.Types.{Handle, Mtu, Row}
 use Rattle.att_policy.specs.declared.standing.Standing.{Standing}
 use Rattle.att_table.specs.Table.{Contents}
-use Rattle.gatt_laws.specs.Heard.{Heard, att_pdu, heard_raised, heard_released}
+use Rattle.gatt_laws.specs.machine.Heard.{Heard, att_pdu, heard_raised, heard_released}
 use Rattle.gatt_slots.specs.Kept.{Kept, standing_of}
 use Rattle.gatt_subs.specs.Indications.{Indications}
 use Rattle.gatt_subs.specs.Told.{Hearer}

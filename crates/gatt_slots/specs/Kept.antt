@@ -5,8 +5,8 @@ use Rattle.att_policy.specs.declared.standing.Standing.{Standing}
 use Rattle.att_writes.specs.Entry.{Entry}
 use Rattle.gatt_conn.specs.Connection.{Connection}
 use Rattle.gatt_conn.specs.Transcript.{first_exchange}
-use Rattle.gatt_laws.specs.Part.{Part, KeyReply, is_live, is_there, mtu_of, prepared_of}
-use Rattle.gatt_laws.specs.Room.{Room, share_of, size_of}
+use Rattle.gatt_laws.specs.machine.Part.{Part, KeyReply, is_live, is_there, mtu_of, prepared_of}
+use Rattle.gatt_laws.specs.machine.Room.{Room, share_of, size_of}
 use Rattle.gatt_subs.specs.Indications.{Indications}
 use Rattle.le_acl.specs.Outgoing.{Outgoing, outgoing_after, without_pdus}
 use Rattle.le_hci.specs.declared.peer.Peer.{Peer}

@@ -8,8 +8,8 @@ use Rattle.att_table.specs.Table.{Contents}
 use Rattle.att_writes.specs.Applied.{Stored}
 use Rattle.gatt_conn.specs.Answer.{Question, answer_to, stored_by, handles_by, conn_after, is_confirmation}
 use Rattle.gatt_conn.specs.Connection.{Connection}
-use Rattle.gatt_laws.specs.Heard.{att_pdu}
-use Rattle.gatt_laws.specs.Turn.{remote_user_terminated}
+use Rattle.gatt_laws.specs.machine.Heard.{att_pdu}
+use Rattle.gatt_laws.specs.machine.Turn.{remote_user_terminated}
 use Rattle.gatt_slots.specs.Hearing.{row_in_force, with_pdus}
 use Rattle.gatt_slots.specs.Kept.{Kept, backlog_of, connection_of}
 use Rattle.gatt_slots.specs.Turn.{after_ending}

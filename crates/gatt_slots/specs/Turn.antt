@@ -4,7 +4,7 @@ use Rattle.std.specs.Option.{option_map}
 use Rattle.att_numbers.specs.Types.{Mtu}
 use Rattle.att_attributes.specs.declared.attr.Attr.{Attr}
 use Rattle.att_table.specs.ConfigRow.{kept_row}
-use Rattle.gatt_laws.specs.Turn.{authentication_failure, remote_user_terminated, lost_encryption, channel_answer}
+use Rattle.gatt_laws.specs.machine.Turn.{authentication_failure, remote_user_terminated, lost_encryption, channel_answer}
 use Rattle.gatt_slots.specs.Kept.{Kept, backlog_of}
 use Rattle.gatt_subs.specs.Indications.{no_indications, after_end, after_replacement, after_tick}
 use Rattle.le_acl.specs.Outgoing.{none_queued, with_completed, with_pdu, without_pdus}

@@ -2,7 +2,7 @@
 use Rattle.std.specs.Prelude.{ℕ, Bool, true, false, Option, Some, None}
 use Rattle.att_numbers.specs.Types.{Row}
 use Rattle.gatt_conn.specs.Connection.{Connection}
-use Rattle.gatt_laws.specs.Part.{KeyReply}
+use Rattle.gatt_laws.specs.machine.Part.{KeyReply}
 use Rattle.gatt_slots.specs.declared.slot.Use.{Use}
 use Rattle.gatt_slots.specs.declared.slot.Use.TheVariants.{Free, Live, Ending}
 use Rattle.gatt_slots.specs.Kept.{Kept}

@@ -3,7 +3,7 @@
 ghost use Rattle.std.specs.Prelude.{◌≡◌, false, ◌<◌, ◌≤◌, ◌^◌, length, map, replicate, take, None, Some, IfOk, IfSome, IsSome};
 ghost use Rattle.std.specs.List.{list_any};
 ghost use Rattle.att_table.specs.ConfigRow.{bits_at, IsRowOf};
-ghost use Rattle.gatt_laws.specs.Turn.{channel_answer, gained_encryption};
+ghost use Rattle.gatt_laws.specs.machine.Turn.{channel_answer, gained_encryption};
 ghost use Rattle.gatt_slots.specs.Connections.{FindsNext};
 ghost use Rattle.gatt_slots.specs.Hearing.{row_in_force};
 ghost use Rattle.gatt_slots.specs.Places.{CoversHeard};

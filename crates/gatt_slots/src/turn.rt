@@ -2,7 +2,7 @@
 
 ghost use Rattle.std.specs.Prelude.{◌≡◌, ◌<◌, ◌≤◌, ◌^◌, ◌==◌, ◌&&◌, not, is_some, [], ◌++◌, length, if◌then◌else◌, Some, None, IfOk, IfSome};
 ghost use Rattle.std.specs.Option.{option_copied, option_map, option_map_or, option_to_list};
-ghost use Rattle.gatt_laws.specs.Turn.{channel_answer, gained_encryption};
+ghost use Rattle.gatt_laws.specs.machine.Turn.{channel_answer, gained_encryption};
 ghost use Rattle.gatt_slots.specs.Turn.{come, after_authorizing, after_completed, after_ending, after_key_asked, after_link_step, after_loss, after_signal, after_table, after_time, has_no_room, with_answer};
 ghost use Rattle.gatt_slots.specs.Slots.{late_handle};
 ghost use Rattle.le_security.specs.Keys.{answer_of};

@@ -20,13 +20,13 @@ use Rattle.gatt_host.specs.Meaning.{Frames, Happening, Updates, Ticks, Replaces,
 use Rattle.gatt_host.specs.Owing.{all_given, slot_held}
 use Rattle.gatt_host.specs.Standing.{IsDrainedIn, CallLeadsOn, CallIsRefused, ReplacementLeadsOn, ReplacementIsRefused}
 use Rattle.gatt_host.specs.Stands.{Stands, IsSound, LeadsTo}
-use Rattle.gatt_laws.specs.Calls.{Call, UpdateCall, AuthorizeCall, DisconnectCall, TickCall, Refused, NotAValue, BadLength, TimeWentBack, NoServiceChanged, ordinal_where, serving, has_length, update_event, authorize_event, disconnect_event, call_event, same_changer, replacement_event}
-use Rattle.gatt_laws.specs.Controller.{Slots, is_ready}
-use Rattle.gatt_laws.specs.Event.{Ordinal, Event, Of, Authorized, Ended, Update, Tick, Replaced}
-use Rattle.gatt_laws.specs.Input.{Course}
-use Rattle.gatt_laws.specs.Part.{is_live}
-use Rattle.gatt_laws.specs.Possible.{MayBeUpdated}
-use Rattle.gatt_laws.specs.State.{State, change_of, step}
+use Rattle.gatt_laws.specs.machine.Calls.{Call, UpdateCall, AuthorizeCall, DisconnectCall, TickCall, Refused, NotAValue, BadLength, TimeWentBack, NoServiceChanged, ordinal_where, serving, has_length, update_event, authorize_event, disconnect_event, call_event, same_changer, replacement_event}
+use Rattle.gatt_laws.specs.machine.Controller.{Slots, is_ready}
+use Rattle.gatt_laws.specs.machine.Event.{Ordinal, Event, Of, Authorized, Ended, Update, Tick, Replaced}
+use Rattle.gatt_laws.specs.machine.Input.{Course}
+use Rattle.gatt_laws.specs.machine.Part.{is_live}
+use Rattle.gatt_laws.specs.laws.Possible.{MayBeUpdated}
+use Rattle.gatt_laws.specs.machine.State.{State, change_of, step}
 use Rattle.gatt_slots.proofs.parts.Found.{finds_serving}
 use Rattle.gatt_slots.proofs.parts.Places.{Finds, position_step}
 use Rattle.gatt_slots.specs.Kept.{Kept}

@@ -8,13 +8,13 @@ use Rattle.gatt_host.specs.Stands.{IsSound, LeadsTo}
 use Rattle.gatt_host.specs.Telling.{noticed_in}
 use Rattle.gatt_laws.proofs.Placed.{stays_placed}
 use Rattle.gatt_laws.proofs.Queued.{IsKept, stays-kept}
-use Rattle.gatt_laws.specs.Controller.{Slots}
-use Rattle.gatt_laws.specs.Event.{Ordinal, Event, Of, Completed, Credit, Update, Tick, Replaced, Nothing}
-use Rattle.gatt_laws.specs.Calls.{Refused}
-use Rattle.gatt_laws.specs.Input.{Course, after_result}
-use Rattle.gatt_laws.specs.Packets.{Fragments}
-use Rattle.gatt_laws.specs.Possible.{Possible}
-use Rattle.gatt_laws.specs.State.{State, change_of, step, out}
+use Rattle.gatt_laws.specs.machine.Controller.{Slots}
+use Rattle.gatt_laws.specs.machine.Event.{Ordinal, Event, Of, Completed, Credit, Update, Tick, Replaced, Nothing}
+use Rattle.gatt_laws.specs.machine.Calls.{Refused}
+use Rattle.gatt_laws.specs.machine.Input.{Course, after_result}
+use Rattle.gatt_laws.specs.machine.Packets.{Fragments}
+use Rattle.gatt_laws.specs.laws.Possible.{Possible}
+use Rattle.gatt_laws.specs.machine.State.{State, change_of, step, out}
 
 pub stays_sound : (state : State) (event : Event) → Possible (λ table. Unit) state event → IsSound state → IsSound (step state event)
 stays_sound state event possible sound =

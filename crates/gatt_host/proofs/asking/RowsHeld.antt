@@ -10,11 +10,11 @@ use Rattle.gatt_host.proofs.standing.Holding.{Holds, has_row, holds, were_open}
 use Rattle.gatt_host.specs.Held.{Held, row_at}
 use Rattle.gatt_host.specs.Owing.{all_given, slot_held}
 use Rattle.gatt_host.specs.Standing.{HoldsRowsOfTheTable}
-use Rattle.gatt_laws.specs.Controller.{is_ready}
-use Rattle.gatt_laws.specs.Event.{Ordinal}
-use Rattle.gatt_laws.specs.Part.{Part, is_there, key_of, row_of as row_of_part}
-use Rattle.gatt_laws.specs.RowsOfTheTable.{HasRowsOfItsTable}
-use Rattle.gatt_laws.specs.State.{State}
+use Rattle.gatt_laws.specs.machine.Controller.{is_ready}
+use Rattle.gatt_laws.specs.machine.Event.{Ordinal}
+use Rattle.gatt_laws.specs.machine.Part.{Part, is_there, key_of, row_of as row_of_part}
+use Rattle.gatt_laws.specs.laws.RowsOfTheTable.{HasRowsOfItsTable}
+use Rattle.gatt_laws.specs.machine.State.{State}
 use Rattle.gatt_slots.proofs.parts.Kept.{row_kept}
 use Rattle.gatt_slots.specs.Hearing.{row_in_force}
 use Rattle.gatt_slots.specs.Kept.{Kept, kept_of}

@@ -18,11 +18,11 @@ use Rattle.gatt_host.specs.Stands.{IsSound, LeadsTo}
 use Rattle.gatt_host.specs.Telling.{noticed_in}
 use Rattle.gatt_laws.proofs.Always.{packet_may_come}
 use Rattle.gatt_laws.proofs.Settled.{none_next}
-use Rattle.gatt_laws.specs.Calls.{serving}
-use Rattle.gatt_laws.specs.Event.{Ordinal, Own, Event, Asks, Signals, Nothing}
-use Rattle.gatt_laws.specs.Input.{Course}
-use Rattle.gatt_laws.specs.Packets.{Fragments, Arrival, arrival, arrival_of, arrival_event, frame_event, of_frame, of_octets, packet_event, with_arrival}
-use Rattle.gatt_laws.specs.State.{State, out}
+use Rattle.gatt_laws.specs.machine.Calls.{serving}
+use Rattle.gatt_laws.specs.machine.Event.{Ordinal, Own, Event, Asks, Signals, Nothing}
+use Rattle.gatt_laws.specs.machine.Input.{Course}
+use Rattle.gatt_laws.specs.machine.Packets.{Fragments, Arrival, arrival, arrival_of, arrival_event, frame_event, of_frame, of_octets, packet_event, with_arrival}
+use Rattle.gatt_laws.specs.machine.State.{State, out}
 use Rattle.gatt_slots.proofs.parts.Places.{Finds}
 use Rattle.gatt_slots.specs.Slots.{place_serving}
 use Rattle.le_acl.specs.Fragment.{Fragment, fragment_of}

@@ -5,9 +5,9 @@ use Rattle.gatt_host.specs.Held.{Held}
 use Rattle.gatt_host.specs.Meaning.{Frames}
 use Rattle.gatt_host.specs.Standing.{StandsIn}
 use Rattle.gatt_host.specs.Stands.{IsOpenedAs}
-use Rattle.gatt_laws.specs.Event.{Ordinal}
-use Rattle.gatt_laws.specs.Input.{at_start, course}
-use Rattle.gatt_laws.specs.Start.{Start, state_at, first_out}
+use Rattle.gatt_laws.specs.machine.Event.{Ordinal}
+use Rattle.gatt_laws.specs.machine.Input.{at_start, course}
+use Rattle.gatt_laws.specs.machine.Start.{Start, state_at, first_out}
 
 none-there : (place : ℕ) (ordinal : Ordinal) (slots : List (Option Ordinal)) → slots ≡ [] → slice_get slots place ≡ Some (Some ordinal) → ⊥
 none-there place ordinal slots none there = cc (none, there)

@@ -1,12 +1,12 @@
 -- A host of which nothing is to go out has all out that its course has.
 use Rattle.std.proofs.Common.{◌≡◌, true, List, [], ◌++◌, ap, subst, ◌∙◌, append-nil}
-use Rattle.gatt_host.proofs.Owing.{drained_is_done}
+use Rattle.gatt_host.proofs.owing.Owing.{drained_is_done}
 use Rattle.gatt_host.specs.GoingOut.{is_drained}
 use Rattle.gatt_host.specs.Held.{Held, open_slots}
 use Rattle.gatt_host.specs.Meaning.{Frames}
 use Rattle.gatt_host.specs.Standing.{StandsIn, IsDrainedIn}
 use Rattle.gatt_host.specs.Stands.{Stands}
-use Rattle.gatt_laws.specs.Input.{Course}
+use Rattle.gatt_laws.specs.machine.Input.{Course}
 use Rattle.octets.specs.Number.{Octets}
 
 module _ (course : Course) (gone : List Octets) (held : Held) (frames : Frames) (is : StandsIn course gone held frames)

@@ -3,7 +3,7 @@ use Rattle.std.proofs.Common.{◌≡◌, ℕ, Bool, true, false, [], Option, Som
 use Rattle.std.specs.Prelude.{is_some, is_none, nat_le, ◌==◌, ◌&&◌, if◌then◌else◌}
 use Rattle.gatt_host.proofs.asking.Led.{stays_sound}
 use Rattle.gatt_host.proofs.meaning.Together.{is_coming, is_coming_own, together_then, together_coming, finds_free, first_free}
-use Rattle.gatt_host.proofs.Nexts.{clash}
+use Rattle.gatt_host.proofs.owing.Nexts.{clash}
 use Rattle.gatt_host.proofs.standing.Happenings.{reports_lead_on, stops_for_the_same}
 use Rattle.gatt_host.proofs.standing.Holding.{Holds, holds, some-is, were_open}
 use Rattle.gatt_host.specs.Answers.{stop_of}
@@ -18,13 +18,13 @@ use Rattle.gatt_host.specs.Standing.{IsDrainedIn, IsPutTogether, StandsIn, Event
 use Rattle.gatt_host.specs.Stands.{IsSound, Stands}
 use Rattle.gatt_host.specs.Telling.{noticed_in}
 use Rattle.gatt_laws.proofs.Always.{packet_may_come}
-use Rattle.gatt_laws.specs.Calls.{holding, serving}
-use Rattle.gatt_laws.specs.Controller.{Controller, has_free, is_ready}
-use Rattle.gatt_laws.specs.Event.{Ordinal, Own, Event, Connected, Gone, KeyAsked, Encrypted, Refreshed, Asks, Signals, Authorized, Ended, Of, Completed, Credit, Nothing}
-use Rattle.gatt_laws.specs.Input.{Course, packet_taken}
-use Rattle.gatt_laws.specs.Packets.{Fault, Fragments, own_event, peripheral, last_connection_handle, is_accepted, completed_entries, connection_event, completed_event, status_event, status_of, event_or_bad, packet_event}
-use Rattle.gatt_laws.specs.Settled.{has_slot}
-use Rattle.gatt_laws.specs.State.{State, step, out}
+use Rattle.gatt_laws.specs.machine.Calls.{holding, serving}
+use Rattle.gatt_laws.specs.machine.Controller.{Controller, has_free, is_ready}
+use Rattle.gatt_laws.specs.machine.Event.{Ordinal, Own, Event, Connected, Gone, KeyAsked, Encrypted, Refreshed, Asks, Signals, Authorized, Ended, Of, Completed, Credit, Nothing}
+use Rattle.gatt_laws.specs.machine.Input.{Course, packet_taken}
+use Rattle.gatt_laws.specs.machine.Packets.{Fault, Fragments, own_event, peripheral, last_connection_handle, is_accepted, completed_entries, connection_event, completed_event, status_event, status_of, event_or_bad, packet_event}
+use Rattle.gatt_laws.specs.laws.Settled.{has_slot}
+use Rattle.gatt_laws.specs.machine.State.{State, step, out}
 use Rattle.gatt_slots.proofs.parts.Found.{finds_holding}
 use Rattle.gatt_slots.proofs.parts.Kept.{kept_there}
 use Rattle.gatt_slots.proofs.parts.Places.{Finds, none_free}

@@ -5,7 +5,7 @@ use Rattle.std.specs.Option.{option_map}
 use Rattle.std.proofs.lemmas.Bool.{eq-eqb}
 use Rattle.std.proofs.lemmas.List.{get_or-set_same, get_or-set_other, length-set}
 use Rattle.gatt_host.proofs.asking.Led.{rooms_stay}
-use Rattle.gatt_host.proofs.Nexts.{clash}
+use Rattle.gatt_host.proofs.owing.Nexts.{clash}
 use Rattle.gatt_host.proofs.standing.ForAll.{each_length}
 use Rattle.gatt_host.proofs.standing.Holding.{Holds, holds, some-is, were_open}
 use Rattle.gatt_host.specs.Held.{Held}
@@ -13,11 +13,11 @@ use Rattle.gatt_host.specs.Meaning.{Frames, once_heard}
 use Rattle.gatt_host.specs.Owing.{all_given, slot_held}
 use Rattle.gatt_host.specs.Standing.{IsPutTogether}
 use Rattle.gatt_host.specs.Stands.{IsSound, Stands, slots_for as slots_opened}
-use Rattle.gatt_laws.specs.Controller.{Slots, has_free, is_ready, with_freed, with_taken}
-use Rattle.gatt_laws.specs.Event.{Ordinal, Own, Event, Connected, Gone, KeyAsked, Encrypted, Refreshed, Asks, Signals, Authorized, Ended, Of, Completed, Credit, Update, Tick, Replaced, Nothing}
-use Rattle.gatt_laws.specs.Packets.{Fragments}
-use Rattle.gatt_laws.specs.Settled.{has_slot}
-use Rattle.gatt_laws.specs.State.{State, change_of, slots_for, step}
+use Rattle.gatt_laws.specs.machine.Controller.{Slots, has_free, is_ready, with_freed, with_taken}
+use Rattle.gatt_laws.specs.machine.Event.{Ordinal, Own, Event, Connected, Gone, KeyAsked, Encrypted, Refreshed, Asks, Signals, Authorized, Ended, Of, Completed, Credit, Update, Tick, Replaced, Nothing}
+use Rattle.gatt_laws.specs.machine.Packets.{Fragments}
+use Rattle.gatt_laws.specs.laws.Settled.{has_slot}
+use Rattle.gatt_laws.specs.machine.State.{State, change_of, slots_for, step}
 use Rattle.gatt_slots.proofs.parts.Places.{position_step}
 use Rattle.gatt_slots.specs.Kept.{Kept}
 use Rattle.gatt_slots.specs.Slots.{place_free}

@@ -1,17 +1,17 @@
 -- A command that is answered leads a host on: once the controller is initialised, its slots are opened.
 use Rattle.std.proofs.Common.{◌≡◌, ℕ, ◌≤◌, zero, suc, Bool, true, false, [], ◌∷◌, map, length, take, Option, Some, None, refl, sym, ap, ◌∙◌, arith}
 use Rattle.std.specs.Prelude.{is_none, replicate, if◌then◌else◌, ◌&&◌}
-use Rattle.gatt_host.proofs.Nexts.{clash}
+use Rattle.gatt_host.proofs.owing.Nexts.{clash}
 use Rattle.gatt_host.proofs.standing.ForAll.{slots_same}
 use Rattle.gatt_host.proofs.standing.Holding.{Holds, ends, holds}
 use Rattle.gatt_host.specs.Answers.{answered_by}
 use Rattle.gatt_host.specs.Held.{Held, after_credit, opened}
 use Rattle.gatt_host.specs.Owing.{Handed, all_given, slot_held}
 use Rattle.gatt_host.specs.Stands.{AnswerLeadsOn, LeadsTo, Stands, IsSound}
-use Rattle.gatt_laws.specs.Controller.{Controller, Slots, is_ready}
-use Rattle.gatt_laws.specs.Event.{Credit}
-use Rattle.gatt_laws.specs.Notice.{noticed}
-use Rattle.gatt_laws.specs.State.{State, change_of, is_refusal, slots_for}
+use Rattle.gatt_laws.specs.machine.Controller.{Controller, Slots, is_ready}
+use Rattle.gatt_laws.specs.machine.Event.{Credit}
+use Rattle.gatt_laws.specs.machine.Notice.{noticed}
+use Rattle.gatt_laws.specs.machine.State.{State, change_of, is_refusal, slots_for}
 use Rattle.le_acl.specs.Shares.{usable}
 use Rattle.le_hci.specs.declared.init.Init.{Init}
 use Rattle.le_hci.specs.declared.init.Init.TheVariants.{Resetting, Masking, LeMasking, Sizing, SharedSizing, Addressing, Describing, Filling, Enabling, Ready}

@@ -4,7 +4,7 @@ use Rattle.std.specs.Prelude.{◌==◌, ◌||◌, if◌then◌else◌}
 use Rattle.std.proofs.lemmas.Bool.{eq-eqb, eqb-true}
 use Rattle.std.proofs.lemmas.List.{get_or-set_same, get_or-set_other, set-get_or}
 use Rattle.std.proofs.lemmas.Option.{slice_get_within}
-use Rattle.gatt_host.proofs.Nexts.{clash}
+use Rattle.gatt_host.proofs.owing.Nexts.{clash}
 use Rattle.gatt_host.proofs.standing.Happenings.{finds, own_leads, passes-lead, serves-at}
 use Rattle.gatt_host.proofs.standing.Holding.{some-is}
 use Rattle.gatt_host.proofs.standing.OneSlot.{same_place}
@@ -13,11 +13,11 @@ use Rattle.gatt_host.specs.Leading.{LeadsWith, HoldsFrames, FragmentsLeadOn, Fra
 use Rattle.gatt_host.specs.Meaning.{Frames, Happening, frame_happening, once_heard, with_fragment}
 use Rattle.gatt_host.specs.Packet.{frames_with, happening_with}
 use Rattle.gatt_host.specs.Stands.{IsServing, IsSound, Stands}
-use Rattle.gatt_laws.specs.Calls.{serving}
-use Rattle.gatt_laws.specs.Event.{Ordinal, Own, Event, Asks, Signals}
-use Rattle.gatt_laws.specs.Packets.{Fragments, of_frame, of_octets, frame_event, arrival_of, arrival_event, with_arrival}
-use Rattle.gatt_laws.specs.Silence.{is_for_all}
-use Rattle.gatt_laws.specs.State.{State}
+use Rattle.gatt_laws.specs.machine.Calls.{serving}
+use Rattle.gatt_laws.specs.machine.Event.{Ordinal, Own, Event, Asks, Signals}
+use Rattle.gatt_laws.specs.machine.Packets.{Fragments, of_frame, of_octets, frame_event, arrival_of, arrival_event, with_arrival}
+use Rattle.gatt_laws.specs.laws.Silence.{is_for_all}
+use Rattle.gatt_laws.specs.machine.State.{State}
 use Rattle.gatt_slots.proofs.parts.Places.{Finds}
 use Rattle.gatt_slots.specs.Slots.{place_serving}
 use Rattle.le_acl.proofs.Frames.{assembled_frame}

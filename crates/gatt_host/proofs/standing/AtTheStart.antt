@@ -3,8 +3,8 @@ use Rattle.std.proofs.Common.{◌≡◌, Bool, true, false, List, [], length, Op
 use Rattle.std.specs.Prelude.{is_some, nat_lt, unwrap_or, if◌then◌else◌, ◌+◌}
 use Rattle.std.specs.Option.{option_map, option_map_or}
 use Rattle.att_table.specs.Table.{Contents}
-use Rattle.gatt_host.proofs.Entering.{owes_the_first_command}
-use Rattle.gatt_host.proofs.Nexts.{clash}
+use Rattle.gatt_host.proofs.places.Entering.{owes_the_first_command}
+use Rattle.gatt_host.proofs.owing.Nexts.{clash}
 use Rattle.gatt_host.proofs.standing.Comings.{keyed_anew}
 use Rattle.gatt_host.specs.Held.{open_slots}
 use Rattle.gatt_host.specs.Owing.{IsOwing}
@@ -12,11 +12,11 @@ use Rattle.gatt_host.specs.Stands.{bonds_of, owed_of, HoldsBonds, StandsAtTheSta
 use Rattle.gatt_laws.proofs.Placed.{is_always_placed}
 use Rattle.gatt_laws.proofs.Queued.{always_has_bounded_queues}
 use Rattle.gatt_laws.proofs.Settled.{is_always_settled}
-use Rattle.gatt_laws.specs.Controller.{Controller, command_of_init, count_before, is_ready, without_command}
-use Rattle.gatt_laws.specs.Part.{absent}
-use Rattle.gatt_laws.specs.Room.{Bonds, Owed}
-use Rattle.gatt_laws.specs.Start.{before_first_command, state_at, first_out}
-use Rattle.gatt_laws.specs.State.{State}
+use Rattle.gatt_laws.specs.machine.Controller.{Controller, command_of_init, count_before, is_ready, without_command}
+use Rattle.gatt_laws.specs.machine.Part.{absent}
+use Rattle.gatt_laws.specs.machine.Room.{Bonds, Owed}
+use Rattle.gatt_laws.specs.machine.Start.{before_first_command, state_at, first_out}
+use Rattle.gatt_laws.specs.machine.State.{State}
 use Rattle.gatt_slots.specs.Kept.{Kept}
 use Rattle.gatt_subs.specs.declared.bond.Bond.{Bond}
 use Rattle.gatt_subs.specs.Fit.{fitted_bond, HasFittedBonds, IsListed}

@@ -4,7 +4,7 @@ use Rattle.std.specs.Prelude.{is_some, min, if◌then◌else◌, ◌==◌}
 use Rattle.std.specs.Option.{option_map, option_map_or}
 use Rattle.std.proofs.lemmas.Bool.{eq-eqb, eqb-true}
 use Rattle.std.proofs.lemmas.Option.{slice_get-map}
-use Rattle.gatt_host.proofs.Nexts.{clash}
+use Rattle.gatt_host.proofs.owing.Nexts.{clash}
 use Rattle.gatt_host.proofs.standing.Holding.{Holds, ends_with, holds, some-is, were_open}
 use Rattle.gatt_host.proofs.standing.OneSlot.{none_raised_at, ready_where}
 use Rattle.gatt_host.proofs.standing.Told.{gone_told}
@@ -14,15 +14,15 @@ use Rattle.gatt_host.specs.Held.{Held, kept_at, gone_event, after_coming, after_
 use Rattle.gatt_host.specs.Owing.{all_given, slot_held}
 use Rattle.gatt_host.specs.Stands.{GoingLeadsOn, ComingLeadsOn, HasKeysOfItsPeer, slots_for, LeadsTo, Stands, IsSound}
 use Rattle.gatt_laws.proofs.Settled.{none_next}
-use Rattle.gatt_laws.specs.Controller.{Controller, Slots, has_free, is_ready, with_freed, with_taken}
-use Rattle.gatt_laws.specs.Event.{Ordinal, Of, Connected, Gone}
-use Rattle.gatt_laws.specs.Notice as notice
-use Rattle.gatt_laws.specs.Notice.{noticed}
-use Rattle.gatt_laws.specs.Part as laws
-use Rattle.gatt_laws.specs.Part.{Part, absent, is_there}
-use Rattle.gatt_laws.specs.Room.{share_of, size_of}
-use Rattle.gatt_laws.specs.Settled.{has_slot}
-use Rattle.gatt_laws.specs.State.{State, change_of, told_of}
+use Rattle.gatt_laws.specs.machine.Controller.{Controller, Slots, has_free, is_ready, with_freed, with_taken}
+use Rattle.gatt_laws.specs.machine.Event.{Ordinal, Of, Connected, Gone}
+use Rattle.gatt_laws.specs.machine.Notice as notice
+use Rattle.gatt_laws.specs.machine.Notice.{noticed}
+use Rattle.gatt_laws.specs.machine.Part as laws
+use Rattle.gatt_laws.specs.machine.Part.{Part, absent, is_there}
+use Rattle.gatt_laws.specs.machine.Room.{share_of, size_of}
+use Rattle.gatt_laws.specs.laws.Settled.{has_slot}
+use Rattle.gatt_laws.specs.machine.State.{State, change_of, told_of}
 use Rattle.gatt_slots.proofs.parts.Kept.{kept_there}
 use Rattle.gatt_slots.proofs.parts.Places.{one_freed, takes_the_first}
 use Rattle.gatt_slots.specs.Kept.{Kept, kept_if_there}

@@ -1,18 +1,18 @@
 -- Packets that are completed lead a host on.
 use Rattle.std.proofs.Common.{◌≡◌, ℕ, Bool, true, false, List, [], ◌∷◌, map, length, Option, Some, None, refl, sym, ap, ◌∙◌}
 use Rattle.std.specs.Prelude.{if◌then◌else◌, ◌==◌}
-use Rattle.gatt_host.proofs.Nexts.{clash}
+use Rattle.gatt_host.proofs.owing.Nexts.{clash}
 use Rattle.gatt_host.proofs.standing.ForAll.{each_length}
 use Rattle.gatt_host.proofs.standing.Holding.{Holds, SameLink, ends, holds, keyed_alike, were_open}
 use Rattle.gatt_host.specs.Held.{Held, after_completing}
 use Rattle.gatt_host.specs.Owing.{all_given, slot_held, slots_held}
 use Rattle.gatt_host.specs.Stands.{CompletionLeadsOn, LeadsTo, Stands, IsSound}
-use Rattle.gatt_laws.specs.Controller.{is_ready}
-use Rattle.gatt_laws.specs.Event.{Ordinal, Completed}
-use Rattle.gatt_laws.specs.Notice.{noticed}
-use Rattle.gatt_laws.specs.Packets.{completed_entries}
-use Rattle.gatt_laws.specs.Part.{Part}
-use Rattle.gatt_laws.specs.State.{State, with_completed, after_completed, change_of}
+use Rattle.gatt_laws.specs.machine.Controller.{is_ready}
+use Rattle.gatt_laws.specs.machine.Event.{Ordinal, Completed}
+use Rattle.gatt_laws.specs.machine.Notice.{noticed}
+use Rattle.gatt_laws.specs.machine.Packets.{completed_entries}
+use Rattle.gatt_laws.specs.machine.Part.{Part}
+use Rattle.gatt_laws.specs.machine.State.{State, with_completed, after_completed, change_of}
 use Rattle.gatt_slots.proofs.parts.Found.{all_completed}
 use Rattle.gatt_slots.specs.Kept.{Kept}
 use Rattle.gatt_slots.specs.Slots.{after_entries}

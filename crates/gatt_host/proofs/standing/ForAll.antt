@@ -10,12 +10,12 @@ use Rattle.gatt_host.specs.declared.last_event.LastEvent.TheVariants as last
 use Rattle.gatt_host.specs.Held.{Held}
 use Rattle.gatt_host.specs.Owing.{Handed, all_given, slot_held}
 use Rattle.gatt_host.specs.Stands.{NothingLeadsOn, TimeLeadsOn, UpdateLeadsOn, Stands}
-use Rattle.gatt_laws.specs.Controller.{Slots, is_ready}
-use Rattle.gatt_laws.specs.Event.{Ordinal, Nothing, Tick, Update}
-use Rattle.gatt_laws.specs.Notice.{noticed}
-use Rattle.gatt_laws.specs.Part.{Part, is_there}
-use Rattle.gatt_laws.specs.Room.{Room}
-use Rattle.gatt_laws.specs.State.{State, change_of}
+use Rattle.gatt_laws.specs.machine.Controller.{Slots, is_ready}
+use Rattle.gatt_laws.specs.machine.Event.{Ordinal, Nothing, Tick, Update}
+use Rattle.gatt_laws.specs.machine.Notice.{noticed}
+use Rattle.gatt_laws.specs.machine.Part.{Part, is_there}
+use Rattle.gatt_laws.specs.machine.Room.{Room}
+use Rattle.gatt_laws.specs.machine.State.{State, change_of}
 use Rattle.gatt_slots.specs.Kept.{Kept, kept_of, kept_if_there}
 use Rattle.gatt_slots.specs.Slots.{all_after_time, late_handles}
 use Rattle.gatt_slots.specs.Turn.{after_time}

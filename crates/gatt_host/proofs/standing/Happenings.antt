@@ -8,7 +8,7 @@ use Rattle.att_attributes.specs.declared.attr.Attr.{Attr}
 use Rattle.att_attributes.specs.Attributes.{attribute_at, is_value}
 use Rattle.att_table.specs.Changer.{changer_of}
 use Rattle.att_table.specs.Table.{Contents}
-use Rattle.gatt_host.proofs.Nexts.{clash}
+use Rattle.gatt_host.proofs.owing.Nexts.{clash}
 use Rattle.gatt_host.proofs.standing.Answered.{answer_leads_on}
 use Rattle.gatt_host.proofs.standing.Comings.{coming_leads_on, going_leads_on}
 use Rattle.gatt_host.proofs.standing.Completions.{completion_leads_on}
@@ -28,16 +28,16 @@ use Rattle.gatt_host.specs.Meaning.{Happening, At, Updates, Ticks, Replaces, Pas
 use Rattle.gatt_host.specs.Owing.{all_given, slot_held, slots_held}
 use Rattle.gatt_host.specs.Packet.{TakesEvent}
 use Rattle.gatt_host.specs.Stands.{IsServing, IsSound, LeadsTo, Stands}
-use Rattle.gatt_laws.specs.Calls.{Call, UpdateCall, AuthorizeCall, DisconnectCall, TickCall, Refused, NotAValue, BadLength, NoSuchConnection, TimeWentBack, NoServiceChanged, has_length, ordinal_where, serving, holding, update_event, authorize_event, disconnect_event, call_event, replacement_event, same_changer}
-use Rattle.gatt_laws.specs.Controller.{Controller, Slots, has_free, is_ready}
-use Rattle.gatt_laws.specs.Event.{Ordinal, Own, Event, Of, Connected, Gone, KeyAsked, Encrypted, Refreshed, Asks, Signals, Authorized, Ended, Completed, Credit, Update, Tick, Replaced, Nothing}
-use Rattle.gatt_laws.specs.Packets.{Fault, own_event, peripheral, last_connection_handle, is_accepted, completed_entries, connection_event, completed_event, status_event, status_of, event_or_bad}
-use Rattle.gatt_laws.specs.Part.{Part, is_live}
-use Rattle.gatt_laws.specs.Possible.{Possible}
-use Rattle.gatt_laws.specs.Settled.{has_slot}
-use Rattle.gatt_laws.specs.Silence.{is_for_all}
-use Rattle.gatt_laws.specs.State.{State}
-use Rattle.gatt_laws.specs.Turn.{turn_of}
+use Rattle.gatt_laws.specs.machine.Calls.{Call, UpdateCall, AuthorizeCall, DisconnectCall, TickCall, Refused, NotAValue, BadLength, NoSuchConnection, TimeWentBack, NoServiceChanged, has_length, ordinal_where, serving, holding, update_event, authorize_event, disconnect_event, call_event, replacement_event, same_changer}
+use Rattle.gatt_laws.specs.machine.Controller.{Controller, Slots, has_free, is_ready}
+use Rattle.gatt_laws.specs.machine.Event.{Ordinal, Own, Event, Of, Connected, Gone, KeyAsked, Encrypted, Refreshed, Asks, Signals, Authorized, Ended, Completed, Credit, Update, Tick, Replaced, Nothing}
+use Rattle.gatt_laws.specs.machine.Packets.{Fault, own_event, peripheral, last_connection_handle, is_accepted, completed_entries, connection_event, completed_event, status_event, status_of, event_or_bad}
+use Rattle.gatt_laws.specs.machine.Part.{Part, is_live}
+use Rattle.gatt_laws.specs.laws.Possible.{Possible}
+use Rattle.gatt_laws.specs.laws.Settled.{has_slot}
+use Rattle.gatt_laws.specs.laws.Silence.{is_for_all}
+use Rattle.gatt_laws.specs.machine.State.{State}
+use Rattle.gatt_laws.specs.machine.Turn.{turn_of}
 use Rattle.gatt_slots.proofs.parts.Found.{finds_serving, finds_holding}
 use Rattle.gatt_slots.proofs.parts.Kept.{kept_there}
 use Rattle.gatt_slots.proofs.parts.Places.{Finds, position_step, none_free, takes_the_first}

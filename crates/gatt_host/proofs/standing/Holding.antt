@@ -5,8 +5,8 @@ use Rattle.std.specs.Option.{option_map, option_map_or}
 use Rattle.att_numbers.specs.Types.{Handle, Row}
 use Rattle.att_table.specs.Table.{Contents}
 use Rattle.std.proofs.lemmas.Bool.{eq-eqb}
-use Rattle.gatt_host.proofs.Entering.{change-same, owes_what_an_event_brings}
-use Rattle.gatt_host.proofs.Owing.{hands_out_what_is_owed}
+use Rattle.gatt_host.proofs.places.Entering.{change-same, owes_what_an_event_brings}
+use Rattle.gatt_host.proofs.owing.Owing.{hands_out_what_is_owed}
 use Rattle.gatt_host.specs.GoingOut.{next_out}
 use Rattle.gatt_host.specs.Held.{Held, open_slots, after_end, with_last}
 use Rattle.gatt_host.specs.Owing.{Handed, all_given, slot_held, slots_held, IsOwing, IsDone, GoesOn}
@@ -14,16 +14,16 @@ use Rattle.gatt_host.specs.declared.last_event.LastEvent.{LastEvent}
 use Rattle.gatt_host.specs.Notices.{told_by}
 use Rattle.gatt_host.specs.Stands.{bond_in, HoldsBonds, HasKeysOfItsPeer, slots_for, Stands, IsSound, LeadsTo}
 use Rattle.gatt_laws.proofs.Queued.{change-queued}
-use Rattle.gatt_laws.specs.Controller.{Controller, Slots, is_ready, command_of_init, count_before, without_command}
-use Rattle.gatt_laws.specs.Event.{Ordinal, Event}
-use Rattle.gatt_laws.specs.Heard.{after_hearing as part_heard}
-use Rattle.gatt_laws.specs.Notice.{noticed}
-use Rattle.gatt_laws.specs.Part.{Part, is_live, is_there, key_of}
-use Rattle.gatt_laws.specs.Possible.{Possible}
-use Rattle.gatt_laws.specs.Queued.{IsWithinBounds}
-use Rattle.gatt_laws.specs.Room.{Room, Bonds, Owed, share_of, size_of}
-use Rattle.gatt_laws.specs.Settled.{has_slot, is_slot_of}
-use Rattle.gatt_laws.specs.State.{State, Change, change_of, finished, parts_finished, before_commands, step, out}
+use Rattle.gatt_laws.specs.machine.Controller.{Controller, Slots, is_ready, command_of_init, count_before, without_command}
+use Rattle.gatt_laws.specs.machine.Event.{Ordinal, Event}
+use Rattle.gatt_laws.specs.machine.Heard.{after_hearing as part_heard}
+use Rattle.gatt_laws.specs.machine.Notice.{noticed}
+use Rattle.gatt_laws.specs.machine.Part.{Part, is_live, is_there, key_of}
+use Rattle.gatt_laws.specs.laws.Possible.{Possible}
+use Rattle.gatt_laws.specs.laws.Queued.{IsWithinBounds}
+use Rattle.gatt_laws.specs.machine.Room.{Room, Bonds, Owed, share_of, size_of}
+use Rattle.gatt_laws.specs.laws.Settled.{has_slot, is_slot_of}
+use Rattle.gatt_laws.specs.machine.State.{State, Change, change_of, finished, parts_finished, before_commands, step, out}
 use Rattle.gatt_slots.proofs.parts.Heard.{finished_kept}
 use Rattle.gatt_slots.specs.Hearing.{after_hearing}
 use Rattle.gatt_slots.specs.Kept.{Kept, kept_of, kept_if_there}

@@ -12,11 +12,11 @@ use Rattle.gatt_host.specs.declared.last_event.LastEvent.TheVariants as last
 use Rattle.gatt_host.specs.Held.{Held, kept_at, link_event, owed_here, after_link}
 use Rattle.gatt_host.specs.Owing.{all_given}
 use Rattle.gatt_host.specs.Stands.{bond_in, EncryptionLeadsOn, RefreshLeadsOn, HoldsBonds, HasKeysOfItsPeer, IsServing, LeadsTo, Stands, IsSound}
-use Rattle.gatt_laws.specs.Event.{Ordinal, Own, Of, Encrypted, Refreshed}
-use Rattle.gatt_laws.specs.Part.{Part, is_live, key_of, after_ending}
-use Rattle.gatt_laws.specs.Room.{Bonds, Owed}
-use Rattle.gatt_laws.specs.State.{State, all_raised, at_ordinal, change_of, step}
-use Rattle.gatt_laws.specs.Turn.{Turn, live_turn, turn_of, turn_to, with_step, lost_encryption, gained_encryption, authentication_failure}
+use Rattle.gatt_laws.specs.machine.Event.{Ordinal, Own, Of, Encrypted, Refreshed}
+use Rattle.gatt_laws.specs.machine.Part.{Part, is_live, key_of, after_ending}
+use Rattle.gatt_laws.specs.machine.Room.{Bonds, Owed}
+use Rattle.gatt_laws.specs.machine.State.{State, all_raised, at_ordinal, change_of, step}
+use Rattle.gatt_laws.specs.machine.Turn.{Turn, live_turn, turn_of, turn_to, with_step, lost_encryption, gained_encryption, authentication_failure}
 use Rattle.gatt_slots.proofs.parts.Turns.{encrypted_kept, encrypted_raised, refreshed_kept, refreshed_raised, live_turned}
 use Rattle.gatt_slots.specs.Hearing.{after_hearing}
 use Rattle.gatt_slots.specs.Kept.{Kept, kept_of}

@@ -4,7 +4,7 @@ use Rattle.std.proofs.Common.{◌≡◌, ℕ, Bool, true, false, List, [], ◌�
 use Rattle.std.specs.Prelude.{is_some, if◌then◌else◌, ◌||◌, ◌&&◌}
 use Rattle.std.specs.List.{find}
 use Rattle.std.specs.Option.{option_map, option_map_or}
-use Rattle.gatt_host.proofs.Nexts.{clash}
+use Rattle.gatt_host.proofs.owing.Nexts.{clash}
 use Rattle.gatt_host.proofs.standing.Holding.{Holds, ends, ends_with, holds, keyed_alike, SameLink}
 use Rattle.gatt_host.proofs.standing.OneSlot.{none_raised_at}
 use Rattle.gatt_host.proofs.standing.Told.{authorized_told, disconnected_told, key_asked_told, signal_told}
@@ -14,10 +14,10 @@ use Rattle.gatt_host.specs.Held.{Held, kept_at, end_event, signal_event, after_a
 use Rattle.gatt_slots.specs.Slots.{slots_at}
 use Rattle.gatt_host.specs.Owing.{all_given}
 use Rattle.gatt_host.specs.Stands.{AuthorizingLeadsOn, DisconnectingLeadsOn, AskingAKeyLeadsOn, SignalsLeadOn, HasKeysOfItsPeer, IsServing, LeadsTo, Stands, IsSound}
-use Rattle.gatt_laws.specs.Event.{Ordinal, Own, Of, Authorized, Ended, KeyAsked, Signals}
-use Rattle.gatt_laws.specs.Part.{Part, is_live, is_there, with_pdus, after_ending}
-use Rattle.gatt_laws.specs.State.{State, change_of}
-use Rattle.gatt_laws.specs.Turn.{Turn, live_turn, turn_of, turn_to, with_key_asked, after_channel, channel_answer, is_full, remote_user_terminated}
+use Rattle.gatt_laws.specs.machine.Event.{Ordinal, Own, Of, Authorized, Ended, KeyAsked, Signals}
+use Rattle.gatt_laws.specs.machine.Part.{Part, is_live, is_there, with_pdus, after_ending}
+use Rattle.gatt_laws.specs.machine.State.{State, change_of}
+use Rattle.gatt_laws.specs.machine.Turn.{Turn, live_turn, turn_of, turn_to, with_key_asked, after_channel, channel_answer, is_full, remote_user_terminated}
 use Rattle.gatt_slots.proofs.parts.Turns.{authorized_kept, disconnected_kept, key_asked_kept, live_turned, signal_kept}
 use Rattle.gatt_slots.specs.Kept.{Kept, kept_of, kept_if_there}
 use Rattle.gatt_slots.specs.Turn.{after_authorizing, after_ending as slot_ending, after_key_asked, after_signal}

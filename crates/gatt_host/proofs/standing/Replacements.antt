@@ -13,12 +13,12 @@ use Rattle.gatt_host.proofs.standing.Holding.{Holds, SameLink, ends, holds, keye
 use Rattle.gatt_host.specs.Held.{Held, after_replacing}
 use Rattle.gatt_host.specs.Owing.{all_given}
 use Rattle.gatt_host.specs.Stands.{bond_in, HoldsBonds, LeadsTo, ReplacementLeadsOn, Stands, IsSound}
-use Rattle.gatt_laws.specs.Controller.{is_ready}
-use Rattle.gatt_laws.specs.Event.{Replaced}
-use Rattle.gatt_laws.specs.Notice.{noticed}
-use Rattle.gatt_laws.specs.Part.{Part, is_live}
-use Rattle.gatt_laws.specs.Room.{Bonds, Owed}
-use Rattle.gatt_laws.specs.State.{State, announced, bonds_replaced, owed_by, part_replaced, change_of}
+use Rattle.gatt_laws.specs.machine.Controller.{is_ready}
+use Rattle.gatt_laws.specs.machine.Event.{Replaced}
+use Rattle.gatt_laws.specs.machine.Notice.{noticed}
+use Rattle.gatt_laws.specs.machine.Part.{Part, is_live}
+use Rattle.gatt_laws.specs.machine.Room.{Bonds, Owed}
+use Rattle.gatt_laws.specs.machine.State.{State, announced, bonds_replaced, owed_by, part_replaced, change_of}
 use Rattle.gatt_slots.proofs.parts.Events.{replaced_kept}
 use Rattle.gatt_slots.specs.Kept.{Kept}
 use Rattle.gatt_slots.specs.Turn.{after_table}

@@ -8,7 +8,7 @@ use Rattle.att_numbers.specs.Types.{Handle, Row}
 use Rattle.att_pdu.specs.Grammar.{request_of, is_due}
 use Rattle.att_policy.specs.declared.standing.KeyFacts.{KeyFacts}
 use Rattle.att_table.specs.Table.{Contents}
-use Rattle.gatt_host.proofs.Nexts.{clash}
+use Rattle.gatt_host.proofs.owing.Nexts.{clash}
 use Rattle.gatt_conn.specs.Answer.{Question, handles_by, is_confirmation}
 use Rattle.gatt_host.proofs.standing.Holding.{Holds, Stays, ends_with, finished_stays, holds, holds_with_written, has_row, keyed_alike, slots_heard, some-is, HearsRaised, SameLink}
 use Rattle.gatt_host.proofs.standing.OneSlot.{raised_at, ready_where}
@@ -18,14 +18,14 @@ use Rattle.gatt_host.specs.Held.{Held, brought_by, kept_at, row_at, after_servin
 use Rattle.gatt_host.specs.Notices.{row_there, told_by}
 use Rattle.gatt_host.specs.Owing.{all_given, slot_held, slots_held}
 use Rattle.gatt_host.specs.Stands.{bond_in, RequestLeadsOn, HoldsBonds, HasKeysOfItsPeer, IsServing, LeadsTo, Stands, IsSound}
-use Rattle.gatt_laws.specs.Controller.{is_ready}
-use Rattle.gatt_laws.specs.Event.{Ordinal, Of, Asks}
-use Rattle.gatt_laws.specs.Notice.{Confirmed, Ending, confirmation_told, end_told, live_told, noticed, write_told}
-use Rattle.gatt_laws.specs.Part.{Part, connection_of, is_live, is_there, key_of, mtu_of, row_of as part_row, after_ending}
-use Rattle.gatt_laws.specs.Room.{Room, Bonds, Owed}
-use Rattle.gatt_laws.specs.State.{State, all_raised, at_ordinal, at_peer, before_commands, change_of, finished, with_values}
-use Rattle.gatt_laws.specs.Turn.{Turn, live_turn, turn_of, turn_to, served, is_full as part_full, remote_user_terminated}
-use Rattle.gatt_laws.specs.View.{handles_written}
+use Rattle.gatt_laws.specs.machine.Controller.{is_ready}
+use Rattle.gatt_laws.specs.machine.Event.{Ordinal, Of, Asks}
+use Rattle.gatt_laws.specs.machine.Notice.{Confirmed, Ending, confirmation_told, end_told, live_told, noticed, write_told}
+use Rattle.gatt_laws.specs.machine.Part.{Part, connection_of, is_live, is_there, key_of, mtu_of, row_of as part_row, after_ending}
+use Rattle.gatt_laws.specs.machine.Room.{Room, Bonds, Owed}
+use Rattle.gatt_laws.specs.machine.State.{State, all_raised, at_ordinal, at_peer, before_commands, change_of, finished, with_values}
+use Rattle.gatt_laws.specs.machine.Turn.{Turn, live_turn, turn_of, turn_to, served, is_full as part_full, remote_user_terminated}
+use Rattle.gatt_laws.specs.laws.View.{handles_written}
 use Rattle.gatt_slots.proofs.parts.Heard.{hears_of_values}
 use Rattle.gatt_slots.proofs.parts.Kept.{connection_kept, link_key, live_there, row_kept}
 use Rattle.gatt_slots.proofs.parts.Requests.{served_bond, served_kept, served_owed, served_raised, served_raised_here, served_values}

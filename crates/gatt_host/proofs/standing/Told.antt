@@ -12,13 +12,13 @@ use Rattle.gatt_host.specs.Held.{Held, end_event, gone_event, kept_at, link_even
 use Rattle.gatt_host.specs.Notices.{link_change_told, told_by}
 use Rattle.gatt_host.specs.Owing.{all_given, slot_held}
 use Rattle.gatt_host.specs.Stands.{IsServing, IsSound, Stands}
-use Rattle.gatt_laws.specs.Controller.{Slots, is_ready}
-use Rattle.gatt_laws.specs.Event.{Ordinal, Own, Of, Gone, Authorized, Ended, KeyAsked, Encrypted, Refreshed, Signals, Tick}
-use Rattle.gatt_laws.specs.Notice.{Notice, Disconnected, TimedOut, Ending, end_told, late_told, link_told, noticed, slot_told}
-use Rattle.gatt_laws.specs.Part.{Part, is_live, is_there, key_of, after_ending, with_pdus}
-use Rattle.gatt_laws.specs.Settled.{has_slot}
-use Rattle.gatt_laws.specs.State.{State}
-use Rattle.gatt_laws.specs.Turn.{Turn, authentication_failure, remote_user_terminated, after_channel, channel_answer, is_full, live_turn, lost_encryption, turn_of, turn_to, with_step}
+use Rattle.gatt_laws.specs.machine.Controller.{Slots, is_ready}
+use Rattle.gatt_laws.specs.machine.Event.{Ordinal, Own, Of, Gone, Authorized, Ended, KeyAsked, Encrypted, Refreshed, Signals, Tick}
+use Rattle.gatt_laws.specs.machine.Notice.{Notice, Disconnected, TimedOut, Ending, end_told, late_told, link_told, noticed, slot_told}
+use Rattle.gatt_laws.specs.machine.Part.{Part, is_live, is_there, key_of, after_ending, with_pdus}
+use Rattle.gatt_laws.specs.laws.Settled.{has_slot}
+use Rattle.gatt_laws.specs.machine.State.{State}
+use Rattle.gatt_laws.specs.machine.Turn.{Turn, authentication_failure, remote_user_terminated, after_channel, channel_answer, is_full, live_turn, lost_encryption, turn_of, turn_to, with_step}
 use Rattle.gatt_slots.proofs.parts.Kept.{live_there}
 use Rattle.gatt_slots.proofs.parts.Turns.{full_kept, live_turned}
 use Rattle.gatt_slots.specs.Kept.{Kept, kept_of}

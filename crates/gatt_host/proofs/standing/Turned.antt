@@ -5,20 +5,20 @@ use Rattle.std.specs.Option.{option_map, option_map_or}
 use Rattle.std.proofs.lemmas.Bool.{eq-eqb}
 use Rattle.std.proofs.lemmas.Option.{slice_get-map}
 use Rattle.att_table.specs.Table.{Contents}
-use Rattle.gatt_host.proofs.Nexts.{clash}
+use Rattle.gatt_host.proofs.owing.Nexts.{clash}
 use Rattle.gatt_host.proofs.standing.Holding.{Holds}
 use Rattle.gatt_host.proofs.standing.OneSlot.{ready_where, changed_one}
 use Rattle.gatt_host.specs.Held.{Held, kept_at}
 use Rattle.gatt_slots.specs.Slots.{slots_at}
 use Rattle.gatt_host.specs.Owing.{all_given, slot_held, slots_held}
 use Rattle.gatt_host.specs.Stands.{HoldsBonds, HasKeysOfItsPeer}
-use Rattle.gatt_laws.specs.Controller.{is_ready}
-use Rattle.gatt_laws.specs.Event.{Ordinal}
-use Rattle.gatt_laws.specs.Part.{Part, is_live, is_there}
-use Rattle.gatt_laws.specs.Room.{Bonds, Owed}
-use Rattle.gatt_laws.specs.Settled.{IsSettled}
-use Rattle.gatt_laws.specs.State.{State, at_ordinal, at_peer, with_values}
-use Rattle.gatt_laws.specs.Turn.{Turn}
+use Rattle.gatt_laws.specs.machine.Controller.{is_ready}
+use Rattle.gatt_laws.specs.machine.Event.{Ordinal}
+use Rattle.gatt_laws.specs.machine.Part.{Part, is_live, is_there}
+use Rattle.gatt_laws.specs.machine.Room.{Bonds, Owed}
+use Rattle.gatt_laws.specs.laws.Settled.{IsSettled}
+use Rattle.gatt_laws.specs.machine.State.{State, at_ordinal, at_peer, with_values}
+use Rattle.gatt_laws.specs.machine.Turn.{Turn}
 use Rattle.gatt_slots.proofs.parts.Kept.{kept_there, live_there}
 use Rattle.gatt_slots.specs.Kept.{Kept, kept_of, kept_if_there}
 use Rattle.gatt_subs.specs.Rows.{Subscriptions}

@@ -1,7 +1,7 @@
 -- A call behind what was owed.
 use Rattle.std.proofs.Common.{◌≡◌, List, [], ◌∷◌, ◌++◌, Option, Some, None, Result, Ok, Err, sym, ap, subst, ◌∙◌, append-nil}
 use Rattle.std.specs.Prelude.{is_some, IsErrAnd, MatchResult}
-use Rattle.gatt_host.proofs.Nexts.{clash}
+use Rattle.gatt_host.proofs.owing.Nexts.{clash}
 use Rattle.gatt_host.proofs.whole.Feeds.{feeds_then, going_takes}
 use Rattle.gatt_host.proofs.whole.Hearing.{hears_nothing, listens_then}
 use Rattle.gatt_host.specs.Asked.{refusal_of}
@@ -13,10 +13,10 @@ use Rattle.gatt_host.specs.declared.host_fault.HostFault.{HostFault}
 use Rattle.gatt_host.specs.Feeding.{Feeds, TakesAll}
 use Rattle.gatt_host.specs.Listening.{Listens}
 use Rattle.gatt_host.specs.Whole.{Leads, StandsAt, Whole}
-use Rattle.gatt_laws.specs.Calls.{Call}
-use Rattle.gatt_laws.specs.Input.{Item, ACall, call_refusal, course}
-use Rattle.gatt_laws.specs.Notice.{Notice}
-use Rattle.gatt_laws.specs.Start.{Start}
+use Rattle.gatt_laws.specs.machine.Calls.{Call}
+use Rattle.gatt_laws.specs.machine.Input.{Item, ACall, call_refusal, course}
+use Rattle.gatt_laws.specs.machine.Notice.{Notice}
+use Rattle.gatt_laws.specs.machine.Start.{Start}
 use Rattle.octets.specs.Number.{Octets}
 
 -- what an error is made of

@@ -19,11 +19,11 @@ use Rattle.gatt_host.specs.Notices.{last_notices}
 use Rattle.gatt_host.specs.Standing.{IsDrainedIn, StandsIn}
 use Rattle.gatt_host.specs.Telling.{noticed_in}
 use Rattle.gatt_host.specs.Whole.{HoldsStream, SameFault, StandsAt, Takes, Whole, all_out}
-use Rattle.gatt_laws.specs.Calls.{Call, NoServiceChanged, Refused, call_event, replacement_event, same_changer}
-use Rattle.gatt_laws.specs.Event.{Event}
-use Rattle.gatt_laws.specs.Input.{ACall, ATable, Course, after_event, after_result, call_refusal, refusal_in, replacement_refusal}
-use Rattle.gatt_laws.specs.Packets.{Fault}
-use Rattle.gatt_laws.specs.State.{State}
+use Rattle.gatt_laws.specs.machine.Calls.{Call, NoServiceChanged, Refused, call_event, replacement_event, same_changer}
+use Rattle.gatt_laws.specs.machine.Event.{Event}
+use Rattle.gatt_laws.specs.machine.Input.{ACall, ATable, Course, after_event, after_result, call_refusal, refusal_in, replacement_refusal}
+use Rattle.gatt_laws.specs.machine.Packets.{Fault}
+use Rattle.gatt_laws.specs.machine.State.{State}
 use Rattle.le_h4.specs.Deframer.{Deframing}
 use Rattle.octets.specs.Number.{Octets}
 

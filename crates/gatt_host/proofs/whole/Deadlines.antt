@@ -6,12 +6,12 @@ use Rattle.gatt_host.proofs.whole.Slots.{slots_read}
 use Rattle.gatt_host.specs.Owing.{Handed, slot_held}
 use Rattle.gatt_host.specs.Whole.{StandsAt, Whole}
 use Rattle.gatt_laws.proofs.Deadline.{tells_from_the_deadline_on}
-use Rattle.gatt_laws.specs.Controller.{command_of_init, count_before}
-use Rattle.gatt_laws.specs.Deadline.{deadline, slot_deadline, TellsFromTheDeadlineOn}
-use Rattle.gatt_laws.specs.Event.{Ordinal}
-use Rattle.gatt_laws.specs.Input.{Course}
-use Rattle.gatt_laws.specs.Part.{Part, is_there}
-use Rattle.gatt_laws.specs.State.{State, with_commands_sent}
+use Rattle.gatt_laws.specs.machine.Controller.{command_of_init, count_before}
+use Rattle.gatt_laws.specs.laws.Deadline.{deadline, slot_deadline, TellsFromTheDeadlineOn}
+use Rattle.gatt_laws.specs.machine.Event.{Ordinal}
+use Rattle.gatt_laws.specs.machine.Input.{Course}
+use Rattle.gatt_laws.specs.machine.Part.{Part, is_there}
+use Rattle.gatt_laws.specs.machine.State.{State, with_commands_sent}
 use Rattle.gatt_slots.specs.Kept.{kept_of}
 use Rattle.gatt_slots.specs.Slots.{kept_deadline, slots_deadline}
 use Rattle.gatt_subs.specs.Deadline.{deadline_of}

@@ -10,9 +10,9 @@ use Rattle.gatt_host.specs.declared.host_fault.HostFault.{HostFault}
 use Rattle.gatt_host.specs.Feeding.{CountsRefused, Feeds, TakesAll, comes_of_feeding, input_items, items_of, octet_items, refused_at, refused_in}
 use Rattle.gatt_host.specs.Whole.{Leads, StandsAt, Takes, Whole}
 use Rattle.gatt_laws.proofs.Courses.{items_append}
-use Rattle.gatt_laws.specs.Calls.{Call, Refused}
-use Rattle.gatt_laws.specs.Input.{ACall, AnOctet, Course, Item, after_item, after_items, at_start, call_refusal, course}
-use Rattle.gatt_laws.specs.Start.{Start}
+use Rattle.gatt_laws.specs.machine.Calls.{Call, Refused}
+use Rattle.gatt_laws.specs.machine.Input.{ACall, AnOctet, Course, Item, after_item, after_items, at_start, call_refusal, course}
+use Rattle.gatt_laws.specs.machine.Start.{Start}
 use Rattle.octets.specs.Number.{Octets}
 
 -- none of the octets is a call

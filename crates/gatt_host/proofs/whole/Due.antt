@@ -1,7 +1,7 @@
 -- A host of which all is out owes nothing, and still does not where it stops.
 use Rattle.std.proofs.Common.{◌≡◌, true, false, Option, Some, None, Result, Ok, Err, refl, sym, subst}
 use Rattle.std.specs.Prelude.{is_err, IsOk}
-use Rattle.gatt_host.proofs.Nexts.{clash}
+use Rattle.gatt_host.proofs.owing.Nexts.{clash}
 use Rattle.gatt_host.proofs.meaning.Drained.{all_gone}
 use Rattle.gatt_host.proofs.whole.Items.{drained_where}
 use Rattle.gatt_host.specs.declared.host_fault.HostFault.{HostFault}
@@ -11,7 +11,7 @@ use Rattle.gatt_host.specs.GoingOut.{is_drained}
 use Rattle.gatt_host.specs.declared.last_event.LastEvent.TheVariants as last
 use Rattle.gatt_host.specs.Held.{Held, open_slots, with_last}
 use Rattle.gatt_host.specs.Whole.{Whole, all_out}
-use Rattle.gatt_laws.specs.Input.{course}
+use Rattle.gatt_laws.specs.machine.Input.{course}
 
 -- by the fault that stands
 due-by : (fault : Option HostFault) (whole : Whole) → IsAllOut whole → WritesAllThatIsDue fault whole

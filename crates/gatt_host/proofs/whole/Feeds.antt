@@ -5,7 +5,7 @@ use Rattle.std.proofs.lemmas.List.{map-append}
 use Rattle.std.proofs.lemmas.List.Concat.{flat_map-append}
 use Rattle.std.specs.Prelude.{is_err, IsSome, OnErr, OnOk}
 use Rattle.std.specs.Io.KnownBytes.{Appends}
-use Rattle.gatt_host.proofs.Nexts.{clash}
+use Rattle.gatt_host.proofs.owing.Nexts.{clash}
 use Rattle.gatt_host.proofs.whole.Items.{leads_nowhere, leads_on, leads_stopped}
 use Rattle.gatt_host.specs.declared.host_fault.HostFault.{HostFault}
 use Rattle.gatt_host.specs.declared.host_fault.HostFault.TheVariants as stop
@@ -13,8 +13,8 @@ use Rattle.gatt_host.specs.Feeding.{BreaksOff, Feeds, TakesAll, comes_of_feeding
 use Rattle.gatt_host.specs.Whole.{Leads, SameFault, StandsAt, Whole, is_own, outcome_of}
 use Rattle.gatt_laws.proofs.Courses.{items_append}
 use Rattle.gatt_laws.proofs.Streams.{stays_stopped}
-use Rattle.gatt_laws.specs.Input.{AnOctet, Course, Item, after_items, at_start, course}
-use Rattle.gatt_laws.specs.Packets.{Fault}
+use Rattle.gatt_laws.specs.machine.Input.{AnOctet, Course, Item, after_items, at_start, course}
+use Rattle.gatt_laws.specs.machine.Packets.{Fault}
 use Rattle.octets.specs.Number.{Octets}
 use Rattle.octets.specs.Stream.{CountsFailure, CountsIf, CountsNone, CountsOne, WritesFront}
 

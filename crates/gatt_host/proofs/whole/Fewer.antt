@@ -3,13 +3,13 @@ use Rattle.std.proofs.Common.{◌≡◌, ℕ, ◌+◌, ◌<◌, Bool, true, fals
 use Rattle.std.specs.Prelude.{◌&&◌, ◌==◌, not, nat_lt, is_some, length, if◌then◌else◌}
 use Rattle.std.specs.Option.{option_and_then, option_map, option_map_or, option_or}
 use Rattle.std.proofs.lemmas.Bool.{ltb-true}
-use Rattle.gatt_host.proofs.Nexts.{clash}
+use Rattle.gatt_host.proofs.owing.Nexts.{clash}
 use Rattle.gatt_host.proofs.whole.Ready.{ready_then}
 use Rattle.gatt_host.specs.Credits.{all_packets_out, most_out, packets_out}
 use Rattle.gatt_host.specs.GoingOut.{command_in, command_next, controller_then, enabling_command, init_command, next_out, packet_in, slots_commanded, slots_then, with_first}
 use Rattle.gatt_host.specs.Held.{Held, after_out, next_of, open_slots}
-use Rattle.gatt_laws.specs.Controller.{Controller, controller_after, is_ready}
-use Rattle.gatt_laws.specs.State.{command_octets}
+use Rattle.gatt_laws.specs.machine.Controller.{Controller, controller_after, is_ready}
+use Rattle.gatt_laws.specs.machine.State.{command_octets}
 use Rattle.gatt_slots.specs.Commands.{gives, packet_of, without_command, without_packet, has_command}
 use Rattle.gatt_slots.specs.Kept.{Kept}
 use Rattle.le_hci.specs.Command.{Commanded}

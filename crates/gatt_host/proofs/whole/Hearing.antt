@@ -1,7 +1,7 @@
 -- What is heard of items one after another.
 use Rattle.std.proofs.Common.{◌≡◌, ℕ, true, false, List, [], ◌∷◌, ◌++◌, drop, take, Option, Some, None, refl, sym, ap, subst, ◌∙◌, append_assoc, append-nil}
 use Rattle.std.specs.Prelude.{if◌then◌else◌, is_some}
-use Rattle.gatt_host.proofs.Nexts.{clash}
+use Rattle.gatt_host.proofs.owing.Nexts.{clash}
 use Rattle.gatt_host.proofs.whole.Feeds.{HasTaken, all_items, items_append_octets, taken_none, taken_silently, taken_then}
 use Rattle.gatt_host.proofs.whole.Items.{leads_on}
 use Rattle.gatt_host.specs.declared.host_fault.HostFault.{HostFault}
@@ -13,9 +13,9 @@ use Rattle.gatt_host.specs.Telling.{TellsOf, TellsOfAll, notices_told}
 use Rattle.gatt_host.specs.Whole.{Leads, SameFault, Whole, is_own}
 use Rattle.gatt_laws.proofs.Courses.{items_append}
 use Rattle.gatt_laws.proofs.StreamNotices.{stopped_silent}
-use Rattle.gatt_laws.specs.Input.{Course, Item, after_item, after_items, at_start, course}
-use Rattle.gatt_laws.specs.Notice.{Notice, notices_in, notices_of}
-use Rattle.gatt_laws.specs.Packets.{Fault}
+use Rattle.gatt_laws.specs.machine.Input.{Course, Item, after_item, after_items, at_start, course}
+use Rattle.gatt_laws.specs.machine.Notice.{Notice, notices_in, notices_of}
+use Rattle.gatt_laws.specs.machine.Packets.{Fault}
 use Rattle.octets.specs.Number.{Octets}
 
 -- nothing is heard, and then more

@@ -2,7 +2,7 @@
 use Rattle.std.proofs.Common.{◌≡◌, ℕ, ◌+◌, ◌<◌, ◌≤◌, true, false, List, [], ◌++◌, drop, get_or, length, Option, Some, None, sym, ap, subst, ◌∙◌, append-nil}
 use Rattle.std.proofs.KnownBytes.{Consumes-kept, Consumes-trans}
 use Rattle.std.specs.Io.KnownBytes.{Consumes, Keeps}
-use Rattle.gatt_host.proofs.Nexts.{clash}
+use Rattle.gatt_host.proofs.owing.Nexts.{clash}
 use Rattle.gatt_host.proofs.whole.Driving.{HasDriven, driven_more, next_parts}
 use Rattle.gatt_host.proofs.whole.Feeds.{feeds_then, items_append_octets}
 use Rattle.gatt_host.proofs.whole.Hearing.{hears_more, hears_nothing, listens_going, listens_then, none_taken, past_heard}
@@ -13,8 +13,8 @@ use Rattle.gatt_host.specs.declared.host_fault.HostFault.TheVariants as stop
 use Rattle.gatt_host.specs.Feeding.{CountsRefused, Feeds, TakesAll, comes_of_feeding, input_items, is_write, items_of, octet_items}
 use Rattle.gatt_host.specs.Listening.{HearsOf, Listens, ListensServing}
 use Rattle.gatt_host.specs.Whole.{Whole}
-use Rattle.gatt_laws.specs.Input.{Item}
-use Rattle.gatt_laws.specs.Notice.{Notice}
+use Rattle.gatt_laws.specs.machine.Input.{Item}
+use Rattle.gatt_laws.specs.machine.Notice.{Notice}
 use Rattle.octets.specs.Number.{Octets}
 
 -- what is owed is written, and nothing is taken in

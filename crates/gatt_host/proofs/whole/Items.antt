@@ -10,8 +10,8 @@ use Rattle.gatt_host.specs.Meaning.{HasRowsOfTheTable}
 use Rattle.gatt_host.specs.Whole.{all_out, is_own, IsReached, Leads, SameFault, StandsAt, Takes, Whole}
 use Rattle.gatt_laws.proofs.Courses.{continues}
 use Rattle.gatt_laws.proofs.RowsOfTheTable.{always_has_rows_of_its_table}
-use Rattle.gatt_laws.specs.Input.{Course, Item, after_item, course, taken, unless_stopped}
-use Rattle.gatt_laws.specs.Packets.{Fault}
+use Rattle.gatt_laws.specs.machine.Input.{Course, Item, after_item, course, taken, unless_stopped}
+use Rattle.gatt_laws.specs.machine.Packets.{Fault}
 use Rattle.octets.specs.Number.{Octets}
 
 -- where no fault stands at the host, none stands in the course

@@ -1,7 +1,7 @@
 -- Octets of the stream lead a host on in its course, or stop it there.
 use Rattle.std.proofs.Common.{◌≡◌, ℕ, false, List, [], ◌∷◌, ◌++◌, drop, Option, Some, None, refl, sym, ap, subst, ◌∙◌, append-nil}
 use Rattle.std.specs.Option.{option_to_list}
-use Rattle.gatt_host.proofs.Nexts.{clash}
+use Rattle.gatt_host.proofs.owing.Nexts.{clash}
 use Rattle.gatt_host.proofs.whole.Items.{no_fault}
 use Rattle.gatt_host.specs.declared.host_fault.HostFault.{HostFault}
 use Rattle.gatt_host.specs.declared.host_fault.HostFault.TheVariants as stop
@@ -13,9 +13,9 @@ use Rattle.gatt_host.specs.Whole.{is_own, HoldsStream, Leads, LeadsBy, SameFault
 use Rattle.gatt_laws.proofs.Courses.{items_append}
 use Rattle.gatt_laws.proofs.Streams.{takes_the_division}
 use Rattle.gatt_laws.proofs.Unfinished.{divides_on, leaves_less_than_a_packet}
-use Rattle.gatt_laws.specs.Input.{Course, Item, after_items, after_packet, at_start, course, stopped, unless_stopped}
-use Rattle.gatt_laws.specs.Laws.{after_division, after_packets, whole}
-use Rattle.gatt_laws.specs.Packets.{Fault, Desync}
+use Rattle.gatt_laws.specs.machine.Input.{Course, Item, after_items, after_packet, at_start, course, stopped, unless_stopped}
+use Rattle.gatt_laws.specs.laws.Laws.{after_division, after_packets, whole}
+use Rattle.gatt_laws.specs.machine.Packets.{Fault, Desync}
 use Rattle.le_h4.specs.Deframer.{Deframing, lost_at, marks, still}
 use Rattle.le_h4.specs.Division.{Division, before, division, lost, unfinished}
 use Rattle.le_h4.specs.Packet.{Packet, NoneYet, first_of}

@@ -12,7 +12,7 @@ use Rattle.att_table.specs.Changer.{changer_of}
 use Rattle.att_table.specs.ConfigRow.{with_bits, is_supported, IsRowOf}
 use Rattle.att_table.specs.Table.{Contents}
 use Rattle.gatt_host.proofs.meaning.Beginning.{stands_in_at_the_start}
-use Rattle.gatt_host.proofs.Nexts.{clash}
+use Rattle.gatt_host.proofs.owing.Nexts.{clash}
 use Rattle.gatt_host.proofs.standing.AtTheStart.{fitted_known}
 use Rattle.gatt_host.specs.declared.config.Config.{Config}
 use Rattle.gatt_host.specs.declared.host_fault.HostFault.{HostFault}
@@ -21,8 +21,8 @@ use Rattle.gatt_host.specs.Held.{Held}
 use Rattle.gatt_host.specs.Opening.{is_configured, start_of}
 use Rattle.gatt_host.specs.Stands.{IsOpenedAs}
 use Rattle.gatt_host.specs.Whole.{HasRowsOfTheStart, IsReached, SameFault, StandsAt, Whole}
-use Rattle.gatt_laws.specs.Input.{course}
-use Rattle.gatt_laws.specs.Start.{new_controller}
+use Rattle.gatt_laws.specs.machine.Input.{course}
+use Rattle.gatt_laws.specs.machine.Start.{new_controller}
 use Rattle.gatt_subs.proofs.Supported.{supported_configuration}
 use Rattle.gatt_subs.specs.declared.bond.Bond.{Bond}
 use Rattle.gatt_subs.specs.Fit.{fitted_bond, fitted_rows, peers_of, with_entries, HasFittedBonds, IsListed}

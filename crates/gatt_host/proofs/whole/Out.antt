@@ -3,7 +3,7 @@ use Rattle.std.proofs.Common.{◌≡◌, Bool, true, false, suc, List, [], ◌�
 use Rattle.std.specs.Prelude.{if◌then◌else◌, is_none, is_some, not, ◌||◌}
 use Rattle.std.specs.Bool.{OnFalse, OnTrue}
 use Rattle.std.specs.Option.{option_map}
-use Rattle.gatt_host.proofs.Owing.{is_drained_where_nothing_goes_out, rest_is_owed}
+use Rattle.gatt_host.proofs.owing.Owing.{is_drained_where_nothing_goes_out, rest_is_owed}
 use Rattle.gatt_host.specs.GoingOut.{command_next, init_command, is_drained, slots_commanded, slots_then, with_first}
 use Rattle.gatt_host.specs.Held.{Held, after_out, next_of, open_slots}
 use Rattle.gatt_host.specs.Meaning.{Frames}
@@ -15,9 +15,9 @@ use Rattle.gatt_host.proofs.whole.Ready.{ready_then}
 use Rattle.gatt_host.specs.declared.host_fault.HostFault.{HostFault}
 use Rattle.gatt_host.specs.Whole.{all_out, HoldsStream, IsReached, Leads, SameFault, StandsAt, Whole}
 use Rattle.le_h4.specs.Deframer.{Deframing}
-use Rattle.gatt_laws.specs.Controller.{Controller, is_ready}
-use Rattle.gatt_laws.specs.Input.{Course, Item, course}
-use Rattle.gatt_laws.specs.State.{State}
+use Rattle.gatt_laws.specs.machine.Controller.{Controller, is_ready}
+use Rattle.gatt_laws.specs.machine.Input.{Course, Item, course}
+use Rattle.gatt_laws.specs.machine.State.{State}
 use Rattle.gatt_slots.specs.Commands.{gives, without_command, without_packet, has_command}
 use Rattle.gatt_slots.specs.Kept.{Kept}
 use Rattle.octets.specs.Number.{Octets}

@@ -3,7 +3,7 @@ use Rattle.std.proofs.Common.{◌≡◌, true, false, List, [], ◌∷◌, Optio
 use Rattle.std.specs.Prelude.{is_err, is_some}
 use Rattle.std.specs.Result.{result_err}
 use Rattle.std.proofs.lemmas.Bool.{not-false}
-use Rattle.gatt_host.proofs.Nexts.{clash}
+use Rattle.gatt_host.proofs.owing.Nexts.{clash}
 use Rattle.gatt_host.proofs.whole.Items.{reached_by}
 use Rattle.gatt_host.proofs.whole.Out.{goes_out, goes_where_not_out}
 use Rattle.gatt_host.specs.declared.host_fault.HostFault.{HostFault}
@@ -13,7 +13,7 @@ use Rattle.gatt_host.specs.GoingOut.{is_drained}
 use Rattle.gatt_host.specs.Held.{Held, after_out, next_of, open_slots}
 use Rattle.gatt_host.specs.Meaning.{Frames}
 use Rattle.gatt_host.specs.Whole.{IsHeldByOne, IsReached, Leads, Whole, going}
-use Rattle.gatt_laws.specs.Input.{Item}
+use Rattle.gatt_laws.specs.machine.Input.{Item}
 use Rattle.le_h4.specs.Deframer.{Deframing}
 use Rattle.octets.specs.Number.{Octets}
 

@@ -18,9 +18,9 @@ use Rattle.gatt_host.specs.Packet.{TakesPacket, event_stop, packet_stop}
 use Rattle.gatt_host.specs.Standing.{IsDrainedIn, StandsIn}
 use Rattle.gatt_host.specs.Telling.{TellsOfPacket}
 use Rattle.gatt_host.specs.Whole.{is_own, HoldsStream, LeadsBy, SameFault, StandsAt, StandsWith, Takes, Whole}
-use Rattle.gatt_laws.specs.Event.{Event}
-use Rattle.gatt_laws.specs.Input.{APacket, Course, after_packet, packet_taken}
-use Rattle.gatt_laws.specs.Packets.{Fault, Desync, BadEventCode, InitFailed, Hardware, completed_event, packet_event, status_event}
+use Rattle.gatt_laws.specs.machine.Event.{Event}
+use Rattle.gatt_laws.specs.machine.Input.{APacket, Course, after_packet, packet_taken}
+use Rattle.gatt_laws.specs.machine.Packets.{Fault, Desync, BadEventCode, InitFailed, Hardware, completed_event, packet_event, status_event}
 use Rattle.le_h4.specs.Deframer.{Deframing}
 use Rattle.le_h4.specs.Division.{is_long}
 use Rattle.le_h4.specs.Packet.{Packet, AclPacket, EventPacket, ScoPacket}

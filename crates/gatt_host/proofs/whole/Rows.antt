@@ -2,7 +2,7 @@
 use Rattle.std.proofs.Common.{◌≡◌, List}
 use Rattle.gatt_host.specs.Stands.{bond_in, rows_of}
 use Rattle.gatt_host.specs.Whole.{StandsAt, Whole}
-use Rattle.gatt_laws.specs.Input.{Course}
+use Rattle.gatt_laws.specs.machine.Input.{Course}
 use Rattle.gatt_subs.proofs.Listed.{rows_are_listed}
 use Rattle.octets.specs.Number.{Octets}
 

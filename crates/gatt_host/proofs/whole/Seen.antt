@@ -6,13 +6,13 @@ use Rattle.gatt_host.proofs.whole.Slots.{slots_read}
 use Rattle.gatt_host.specs.Connections.{connection_with, connections_of, ordinal_seen, part_seen}
 use Rattle.gatt_host.specs.Owing.{Handed, slot_held}
 use Rattle.gatt_host.specs.Whole.{StandsAt, Whole}
-use Rattle.gatt_laws.specs.Controller.{command_of_init, count_before}
-use Rattle.gatt_laws.specs.Event.{Ordinal}
-use Rattle.gatt_laws.specs.Input.{Course, Item, course}
-use Rattle.gatt_laws.specs.Part.{Part, is_live, is_there, mtu_of}
-use Rattle.gatt_laws.specs.Room.{Room}
-use Rattle.gatt_laws.specs.Start.{Start}
-use Rattle.gatt_laws.specs.State.{State, with_commands_sent}
+use Rattle.gatt_laws.specs.machine.Controller.{command_of_init, count_before}
+use Rattle.gatt_laws.specs.machine.Event.{Ordinal}
+use Rattle.gatt_laws.specs.machine.Input.{Course, Item, course}
+use Rattle.gatt_laws.specs.machine.Part.{Part, is_live, is_there, mtu_of}
+use Rattle.gatt_laws.specs.machine.Room.{Room}
+use Rattle.gatt_laws.specs.machine.Start.{Start}
+use Rattle.gatt_laws.specs.machine.State.{State, with_commands_sent}
 use Rattle.gatt_slots.specs.Connections.{connections_in, slot_seen}
 use Rattle.gatt_slots.specs.declared.connection.Connection.{Connection}
 use Rattle.gatt_slots.specs.Kept.{kept_of}

@@ -9,14 +9,14 @@ use Rattle.gatt_host.proofs.whole.Feeds.{all_items, feeds_then, takes_silently, 
 use Rattle.gatt_host.proofs.whole.Items.{leads_stopped, takes_item}
 use Rattle.gatt_host.proofs.whole.Silence.{stands_at_in_silence}
 use Rattle.gatt_host.specs.declared.host_fault.HostFault.{HostFault}
-use Rattle.gatt_host.proofs.Nexts.{clash}
+use Rattle.gatt_host.proofs.owing.Nexts.{clash}
 use Rattle.gatt_host.specs.declared.host_fault.HostFault.TheVariants as stop
 use Rattle.gatt_host.specs.declared.last_event.LastEvent.TheVariants as last
 use Rattle.gatt_host.specs.declared.serving.End.{End}
 use Rattle.gatt_host.specs.Feeding.{Feeds, IsReadIn, Reads, Serves, TakesAll, comes_of_feeding, is_write, octet_items}
 use Rattle.gatt_host.specs.Held.{with_last}
 use Rattle.gatt_host.specs.Whole.{StandsAt, Takes, Whole, is_own}
-use Rattle.gatt_laws.specs.Input.{Course, Item, TheEnd, course}
+use Rattle.gatt_laws.specs.machine.Input.{Course, Item, TheEnd, course}
 use Rattle.le_h4.specs.Deframer.{at_start, still}
 use Rattle.le_h4.specs.Division.{division}
 use Rattle.octets.specs.Number.{Octets}

@@ -6,7 +6,7 @@ use Rattle.gatt_host.specs.Held.{Held, with_last}
 use Rattle.gatt_host.specs.Meaning.{Frames}
 use Rattle.gatt_host.specs.Standing.{StandsIn}
 use Rattle.gatt_host.specs.Whole.{StandsAt, Whole}
-use Rattle.gatt_laws.specs.Input.{Course}
+use Rattle.gatt_laws.specs.machine.Input.{Course}
 use Rattle.octets.specs.Number.{Octets}
 
 -- nothing that a host stands by is changed where nothing is told

@@ -6,11 +6,11 @@ use Rattle.std.proofs.lemmas.Bool.{eq-eqb}
 use Rattle.gatt_host.specs.Held.{Held, open_slots}
 use Rattle.gatt_host.specs.Owing.{Handed, IsOwing, slot_held}
 use Rattle.gatt_host.specs.Stands.{Stands}
-use Rattle.gatt_laws.specs.Controller.{Slots, is_ready}
-use Rattle.gatt_laws.specs.Event.{Ordinal}
-use Rattle.gatt_laws.specs.Part.{is_there}
-use Rattle.gatt_laws.specs.Settled.{has_slot}
-use Rattle.gatt_laws.specs.State.{State, with_commands_sent}
+use Rattle.gatt_laws.specs.machine.Controller.{Slots, is_ready}
+use Rattle.gatt_laws.specs.machine.Event.{Ordinal}
+use Rattle.gatt_laws.specs.machine.Part.{is_there}
+use Rattle.gatt_laws.specs.laws.Settled.{has_slot}
+use Rattle.gatt_laws.specs.machine.State.{State, with_commands_sent}
 use Rattle.gatt_slots.specs.Kept.{Kept}
 use Rattle.octets.specs.Number.{Octets}
 

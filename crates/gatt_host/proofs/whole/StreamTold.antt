@@ -15,11 +15,11 @@ use Rattle.gatt_host.specs.Telling.{TellsOfAll, TellsOfPacket, notices_told}
 use Rattle.gatt_host.specs.Whole.{LeadsBy, SameFault, StandsAt, StandsWith, Whole, is_own}
 use Rattle.gatt_laws.proofs.StreamNotices.{AreKept, all_kept, stopped_silent, tells_of_the_division}
 use Rattle.gatt_laws.proofs.Unfinished.{leaves_less_than_a_packet}
-use Rattle.gatt_laws.specs.Event.{Event}
-use Rattle.gatt_laws.specs.Input.{APacket, Course, Item, after_item, after_packet, course, packet_taken, stopped, unless_stopped}
-use Rattle.gatt_laws.specs.ItemEvents.{event_if}
-use Rattle.gatt_laws.specs.Notice.{noticed, notices_in, notices_of}
-use Rattle.gatt_laws.specs.Packets.{Fault, packet_event}
+use Rattle.gatt_laws.specs.machine.Event.{Event}
+use Rattle.gatt_laws.specs.machine.Input.{APacket, Course, Item, after_item, after_packet, course, packet_taken, stopped, unless_stopped}
+use Rattle.gatt_laws.specs.laws.ItemEvents.{event_if}
+use Rattle.gatt_laws.specs.machine.Notice.{noticed, notices_in, notices_of}
+use Rattle.gatt_laws.specs.machine.Packets.{Fault, packet_event}
 use Rattle.le_h4.specs.Deframer.{Deframing, marks, still}
 use Rattle.le_h4.specs.Division.{Division, before, division, is_long, lost, unfinished}
 use Rattle.le_h4.specs.Packet.{Packet}

@@ -2,7 +2,7 @@
 use Rattle.std.proofs.Common.{◌≡◌, ℕ, Bool, true, false, List, [], ◌∷◌, ◌++◌, take, Option, Some, None, Result, Err, refl, sym, ap, subst, ◌∙◌}
 use Rattle.std.specs.Prelude.{IfSome, IsSome, IsTrue, is_some, not, ◌↔◌}
 use Rattle.std.specs.Option.{option_to_list}
-use Rattle.gatt_host.proofs.Nexts.{clash, is_none_where}
+use Rattle.gatt_host.proofs.owing.Nexts.{clash, is_none_where}
 use Rattle.gatt_host.proofs.whole.Octets.{octets_lost}
 use Rattle.gatt_host.proofs.whole.StreamTold.{lost_told}
 use Rattle.gatt_host.specs.Answers.{lost_fault}

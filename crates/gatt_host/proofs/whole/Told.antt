@@ -11,12 +11,12 @@ use Rattle.gatt_host.specs.Notices.{last_notices}
 use Rattle.gatt_host.specs.Standing.{StandsIn}
 use Rattle.gatt_host.specs.Telling.{noticed_in, notices_told}
 use Rattle.gatt_host.specs.Whole.{StandsAt, Whole}
-use Rattle.gatt_laws.specs.Event.{Event}
-use Rattle.gatt_laws.specs.Input.{APacket, Course, Item}
-use Rattle.gatt_laws.specs.ItemEvents.{event_if, event_of_packet, event_taken}
-use Rattle.gatt_laws.specs.Notice.{noticed, notices_of}
-use Rattle.gatt_laws.specs.Packets.{Fault, Fragments, packet_event}
-use Rattle.gatt_laws.specs.State.{State}
+use Rattle.gatt_laws.specs.machine.Event.{Event}
+use Rattle.gatt_laws.specs.machine.Input.{APacket, Course, Item}
+use Rattle.gatt_laws.specs.laws.ItemEvents.{event_if, event_of_packet, event_taken}
+use Rattle.gatt_laws.specs.machine.Notice.{noticed, notices_of}
+use Rattle.gatt_laws.specs.machine.Packets.{Fault, Fragments, packet_event}
+use Rattle.gatt_laws.specs.machine.State.{State}
 use Rattle.le_h4.specs.Division.{is_long}
 use Rattle.le_h4.specs.Packet.{Packet}
 use Rattle.octets.specs.Number.{Octets}

@@ -2,13 +2,13 @@
 use Rattle.std.specs.Prelude.{◌≡◌, refl, [], ◌∷◌, ◌++◌, replicate, Some}
 use Rattle.gatt_laws.proofs.examples.Runs.{host, stream, initialised, connected, enable, sent_to}
 use Rattle.gatt_laws.proofs.examples.Tables.{door, phone}
-use Rattle.gatt_laws.specs.Controller.{commands_due}
-use Rattle.gatt_laws.specs.Input.{course, after_item}
-use Rattle.gatt_laws.specs.Packets.{packet_event, Desync}
-use Rattle.gatt_laws.specs.State.{step, change_of, out}
-use Rattle.gatt_laws.specs.Turn.{live_turn}
+use Rattle.gatt_laws.specs.machine.Controller.{commands_due}
+use Rattle.gatt_laws.specs.machine.Input.{course, after_item}
+use Rattle.gatt_laws.specs.machine.Packets.{packet_event, Desync}
+use Rattle.gatt_laws.specs.machine.State.{step, change_of, out}
+use Rattle.gatt_laws.specs.machine.Turn.{live_turn}
 use Rattle.octets.specs.Number.{Octets}
-use Rattle.gatt_laws.specs.Heard.{after_hearing}
+use Rattle.gatt_laws.specs.machine.Heard.{after_hearing}
 
 -- nothing is received yet, and Reset is sent
 opening : (course (host door 2) []).gone ≡ (0x01 ∷ 0x03 ∷ 0x0C ∷ 0x00 ∷ []) ∷ []

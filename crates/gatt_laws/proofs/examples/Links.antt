@@ -2,12 +2,12 @@
 use Rattle.std.specs.Prelude.{◌≡◌, refl, [], ◌∷◌, ◌++◌}
 use Rattle.gatt_laws.proofs.examples.Runs.{stream, key_asked, encryption, encrypted_with, completed, command_complete, asks, asks_on, told, sent_to, enable, disconnect}
 use Rattle.gatt_laws.proofs.examples.Tables.{door, tablet, tablet_key}
-use Rattle.gatt_laws.specs.Controller.{commands_due}
-use Rattle.gatt_laws.specs.Heard.{after_hearing}
-use Rattle.gatt_laws.specs.Input.{course, after_item}
-use Rattle.gatt_laws.specs.Packets.{packet_event}
-use Rattle.gatt_laws.specs.State.{step, change_of, out}
-use Rattle.gatt_laws.specs.Turn.{live_turn}
+use Rattle.gatt_laws.specs.machine.Controller.{commands_due}
+use Rattle.gatt_laws.specs.machine.Heard.{after_hearing}
+use Rattle.gatt_laws.specs.machine.Input.{course, after_item}
+use Rattle.gatt_laws.specs.machine.Packets.{packet_event}
+use Rattle.gatt_laws.specs.machine.State.{step, change_of, out}
+use Rattle.gatt_laws.specs.machine.Turn.{live_turn}
 use Rattle.le_acl.specs.Frame.{frame_at}
 use Rattle.le_acl.specs.Packets.{pieces}
 use Rattle.att_pdu.specs.Form.{form_of}

@@ -11,15 +11,15 @@ use Rattle.gatt_laws.proofs.examples.Runs.{key_asked, encryption, encrypted_with
 use Rattle.gatt_laws.proofs.examples.Runs.{asks, asks_on, update, end_connection, tick}
 use Rattle.gatt_laws.proofs.examples.Tables.{door, bell, porch, new_porch, phone, tablet, owner}
 use Rattle.gatt_laws.proofs.examples.Views.{comes, sends}
-use Rattle.gatt_laws.specs.Controller.{commands_due}
-use Rattle.gatt_laws.specs.Heard.{after_hearing}
-use Rattle.gatt_laws.specs.Input.{Item, ATable, course, after_item}
-use Rattle.gatt_laws.specs.Notice.{Notice, Connected, Disconnected, Secured, Unsecured, Written}
-use Rattle.gatt_laws.specs.Notice.{Configured, Confirmed, TimedOut, Ending, noticed}
-use Rattle.gatt_laws.specs.Notice.{notices_in, all_notices}
-use Rattle.gatt_laws.specs.Packets.{packet_event}
-use Rattle.gatt_laws.specs.State.{step, change_of}
-use Rattle.gatt_laws.specs.Turn.{live_turn}
+use Rattle.gatt_laws.specs.machine.Controller.{commands_due}
+use Rattle.gatt_laws.specs.machine.Heard.{after_hearing}
+use Rattle.gatt_laws.specs.machine.Input.{Item, ATable, course, after_item}
+use Rattle.gatt_laws.specs.machine.Notice.{Notice, Connected, Disconnected, Secured, Unsecured, Written}
+use Rattle.gatt_laws.specs.machine.Notice.{Configured, Confirmed, TimedOut, Ending, noticed}
+use Rattle.gatt_laws.specs.machine.Notice.{notices_in, all_notices}
+use Rattle.gatt_laws.specs.machine.Packets.{packet_event}
+use Rattle.gatt_laws.specs.machine.State.{step, change_of}
+use Rattle.gatt_laws.specs.machine.Turn.{live_turn}
 use Rattle.le_acl.specs.Frame.{frame_at}
 use Rattle.le_acl.specs.Packets.{pieces}
 use Rattle.le_hci.specs.declared.peer.Peer.{Peer}

@@ -11,18 +11,18 @@ use Rattle.gatt_laws.proofs.Preparing.{prepares_the_same}
 use Rattle.gatt_laws.proofs.examples.Runs.{host, stream, initialised, command_complete}
 use Rattle.gatt_laws.proofs.examples.Tables.{door, phone, tablet}
 use Rattle.gatt_laws.proofs.examples.Views.{comes, sends}
-use Rattle.gatt_laws.specs.Controller.{commands_due}
-use Rattle.gatt_laws.specs.Event.{Connected, Asks, Of}
-use Rattle.gatt_laws.specs.Heard.{after_hearing}
-use Rattle.gatt_laws.specs.Input.{Item, course, after_item}
-use Rattle.gatt_laws.specs.OwnWrites.{IsAcceptedExecution, WritesItsOwn}
-use Rattle.gatt_laws.specs.Packets.{packet_event}
-use Rattle.gatt_laws.specs.Part.{prepared_of}
-use Rattle.gatt_laws.specs.Preparing.{Happens, concerns_of, IsNeverEnded}
-use Rattle.gatt_laws.specs.Runs.{events_of}
-use Rattle.gatt_laws.specs.Start.{state_at}
-use Rattle.gatt_laws.specs.State.{State, step, change_of}
-use Rattle.gatt_laws.specs.Turn.{live_turn}
+use Rattle.gatt_laws.specs.machine.Controller.{commands_due}
+use Rattle.gatt_laws.specs.machine.Event.{Connected, Asks, Of}
+use Rattle.gatt_laws.specs.machine.Heard.{after_hearing}
+use Rattle.gatt_laws.specs.machine.Input.{Item, course, after_item}
+use Rattle.gatt_laws.specs.laws.OwnWrites.{IsAcceptedExecution, WritesItsOwn}
+use Rattle.gatt_laws.specs.machine.Packets.{packet_event}
+use Rattle.gatt_laws.specs.machine.Part.{prepared_of}
+use Rattle.gatt_laws.specs.laws.Preparing.{Happens, concerns_of, IsNeverEnded}
+use Rattle.gatt_laws.specs.laws.Runs.{events_of}
+use Rattle.gatt_laws.specs.machine.Start.{state_at}
+use Rattle.gatt_laws.specs.machine.State.{State, step, change_of}
+use Rattle.gatt_laws.specs.machine.Turn.{live_turn}
 use Rattle.le_acl.specs.Frame.{frame_at}
 use Rattle.le_acl.specs.Packets.{pieces}
 use Rattle.octets.specs.Number.{Octets}

@@ -1,9 +1,9 @@
 -- The words of the examples: what the controller sends, and what the host sends.
 use Rattle.std.specs.Prelude.{ℕ, ◌+◌, false, List, [], ◌∷◌, ◌++◌, length, map, drop, replicate, None}
 use Rattle.att_table.specs.Table.{Contents}
-use Rattle.gatt_laws.specs.Calls.{UpdateCall, AuthorizeCall, DisconnectCall, TickCall}
-use Rattle.gatt_laws.specs.Input.{Item, AnOctet, ACall, course}
-use Rattle.gatt_laws.specs.Start.{Start}
+use Rattle.gatt_laws.specs.machine.Calls.{UpdateCall, AuthorizeCall, DisconnectCall, TickCall}
+use Rattle.gatt_laws.specs.machine.Input.{Item, AnOctet, ACall, course}
+use Rattle.gatt_laws.specs.machine.Start.{Start}
 use Rattle.gatt_laws.proofs.examples.Tables.{keys}
 use Rattle.le_hci.specs.declared.peer.Peer.{Peer}
 use Rattle.octets.specs.Number.{Octets, two_octets}

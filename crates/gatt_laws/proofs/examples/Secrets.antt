@@ -10,19 +10,19 @@ use Rattle.att_writes.proofs.Lengths.{stored_both}
 use Rattle.gatt_laws.proofs.NothingCrosses.{HasHandles, crosses_nowhere}
 use Rattle.gatt_laws.proofs.examples.Runs.{host, initialised, connected, asks, frame}
 use Rattle.gatt_laws.proofs.examples.Tables.{table_of, declaration, value_of, configuration, guard, authorized, no_need, phone, tablet}
-use Rattle.gatt_laws.specs.Alike.{is_of}
-use Rattle.gatt_laws.specs.Calls.{AuthorizeCall}
-use Rattle.gatt_laws.specs.Controller.{commands_due}
-use Rattle.gatt_laws.specs.Event.{Event, Of, Completed, Credit, Update, Tick, Replaced, Nothing}
-use Rattle.gatt_laws.specs.Heard.{after_hearing}
-use Rattle.gatt_laws.specs.Input.{after_items, Item, AnOctet, APacket, ACall, ATable, TheEnd, Course, after_item, at_start, course}
-use Rattle.gatt_laws.specs.ItemEvents.{event_at}
-use Rattle.gatt_laws.specs.NothingCrosses.{is_replaced, IsTableToo, ItemsAgree, hidden_while, Agree, InputsAgree, SparedIf, SparedIn, given_by}
-use Rattle.gatt_laws.specs.Packets.{packet_event}
-use Rattle.gatt_laws.specs.Possible.{AllTables}
-use Rattle.gatt_laws.specs.State.{State, step, change_of, out}
-use Rattle.gatt_laws.specs.Turn.{live_turn}
-use Rattle.gatt_laws.specs.TwoWorlds.{finds_no_room}
+use Rattle.gatt_laws.specs.laws.Alike.{is_of}
+use Rattle.gatt_laws.specs.machine.Calls.{AuthorizeCall}
+use Rattle.gatt_laws.specs.machine.Controller.{commands_due}
+use Rattle.gatt_laws.specs.machine.Event.{Event, Of, Completed, Credit, Update, Tick, Replaced, Nothing}
+use Rattle.gatt_laws.specs.machine.Heard.{after_hearing}
+use Rattle.gatt_laws.specs.machine.Input.{after_items, Item, AnOctet, APacket, ACall, ATable, TheEnd, Course, after_item, at_start, course}
+use Rattle.gatt_laws.specs.laws.ItemEvents.{event_at}
+use Rattle.gatt_laws.specs.laws.NothingCrosses.{is_replaced, IsTableToo, ItemsAgree, hidden_while, Agree, InputsAgree, SparedIf, SparedIn, given_by}
+use Rattle.gatt_laws.specs.machine.Packets.{packet_event}
+use Rattle.gatt_laws.specs.laws.Possible.{AllTables}
+use Rattle.gatt_laws.specs.machine.State.{State, step, change_of, out}
+use Rattle.gatt_laws.specs.machine.Turn.{live_turn}
+use Rattle.gatt_laws.specs.laws.TwoWorlds.{finds_no_room}
 use Rattle.le_acl.specs.Frame.{frame_at}
 use Rattle.le_acl.specs.Packets.{pieces}
 use Rattle.le_h4.specs.Packet.{First, FirstPacket, NoneYet, NoPacket, first_of}

@@ -7,16 +7,16 @@ use Rattle.att_writes.specs.Applied.{after_entries}
 use Rattle.gatt_laws.proofs.SameCourse.{same_view_same_packets}
 use Rattle.gatt_laws.proofs.examples.Runs.{host, stream, initialised, command_complete, frame, told, update}
 use Rattle.gatt_laws.proofs.examples.Tables.{door, phone, tablet}
-use Rattle.gatt_laws.specs.Controller.{commands_due}
-use Rattle.gatt_laws.specs.Event.{Connected, Asks}
-use Rattle.gatt_laws.specs.Heard.{after_hearing}
-use Rattle.gatt_laws.specs.Input.{Item, course, after_item}
-use Rattle.gatt_laws.specs.Packets.{packet_event}
-use Rattle.gatt_laws.specs.Runs.{events_of}
-use Rattle.gatt_laws.specs.SameView.{IsAlwaysReleased, AreServedAlike, packets_to}
-use Rattle.gatt_laws.specs.State.{step, change_of}
-use Rattle.gatt_laws.specs.Turn.{live_turn}
-use Rattle.gatt_laws.specs.View.{View, Happens, Updates, Writes, shown, view}
+use Rattle.gatt_laws.specs.machine.Controller.{commands_due}
+use Rattle.gatt_laws.specs.machine.Event.{Connected, Asks}
+use Rattle.gatt_laws.specs.machine.Heard.{after_hearing}
+use Rattle.gatt_laws.specs.machine.Input.{Item, course, after_item}
+use Rattle.gatt_laws.specs.machine.Packets.{packet_event}
+use Rattle.gatt_laws.specs.laws.Runs.{events_of}
+use Rattle.gatt_laws.specs.laws.SameView.{IsAlwaysReleased, AreServedAlike, packets_to}
+use Rattle.gatt_laws.specs.machine.State.{step, change_of}
+use Rattle.gatt_laws.specs.machine.Turn.{live_turn}
+use Rattle.gatt_laws.specs.laws.View.{View, Happens, Updates, Writes, shown, view}
 use Rattle.le_acl.specs.Frame.{frame_at}
 use Rattle.le_acl.specs.Packets.{pieces}
 use Rattle.le_hci.specs.declared.peer.Peer.{Peer}

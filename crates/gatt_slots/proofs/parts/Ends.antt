@@ -3,14 +3,14 @@ use Rattle.std.proofs.Common.{◌≡◌, ℕ, Bool, true, false, List, map, Opti
 use Rattle.std.specs.Prelude.{is_some, if◌then◌else◌, ◌==◌, slice_get}
 use Rattle.std.specs.Option.{option_map}
 use Rattle.att_numbers.specs.Types.{Handle}
-use Rattle.gatt_laws.specs.Controller.{Slots}
-use Rattle.gatt_laws.specs.Event.{Ordinal}
-use Rattle.gatt_laws.specs.Part.{Part, is_there, key_of}
-use Rattle.gatt_laws.specs.Queued.{IsWithinBounds}
-use Rattle.gatt_laws.specs.Room.{Room, Bonds, share_of, size_of}
-use Rattle.gatt_laws.specs.Settled.{has_slot, HaveOneSlotEach}
-use Rattle.gatt_laws.specs.State.{all_raised, at_ordinal, finished}
-use Rattle.gatt_laws.specs.Turn.{values_among}
+use Rattle.gatt_laws.specs.machine.Controller.{Slots}
+use Rattle.gatt_laws.specs.machine.Event.{Ordinal}
+use Rattle.gatt_laws.specs.machine.Part.{Part, is_there, key_of}
+use Rattle.gatt_laws.specs.laws.Queued.{IsWithinBounds}
+use Rattle.gatt_laws.specs.machine.Room.{Room, Bonds, share_of, size_of}
+use Rattle.gatt_laws.specs.laws.Settled.{has_slot, HaveOneSlotEach}
+use Rattle.gatt_laws.specs.machine.State.{all_raised, at_ordinal, finished}
+use Rattle.gatt_laws.specs.machine.Turn.{values_among}
 use Rattle.gatt_slots.proofs.parts.Heard.{finished_kept, hears_of_values}
 use Rattle.gatt_slots.proofs.parts.Places.{all_hear, others_hear}
 use Rattle.gatt_slots.specs.Hearing.{after_hearing}

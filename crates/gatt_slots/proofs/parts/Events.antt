@@ -6,11 +6,11 @@ use Rattle.att_numbers.specs.Types.{Handle, Row}
 use Rattle.att_table.specs.ConfigRow.{kept_row}
 use Rattle.att_table.specs.Table.{Contents}
 use Rattle.gatt_conn.specs.Transcript.{Dropped, first_exchange}
-use Rattle.gatt_laws.specs.Event.{Connected, Gone}
-use Rattle.gatt_laws.specs.Part.{Part, is_live, is_there, come as part_come}
-use Rattle.gatt_laws.specs.Room.{Room, share_of, size_of}
-use Rattle.gatt_laws.specs.State.{with_completed as part_completed, part_replaced}
-use Rattle.gatt_laws.specs.Turn.{turn_of, turn_to}
+use Rattle.gatt_laws.specs.machine.Event.{Connected, Gone}
+use Rattle.gatt_laws.specs.machine.Part.{Part, is_live, is_there, come as part_come}
+use Rattle.gatt_laws.specs.machine.Room.{Room, share_of, size_of}
+use Rattle.gatt_laws.specs.machine.State.{with_completed as part_completed, part_replaced}
+use Rattle.gatt_laws.specs.machine.Turn.{turn_of, turn_to}
 use Rattle.gatt_slots.proofs.parts.Turns.{dropped_same, mtu_by}
 use Rattle.gatt_slots.specs.Kept.{Kept, kept_of, kept_if_there}
 use Rattle.gatt_slots.specs.Turn.{come, after_completed, after_table, after_time}

@@ -4,14 +4,14 @@ use Rattle.std.specs.Prelude.{if◌then◌else◌, ◌==◌, ◌&&◌, slice_get
 use Rattle.std.specs.List.{flat_map}
 use Rattle.std.specs.Option.{option_map, option_map_or, option_to_list}
 use Rattle.std.proofs.lemmas.Bool.{eq-eqb, eqb-false, ne_eqb}
-use Rattle.gatt_laws.specs.Calls.{ordinal_where, serving, holding}
-use Rattle.gatt_laws.specs.Controller.{Slots}
-use Rattle.gatt_laws.specs.Event.{Ordinal}
-use Rattle.gatt_laws.specs.Packets.{completed_entries}
-use Rattle.gatt_laws.specs.Part.{Part, Mark, Absent, Live, Ending, is_live, is_there}
-use Rattle.gatt_laws.specs.Room.{Room}
-use Rattle.gatt_laws.specs.Settled.{has_slot, HaveOneSlotEach}
-use Rattle.gatt_laws.specs.State.{State, with_completed, after_completed as part_after}
+use Rattle.gatt_laws.specs.machine.Calls.{ordinal_where, serving, holding}
+use Rattle.gatt_laws.specs.machine.Controller.{Slots}
+use Rattle.gatt_laws.specs.machine.Event.{Ordinal}
+use Rattle.gatt_laws.specs.machine.Packets.{completed_entries}
+use Rattle.gatt_laws.specs.machine.Part.{Part, Mark, Absent, Live, Ending, is_live, is_there}
+use Rattle.gatt_laws.specs.machine.Room.{Room}
+use Rattle.gatt_laws.specs.laws.Settled.{has_slot, HaveOneSlotEach}
+use Rattle.gatt_laws.specs.machine.State.{State, with_completed, after_completed as part_after}
 use Rattle.gatt_slots.proofs.parts.Events.{completed_kept}
 use Rattle.gatt_slots.proofs.parts.Kept.{kept_there}
 use Rattle.gatt_slots.proofs.parts.Places.{Finds, finds_same, all_same, changed_at}

@@ -10,12 +10,12 @@ use Rattle.att_attributes.specs.Attributes.{attribute_at, is_value, is_value_at}
 use Rattle.att_table.specs.Table.{Contents}
 use Rattle.att_policy.specs.Policy.{may_hear_of}
 use Rattle.gatt_laws.proofs.Silence.{only_serves_the_live}
-use Rattle.gatt_laws.specs.Heard.{Heard, att_pdu, heard_in_turn, heard_raised, hearer_after, after_responses, hearer_of as part_hearer, after_hearing as part_hearing}
-use Rattle.gatt_laws.specs.Part.{Part, Mark, Absent, Live, Ending, is_live, is_there, key_of, with_pdus as part_with, after_giving}
-use Rattle.gatt_laws.specs.Queued.{IsWithinBounds}
-use Rattle.gatt_laws.specs.Room.{Room, Bonds, share_of, size_of}
-use Rattle.gatt_laws.specs.State.{finished}
-use Rattle.gatt_laws.specs.Turn.{values_among}
+use Rattle.gatt_laws.specs.machine.Heard.{Heard, att_pdu, heard_in_turn, heard_raised, hearer_after, after_responses, hearer_of as part_hearer, after_hearing as part_hearing}
+use Rattle.gatt_laws.specs.machine.Part.{Part, Mark, Absent, Live, Ending, is_live, is_there, key_of, with_pdus as part_with, after_giving}
+use Rattle.gatt_laws.specs.laws.Queued.{IsWithinBounds}
+use Rattle.gatt_laws.specs.machine.Room.{Room, Bonds, share_of, size_of}
+use Rattle.gatt_laws.specs.machine.State.{finished}
+use Rattle.gatt_laws.specs.machine.Turn.{values_among}
 use Rattle.gatt_slots.proofs.parts.Kept.{backlog_kept, becomes, outgoing_live, row_kept, standing_kept}
 use Rattle.gatt_slots.specs.Hearing.{Ear, Told, after_hearing, ear_of, hearer_of, told_in_turn, told_of, told_raised, with_heard, with_pdus, with_told}
 use Rattle.gatt_slots.specs.Kept.{Kept, kept_of, kept_if_there}

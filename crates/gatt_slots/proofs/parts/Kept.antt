@@ -4,8 +4,8 @@ use Rattle.std.specs.Prelude.{is_some, if◌then◌else◌, length, unwrap_or}
 use Rattle.std.specs.Option.{option_map}
 use Rattle.att_numbers.specs.Types.{Row}
 use Rattle.att_policy.specs.declared.standing.KeyFacts.{KeyFacts}
-use Rattle.gatt_laws.specs.Part.{Part, Mark, Absent, Live, Ending, is_live, is_there, key_of, mtu_of, prepared_of, row_of, standing_of as part_standing, connection_of as part_connection, backlog_of as part_backlog}
-use Rattle.gatt_laws.specs.Room.{Room, share_of, size_of}
+use Rattle.gatt_laws.specs.machine.Part.{Part, Mark, Absent, Live, Ending, is_live, is_there, key_of, mtu_of, prepared_of, row_of, standing_of as part_standing, connection_of as part_connection, backlog_of as part_backlog}
+use Rattle.gatt_laws.specs.machine.Room.{Room, share_of, size_of}
 use Rattle.gatt_conn.specs.Transcript.{first_exchange}
 use Rattle.gatt_slots.specs.Hearing.{row_in_force}
 use Rattle.gatt_slots.specs.Kept.{Kept, kept_of, kept_if_there, outgoing_of, standing_of, connection_of, backlog_of}

@@ -14,12 +14,12 @@ use Rattle.gatt_conn.proofs.Transcripts.{asked_next}
 use Rattle.gatt_conn.specs.Answer.{Question, answer_to, stored_by, handles_by, conn_after, is_confirmation}
 use Rattle.gatt_conn.specs.Connection.{Connection, mtu_between}
 use Rattle.gatt_conn.specs.Transcript.{Answered, Follows, mtu_in}
-use Rattle.gatt_laws.specs.Event.{Asks}
-use Rattle.gatt_laws.specs.Heard.{att_pdu}
-use Rattle.gatt_laws.specs.Part.{Part, is_live, is_there, key_of, row_of, mtu_of, connection_of as part_connection, after_ending as part_ending}
-use Rattle.gatt_laws.specs.Queued.{IsWithinBounds}
-use Rattle.gatt_laws.specs.Room.{Room, share_of, size_of}
-use Rattle.gatt_laws.specs.Turn.{Turn, turn_of, turn_to, live_turn, is_full as part_full, served, values_among, owed_after, bond_after as part_bond_after, remote_user_terminated}
+use Rattle.gatt_laws.specs.machine.Event.{Asks}
+use Rattle.gatt_laws.specs.machine.Heard.{att_pdu}
+use Rattle.gatt_laws.specs.machine.Part.{Part, is_live, is_there, key_of, row_of, mtu_of, connection_of as part_connection, after_ending as part_ending}
+use Rattle.gatt_laws.specs.laws.Queued.{IsWithinBounds}
+use Rattle.gatt_laws.specs.machine.Room.{Room, share_of, size_of}
+use Rattle.gatt_laws.specs.machine.Turn.{Turn, turn_of, turn_to, live_turn, is_full as part_full, served, values_among, owed_after, bond_after as part_bond_after, remote_user_terminated}
 use Rattle.gatt_slots.proofs.parts.Kept.{becomes, connection_kept, link_key, live_there, row_kept}
 use Rattle.gatt_slots.proofs.parts.Turns.{ended_kept, full_kept, live_turned, queued_kept}
 use Rattle.gatt_slots.specs.Hearing.{row_in_force}

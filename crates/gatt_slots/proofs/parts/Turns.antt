@@ -6,11 +6,11 @@ use Rattle.std.proofs.lemmas.Bool.{eq-eqb, ne_eqb, leb-true}
 use Rattle.att_numbers.specs.Types.{Mtu, Row}
 use Rattle.gatt_conn.specs.Connection.{mtu_between}
 use Rattle.gatt_conn.specs.Transcript.{first_exchange}
-use Rattle.gatt_laws.specs.Event.{Own, KeyAsked, Encrypted, Refreshed, Signals, Authorized, Ended}
-use Rattle.gatt_laws.specs.Part.{Part, is_live, is_there, key_of, with_pdus as part_with, after_ending as part_ending, backlog_of as part_backlog}
-use Rattle.gatt_laws.specs.Queued.{IsWithinBounds}
-use Rattle.gatt_laws.specs.Room.{Room, share_of, size_of}
-use Rattle.gatt_laws.specs.Turn.{Turn, turn_of, turn_to, live_turn, is_full, with_step, after_channel, channel_answer, lost_encryption, gained_encryption, authentication_failure, remote_user_terminated}
+use Rattle.gatt_laws.specs.machine.Event.{Own, KeyAsked, Encrypted, Refreshed, Signals, Authorized, Ended}
+use Rattle.gatt_laws.specs.machine.Part.{Part, is_live, is_there, key_of, with_pdus as part_with, after_ending as part_ending, backlog_of as part_backlog}
+use Rattle.gatt_laws.specs.laws.Queued.{IsWithinBounds}
+use Rattle.gatt_laws.specs.machine.Room.{Room, share_of, size_of}
+use Rattle.gatt_laws.specs.machine.Turn.{Turn, turn_of, turn_to, live_turn, is_full, with_step, after_channel, channel_answer, lost_encryption, gained_encryption, authentication_failure, remote_user_terminated}
 use Rattle.gatt_slots.proofs.parts.Heard.{queued_after}
 use Rattle.gatt_slots.proofs.parts.Kept.{backlog_kept, becomes, live_there, outgoing_live}
 use Rattle.gatt_slots.specs.Hearing.{with_pdus}

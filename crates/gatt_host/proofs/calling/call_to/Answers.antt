@@ -10,8 +10,8 @@ use Rattle.gatt_host.specs.Calling.{answer_told}
 use Rattle.gatt_host.specs.declared.fault.Fault.TheVariants as told
 use Rattle.gatt_host.specs.declared.host_fault.HostFault.{HostFault}
 use Rattle.gatt_host.specs.Whole.{Whole}
-use Rattle.gatt_laws.specs.Input.{ACall}
-use Rattle.gatt_laws.specs.Notice.{Notice}
+use Rattle.gatt_laws.specs.machine.Input.{ACall}
+use Rattle.gatt_laws.specs.machine.Notice.{Notice}
 
 pub returns-in_err-feed-clause-feeds : goal.returns-in_err-feed-clause-feeds
 returns-in_err-feed-clause-feeds g c = λ none.

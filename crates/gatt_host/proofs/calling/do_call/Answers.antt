@@ -5,7 +5,7 @@ use Rattle.gatt_host.specs.declared.host_fault.HostFault.{HostFault}
 use Rattle.gatt_host.proofs.whole.Driving.{call_feeds}
 use Rattle.gatt_host.specs.Asked.{call_of}
 use Rattle.gatt_host.specs.Whole.{Whole}
-use Rattle.gatt_laws.specs.Input.{ACall}
+use Rattle.gatt_laws.specs.machine.Input.{ACall}
 use Rattle.gatt_host.proofs.calling.do_call.Goals as goal
 
 pub returns-in_err-write_out-clause-feeds : goal.returns-in_err-write_out-clause-feeds

@@ -8,7 +8,7 @@ use Rattle.gatt_host.proofs.whole.HearingTurns.{HasDrivenTo, driven_to_all, driv
 use Rattle.gatt_host.proofs.whole.Feeds.{counts_where_going, fault_answered, going_takes, none_answered, none_before}
 use Rattle.gatt_host.specs.Feeding.{TakesAll, items_of}
 use Rattle.gatt_host.specs.Whole.{Whole}
-use Rattle.gatt_laws.specs.Notice.{Notice}
+use Rattle.gatt_laws.specs.machine.Notice.{Notice}
 use Rattle.octets.proofs.Writing.{counts_none}
 use Rattle.octets.specs.Number.{Octets}
 use Rattle.gatt_host.proofs.driving.drive_to.Goals as goal

@@ -7,7 +7,7 @@ use Rattle.gatt_host.specs.declared.host_fault.HostFault.{HostFault}
 use Rattle.gatt_host.proofs.whole.Serving.{empty_where}
 use Rattle.gatt_host.specs.Feeding.{TakesAll, octet_items}
 use Rattle.gatt_host.specs.Whole.{Whole}
-use Rattle.gatt_laws.specs.Notice.{Notice}
+use Rattle.gatt_laws.specs.machine.Notice.{Notice}
 use Rattle.octets.proofs.Writing.{counts_none}
 use Rattle.octets.specs.Number.{Octets}
 use Rattle.gatt_host.proofs.feeding.feed_to.Goals as goal

@@ -1,5 +1,5 @@
 use Rattle.std.proofs.Common.{Some, sym, ◌∙◌}
-use Rattle.gatt_host.proofs.Nexts.{takes_init, then_controller, there_where}
+use Rattle.gatt_host.proofs.owing.Nexts.{takes_init, then_controller, there_where}
 use Rattle.gatt_host.specs.GoingOut.{init_command}
 use Rattle.gatt_host.proofs.going_out.command_out.Goals as goal
 

@@ -1,7 +1,7 @@
 use Rattle.std.proofs.Common.{ap, sym, ◌∙◌}
 use Rattle.std.specs.Prelude.{is_some}
 use Rattle.std.proofs.lemmas.Bool.{OnFalse_at}
-use Rattle.gatt_host.proofs.Nexts.{no_command_next, packet_next}
+use Rattle.gatt_host.proofs.owing.Nexts.{no_command_next, packet_next}
 use Rattle.gatt_host.specs.GoingOut.{packet_in}
 use Rattle.gatt_host.proofs.going_out.either_out.Goals as goal
 

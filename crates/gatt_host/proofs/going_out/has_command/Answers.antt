@@ -1,7 +1,7 @@
 use Rattle.std.proofs.Common.{◌≡◌, None, ap, sym, ◌∙◌}
 use Rattle.std.specs.Prelude.{◌&&◌, not, is_some}
-use Rattle.gatt_host.proofs.Firsts.{any_command}
-use Rattle.gatt_host.proofs.Nexts.{enabling_some, is_none_where, takes_enabling, takes_slot, there_where}
+use Rattle.gatt_host.proofs.owing.Firsts.{any_command}
+use Rattle.gatt_host.proofs.owing.Nexts.{enabling_some, is_none_where, takes_enabling, takes_slot, there_where}
 use Rattle.gatt_host.specs.GoingOut.{init_command, command_in}
 use Rattle.gatt_host.proofs.going_out.has_command.Goals as goal
 

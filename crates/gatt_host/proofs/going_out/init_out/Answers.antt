@@ -1,5 +1,5 @@
 use Rattle.std.proofs.Common.{sym, ◌∙◌}
-use Rattle.gatt_host.proofs.Nexts.{init_then}
+use Rattle.gatt_host.proofs.owing.Nexts.{init_then}
 use Rattle.gatt_host.proofs.going_out.init_out.Goals as goal
 
 pub returns-clause-controller : goal.returns-clause-controller

@@ -1,6 +1,6 @@
 use Rattle.std.proofs.Common.{sym, ◌∙◌}
 use Rattle.std.proofs.lemmas.Bool.{OnFalse_from, OnTrue_from}
-use Rattle.gatt_host.proofs.Owing.{drained_is_done, some_is_owed}
+use Rattle.gatt_host.proofs.owing.Owing.{drained_is_done, some_is_owed}
 use Rattle.gatt_host.proofs.going_out.is_drained.Goals as goal
 
 pub returns-clause-done : goal.returns-clause-done

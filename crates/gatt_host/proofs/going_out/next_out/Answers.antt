@@ -1,6 +1,6 @@
 use Rattle.std.proofs.Common.{sym, ◌∙◌}
 use Rattle.std.proofs.lemmas.Bool.{OnFalse_from, OnTrue_at, OnTrue_from}
-use Rattle.gatt_host.proofs.Owing.{none_is_owed, rest_is_owed}
+use Rattle.gatt_host.proofs.owing.Owing.{none_is_owed, rest_is_owed}
 use Rattle.gatt_host.proofs.going_out.next_out.Goals as goal
 
 pub returns-clause-first : goal.returns-clause-first

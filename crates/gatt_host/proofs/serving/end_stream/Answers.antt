@@ -3,7 +3,7 @@ use Rattle.gatt_host.proofs.whole.Items.{reached_by}
 use Rattle.gatt_host.proofs.whole.Serving.{takes_end}
 use Rattle.gatt_host.specs.contracts.host.Host.{the_view}
 use Rattle.gatt_host.specs.Whole.{Takes, Whole}
-use Rattle.gatt_laws.specs.Input.{TheEnd}
+use Rattle.gatt_laws.specs.machine.Input.{TheEnd}
 use Rattle.gatt_host.proofs.serving.end_stream.Goals as goal
 
 pub invariant_of-host : goal.invariant_of-host

@@ -10,7 +10,7 @@ use Rattle.gatt_host.proofs.whole.Serving.{counts_where_none, counts_where_some,
 use Rattle.gatt_host.specs.declared.host_fault.HostFault.{HostFault}
 use Rattle.gatt_host.specs.declared.host_fault.HostFault.TheVariants as stop
 use Rattle.gatt_host.specs.Feeding.{TakesAll, octet_items}
-use Rattle.gatt_laws.specs.Notice.{Notice}
+use Rattle.gatt_laws.specs.machine.Notice.{Notice}
 use Rattle.octets.specs.Number.{Octets}
 use Rattle.gatt_host.specs.Whole.{Whole}
 use Rattle.octets.proofs.Writing.{counts_none, counts_one, counts_same, many_more, many_none}

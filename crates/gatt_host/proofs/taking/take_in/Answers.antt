@@ -13,7 +13,7 @@ use Rattle.gatt_host.specs.Held.{Held}
 use Rattle.gatt_host.specs.Notices.{last_notices}
 use Rattle.gatt_host.specs.Telling.{TellsOfAll}
 use Rattle.gatt_host.specs.Whole.{Leads, StandsAt, Whole}
-use Rattle.gatt_laws.specs.Input.{Item, course}
+use Rattle.gatt_laws.specs.machine.Input.{Item, course}
 use Rattle.le_h4.specs.declared.packet.WholePacket.{WholePacket}
 use Rattle.le_h4.specs.Packet.{seen}
 use Rattle.octets.specs.Number.{Octets}

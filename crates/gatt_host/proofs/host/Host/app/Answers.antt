@@ -1,5 +1,5 @@
 use Rattle.std.proofs.Common.{◌≡◌, true, ◌∷◌, [], None, refl, sym, subst, ◌∙◌}
-use Rattle.gatt_host.proofs.Nexts.{is_none_where}
+use Rattle.gatt_host.proofs.owing.Nexts.{is_none_where}
 use Rattle.gatt_host.proofs.whole.Calls.{call_refused, call_told, takes_call}
 use Rattle.gatt_host.proofs.whole.Told.{told_in_course}
 use Rattle.gatt_host.proofs.whole.Items.{reached_by}
@@ -7,8 +7,8 @@ use Rattle.gatt_host.specs.Asked.{call_of}
 use Rattle.gatt_host.specs.contracts.host.Host.{the_view}
 use Rattle.gatt_host.specs.Meaning.{IsAfter}
 use Rattle.gatt_host.specs.Whole.{StandsAt, Takes, Whole, all_out}
-use Rattle.gatt_laws.specs.Calls.{call_event}
-use Rattle.gatt_laws.specs.Input.{ACall, course}
+use Rattle.gatt_laws.specs.machine.Calls.{call_event}
+use Rattle.gatt_laws.specs.machine.Input.{ACall, course}
 use Rattle.gatt_host.proofs.host.Host.app.Goals as goal
 
 pub invariant_of-self : goal.invariant_of-self

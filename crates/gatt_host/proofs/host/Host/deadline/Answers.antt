@@ -3,7 +3,7 @@ use Rattle.gatt_host.proofs.host.Host.deadline.Goals as goal
 use Rattle.gatt_host.proofs.whole.Deadlines.{deadline_where}
 use Rattle.gatt_host.specs.declared.host.Host.TheInside.{Inside}
 use Rattle.gatt_host.specs.Whole.{Whole}
-use Rattle.gatt_laws.specs.Input.{course}
+use Rattle.gatt_laws.specs.machine.Input.{course}
 use Rattle.gatt_slots.specs.Slots.{slots_deadline}
 
 pub returns-clause-course : goal.returns-clause-course

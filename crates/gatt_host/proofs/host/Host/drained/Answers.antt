@@ -3,7 +3,7 @@ use Rattle.std.proofs.lemmas.Bool.{OnTrue_from}
 use Rattle.gatt_host.proofs.meaning.Drained.{all_gone}
 use Rattle.gatt_host.proofs.whole.Items.{drained_where}
 use Rattle.gatt_host.specs.Whole.{Whole, all_out}
-use Rattle.gatt_laws.specs.Input.{course}
+use Rattle.gatt_laws.specs.machine.Input.{course}
 use Rattle.gatt_host.proofs.host.Host.drained.Goals as goal
 
 pub returns-clause-all : goal.returns-clause-all

@@ -5,8 +5,8 @@ use Rattle.gatt_host.proofs.whole.Packets.{passes_long, takes_packet}
 use Rattle.gatt_host.proofs.whole.Told.{long_told, not_long, ok_where, told_in_course}
 use Rattle.gatt_host.specs.contracts.host.Host.{the_view}
 use Rattle.gatt_host.specs.Whole.{LeadsBy, StandsAt, Takes, Whole, all_out}
-use Rattle.gatt_laws.specs.Input.{APacket, course}
-use Rattle.gatt_laws.specs.Packets.{packet_event}
+use Rattle.gatt_laws.specs.machine.Input.{APacket, course}
+use Rattle.gatt_laws.specs.machine.Packets.{packet_event}
 use Rattle.le_h4.specs.Packet.{seen}
 use Rattle.gatt_host.proofs.host.Host.packet.Goals as goal
 

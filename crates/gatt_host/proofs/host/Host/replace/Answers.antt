@@ -1,12 +1,12 @@
 use Rattle.std.proofs.Common.{◌≡◌, true, ◌∷◌, [], None, refl, sym, subst, ◌∙◌}
-use Rattle.gatt_host.proofs.Nexts.{is_none_where}
+use Rattle.gatt_host.proofs.owing.Nexts.{is_none_where}
 use Rattle.gatt_host.proofs.whole.Calls.{replaced_after, table_told, takes_table}
 use Rattle.gatt_host.proofs.whole.Told.{told_in_course}
 use Rattle.gatt_host.proofs.whole.Items.{reached_by}
 use Rattle.gatt_host.specs.contracts.host.Host.{the_view}
 use Rattle.gatt_host.specs.Whole.{StandsAt, Takes, Whole, all_out}
-use Rattle.gatt_laws.specs.Calls.{replacement_event}
-use Rattle.gatt_laws.specs.Input.{ATable, course}
+use Rattle.gatt_laws.specs.machine.Calls.{replacement_event}
+use Rattle.gatt_laws.specs.machine.Input.{ATable, course}
 use Rattle.gatt_host.proofs.host.Host.replace.Goals as goal
 
 pub invariant_of-self : goal.invariant_of-self

@@ -2,7 +2,7 @@ use Rattle.std.proofs.Common.{List, [], Some, ap, ◌∙◌}
 use Rattle.att_numbers.specs.Types.{Handle}
 use Rattle.gatt_host.specs.contracts.host_state.HostState.{the_view}
 use Rattle.gatt_host.specs.Held.{Held, kept_at}
-use Rattle.gatt_host.proofs.Places.{asked_then_heard, both_brought}
+use Rattle.gatt_host.proofs.places.Places.{asked_then_heard, both_brought}
 use Rattle.gatt_slots.specs.Slots.{all_heard}
 use Rattle.gatt_host.proofs.host_state.HostState.ask.Goals as goal
 

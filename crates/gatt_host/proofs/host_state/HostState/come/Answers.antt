@@ -1,8 +1,8 @@
 use Rattle.std.proofs.Common.{ℕ, Option, length, sym, ap, ◌∙◌}
 use Rattle.gatt_host.specs.contracts.host_state.HostState.{the_view}
 use Rattle.gatt_host.specs.Held.{Held}
-use Rattle.gatt_host.proofs.Places.{come_then_heard}
-use Rattle.gatt_laws.specs.Room.{share_of, size_of}
+use Rattle.gatt_host.proofs.places.Places.{come_then_heard}
+use Rattle.gatt_laws.specs.machine.Room.{share_of, size_of}
 use Rattle.le_acl.specs.Shares.{share}
 use Rattle.le_hci.specs.declared.buffers.Buffers.{Buffers}
 use Rattle.gatt_host.proofs.host_state.HostState.come.Goals as goal

@@ -4,12 +4,12 @@ use Rattle.std.specs.Option.{option_map, option_to_list}
 use Rattle.std.proofs.lemmas.Bool.{ltb-false}
 use Rattle.std.proofs.lemmas.List.{length-map}
 use Rattle.att_numbers.specs.Types.{Handle}
-use Rattle.gatt_host.proofs.Appended.{behind}
+use Rattle.gatt_host.proofs.packets.Appended.{behind}
 use Rattle.gatt_host.specs.contracts.host_state.HostState.{the_view}
 use Rattle.gatt_host.specs.Held.{Held}
 use Rattle.gatt_host.specs.Notices.{notice_of, row_there, served_told}
-use Rattle.gatt_laws.specs.Notice.{Notice, Confirmed, Ending, write_told}
-use Rattle.gatt_laws.specs.Turn.{remote_user_terminated}
+use Rattle.gatt_laws.specs.machine.Notice.{Notice, Confirmed, Ending, write_told}
+use Rattle.gatt_laws.specs.machine.Turn.{remote_user_terminated}
 use Rattle.gatt_host.proofs.host_state.HostState.served_notice.Goals as goal
 
 pub returns-in-None-clause-notice : goal.returns-in-None-clause-notice

@@ -1,0 +1,4 @@
+pub mod Commands
+pub mod CommandsFirst
+pub mod SlotCommands
+pub mod Readies

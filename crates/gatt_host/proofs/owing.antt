@@ -1,0 +1,5 @@
+pub mod Owing
+pub mod Firsts
+pub mod Nexts
+pub mod Untold
+pub mod Answering

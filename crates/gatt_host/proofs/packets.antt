@@ -1,0 +1,4 @@
+pub mod Packets
+pub mod Lengths
+pub mod WholeFrames
+pub mod Appended

@@ -1,9 +1,0 @@
--- What a connection has prepared is its own.
-use Rattle.std.specs.Prelude.{◌≡◌, ◌==◌, false}
-use Rattle.gatt_laws.specs.Event.{Ordinal, Own, Of}
-use Rattle.gatt_laws.specs.State.{State, step}
-
--- what happens to one connection leaves the prepared writes and the ATT_MTU of every other
-abbrev pub LeavesOthersPrepared : Type 0
-LeavesOthersPrepared = (state : State) (ordinal other : Ordinal) (own : Own) → (other == ordinal) ≡ false →
-    ((step state (Of ordinal own)).parts other).said ≡ (state.parts other).said

@@ -1,0 +1,87 @@
+-- Two states that are alike to a peer: they differ in the octets of values that are hidden, and in what other peers alone
+-- are sent, are still to be told, and have read.
+use Rattle.std.specs.Prelude.{◌≡◌, Bool, true, false, is_none, if◌then◌else◌, List, [], map, None, Ok, Err}
+use Rattle.att_numbers.specs.Types.{Handle, Row}
+use Rattle.att_pdu.specs.Request.{ExchangeMtuRequest, FindInformationRequest, FindByTypeValueRequest, ReadByTypeRequest, ReadRequest, ReadBlobRequest, ReadMultipleRequest, ReadByGroupTypeRequest, WriteRequest, PrepareWriteRequest, ExecuteWriteRequest, ConfirmationPdu, WriteCommandPdu}
+use Rattle.att_policy.specs.declared.standing.Standing.{Standing}
+use Rattle.att_reads.specs.Access.{refusal_at}
+use Rattle.att_attributes.specs.declared.attr.Attr.{Attr}
+use Rattle.att_writes.specs.SameBut.{SameBut}
+use Rattle.gatt_conn.specs.Answer.{Question}
+use Rattle.gatt_conn.specs.Transcript.{Said, Answered, Dropped}
+use Rattle.gatt_laws.specs.machine.Event.{Ordinal}
+use Rattle.gatt_laws.specs.machine.Part.{Part, is_live, row_of, standing_of}
+use Rattle.gatt_laws.specs.machine.Room.{Room, Bonds}
+use Rattle.gatt_laws.specs.machine.State.{State, with_values}
+use Rattle.gatt_subs.specs.Hearing.{may_hear_at}
+use Rattle.gatt_subs.specs.Indications.{no_indications}
+use Rattle.le_hci.specs.declared.peer.Peer.{Peer}
+use Rattle.le_security.specs.Entry.{same_peer}
+
+-- the requests that read: Core 5.0, Vol 3 Part F, 3.4.3 and 3.4.4
+abbrev pub is_reading : Question → Bool
+is_reading (Ok (FindInformationRequest first last)) = true
+is_reading (Ok (FindByTypeValueRequest first last type value)) = true
+is_reading (Ok (ReadByTypeRequest first last type)) = true
+is_reading (Ok (ReadRequest handle)) = true
+is_reading (Ok (ReadBlobRequest handle offset)) = true
+is_reading (Ok (ReadMultipleRequest handles)) = true
+is_reading (Ok (ReadByGroupTypeRequest first last type)) = true
+is_reading (Ok (ExchangeMtuRequest client_rx_mtu)) = false
+is_reading (Ok (WriteRequest handle value)) = false
+is_reading (Ok (PrepareWriteRequest handle offset part)) = false
+is_reading (Ok (ExecuteWriteRequest flags)) = false
+is_reading (Ok ConfirmationPdu) = false
+is_reading (Ok (WriteCommandPdu handle value)) = false
+is_reading (Err fault) = false
+
+-- what was said, without the answer where it reads
+abbrev pub without_reading : Said → Said
+without_reading (Answered asked answer) = Answered asked (if is_reading asked then None else answer)
+without_reading Dropped = Dropped
+
+-- a connection without its PDUs, and what of them is given and done; without answers to requests that read; and without its
+-- indications
+abbrev pub erased : Part → Part
+erased part = record part {
+  said = map without_reading part.said;
+  pending = no_indications;
+  pdus = [];
+  given = 0;
+  done = 0;
+}
+
+-- a connection is one of this peer
+abbrev pub is_of : Peer → Part → Bool
+is_of peer part = same_peer part.peer peer
+
+-- in both states these are the same: all that connections share but hidden octets, whatever is configured, what the peer is
+-- owed, its connections, and all others but for what is erased
+pub record Alike (peer : Peer) (hidden : Handle → Bool) (one other : State) : Type 0 where
+  pub room : with_values one.room other.room.table.values ≡ other.room
+  pub values : SameBut hidden one.room.table.values other.room.table.values
+  pub bonds : one.bonds ≡ other.bonds
+  pub owed : one.owed peer ≡ other.owed peer
+  pub own : (ordinal : Ordinal) → is_of peer (one.parts ordinal) ≡ true → one.parts ordinal ≡ other.parts ordinal
+  pub others : (ordinal : Ordinal) → erased (one.parts ordinal) ≡ erased (other.parts ordinal)
+  pub slots : one.slots ≡ other.slots
+  pub next : one.next ≡ other.next
+  pub controller : one.controller ≡ other.controller
+
+-- whether a connection may read the attribute at a handle
+abbrev pub may_read_at : List Attr → Standing → Handle → Bool
+may_read_at attributes standing handle = is_none (refusal_at attributes standing handle)
+
+-- it may neither read the value there nor hear of it
+pub record MayNotKnow (attributes : List Attr) (row : Row) (standing : Standing) (handle : Handle) : Type 0 where
+  pub unread : may_read_at attributes standing handle ≡ false
+  pub unheard : may_hear_at attributes row standing handle ≡ false
+
+-- what is hidden no connection of the peer that serves may know
+abbrev pub HidesFrom : Peer → (Handle → Bool) → Room → Bonds → Part → Type 0
+HidesFrom peer hidden room bonds part =
+    is_live part.mark ≡ true → is_of peer part ≡ true → (handle : Handle) → hidden handle ≡ true →
+    MayNotKnow room.table.attributes (row_of (bonds part.peer) part) (standing_of room part) handle
+
+abbrev pub Hides : Peer → (Handle → Bool) → State → Type 0
+Hides peer hidden state = (ordinal : Ordinal) → HidesFrom peer hidden state.room state.bonds (state.parts ordinal)

@@ -1,0 +1,66 @@
+-- What is told was allowed: no write that was not, and nothing of what is refused or ignored.
+use Rattle.std.specs.Prelude.{◌≡◌, ℕ, Bool, true, false, All, [], Some, Err}
+use Rattle.att_numbers.specs.Types.{Handle, Opcode, Code}
+use Rattle.att_pdu.specs.Grammar.{request_of}
+use Rattle.att_pdu.specs.Response.{ErrorResponse}
+use Rattle.att_pdu.specs.declared.grammar.PduFault.TheVariants.{Ignored}
+use Rattle.att_policy.specs.declared.policy.Access.{Access}
+use Rattle.att_policy.specs.declared.policy.Access.TheVariants.{Read, Write, Command}
+use Rattle.gatt_conn.specs.Answer.{answer_to}
+use Rattle.gatt_laws.specs.machine.Event.{Ordinal, Own, Asks, Event, Of}
+use Rattle.gatt_laws.specs.laws.Headline.{MayUse}
+use Rattle.gatt_laws.specs.machine.Notice.{Notice, Written, Configured, noticed}
+use Rattle.gatt_laws.specs.laws.OwnWrites.{row_in}
+use Rattle.gatt_laws.specs.machine.Part.{is_live, mtu_of, standing_of, connection_of}
+use Rattle.gatt_laws.specs.laws.Silence.{is_for_all}
+use Rattle.gatt_laws.specs.machine.State.{State}
+use Rattle.gatt_laws.specs.machine.Turn.{is_full}
+use Rattle.octets.specs.Number.{Octets}
+
+-- a Write Request, an execution or a Write Command
+abbrev pub is_writing : Access → Bool
+is_writing Read = false
+is_writing Write = true
+is_writing Command = true
+
+-- a connection of this handle serves, and may write there, in the way in which it asks to
+pub record MayWrite (state : State) (handle : ℕ) (attribute : Handle) : Type 0 where
+  pub ordinal : Ordinal
+  pub serves : is_live (state.parts ordinal).mark ≡ true
+  pub named : (state.parts ordinal).handle ≡ handle
+  pub access : Access
+  pub writes : is_writing access ≡ true
+  pub may : MayUse access state.room.table.attributes
+      (standing_of state.room (state.parts ordinal)) attribute
+
+abbrev pub WasAllowed : State → Notice → Type 0
+WasAllowed state (Written handle attribute) = MayWrite state handle attribute
+WasAllowed state (Configured handle attribute bits) = MayWrite state handle attribute
+WasAllowed state notice = Unit
+
+-- each write and each configuration that is told was allowed when it came
+abbrev pub TellsWhatWasAllowed : Type 0
+TellsWhatWasAllowed = (state : State) (event : Event) →
+    All (WasAllowed state) (noticed state event)
+
+-- nothing is told of a request that is refused, where there is room for the refusal
+abbrev pub TellsNoRefusals : Type 0
+TellsNoRefusals = (state : State) (ordinal : Ordinal) (pdu : Octets)
+    (request : Opcode) (handle : Handle) (code : Code) →
+    let part = state.parts ordinal in
+    is_full state.room part ≡ false
+    → answer_to state.room.table (row_in state ordinal) (connection_of state.room part)
+    (request_of pdu (mtu_of state.room part)) ≡ Some (ErrorResponse request handle code)
+    → noticed state (Of ordinal (Asks pdu)) ≡ []
+
+-- nor of a PDU that is ignored
+abbrev pub TellsNothingIgnored : Type 0
+TellsNothingIgnored = (state : State) (ordinal : Ordinal) (pdu : Octets) →
+    request_of pdu (mtu_of state.room (state.parts ordinal)) ≡ Err Ignored
+    → noticed state (Of ordinal (Asks pdu)) ≡ []
+
+-- nor of what happens to a connection that does not serve, but for coming and going
+abbrev pub TellsOnlyOfTheLive : Type 0
+TellsOnlyOfTheLive = (state : State) (ordinal : Ordinal) (own : Own) →
+    is_live (state.parts ordinal).mark ≡ false → is_for_all own ≡ false
+    → noticed state (Of ordinal own) ≡ []

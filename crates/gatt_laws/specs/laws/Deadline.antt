@@ -1,0 +1,30 @@
+-- When an indication of any connection is late: this profile's own.
+use Rattle.std.specs.Prelude.{◌≡◌, ℕ, ◌<◌, ◌^◌, min, nat_le, Bool, true, false, filter_map, Option, Some, None}
+use Rattle.std.specs.List.{list_any, reduce}
+use Rattle.std.specs.Option.{option_map_or}
+use Rattle.gatt_laws.specs.machine.Event.{Ordinal, Tick}
+use Rattle.gatt_laws.specs.machine.Notice.{Notice, TimedOut, noticed}
+use Rattle.gatt_laws.specs.machine.State.{State}
+use Rattle.gatt_subs.specs.Deadline.{deadline_of}
+use Rattle.gatt_subs.specs.Indications.{Milliseconds}
+
+-- of the connection of a slot
+abbrev pub slot_deadline : State → Option Ordinal → Option Milliseconds
+slot_deadline state None = None
+slot_deadline state (Some ordinal) = deadline_of (state.parts ordinal).pending
+
+-- and the least of all: none where nothing is unconfirmed
+abbrev pub deadline : State → Option Milliseconds
+deadline state = reduce min (filter_map (slot_deadline state) state.slots)
+
+-- it is what a caller may wait for: a time below it tells of nobody who did not confirm in time, and one from it on does
+abbrev pub is_late_told : Notice → Bool
+is_late_told (TimedOut handle) = true
+is_late_told other = false
+
+abbrev pub is_reached : Option Milliseconds → Milliseconds → Bool
+is_reached deadline time = option_map_or (λ (least : ℕ). nat_le least time) deadline false
+
+abbrev pub TellsFromTheDeadlineOn : Type 0
+TellsFromTheDeadlineOn = (state : State) (time : Milliseconds) → time < 2 ^ 64 →
+    list_any is_late_told (noticed state (Tick time)) ≡ is_reached (deadline state) time

@@ -1,0 +1,43 @@
+-- The event that an item of the input means, if it means one.
+use Rattle.std.specs.Prelude.{◌≡◌, is_some, if◌then◌else◌, [], ◌∷◌, ◌++◌, Option, Some, None, Result, Ok, Err}
+use Rattle.gatt_laws.specs.machine.Calls.{call_event, replacement_event}
+use Rattle.gatt_laws.specs.machine.Event.{Event}
+use Rattle.gatt_laws.specs.machine.Input.{Item, AnOctet, APacket, ACall, ATable, TheEnd, Intake, Course, after_item}
+use Rattle.gatt_laws.specs.machine.Packets.{Fragments, packet_event}
+use Rattle.gatt_laws.specs.machine.State.{State, step}
+use Rattle.le_h4.specs.Division.{is_long}
+use Rattle.le_h4.specs.Packet.{Packet, First, FirstPacket, NoneYet, NoPacket, first_of}
+
+abbrev pub event_if : {E : Type 0} → Result Event E → Option Event
+event_if (Ok event) = Some event
+event_if (Err fault) = None
+
+-- a packet that is too long means none
+abbrev pub event_of_packet : State → Fragments → Packet → Option Event
+event_of_packet state fragments packet = if is_long packet then None else event_if (packet_event state fragments packet)
+
+-- octets that begin with a whole packet
+abbrev pub event_of_first : State → Fragments → First → Option Event
+event_of_first state fragments (FirstPacket packet rest) = event_of_packet state fragments packet
+event_of_first state fragments NoneYet = None
+event_of_first state fragments (NoPacket indicator) = None
+
+abbrev pub event_taken : Intake → Item → Option Event
+event_taken intake (AnOctet octet) = event_of_first intake.state intake.fragments (first_of (intake.unfinished ++ octet ∷ []))
+event_taken intake (APacket packet) = event_of_packet intake.state intake.fragments packet
+event_taken intake (ACall call) = event_if (call_event intake.state call)
+event_taken intake (ATable table) = event_if (replacement_event intake.state table)
+event_taken intake TheEnd = None
+
+-- after a fault there is none
+abbrev pub event_at : Intake → Item → Option Event
+event_at intake item = if is_some intake.fault then None else event_taken intake item
+
+abbrev pub after_if : State → Option Event → State
+after_if state None = state
+after_if state (Some event) = step state event
+
+-- an item makes of the state what its event makes of it
+abbrev pub MeansItsEvent : Type 0
+MeansItsEvent = (course : Course) (item : Item) →
+    (after_item course item).intake.state ≡ after_if course.intake.state (event_at course.intake item)

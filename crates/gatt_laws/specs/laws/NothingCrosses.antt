@@ -1,0 +1,120 @@
+-- Nothing crosses: two inputs that differ in the octets of values that no connection of a peer may know, and in nothing else,
+-- give the same packets to its connections.
+use Rattle.std.specs.Prelude.{◌≡◌, Bool, true, false, ◌&&◌, ◌||◌, not, is_some, if◌then◌else◌, List, [], ◌∷◌, ◌++◌, Option, Some, None}
+use Rattle.std.specs.List.{list_any}
+use Rattle.att_numbers.specs.Types.{Handle}
+use Rattle.att_attributes.specs.Attributes.{type_at}
+use Rattle.att_attributes.specs.Group.{is_service_type}
+use Rattle.att_table.specs.Facts.{IsTable}
+use Rattle.att_table.specs.Table.{Contents}
+use Rattle.att_writes.specs.SameBut.{SameBut}
+use Rattle.gatt_laws.specs.laws.Alike.{is_of, may_read_at}
+use Rattle.gatt_laws.specs.machine.Event.{Ordinal, Event}
+use Rattle.gatt_laws.specs.machine.Input.{Item, ATable, Intake, Course, after_item, at_start, course}
+use Rattle.gatt_laws.specs.laws.ItemEvents.{event_at}
+use Rattle.gatt_laws.specs.machine.Part.{is_live, row_of, standing_of}
+use Rattle.gatt_laws.specs.laws.Possible.{AllTables}
+use Rattle.gatt_laws.specs.machine.Start.{Start}
+use Rattle.gatt_laws.specs.machine.State.{State}
+use Rattle.gatt_laws.specs.laws.TwoWorlds.{Spared, given_of}
+use Rattle.gatt_subs.specs.Hearing.{may_hear_at}
+use Rattle.le_hci.specs.declared.peer.Peer.{Peer}
+use Rattle.octets.specs.Number.{Octets}
+
+-- a connection of the peer serves, and may read the value at a handle or hear of it
+abbrev pub knows : Peer → State → Handle → Ordinal → Bool
+knows peer state handle ordinal =
+    let part = state.parts ordinal in
+    let attributes = state.room.table.attributes in
+    let standing = standing_of state.room part in
+    let row = row_of (state.bonds part.peer) part in
+    is_live part.mark && (is_of peer part && (may_read_at attributes standing handle || may_hear_at attributes row standing handle))
+
+abbrev pub knows_in : Peer → State → Handle → Option Ordinal → Bool
+knows_in peer state handle None = false
+knows_in peer state handle (Some ordinal) = knows peer state handle ordinal
+
+abbrev pub is_known : Peer → State → Handle → Bool
+is_known peer state handle = list_any (knows_in peer state handle) state.slots
+
+-- a table that is handed in stands from then on
+abbrev pub is_replaced : Intake → Item → Bool
+is_replaced intake (ATable table) = is_some (event_at intake (ATable table))
+is_replaced intake item = false
+
+-- a connection of the peer knows it at some moment while the table stands that stands now
+abbrev pub known_while : Peer → Course → List Item → Handle → Bool
+known_while peer course [] handle = is_known peer course.intake.state handle
+known_while peer course (item ∷ items) handle =
+    is_known peer course.intake.state handle
+    || (if is_replaced course.intake item then false else known_while peer (after_item course item) items handle)
+
+-- what no connection of the peer may know at any moment while that table stands
+abbrev pub hidden_while : Peer → Course → List Item → Handle → Bool
+hidden_while peer course items handle = not (known_while peer course items handle)
+
+-- tables agree but for the octets of what is hidden. Values that name services are the same: no characteristic value and no
+-- descriptor is one
+pub record TablesAgree (hidden : Handle → Bool) (one other : Contents) : Type 0 where
+  pub attributes : one.attributes ≡ other.attributes
+  pub values : SameBut (λ handle. hidden handle && not (is_service_type (type_at one.attributes handle))) one.values other.values
+
+pub record StartsAgree (hidden : Handle → Bool) (one other : Start) : Type 0 where
+  pub table : TablesAgree hidden one.table other.table
+  pub rest : record one { table = other.table } ≡ other
+
+pub record IsTableToo (hidden : Handle → Bool) (table : Contents) (item : Item) : Type 0 where
+  pub its : Contents
+  pub is : item ≡ ATable its
+  pub agree : TablesAgree hidden table its
+
+-- items are the same, but for the tables that replace others
+abbrev pub ItemsAgree : (Handle → Bool) → Bool → Item → Item → Type 0
+ItemsAgree hidden true (ATable table) its = IsTableToo hidden table its
+ItemsAgree hidden replaced item its = item ≡ its
+
+abbrev pub InputsAgree : Peer → Course → List Item → List Item → Type 0
+InputsAgree peer course [] [] = Unit
+InputsAgree peer course (item ∷ items) [] = ⊥
+InputsAgree peer course [] (its ∷ others) = ⊥
+InputsAgree peer course (item ∷ items) (its ∷ others) =
+    ItemsAgree (hidden_while peer (after_item course item) items) (is_replaced course.intake item) item its
+    × InputsAgree peer (after_item course item) items others
+
+-- two starts and inputs agree for a peer: what is hidden follows from the first of them alone
+pub record Agree (peer : Peer) (one other : Start) (input its : List Item) : Type 0 where
+  pub starts : StartsAgree (hidden_while peer (at_start one) input) one other
+  pub inputs : InputsAgree peer (at_start one) input its
+
+-- no connection of another peer is ended for want of room
+abbrev pub SparedIf : Peer → State → Option Event → Type 0
+SparedIf peer state None = Unit
+SparedIf peer state (Some event) = Spared peer state event
+
+abbrev pub SparedIn : Peer → Course → List Item → Type 0
+SparedIn peer course [] = Unit
+SparedIn peer course (item ∷ items) =
+    SparedIf peer course.intake.state (event_at course.intake item) × SparedIn peer (after_item course item) items
+
+-- the packets that are given to a connection while it is one of the peer, in their order
+abbrev pub given_if : Peer → Ordinal → State → Option Event → List Octets
+given_if peer ordinal state None = []
+given_if peer ordinal state (Some event) = given_of peer ordinal state event
+
+abbrev pub given_by : Peer → Ordinal → Course → List Item → List Octets
+given_by peer ordinal course [] = []
+given_by peer ordinal course (item ∷ items) =
+    given_if peer ordinal course.intake.state (event_at course.intake item) ++ given_by peer ordinal (after_item course item) items
+
+-- whatever is hidden from a peer, its connections are given the same
+abbrev pub NothingCrosses : Type 0
+NothingCrosses = (peer : Peer) (one other : Start) (input its : List Item) → IsTable one.table → AllTables IsTable input →
+    Agree peer one other input its → SparedIn peer (at_start one) input → SparedIn peer (at_start other) its →
+    (ordinal : Ordinal) → given_by peer ordinal (at_start one) input ≡ given_by peer ordinal (at_start other) its
+
+-- and are the same at the end, with all that is queued for them
+abbrev pub LeavesConnectionsTheSame : Type 0
+LeavesConnectionsTheSame = (peer : Peer) (one other : Start) (input its : List Item) → IsTable one.table → AllTables IsTable input →
+    Agree peer one other input its → SparedIn peer (at_start one) input → SparedIn peer (at_start other) its →
+    (ordinal : Ordinal) → is_of peer ((course one input).intake.state.parts ordinal) ≡ true →
+    (course one input).intake.state.parts ordinal ≡ (course other its).intake.state.parts ordinal

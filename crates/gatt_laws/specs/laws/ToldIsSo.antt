@@ -1,0 +1,34 @@
+-- What is told is so afterwards.
+use Rattle.std.specs.Prelude.{◌≡◌, ℕ, false, All, Some, None}
+use Rattle.att_table.specs.ConfigRow.{bits_at}
+use Rattle.gatt_laws.specs.machine.Event.{Ordinal, Event}
+use Rattle.gatt_laws.specs.machine.Notice.{Notice, Connected, Secured, Unsecured, Configured, Ending}
+use Rattle.gatt_laws.specs.machine.Notice.{noticed}
+use Rattle.gatt_laws.specs.laws.OwnWrites.{row_in}
+use Rattle.gatt_laws.specs.machine.Part.{is_live, key_of}
+use Rattle.gatt_laws.specs.machine.State.{State, step}
+
+-- it is so of a connection of this handle
+pub record OfOne (state : State) (handle : ℕ) (Holds : Ordinal → Type 0) : Type 0 where
+  pub ordinal : Ordinal
+  pub named : (state.parts ordinal).handle ≡ handle
+  pub holds : Holds ordinal
+
+-- it has this peer, or a key of these facts, or none; it has configured these bits in the row that
+-- is in force; or it does not serve any more
+abbrev pub IsSo : State → Notice → Type 0
+IsSo state (Connected handle peer) =
+    OfOne state handle (λ ordinal. (state.parts ordinal).peer ≡ peer)
+IsSo state (Secured handle facts) =
+    OfOne state handle (λ ordinal. key_of (state.parts ordinal) ≡ Some facts)
+IsSo state (Unsecured handle) = OfOne state handle (λ ordinal. key_of (state.parts ordinal) ≡ None)
+IsSo state (Configured handle attribute bits) =
+    OfOne state handle (λ ordinal. bits_at (row_in state ordinal) attribute ≡ bits)
+IsSo state (Ending handle reason) =
+    OfOne state handle (λ ordinal. is_live (state.parts ordinal).mark ≡ false)
+IsSo state notice = Unit
+
+-- all that is told of an event is so in the state that it leads to
+abbrev pub TellsWhatIsSo : Type 0
+TellsWhatIsSo = (state : State) (event : Event) →
+    All (IsSo (step state event)) (noticed state event)

@@ -1,0 +1,104 @@
+-- Nothing crosses from one connection to those of another peer: two runs that differ in what the connections of a peer may
+-- not know are the same to them.
+use Rattle.std.specs.Prelude.{◌≡◌, Bool, true, false, ◌&&◌, is_some, if◌then◌else◌, List, [], ◌∷◌, ◌++◌, Some}
+use Rattle.att_numbers.specs.Types.{Handle}
+use Rattle.att_pdu.specs.Grammar.{request_of, is_due}
+use Rattle.att_table.specs.Changer.{changer_of}
+use Rattle.att_table.specs.Table.{Contents}
+use Rattle.att_writes.specs.SameBut.{SameBut}
+use Rattle.gatt_laws.specs.laws.Alike.{is_of, Alike, Hides}
+use Rattle.gatt_laws.specs.machine.Event.{Ordinal, Own, Event, Asks, Signals, Of, Replaced}
+use Rattle.gatt_laws.specs.machine.Part.{Part, is_live, is_there, mtu_of}
+use Rattle.gatt_laws.specs.machine.Room.{Room}
+use Rattle.gatt_laws.specs.machine.State.{State, before_commands, slot_out, step}
+use Rattle.gatt_laws.specs.machine.Turn.{channel_answer, is_full}
+use Rattle.le_hci.specs.declared.peer.Peer.{Peer}
+use Rattle.octets.specs.Number.{Octets}
+
+-- tables that differ in the octets of hidden values alone, and tell of changes by the same value
+pub record SameTable (hidden : Handle → Bool) (one other : Contents) : Type 0 where
+  pub attributes : one.attributes ≡ other.attributes
+  pub changer : changer_of one ≡ changer_of other
+  pub values : SameBut hidden one.values other.values
+
+-- the table is replaced in both
+pub record IsReplacedToo (hidden : Handle → Bool) (table : Contents) (event : Event) : Type 0 where
+  pub its : Contents
+  pub is : event ≡ Replaced its
+  pub same : SameTable hidden table its
+
+-- what happens in one and in the other: the same, or replacements by tables that differ in what is hidden from then on
+abbrev pub Matched : (hidden following : Handle → Bool) → Event → Event → Type 0
+Matched hidden following (Replaced table) other = IsReplacedToo following table other
+Matched hidden following event other = (event ≡ other) × (hidden ≡ following)
+
+-- an answer to what happens is due, and there is no room for it
+abbrev pub is_answer_due : Room → Part → Own → Bool
+is_answer_due room part (Asks pdu) = is_due (request_of pdu (mtu_of room part))
+is_answer_due room part (Signals channel payload) = is_some (channel_answer channel payload)
+is_answer_due room part own = false
+
+abbrev pub finds_no_room : Room → Part → Own → Bool
+finds_no_room room part own = is_live part.mark && (is_answer_due room part own && is_full room part)
+
+-- no connection of another peer is ended for want of room
+abbrev pub Spared : Peer → State → Event → Type 0
+Spared peer state (Of ordinal own) =
+    is_of peer (state.parts ordinal) ≡ false → finds_no_room state.room (state.parts ordinal) own ≡ false
+Spared peer state event = Unit
+
+-- the packets that are given to one connection at an event
+abbrev pub given_to : Ordinal → State → Event → List Octets
+given_to ordinal state event = slot_out state (before_commands state event) (Some ordinal)
+
+-- while a connection is there it is one of the peer
+abbrev pub BelongsTo : Peer → Part → Type 0
+BelongsTo peer part = is_there part.mark ≡ true → is_of peer part ≡ true
+
+-- what happens in both, where no connection of the peer may know what is hidden, before or after, and no connection of another
+-- peer is ended for want of room
+pub record Agrees (peer : Peer) (hidden : Handle → Bool) (one other : State) (event its : Event) : Type 0 where
+  pub following : Handle → Bool
+  pub matched : Matched hidden following event its
+  pub hides : Hides peer hidden one
+  pub hides_then : Hides peer following (step one event)
+  pub spared : Spared peer one event
+  pub spared_too : Spared peer other its
+
+-- one event from states that are alike leaves states that are alike, and gives the same packets to each connection of the peer
+abbrev pub KeepsAlike : Type 0
+KeepsAlike = (peer : Peer) (hidden : Handle → Bool) (one other : State) (event its : Event) → Alike peer hidden one other →
+    (agrees : Agrees peer hidden one other event its) → Alike peer agrees.following (step one event) (step other its)
+
+abbrev pub GivesTheSame : Type 0
+GivesTheSame = (peer : Peer) (hidden : Handle → Bool) (one other : State) (event its : Event) → Alike peer hidden one other →
+    Agrees peer hidden one other event its → (ordinal : Ordinal) → BelongsTo peer (one.parts ordinal) →
+    given_to ordinal one event ≡ given_to ordinal other its
+
+-- nothing is given to a connection that is not there when it happens
+abbrev pub GivesNothingToTheAbsent : Type 0
+GivesNothingToTheAbsent = (state : State) (event : Event) (ordinal : Ordinal) → is_there (state.parts ordinal).mark ≡ false →
+    given_to ordinal state event ≡ []
+
+-- the packets that are given to a connection while it is one of the peer: at an event, and in a run of events
+abbrev pub given_of : Peer → Ordinal → State → Event → List Octets
+given_of peer ordinal state event = if is_of peer (state.parts ordinal) then given_to ordinal state event else []
+
+abbrev pub given_in : Peer → Ordinal → State → List Event → List Octets
+given_in peer ordinal state [] = []
+given_in peer ordinal state (event ∷ events) = given_of peer ordinal state event ++ given_in peer ordinal (step state event) events
+
+-- two runs agree at each of their events; what is hidden stays so until the table is replaced
+abbrev pub Agree : Peer → (Handle → Bool) → State → State → List Event → List Event → Type 0
+Agree peer hidden one other [] [] = Unit
+Agree peer hidden one other (event ∷ events) [] = ⊥
+Agree peer hidden one other [] (its ∷ others) = ⊥
+Agree peer hidden one other (event ∷ events) (its ∷ others) =
+    (agrees : Agrees peer hidden one other event its)
+    × Agree peer agrees.following (step one event) (step other its) events others
+
+-- so the connections of the peer are given the same packets in both
+abbrev pub NothingCrossesInARun : Type 0
+NothingCrossesInARun = (peer : Peer) (hidden : Handle → Bool) (one other : State) (events others : List Event) → Alike peer hidden one other →
+    Agree peer hidden one other events others → (ordinal : Ordinal) →
+    given_in peer ordinal one events ≡ given_in peer ordinal other others

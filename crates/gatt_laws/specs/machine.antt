@@ -1,0 +1,12 @@
+pub mod Calls
+pub mod Controller
+pub mod Event
+pub mod Heard
+pub mod Input
+pub mod Notice
+pub mod Packets
+pub mod Part
+pub mod Room
+pub mod Start
+pub mod State
+pub mod Turn

@@ -1,0 +1,109 @@
+-- What the host knows of its controller, and the commands that are due to it: Core 5.0, Vol 2 Part E, 4.4; their order is
+-- this profile's own.
+use Rattle.std.specs.Prelude.{ℕ, ◌+◌, ◌-◌, ◌==◌, nat_lt, Bool, ◌&&◌, ◌||◌, not, is_some, is_none, if◌then◌else◌, List, [], ◌∷◌, ◌++◌, length, take, Option, Some, None}
+use Rattle.std.specs.List.{list_any}
+use Rattle.std.specs.Option.{option_to_list}
+use Rattle.gatt_laws.specs.machine.Event.{Ordinal}
+use Rattle.gatt_laws.specs.machine.Part.{Part, KeyReply}
+use Rattle.le_hci.specs.Command.{Commanded, Disconnect, LeSetAdvertiseEnable, LeLongTermKeyRequestReply, LeLongTermKeyRequestNegativeReply, opcode_of}
+use Rattle.le_hci.specs.Init.{command_awaited}
+use Rattle.le_hci.specs.declared.init.Init.{Init}
+
+-- how many commands it takes now; the state of its initialisation, and whether the command that this awaits was sent;
+-- whether it advertises as far as the host knows, and whether it refused to since a connection last ended
+pub record Controller : Type 0 where
+  pub credit : ℕ
+  pub init : Init
+  pub awaiting : Bool
+  pub advertising : Bool
+  pub refused : Bool
+
+-- the controller is initialised
+abbrev pub is_ready : Controller → Bool
+is_ready controller = is_none (command_awaited controller.init)
+
+-- the slots of connections, each with the connection that has it, if one has
+abbrev pub Slots : Type 0
+Slots = List (Option Ordinal)
+
+abbrev pub has_free : Slots → Bool
+has_free slots = list_any (λ slot. is_none slot) slots
+
+-- the lowest free slot is taken, and a slot is freed
+abbrev pub with_taken : Ordinal → Slots → Slots
+with_taken ordinal [] = []
+with_taken ordinal (None ∷ slots) = Some ordinal ∷ slots
+with_taken ordinal (Some other ∷ slots) = Some other ∷ with_taken ordinal slots
+
+abbrev pub with_freed : Ordinal → Slots → Slots
+with_freed ordinal [] = []
+with_freed ordinal (None ∷ slots) = None ∷ with_freed ordinal slots
+with_freed ordinal (Some other ∷ slots) = (if other == ordinal then None else Some other) ∷ with_freed ordinal slots
+
+-- the command that one connection waits for: to be disconnected, else the reply to the request for its key
+abbrev pub key_reply_of : ℕ → KeyReply → Commanded
+key_reply_of handle (Some key) = LeLongTermKeyRequestReply handle key
+key_reply_of handle None = LeLongTermKeyRequestNegativeReply handle
+
+abbrev pub reply_due : ℕ → Option KeyReply → Option Commanded
+reply_due handle None = None
+reply_due handle (Some reply) = Some (key_reply_of handle reply)
+
+abbrev pub disconnect_or : ℕ → Option ℕ → Option Commanded → Option Commanded
+disconnect_or handle (Some reason) other = Some (Disconnect handle reason)
+disconnect_or handle None other = other
+
+abbrev pub command_for : Part → Option Commanded
+command_for part = disconnect_or part.handle part.reason (reply_due part.handle part.reply)
+
+-- the commands that connections wait for, by their slots
+abbrev pub commands_for : (Ordinal → Part) → Slots → List Commanded
+commands_for parts [] = []
+commands_for parts (None ∷ slots) = commands_for parts slots
+commands_for parts (Some ordinal ∷ slots) = option_to_list (command_for (parts ordinal)) ++ commands_for parts slots
+
+-- the next command of initialisation, once its turn has come
+abbrev pub command_of_init : Controller → List Commanded
+command_of_init controller = if controller.awaiting then [] else option_to_list (command_awaited controller.init)
+
+-- advertising is enabled where a slot is free and it is off, but after a refusal only once a connection has ended
+abbrev pub enabling : Controller → Slots → List Commanded
+enabling controller slots =
+    if has_free slots && not controller.advertising && not controller.refused then LeSetAdvertiseEnable ∷ [] else []
+
+-- all commands that are due, in their order
+unfoldable pub commands_due : Controller → (Ordinal → Part) → Slots → List Commanded
+commands_due controller parts slots = command_of_init controller ++ commands_for parts slots ++ enabling controller slots
+
+-- those of them that the controller takes
+abbrev pub commands_sent : Controller → (Ordinal → Part) → Slots → List Commanded
+commands_sent controller parts slots = take controller.credit (commands_due controller parts slots)
+
+-- how many commands stand before that of a connection
+abbrev pub count_before : Ordinal → (Ordinal → Part) → Slots → ℕ
+count_before ordinal parts [] = 0
+count_before ordinal parts (None ∷ slots) = count_before ordinal parts slots
+count_before ordinal parts (Some other ∷ slots) =
+    if other == ordinal then 0
+    else length (option_to_list (command_for (parts other))) + count_before ordinal parts slots
+
+-- a connection after its command was sent
+abbrev pub without_command : Part → Part
+without_command part =
+    if is_some part.reason then record part { reason = None } else record part { reply = None }
+
+abbrev pub after_sending : Controller → (Ordinal → Part) → Slots → Ordinal → Part
+after_sending controller parts slots ordinal =
+    if nat_lt (length (command_of_init controller) + count_before ordinal parts slots) controller.credit
+    then without_command (parts ordinal) else parts ordinal
+
+abbrev pub is_enabling : Commanded → Bool
+is_enabling command = opcode_of command == opcode_of LeSetAdvertiseEnable
+
+-- the controller after commands were sent: it counts as advertising once it is told to
+abbrev pub controller_after : Controller → List Commanded → Controller
+controller_after controller commands = record controller {
+  credit = controller.credit - length commands;
+  awaiting = controller.awaiting || (is_some (command_awaited controller.init) && nat_lt 0 controller.credit);
+  advertising = controller.advertising || list_any is_enabling commands;
+}

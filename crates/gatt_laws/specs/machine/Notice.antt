@@ -1,0 +1,132 @@
+-- What the application is told: this profile's own. The reasons are those of Core 5.0, Vol 2
+-- Part D, 2: 05 (Authentication Failure), and 13 (Remote User Terminated Connection).
+use Rattle.std.specs.Prelude.{ℕ, ◌==◌, Bool, false, ◌&&◌, not, if◌then◌else◌}
+use Rattle.std.specs.Prelude.{List, [], ◌∷◌, ◌++◌, map, Option, Some, None}
+use Rattle.std.specs.List.{flat_map}
+use Rattle.std.specs.Option.{option_map_or, option_to_list}
+use Rattle.att_numbers.specs.Types.{Handle, Row}
+use Rattle.att_policy.specs.declared.standing.KeyFacts.{KeyFacts}
+use Rattle.att_attributes.specs.declared.attr.Attr.{Attr}
+use Rattle.att_attributes.specs.Attributes.{is_configuration_at}
+use Rattle.att_table.specs.ConfigRow.{bits_at}
+use Rattle.gatt_conn.specs.Answer.{is_confirmation}
+use Rattle.gatt_laws.specs.machine.Event as event
+use Rattle.gatt_laws.specs.machine.Event.{Ordinal, Own, Encrypted, Refreshed, Asks, Event, Of, Tick}
+use Rattle.gatt_laws.specs.machine.Input.{Item, Course, after_item, at_start}
+use Rattle.gatt_laws.specs.laws.ItemEvents.{event_at}
+use Rattle.gatt_laws.specs.machine.Part.{Part, is_live, is_there, key_of, row_of}
+use Rattle.gatt_laws.specs.machine.Room.{Room}
+use Rattle.gatt_laws.specs.machine.Start.{Start}
+use Rattle.gatt_laws.specs.machine.State.{State}
+use Rattle.gatt_laws.specs.machine.Turn.{Turn, turn_of}
+use Rattle.gatt_laws.specs.laws.View.{handles_written}
+use Rattle.gatt_subs.specs.declared.pending.Unconfirmed.{Unconfirmed}
+use Rattle.gatt_subs.specs.Indications.{is_late}
+use Rattle.le_hci.specs.declared.peer.Peer.{Peer}
+
+-- Of a connection, by the handle that it has in HCI: it comes with its peer, or is gone, also one
+-- that was ending; its link has a key that is worth another thing than before, or no key any more;
+-- it wrote the value of an attribute, or a configuration, which has these bits then; it confirmed
+-- an indication of a value, or did not in time; and it is ended for a reason
+pub data Notice : Type 0 where
+  Connected : (handle : ℕ) (peer : Peer) → Notice
+  Disconnected : (handle : ℕ) → Notice
+  Secured : (handle : ℕ) (facts : KeyFacts) → Notice
+  Unsecured : (handle : ℕ) → Notice
+  Written : (handle : ℕ) (attribute : Handle) → Notice
+  Configured : (handle : ℕ) (attribute : Handle) (bits : ℕ) → Notice
+  Confirmed : (handle : ℕ) (attribute : Handle) → Notice
+  TimedOut : (handle : ℕ) → Notice
+  Ending : (handle : ℕ) (reason : ℕ) → Notice
+
+-- what a key is worth is its facts, and not its octets
+abbrev pub are_both : Bool → Bool → Bool
+are_both one other = if one then other else not other
+
+abbrev pub are_same_facts : KeyFacts → KeyFacts → Bool
+are_same_facts one other =
+    (one.size == other.size) && are_both one.authenticated other.authenticated
+    && are_both one.secure other.secure
+
+-- the key of a link before and after
+abbrev pub link_told : ℕ → Option KeyFacts → Option KeyFacts → List Notice
+link_told handle None None = []
+link_told handle None (Some new) = Secured handle new ∷ []
+link_told handle (Some old) None = Unsecured handle ∷ []
+link_told handle (Some old) (Some new) =
+    if are_same_facts old new then [] else Secured handle new ∷ []
+
+-- what a connection wrote, by the attributes of the table and its row in force afterwards
+abbrev pub write_told : List Attr → Row → ℕ → Handle → Notice
+write_told attributes row handle attribute =
+    if is_configuration_at attributes attribute
+    then Configured handle attribute (bits_at row attribute) else Written handle attribute
+
+-- a confirmation of the indication that is unconfirmed, but of none from before a replacement of
+-- the table
+abbrev pub confirmation_told : ℕ → Option Unconfirmed → List Notice
+confirmation_told handle None = []
+confirmation_told handle (Some unconfirmed) =
+    if unconfirmed.outdated then [] else Confirmed handle unconfirmed.handle ∷ []
+
+-- a connection that served is ended
+abbrev pub end_told : ℕ → Part → List Notice
+end_told handle new =
+    if is_live new.mark then [] else map (Ending handle) (option_to_list new.reason)
+
+-- what happens to a connection that serves, where its peer's bond has this row, and leaves this
+abbrev pub live_told : Room → Row → Part → Own → Turn → List Notice
+live_told room bond part (Asks pdu) turn =
+    map (write_told room.table.attributes (row_of turn.bond turn.part) part.handle)
+    (handles_written room bond part (Asks pdu))
+    ++ (if is_confirmation pdu then confirmation_told part.handle part.pending.unconfirmed else [])
+live_told room bond part (Encrypted status enabled) turn =
+    link_told part.handle (key_of part) (key_of turn.part)
+live_told room bond part (Refreshed status) turn =
+    link_told part.handle (key_of part) (key_of turn.part)
+live_told room bond part own turn = []
+
+-- a connection comes where none is, and goes where one is; all else is for one that serves, and its
+-- end is told last
+abbrev pub own_told : Room → Row → Part → Own → Turn → List Notice
+own_told room bond part (event.Connected handle peer) turn =
+    if is_there part.mark then [] else Connected handle peer ∷ []
+own_told room bond part event.Gone turn =
+    if is_there part.mark then Disconnected part.handle ∷ [] else []
+own_told room bond part own turn =
+    if is_live part.mark
+    then live_told room bond part own turn ++ end_told part.handle turn.part else []
+
+-- at this time an indication is late
+abbrev pub late_told : ℕ → Part → List Notice
+late_told time part =
+    if option_map_or (is_late time) part.pending.unconfirmed false
+    then TimedOut part.handle ∷ [] else []
+
+-- of the connection of a slot
+abbrev pub slot_told : State → ℕ → Option Ordinal → List Notice
+slot_told state time None = []
+slot_told state time (Some ordinal) = late_told time (state.parts ordinal)
+
+-- what is told of an event, in its order
+unfoldable pub noticed : State → Event → List Notice
+noticed state (Of ordinal own) =
+    let part = state.parts ordinal in
+    let bond = state.bonds part.peer in
+    own_told state.room bond part own (turn_of state.room bond (state.owed part.peer) part own)
+noticed state (Tick time) = flat_map (slot_told state time) state.slots
+noticed state event = []
+
+-- what is told of an item of the input: what its event tells, and nothing where it means none
+abbrev pub notices_of : Course → Item → List Notice
+notices_of course item =
+    option_map_or (noticed course.intake.state) (event_at course.intake item) []
+
+-- and of items, in their order
+abbrev pub notices_in : Course → List Item → List Notice
+notices_in course [] = []
+notices_in course (item ∷ items) =
+    notices_of course item ++ notices_in (after_item course item) items
+
+abbrev pub all_notices : Start → List Item → List Notice
+all_notices start input = notices_in (at_start start) input

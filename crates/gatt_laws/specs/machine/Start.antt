@@ -1,0 +1,74 @@
+-- Where a host begins: this profile's own.
+use Rattle.std.specs.Prelude.{ℕ, false, List, [], Option, None, Bool, true, nat_le, ◌&&◌, slice_index_or}
+use Rattle.std.specs.Option.{option_map_or}
+use Rattle.arrayvec.specs.ArrayVec.{ArrayVec}
+use Rattle.att_numbers.specs.Types.{Mtu}
+use Rattle.att_table.specs.Changer.{changer_of}
+use Rattle.att_table.specs.Table.{Contents}
+use Rattle.gatt_laws.specs.machine.Controller.{Controller}
+use Rattle.gatt_laws.specs.machine.Part.{absent}
+use Rattle.gatt_laws.specs.machine.Room.{Room, Bonds, Owed}
+use Rattle.gatt_laws.specs.machine.State.{State, with_commands_sent, commands_out}
+use Rattle.le_hci.specs.Init.{first_state}
+use Rattle.le_security.specs.declared.entry.Entry.{Entry}
+use Rattle.octets.specs.Number.{Octets}
+
+-- what a host is opened with: a table and keys; what each peer has configured, and whether it is owed; how many connections
+-- there may be, the largest PDU that is received, a random address or the public one, and advertising data
+pub record Start : Type 0 where
+  pub table : Contents
+  pub keys : List Entry
+  pub bonds : Bonds
+  pub owed : Owed
+  pub slots : ℕ
+  pub rx_mtu : Mtu
+  pub address : Option Octets
+  pub advertising : ArrayVec ℕ
+
+-- whether a host may be opened so: a static random address has its two most significant bits set (Core 5.0, Vol 6 Part B,
+-- 1.3.2.1), and the other limits are this profile's own
+abbrev pub is_static : Octets → Bool
+is_static address = nat_le 0xC0 (slice_index_or address 5 0)
+
+abbrev pub may_be_opened : ℕ → Mtu → Option Octets → Bool
+may_be_opened slots rx_mtu address =
+    nat_le 1 slots && nat_le slots 8 && nat_le 23 rx_mtu && nat_le rx_mtu 517 && option_map_or is_static address true
+
+-- the controller takes one command before it answers any: Core 5.0, Vol 2 Part E, 4.4
+abbrev pub new_controller : Start → Controller
+new_controller start = record {
+  credit = 1;
+  init = first_state start.address start.advertising;
+  awaiting = false;
+  advertising = false;
+  refused = false;
+}
+
+abbrev pub new_room : Start → Room
+new_room start = record {
+  table = start.table;
+  changer = changer_of start.table;
+  keys = start.keys;
+  slots = start.slots;
+  rx_mtu = start.rx_mtu;
+  time = 0;
+  told = None;
+}
+
+abbrev pub before_first_command : Start → State
+before_first_command start = record {
+  room = new_room start;
+  bonds = start.bonds;
+  owed = start.owed;
+  parts = λ ordinal. absent;
+  slots = [];
+  next = 0;
+  controller = new_controller start;
+}
+
+-- the state at first, and what goes out at once
+abbrev pub state_at : Start → State
+state_at start = with_commands_sent (before_first_command start)
+
+abbrev pub first_out : Start → List Octets
+first_out start = commands_out (before_first_command start)
