@@ -53,8 +53,7 @@ use Rattle.gatt_laws.specs.machine.Part.{Part, is_live, is_there, key_of, row_of
 use Rattle.gatt_laws.specs.machine.Part.{connection_of}
 use Rattle.gatt_laws.specs.machine.State.{State}
 use Rattle.gatt_laws.specs.machine.Room.{Room}
-use Rattle.gatt_laws.specs.machine.Turn.{Turn, is_full, served, turn_of}
-use Rattle.gatt_laws.specs.laws.View.{handles_written}
+use Rattle.gatt_laws.specs.machine.Turn.{Turn, is_full, served, turn_of, handles_written}
 use Rattle.gatt_subs.specs.declared.pending.Unconfirmed.{Unconfirmed}
 use Rattle.octets.specs.Number.{Octets}
 

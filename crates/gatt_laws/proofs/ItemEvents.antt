@@ -6,7 +6,7 @@ use Rattle.gatt_laws.specs.laws.Alike.{erased}
 use Rattle.gatt_laws.specs.machine.Calls.{Call, UpdateCall, AuthorizeCall, DisconnectCall, TickCall, call_event, replacement_event}
 use Rattle.gatt_laws.specs.machine.Event.{Event}
 use Rattle.gatt_laws.specs.machine.Input.{Item, AnOctet, APacket, ACall, ATable, TheEnd, Course, after_result, packet_taken, after_packet, with_unfinished, after_first, taken, unless_stopped, after_item}
-use Rattle.gatt_laws.specs.laws.ItemEvents.{event_if, event_of_first, event_taken, event_at, after_if, MeansItsEvent}
+use Rattle.gatt_laws.specs.machine.ItemEvents.{event_if, event_of_first, event_taken, event_at, after_if, MeansItsEvent}
 use Rattle.gatt_laws.specs.machine.Packets.{Fault, Desync, Fragments, arrival, with_arrival, packet_event}
 use Rattle.gatt_laws.specs.machine.State.{State, with_values}
 use Rattle.le_h4.specs.Division.{is_long}

@@ -12,7 +12,7 @@ use Rattle.gatt_laws.specs.machine.Calls.{call_event, replacement_event}
 use Rattle.gatt_laws.specs.machine.Event.{Event}
 use Rattle.gatt_laws.specs.machine.Input.{Item, AnOctet, APacket, ACall, ATable, TheEnd, Intake, Course}
 use Rattle.gatt_laws.specs.machine.Input.{after_item, after_items, at_start, course}
-use Rattle.gatt_laws.specs.laws.ItemEvents.{event_if, event_of_first, event_taken, event_at, after_if}
+use Rattle.gatt_laws.specs.machine.ItemEvents.{event_if, event_of_first, event_taken, event_at, after_if}
 use Rattle.gatt_laws.specs.machine.Notice.{noticed, notices_of}
 use Rattle.gatt_laws.specs.laws.Notices.{is_value_told, sets_value, Known, values_in, is_known_anew}
 use Rattle.gatt_laws.specs.laws.Notices.{known_after, known_in, KnowsTheValues}

@@ -23,7 +23,7 @@ use Rattle.gatt_laws.specs.machine.Event.{Ordinal, Own, Event, KeyAsked, Encrypt
 use Rattle.gatt_laws.specs.machine.Event.{Signals, Authorized, Ended, Of, Completed, Credit, Update, Tick}
 use Rattle.gatt_laws.specs.machine.Event.{Replaced, Nothing}
 use Rattle.gatt_laws.specs.machine.Input.{Item, Course, after_item, after_items, at_start, course}
-use Rattle.gatt_laws.specs.laws.ItemEvents.{event_at, after_if}
+use Rattle.gatt_laws.specs.machine.ItemEvents.{event_at, after_if}
 use Rattle.gatt_laws.specs.machine.Notice.{Notice, Connected, Disconnected, noticed, notices_of, notices_in}
 use Rattle.gatt_laws.specs.machine.Part.{Part, come, is_there}
 use Rattle.gatt_laws.specs.laws.Possible.{Possible, MayCome}

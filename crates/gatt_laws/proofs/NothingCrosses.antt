@@ -17,7 +17,7 @@ use Rattle.gatt_laws.specs.laws.Alike.{is_of, Alike, Hides, may_read_at}
 use Rattle.gatt_laws.specs.machine.Calls.{Refused, NoServiceChanged, same_changer}
 use Rattle.gatt_laws.specs.machine.Event.{Ordinal, Event, Of, Completed, Credit, Update, Tick, Replaced, Nothing}
 use Rattle.gatt_laws.specs.machine.Input.{Item, AnOctet, APacket, ACall, ATable, TheEnd, Course, after_item, after_items, at_start, course}
-use Rattle.gatt_laws.specs.laws.ItemEvents.{event_if, event_at, after_if}
+use Rattle.gatt_laws.specs.machine.ItemEvents.{event_if, event_at, after_if}
 use Rattle.gatt_laws.specs.laws.NothingCrosses.{Agree, knows, knows_in, is_known, is_replaced, known_while, hidden_while, StartsAgree, ItemsAgree, InputsAgree, SparedIf, SparedIn, given_if, given_by, NothingCrosses, LeavesConnectionsTheSame}
 use Rattle.gatt_laws.specs.machine.Part.{Part, is_live, row_of, standing_of}
 use Rattle.gatt_laws.specs.laws.Possible.{AllTables}

@@ -32,9 +32,7 @@ use Rattle.gatt_laws.specs.machine.Part.{Part, is_live, mtu_of, row_of, connecti
 use Rattle.gatt_laws.specs.laws.Possible.{Possible}
 use Rattle.gatt_laws.specs.machine.Room.{Room}
 use Rattle.gatt_laws.specs.machine.State.{State, step, change_of}
-use Rattle.gatt_laws.specs.machine.Turn.{Turn, turn_to, turn_of, live_turn, served, is_full}
-use Rattle.gatt_laws.specs.machine.Turn.{remote_user_terminated}
-use Rattle.gatt_laws.specs.laws.View.{handles_written}
+use Rattle.gatt_laws.specs.machine.Turn.{Turn, turn_to, turn_of, live_turn, served, is_full, remote_user_terminated, handles_written}
 use Rattle.octets.specs.Number.{Octets}
 
 -- Handles that were written, each once.

@@ -28,8 +28,7 @@ use Rattle.gatt_laws.specs.laws.Present.{Present, present_after, present_in}
 use Rattle.gatt_laws.specs.machine.Room.{Room}
 use Rattle.gatt_laws.specs.laws.Settled.{has_slot}
 use Rattle.gatt_laws.specs.machine.State.{State, slots_for}
-use Rattle.gatt_laws.specs.machine.Turn.{Turn}
-use Rattle.gatt_laws.specs.laws.View.{handles_written}
+use Rattle.gatt_laws.specs.machine.Turn.{Turn, handles_written}
 use Rattle.gatt_subs.specs.declared.pending.Unconfirmed.{Unconfirmed}
 use Rattle.le_acl.specs.Shares.{usable}
 use Rattle.le_hci.specs.declared.init.Init.{Init}

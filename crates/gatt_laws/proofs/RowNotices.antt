@@ -35,9 +35,7 @@ use Rattle.gatt_laws.specs.laws.RowNotices.{tells_bits, is_bits_told, is_replace
 use Rattle.gatt_laws.specs.laws.RowNotices.{is_coming_or_going, TellsEachOwnRow, TellsEachBond}
 use Rattle.gatt_laws.specs.laws.Silence.{is_for_all}
 use Rattle.gatt_laws.specs.machine.State.{State, change_of, step}
-use Rattle.gatt_laws.specs.machine.Turn.{Turn, turn_to, turn_of, live_turn, served, is_full}
-use Rattle.gatt_laws.specs.machine.Turn.{remote_user_terminated}
-use Rattle.gatt_laws.specs.laws.View.{handles_written}
+use Rattle.gatt_laws.specs.machine.Turn.{Turn, turn_to, turn_of, live_turn, served, is_full, remote_user_terminated, handles_written}
 use Rattle.le_hci.specs.declared.peer.Peer.{Peer}
 use Rattle.le_security.proofs.Peers.{equal_peers}
 use Rattle.le_security.specs.Entry.{same_peer}

@@ -1,6 +1,6 @@
 -- The state to which an input leads is that to which its events lead.
 use Rattle.std.proofs.Common.{◌≡◌, Bool, true, false, List, [], ◌∷◌, ◌++◌, Option, Some, None, Result, Ok, Err, refl, sym, subst, ap, ◌∙◌}
-use Rattle.std.specs.Prelude.{if◌then◌else◌}
+use Rattle.std.specs.Prelude.{is_some, if◌then◌else◌}
 use Rattle.std.specs.Option.{option_to_list}
 use Rattle.att_table.specs.Table.{Contents}
 use Rattle.gatt_laws.proofs.Always.{PossibleIfAny, packet_possible, call_possible, replacement_possible}
@@ -9,7 +9,8 @@ use Rattle.gatt_laws.specs.machine.Calls.{call_event, replacement_event}
 use Rattle.gatt_laws.specs.machine.Event.{Event}
 use Rattle.gatt_laws.specs.machine.Input.{Item, AnOctet, APacket, ACall, ATable, TheEnd, Course, after_result, packet_taken, after_packet, with_unfinished, after_first, taken, unless_stopped, after_item, after_items, at_start, course}
 use Rattle.gatt_laws.specs.machine.Packets.{Fault, packet_event}
-use Rattle.gatt_laws.specs.laws.Runs.{after_events, event_if, event_of_packet, event_of_first, event_meant, event_unless, event_at, events_in, events_of, IsWhereEventsLead, ArePossible, MeansPossibleEvents}
+use Rattle.gatt_laws.specs.laws.Runs.{after_events, events_in, events_of, IsWhereEventsLead, ArePossible, MeansPossibleEvents}
+use Rattle.gatt_laws.specs.machine.ItemEvents.{event_if, event_of_first, event_taken, event_at}
 use Rattle.gatt_laws.specs.machine.State.{State}
 use Rattle.le_h4.specs.Division.{is_long}
 use Rattle.le_h4.specs.Packet.{Packet, First, FirstPacket, NoneYet, NoPacket, first_of}
@@ -32,12 +33,12 @@ long-led : (old : Course) (packet : Packet) (rest : Octets) (long : Bool)
 long-led old packet rest true = refl
 long-led old packet rest false = packet-led (with_unfinished old rest) packet (packet_event old.intake.state old.intake.fragments packet)
 
-first-led : (old : Course) (octets : Octets) (first : First) → (after_first old octets first).intake.state ≡ led old.intake.state (event_of_first old.intake first)
+first-led : (old : Course) (octets : Octets) (first : First) → (after_first old octets first).intake.state ≡ led old.intake.state (event_of_first old.intake.state old.intake.fragments first)
 first-led old octets (FirstPacket packet rest) = long-led old packet rest (is_long packet)
 first-led old octets NoneYet = refl
 first-led old octets (NoPacket indicator) = refl
 
-taken-led : (old : Course) (item : Item) → (taken old item).intake.state ≡ led old.intake.state (event_meant old.intake item)
+taken-led : (old : Course) (item : Item) → (taken old item).intake.state ≡ led old.intake.state (event_taken old.intake item)
 taken-led old (AnOctet octet) = first-led old (old.intake.unfinished ++ octet ∷ []) (first_of (old.intake.unfinished ++ octet ∷ []))
 taken-led old (APacket packet) = long-led old packet old.intake.unfinished (is_long packet)
 taken-led old (ACall call) = result-led old (call_event old.intake.state call)
@@ -45,13 +46,13 @@ taken-led old (ATable table) = result-led old (replacement_event old.intake.stat
 taken-led old TheEnd = refl
 
 unless-led : (old new : Course) (event : Option Event) (fault : Option Fault) → new.intake.state ≡ led old.intake.state event
-    → (unless_stopped fault old new).intake.state ≡ led old.intake.state (event_unless fault event)
+    → (unless_stopped fault old new).intake.state ≡ led old.intake.state (if is_some fault then None else event)
 unless-led old new event (Some fault) is = refl
 unless-led old new event None is = is
 
-pub item_led : (old : Course) (item : Item) → (after_item old item).intake.state ≡ led old.intake.state (event_at old item)
+pub item_led : (old : Course) (item : Item) → (after_item old item).intake.state ≡ led old.intake.state (event_at old.intake item)
 unfolding after_item
-item_led old item = unless-led old (taken old item) (event_meant old.intake item) old.intake.fault (taken-led old item)
+item_led old item = unless-led old (taken old item) (event_taken old.intake item) old.intake.fault (taken-led old item)
 
 then-led : (state : State) (event : Option Event) (events : List Event) → after_events state (option_to_list event ++ events) ≡ after_events (led state event) events
 then-led state None events = refl
@@ -62,7 +63,7 @@ items_lead old [] = refl
 items_lead old (item ∷ items) =
     items_lead (after_item old item) items
     ∙ ap (λ (state : State). after_events state (events_in (after_item old item) items)) (item_led old item)
-    ∙ sym (then-led old.intake.state (event_at old item) (events_in (after_item old item) items))
+    ∙ sym (then-led old.intake.state (event_at old.intake item) (events_in (after_item old item) items))
 
 pub is_where_events_lead : IsWhereEventsLead
 unfolding course events_of
@@ -85,16 +86,16 @@ module _ (Fine : Contents → Type 0) where
   long-meant old packet false =
       result-possible old.intake.state (packet_event old.intake.state old.intake.fragments packet) (packet_possible Fine old.intake.state old.intake.fragments packet)
 
-  first-meant : (old : Course) (first : First) → PossibleAny old.intake.state (event_of_first old.intake first)
+  first-meant : (old : Course) (first : First) → PossibleAny old.intake.state (event_of_first old.intake.state old.intake.fragments first)
   first-meant old (FirstPacket packet rest) = long-meant old packet (is_long packet)
   first-meant old NoneYet = tt
   first-meant old (NoPacket indicator) = tt
 
-  unless-meant : (old : Course) (event : Option Event) (fault : Option Fault) → PossibleAny old.intake.state event → PossibleAny old.intake.state (event_unless fault event)
+  unless-meant : (old : Course) (event : Option Event) (fault : Option Fault) → PossibleAny old.intake.state event → PossibleAny old.intake.state (if is_some fault then None else event)
   unless-meant old event (Some fault) possible = tt
   unless-meant old event None possible = possible
 
-  item-possible : (old : Course) (item : Item) (items : List Item) → AllTables Fine (item ∷ items) → PossibleAny old.intake.state (event_meant old.intake item) × AllTables Fine items
+  item-possible : (old : Course) (item : Item) (items : List Item) → AllTables Fine (item ∷ items) → PossibleAny old.intake.state (event_taken old.intake item) × AllTables Fine items
   item-possible old (AnOctet octet) items tables = (first-meant old (first_of (old.intake.unfinished ++ octet ∷ [])), tables)
   item-possible old (APacket packet) items tables = (long-meant old packet (is_long packet), tables)
   item-possible old (ACall call) items tables =
@@ -112,8 +113,8 @@ module _ (Fine : Contents → Type 0) where
   items_possible old [] tables = tt
   items_possible old (item ∷ items) tables =
       let both = item-possible old item items tables in
-      then-possible old.intake.state (after_item old item).intake.state (event_at old item) (events_in (after_item old item) items)
-      (unless-meant old (event_meant old.intake item) old.intake.fault both.0) (item_led old item)
+      then-possible old.intake.state (after_item old item).intake.state (event_at old.intake item) (events_in (after_item old item) items)
+      (unless-meant old (event_taken old.intake item) old.intake.fault both.0) (item_led old item)
       (items_possible (after_item old item) items both.1)
 
 pub means_possible_events : (Fine : Contents → Type 0) → MeansPossibleEvents Fine

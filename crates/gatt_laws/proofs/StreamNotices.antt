@@ -5,7 +5,7 @@ use Rattle.std.specs.Option.{option_map_or}
 use Rattle.gatt_laws.proofs.Streams.{EndsWithIt, ends_first}
 use Rattle.gatt_laws.specs.machine.Event.{Event}
 use Rattle.gatt_laws.specs.machine.Input.{Item, AnOctet, APacket, Course, after_first, after_item, after_packet, after_whole, packet_taken, stopped, taken, unless_stopped, with_unfinished}
-use Rattle.gatt_laws.specs.laws.ItemEvents.{event_if, event_of_first, event_taken}
+use Rattle.gatt_laws.specs.machine.ItemEvents.{event_if, event_of_first, event_taken}
 use Rattle.gatt_laws.specs.machine.Notice.{Notice, noticed, notices_in, notices_of}
 use Rattle.gatt_laws.specs.machine.Packets.{Fault, Desync, packet_event}
 use Rattle.gatt_laws.specs.laws.StreamNotices.{TellsOfTheDivision}

@@ -27,8 +27,7 @@ use Rattle.gatt_laws.specs.laws.OwnWrites.{row_in}
 use Rattle.gatt_laws.specs.machine.Part.{Part, come, is_live, is_there, key_of, row_of}
 use Rattle.gatt_laws.specs.machine.State.{State, change_of, step}
 use Rattle.gatt_laws.specs.laws.ToldIsSo.{IsSo, TellsWhatIsSo}
-use Rattle.gatt_laws.specs.machine.Turn.{Turn, turn_to, turn_of, live_turn}
-use Rattle.gatt_laws.specs.laws.View.{handles_written}
+use Rattle.gatt_laws.specs.machine.Turn.{Turn, turn_to, turn_of, live_turn, handles_written}
 use Rattle.gatt_subs.specs.declared.pending.Unconfirmed.{Unconfirmed}
 use Rattle.le_hci.specs.declared.peer.Peer.{Peer}
 use Rattle.le_security.proofs.Peers.{same_as_itself}

@@ -17,7 +17,7 @@ use Rattle.gatt_laws.specs.machine.Controller.{has_free, is_ready}
 use Rattle.gatt_laws.specs.machine.Event.{Ordinal, Own, Event, Connected, Gone, KeyAsked, Encrypted}
 use Rattle.gatt_laws.specs.machine.Event.{Refreshed, Asks, Signals, Of, Update, Tick, Replaced, Nothing}
 use Rattle.gatt_laws.specs.machine.Input.{Item, AnOctet, APacket, ACall, ATable, TheEnd, Intake}
-use Rattle.gatt_laws.specs.laws.ItemEvents.{event_if, event_of_first, event_taken, event_at}
+use Rattle.gatt_laws.specs.machine.ItemEvents.{event_if, event_of_first, event_taken, event_at}
 use Rattle.gatt_laws.specs.machine.Packets.{Fault, answered, own_event, is_accepted, connection_event}
 use Rattle.gatt_laws.specs.machine.Packets.{reported_event, event_or_bad, of_frame, of_octets, frame_event}
 use Rattle.gatt_laws.specs.machine.Packets.{Fragments, Arrival, arrival, arrival_event, packet_event}

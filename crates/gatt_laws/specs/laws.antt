@@ -3,7 +3,6 @@ pub mod AllowedNotices
 pub mod Deadline
 pub mod Given
 pub mod Headline
-pub mod ItemEvents
 pub mod Laws
 pub mod MayBeHeard
 pub mod NothingCrosses

@@ -3,6 +3,7 @@ pub mod Controller
 pub mod Event
 pub mod Heard
 pub mod Input
+pub mod ItemEvents
 pub mod Notice
 pub mod Packets
 pub mod Part

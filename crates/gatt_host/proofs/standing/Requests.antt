@@ -24,8 +24,7 @@ use Rattle.gatt_laws.specs.machine.Notice.{Confirmed, Ending, confirmation_told,
 use Rattle.gatt_laws.specs.machine.Part.{Part, connection_of, is_live, is_there, key_of, mtu_of, row_of as part_row, after_ending}
 use Rattle.gatt_laws.specs.machine.Room.{Room, Bonds, Owed}
 use Rattle.gatt_laws.specs.machine.State.{State, all_raised, at_ordinal, at_peer, before_commands, change_of, finished, with_values}
-use Rattle.gatt_laws.specs.machine.Turn.{Turn, live_turn, turn_of, turn_to, served, is_full as part_full, remote_user_terminated}
-use Rattle.gatt_laws.specs.laws.View.{handles_written}
+use Rattle.gatt_laws.specs.machine.Turn.{Turn, live_turn, turn_of, turn_to, served, is_full as part_full, remote_user_terminated, handles_written}
 use Rattle.gatt_slots.proofs.parts.Heard.{hears_of_values}
 use Rattle.gatt_slots.proofs.parts.Kept.{connection_kept, link_key, live_there, row_kept}
 use Rattle.gatt_slots.proofs.parts.Requests.{served_bond, served_kept, served_owed, served_raised, served_raised_here, served_values}

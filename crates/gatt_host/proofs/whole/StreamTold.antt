@@ -17,7 +17,7 @@ use Rattle.gatt_laws.proofs.StreamNotices.{AreKept, all_kept, stopped_silent, te
 use Rattle.gatt_laws.proofs.Unfinished.{leaves_less_than_a_packet}
 use Rattle.gatt_laws.specs.machine.Event.{Event}
 use Rattle.gatt_laws.specs.machine.Input.{APacket, Course, Item, after_item, after_packet, course, packet_taken, stopped, unless_stopped}
-use Rattle.gatt_laws.specs.laws.ItemEvents.{event_if}
+use Rattle.gatt_laws.specs.machine.ItemEvents.{event_if}
 use Rattle.gatt_laws.specs.machine.Notice.{noticed, notices_in, notices_of}
 use Rattle.gatt_laws.specs.machine.Packets.{Fault, packet_event}
 use Rattle.le_h4.specs.Deframer.{Deframing, marks, still}

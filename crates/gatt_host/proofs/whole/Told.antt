@@ -13,7 +13,7 @@ use Rattle.gatt_host.specs.Telling.{noticed_in, notices_told}
 use Rattle.gatt_host.specs.Whole.{StandsAt, Whole}
 use Rattle.gatt_laws.specs.machine.Event.{Event}
 use Rattle.gatt_laws.specs.machine.Input.{APacket, Course, Item}
-use Rattle.gatt_laws.specs.laws.ItemEvents.{event_if, event_of_packet, event_taken}
+use Rattle.gatt_laws.specs.machine.ItemEvents.{event_if, event_of_packet, event_taken}
 use Rattle.gatt_laws.specs.machine.Notice.{noticed, notices_of}
 use Rattle.gatt_laws.specs.machine.Packets.{Fault, Fragments, packet_event}
 use Rattle.gatt_laws.specs.machine.State.{State}

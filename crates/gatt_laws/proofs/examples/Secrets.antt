@@ -16,7 +16,7 @@ use Rattle.gatt_laws.specs.machine.Controller.{commands_due}
 use Rattle.gatt_laws.specs.machine.Event.{Event, Of, Completed, Credit, Update, Tick, Replaced, Nothing}
 use Rattle.gatt_laws.specs.machine.Heard.{after_hearing}
 use Rattle.gatt_laws.specs.machine.Input.{after_items, Item, AnOctet, APacket, ACall, ATable, TheEnd, Course, after_item, at_start, course}
-use Rattle.gatt_laws.specs.laws.ItemEvents.{event_at}
+use Rattle.gatt_laws.specs.machine.ItemEvents.{event_at}
 use Rattle.gatt_laws.specs.laws.NothingCrosses.{is_replaced, IsTableToo, ItemsAgree, hidden_while, Agree, InputsAgree, SparedIf, SparedIn, given_by}
 use Rattle.gatt_laws.specs.machine.Packets.{packet_event}
 use Rattle.gatt_laws.specs.laws.Possible.{AllTables}

@@ -11,7 +11,7 @@ use Rattle.att_writes.specs.SameBut.{SameBut}
 use Rattle.gatt_laws.specs.laws.Alike.{is_of, may_read_at}
 use Rattle.gatt_laws.specs.machine.Event.{Ordinal, Event}
 use Rattle.gatt_laws.specs.machine.Input.{Item, ATable, Intake, Course, after_item, at_start, course}
-use Rattle.gatt_laws.specs.laws.ItemEvents.{event_at}
+use Rattle.gatt_laws.specs.machine.ItemEvents.{event_at}
 use Rattle.gatt_laws.specs.machine.Part.{is_live, row_of, standing_of}
 use Rattle.gatt_laws.specs.laws.Possible.{AllTables}
 use Rattle.gatt_laws.specs.machine.Start.{Start}

@@ -7,7 +7,7 @@ use Rattle.att_numbers.specs.Types.{Handle}
 use Rattle.att_table.specs.Table.{value_at}
 use Rattle.gatt_laws.specs.machine.Event.{Event, Update, Replaced}
 use Rattle.gatt_laws.specs.machine.Input.{Item, Course, after_item, at_start, course}
-use Rattle.gatt_laws.specs.laws.ItemEvents.{event_at}
+use Rattle.gatt_laws.specs.machine.ItemEvents.{event_at}
 use Rattle.gatt_laws.specs.machine.Notice.{Notice, Written, noticed, notices_of}
 use Rattle.gatt_laws.specs.laws.Possible.{Possible}
 use Rattle.gatt_laws.specs.machine.Start.{Start}

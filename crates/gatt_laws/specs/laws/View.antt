@@ -2,20 +2,17 @@
 use Rattle.std.specs.Prelude.{ℕ, ◌==◌, Bool, true, false, ◌&&◌, not, is_some, if◌then◌else◌, List, [], ◌∷◌, ◌++◌, filter, map, Option, Some, None}
 use Rattle.std.specs.Option.{option_map_or, option_to_list}
 use Rattle.att_numbers.specs.Types.{Handle, Row, Values}
-use Rattle.att_pdu.specs.Grammar.{request_of, is_due}
 use Rattle.att_attributes.specs.declared.attr.Attr.{Attr}
 use Rattle.att_attributes.specs.Attributes.{is_configuration_at}
 use Rattle.att_table.specs.ConfigRow.{bits_at}
 use Rattle.att_table.specs.Table.{Contents, value_at}
-use Rattle.gatt_conn.specs.Answer.{handles_by}
-use Rattle.gatt_laws.specs.machine.Event.{Ordinal, Own, Event, Connected, Asks, Of, Completed, Credit, Update, Tick, Replaced, Nothing}
+use Rattle.gatt_laws.specs.machine.Event.{Ordinal, Own, Event, Connected, Of, Completed, Credit, Update, Tick, Replaced, Nothing}
 use Rattle.gatt_laws.specs.machine.Input.{Item, course}
-use Rattle.gatt_laws.specs.machine.Part.{nobody, Part, is_live, key_of, row_of, mtu_of, connection_of}
-use Rattle.gatt_laws.specs.machine.Room.{Room}
+use Rattle.gatt_laws.specs.machine.Part.{nobody, key_of}
 use Rattle.gatt_laws.specs.laws.Runs.{events_of}
 use Rattle.gatt_laws.specs.machine.Start.{Start, state_at}
 use Rattle.gatt_laws.specs.machine.State.{State, step}
-use Rattle.gatt_laws.specs.machine.Turn.{is_full, turn_of}
+use Rattle.gatt_laws.specs.machine.Turn.{handles_written, turn_of}
 use Rattle.le_hci.specs.declared.buffers.Buffers.{Buffers}
 use Rattle.le_hci.specs.declared.peer.Peer.{Peer}
 use Rattle.le_security.specs.Entry.{same_peer}
@@ -38,16 +35,7 @@ pub data Shown : Type 0 where
   Replaces : (table : Contents) → Shown
   Writes : (written : Written) → Shown
 
--- the handles that a connection writes, each once: those of a PDU that is served
-abbrev pub handles_written : Room → Row → Part → Own → List Handle
-handles_written room bond part (Asks pdu) =
-    let asked = request_of pdu (mtu_of room part) in
-    if is_live part.mark && not (is_due asked && is_full room part)
-    then handles_by room.table (row_of bond part) (connection_of room part) asked
-    else []
-handles_written room bond part own = []
-
--- those of values, with what is there afterwards, and those of configurations
+-- of handles those of values, with what is there afterwards, and those of configurations
 abbrev pub values_there : List Attr → Values → List Handle → List (Handle × Octets)
 values_there attributes values handles =
     map (λ handle. (handle, value_at values handle)) (filter (λ handle. not (is_configuration_at attributes handle)) handles)

@@ -13,13 +13,12 @@ use Rattle.gatt_conn.specs.Answer.{is_confirmation}
 use Rattle.gatt_laws.specs.machine.Event as event
 use Rattle.gatt_laws.specs.machine.Event.{Ordinal, Own, Encrypted, Refreshed, Asks, Event, Of, Tick}
 use Rattle.gatt_laws.specs.machine.Input.{Item, Course, after_item, at_start}
-use Rattle.gatt_laws.specs.laws.ItemEvents.{event_at}
+use Rattle.gatt_laws.specs.machine.ItemEvents.{event_at}
 use Rattle.gatt_laws.specs.machine.Part.{Part, is_live, is_there, key_of, row_of}
 use Rattle.gatt_laws.specs.machine.Room.{Room}
 use Rattle.gatt_laws.specs.machine.Start.{Start}
 use Rattle.gatt_laws.specs.machine.State.{State}
-use Rattle.gatt_laws.specs.machine.Turn.{Turn, turn_of}
-use Rattle.gatt_laws.specs.laws.View.{handles_written}
+use Rattle.gatt_laws.specs.machine.Turn.{Turn, turn_of, handles_written}
 use Rattle.gatt_subs.specs.declared.pending.Unconfirmed.{Unconfirmed}
 use Rattle.gatt_subs.specs.Indications.{is_late}
 use Rattle.le_hci.specs.declared.peer.Peer.{Peer}

@@ -160,3 +160,12 @@ turn_of room bond owed part (Connected handle peer) = turn_to room bond owed (if
 turn_of room bond owed part Gone = turn_to room bond owed absent
 turn_of room bond owed part own =
     if is_live part.mark then live_turn room bond owed part own else turn_to room bond owed part
+
+-- the handles that a connection writes, each once: those of a PDU that is served
+abbrev pub handles_written : Room → Row → Part → Own → List Handle
+handles_written room bond part (Asks pdu) =
+    let asked = request_of pdu (mtu_of room part) in
+    if is_live part.mark && not (is_due asked && is_full room part)
+    then handles_by room.table (row_of bond part) (connection_of room part) asked
+    else []
+handles_written room bond part own = []
