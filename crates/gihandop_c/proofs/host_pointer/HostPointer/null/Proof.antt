@@ -1,0 +1,34 @@
+-- `null` makes a pointer that owns nothing. Assumes `Logic`.
+use Rattle.std.proofs.Common.{[], ◌∷◌, refl, lit<}
+use base.Fml.{ftrue}
+use types.Kit.{‵, raw, ◌⊛◌, ◌$◌, ◌∵◌, !, qed, done, keep, split, join, feq_i, suffices}
+use types.Run.{lit, and_then, no_more, returns, enter}
+use types.ByLocal.{alloc_all, pass_all, free_all, look_at, sets}
+use types.Part.{agg}
+use contract.Running.{tables}
+use denote.RattleType.{owns}
+use denote.RawPtr.{Ptr, null_ptr}
+use denote.Signature.{types_at}
+use denote.Steps.{nothing}
+use denote.Triple.Walked.{says, Stays, walk_of, ends_at}
+use Rattle.core.specs.declared.option.Option.TheVariants.{None}
+use Rattle.std.proofs.raw_atomic.Walks.{proved_at}
+use Rattle.gihandop_c.proofs.Pointers.{pointer_word, pointer_in}
+use Rattle.gihandop_c.specs.contracts.host_pointer.HostPointer.null as f
+use Rattle.gihandop_c.specs.contracts.host_pointer.HostPointer.null.Key.{name}
+use Rattle.gihandop_c.proofs.host_pointer.HostPointer.null.Statement.{statement}
+use Rattle.gihandop_c.proofs.host_pointer.HostPointer.null.Code as code
+
+pub null_spec : {M : Type 1} → statement M
+null_spec 𝓤 𝓛 𝓜 𝓡 wired =
+    let 𝓣 = tables 𝓤 𝓛.H 𝓜 𝓡 𝓡.env in let c = f.clauses 𝓛 𝓜.mem 𝓡.returns in
+    let stayed : Stays f.ended.signature.params f.ended.kept = tt in
+    proved_at 𝓛 f.ended stayed c 𝓜 𝓡 tt name code.function (code.unfolded 𝓤 𝓛.H 𝓜 𝓡 wired) (λ z are.
+    qed 𝓛 ((‵ ftrue ⊛ ‵ (owns (types_at f.ended.signature.params z.0.0) z.0.3 z.0.4)) ∷ raw ((c z.0.0 z.0.3).requires z.1) ∷ []) ∵
+    split ! $ enter ! 𝓣.C 𝓣.Λ code.function [] ((walk_of 𝓛 f.ended stayed c).post z) $ alloc_all ! (λ l. pass_all ! refl tt $
+    sets ! (agg ! (and_then ! (lit ! tt) (no_more !))) refl (tt, (record { fits = lit< tt }, tt)) $
+    returns ! (look_at ! 0 refl) $ free_all ! refl $
+    feq_i ! Ptr null_ptr null_ptr refl $ pointer_in ! null_ptr None $
+    keep ! (0 ∷ []) $
+    suffices ! _ (ends_at 𝓛 f.ended stayed c z (pointer_word null_ptr) (record { at = null_ptr; host = None }) tt tt) $ says ! refl $
+    nothing ! $ join ! $ nothing ! $ join ! $ done !))

@@ -1,0 +1,4 @@
+-- What the contracts of this crate cite.
+pub mod Boundary
+pub mod Opening
+pub mod Owned

@@ -1,0 +1,54 @@
+//! What a host is opened with, as a program in C gives it.
+
+ghost use Rattle.std.specs.Prelude.{◌≡◌, ◌<◌, IfSome, IsNone};
+ghost use Rattle.gihandop_c.specs.Opening.{config_given};
+
+use arrayvec::ArrayVec;
+use gatt_host::Config;
+
+/// How many connections a host may have, what it receives, and how it advertises.
+#[repr(C)]
+pub struct HostConfig {
+    /// As many connections as there may be at once: 1 to 8.
+    pub slots: usize,
+    /// The largest PDU of the Attribute Protocol that is received, in octets: 23 to 517.
+    pub rx_mtu: u16,
+    /// 0 for the public address of the controller, and any other number for `address`.
+    pub is_random: u8,
+    /// A static random address as octets on the wire, the least significant first, whose two most
+    /// significant bits are set (Core 5.0, Vol 6 Part B, 1.3.2.1).
+    pub address: [u8; 6],
+    /// How many octets of advertising data there are: 0 to 31.
+    pub advertising_length: u8,
+    /// Advertising data: Core 5.0, Vol 3 Part C, 11. Octets past the length are not read.
+    pub advertising: [u8; 31],
+}
+
+/// The same as a host takes it; none where the advertising data is too long.
+pub(crate) fn to_config(config: &HostConfig) -> Option<Config>
+    ensures config { IfSome result (λ given. given ≡ config_given config.now) }
+    ensures too_long { IsNone result → 31 < config.now.advertising_length }
+{
+    let octets = config
+        .advertising
+        .get(..usize::from(config.advertising_length))?;
+    let mut advertising = ArrayVec::new();
+    advertising.try_extend_from_slice(octets).ok()?;
+    Some(Config {
+        slots: config.slots,
+        rx_mtu: config.rx_mtu,
+        address: address(config),
+        advertising,
+    })
+}
+
+/// The random address, if it is to be used.
+fn address(config: &HostConfig) -> Option<[u8; 6]>
+    ensures { result ≡ (config_given config.now).address }
+{
+    if config.is_random == 0 {
+        None
+    } else {
+        Some(config.address)
+    }
+}

@@ -1,0 +1,76 @@
+//! A host that lies on the heap, behind a pointer that a program in C keeps.
+
+ghost use Rattle.std.specs.Prelude.{◌≡◌, Option, Some, None, option_map};
+ghost use Rattle.std.specs.Coded.{coded_option};
+ghost use Rattle.gatt_host.specs.Whole.{Whole};
+ghost use Rattle.gatt_host.specs.contracts.host.Host.{the_row};
+
+use crate::box_parts::BoxParts;
+use gatt_host::Host;
+use std::alloc::Global;
+use std::marker::Model;
+use std::{mem, ptr};
+
+/// The pointer to a host, or null where none is open.
+#[repr(C)]
+pub struct HostPointer {
+    at: *mut u8,
+    pub ghost host: { Option Whole } by { coded_option the_row.coded },
+}
+
+impl Model for HostPointer {
+    ghost use Rattle.gatt_host.specs.contracts.host.Host.{the_row};
+    ghost use Rattle.gihandop_c.specs.Owned.{owns_the_host};
+
+    ghost also_owns = { λ p. owns_the_host the_row p.at p.host };
+}
+
+impl HostPointer {
+    /// To no host.
+    fn null() -> HostPointer
+        ensures { result.host ≡ None }
+    {
+        HostPointer {
+            at: ptr::null_mut(),
+        }
+    }
+
+    /// To the host of a box.
+    fn of(parts: BoxParts<Host, Global>) -> HostPointer
+        ensures { result.host ≡ Some parts.value }
+    {
+        let BoxParts { at, alloc: _ } = parts;
+        HostPointer { at: at as *mut u8 }
+    }
+
+    /// The parts of the box of the host, if there is one.
+    fn into_parts(self, alloc: Global) -> Option<BoxParts<Host, Global>>
+        ensures { option_map (λ p. p.value) result ≡ self.host }
+    {
+        let HostPointer { at } = self;
+        let at = at as *mut Host;
+        if at.is_null() {
+            None
+        } else {
+            Some(BoxParts { at, alloc })
+        }
+    }
+
+    /// Takes the host out, if there is one, and leaves none.
+    pub(crate) fn take(&mut self, alloc: Global) -> Option<Box<Host, Global>>
+        ensures taken { option_map (λ b. b.value) result ≡ self.old.host }
+        ensures none { self.new.host ≡ None }
+    {
+        let parts = mem::replace(self, HostPointer::null()).into_parts(alloc)?;
+        Some(parts.into_box())
+    }
+
+    /// Puts a host in place of what is there.
+    pub(crate) fn put(&mut self, alloc: Global, host: Box<Host, Global>)
+        ensures { self.new.host ≡ Some host.value }
+    {
+        drop(self.take(alloc));
+        let none = mem::replace(self, HostPointer::of(BoxParts::of(host)));
+        let HostPointer { at: _ } = none;
+    }
+}

@@ -1,0 +1,63 @@
+//! What a function answers, as one number.
+
+ghost use Rattle.std.specs.Prelude.{◌≡◌, ◌+◌};
+ghost use Rattle.att_table.specs.TableFault.{number_of as number_of_table_fault};
+ghost use Rattle.gatt_host.specs.Numbers.{number_of_fault};
+ghost use Rattle.gatt_subs.specs.RowsFault.{number_of as number_of_rows_fault};
+ghost use Rattle.gihandop_c.specs.declared.status.TheConstants.{BAD_KEYS, BAD_ROWS, BAD_TABLE, STOPPED};
+ghost use Rattle.le_security.specs.KeyFault.{number_of as number_of_key_fault};
+
+use gatt_host::{HostFault, KeyFault, RowsFault, TableFault};
+
+/// It is done.
+pub(crate) const DONE: u32 = 0;
+/// There is nothing to hand out.
+pub(crate) const NOTHING: u32 = 1;
+/// No host is open.
+pub(crate) const CLOSED: u32 = 2;
+/// A host is open already.
+pub(crate) const ALREADY_OPEN: u32 = 3;
+/// Packets have to go out first.
+pub(crate) const OUTPUT_OWED: u32 = 4;
+/// The buffer is too short.
+pub(crate) const SHORT_BUFFER: u32 = 5;
+/// Memory was refused.
+pub(crate) const OUT_OF_MEMORY: u32 = 6;
+/// The configuration is out of its limits.
+pub(crate) const BAD_CONFIG: u32 = 7;
+
+/// The host has stopped for good: this and the number of its fault, 1 to 7.
+pub(crate) const STOPPED: u32 = 20;
+
+/// The table file is refused: this and the number of its first fault, 1 to 11.
+pub(crate) const BAD_TABLE: u32 = 100;
+
+/// The key file is refused: this and the number of its first fault, 1 to 10.
+pub(crate) const BAD_KEYS: u32 = 200;
+
+/// The rows file is refused: this and the number of its first fault, 1 to 4.
+pub(crate) const BAD_ROWS: u32 = 300;
+
+pub(crate) fn of_host_fault(fault: HostFault) -> u32
+    ensures { result ≡ STOPPED + number_of_fault fault }
+{
+    STOPPED + u32::from(fault.number())
+}
+
+pub(crate) fn of_table_fault(fault: TableFault) -> u32
+    ensures { result ≡ BAD_TABLE + number_of_table_fault fault }
+{
+    BAD_TABLE + u32::from(fault.number())
+}
+
+pub(crate) fn of_key_fault(fault: KeyFault) -> u32
+    ensures { result ≡ BAD_KEYS + number_of_key_fault fault }
+{
+    BAD_KEYS + u32::from(fault.number())
+}
+
+pub(crate) fn of_rows_fault(fault: RowsFault) -> u32
+    ensures { result ≡ BAD_ROWS + number_of_rows_fault fault }
+{
+    BAD_ROWS + u32::from(fault.number())
+}
