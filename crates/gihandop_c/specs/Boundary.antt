@@ -1,40 +1,93 @@
 -- What a function does to the host behind a pointer.
-use Rattle.std.specs.Prelude.{◌≡◌, ℕ, ◌+◌, List, Option, Some, None, IfSome, IsSome}
+use Rattle.std.specs.Prelude.{◌≡◌, ℕ, ◌+◌, List, [], ◌∷◌, drop, Option, Some, None, IfSome, IsSome}
+use Rattle.att_table.specs.Table.{Contents}
 use Rattle.gatt_host.specs.declared.host_fault.HostFault.{HostFault}
 use Rattle.gatt_host.specs.Numbers.{number_of_fault}
-use Rattle.gatt_host.specs.Telling.{TellsOfAll}
-use Rattle.gatt_host.specs.Whole.{Leads, Whole}
-use Rattle.gatt_laws.specs.Input.{Item}
-use Rattle.gihandop_c.specs.declared.status.TheConstants.{STOPPED}
+use Rattle.gatt_host.specs.Telling.{notices_told, silent}
+use Rattle.gatt_host.specs.Whole.{Leads, StandsAt}
+use Rattle.gatt_laws.specs.Calls.{Call, Refused, NoSuchHandle, NotAValue, BadLength, NoSuchConnection, TimeWentBack, Stopped, NoServiceChanged}
+use Rattle.gatt_laws.specs.Input.{Course, Item, course, call_refusal, replacement_refusal}
+use Rattle.gatt_laws.specs.Notice.{Notice, notices_in, notices_of}
+use Rattle.gatt_laws.specs.Start.{Start}
+use Rattle.gihandop_c.specs.declared.opened.Opened.{Opened}
+use Rattle.gihandop_c.specs.declared.status.TheConstants.{DONE, REFUSED, STOPPED}
 use Rattle.octets.specs.Number.{Octets}
 
 -- it holds of the host before and after: where none is open, none is afterwards
-abbrev pub OfTheHost : (Whole → Whole → Type 0) → Option Whole → Option Whole → Type 0
+abbrev pub OfTheHost : (Opened → Opened → Type 0) → Option Opened → Option Opened → Type 0
 OfTheHost Holds (Some old) (Some new) = Holds old new
 OfTheHost Holds None None = Unit
 OfTheHost Holds old new = ⊥
 
 -- a host that goes on takes in these items, and gives out these packets
-abbrev pub LeadsOn : List Item → List Octets → Whole → Whole → Type 0
-LeadsOn items packets old new = old.fault ≡ None → Leads items packets old new
+abbrev pub LeadsOn : List Item → List Octets → Opened → Opened → Type 0
+LeadsOn items packets old new = old.host.fault ≡ None → Leads items packets old.host new.host
 
-abbrev pub HostLeads : List Item → List Octets → Option Whole → Option Whole → Type 0
+abbrev pub HostLeads : List Item → List Octets → Option Opened → Option Opened → Type 0
 HostLeads items packets = OfTheHost (LeadsOn items packets)
 
--- what it tells is what the state machine tells of these items
-abbrev pub HostTells : List Item → Option Whole → Option Whole → Type 0
-HostTells items = OfTheHost (TellsOfAll items)
+-- the notices that the host tells and that have not been handed out
+abbrev pub untold : Opened → List Notice
+untold opened = drop opened.told (notices_told opened.host)
 
--- one that has stopped stays as it is
-abbrev pub StaysIfStopped : Whole → Whole → Type 0
-StaysIfStopped old new = IsSome old.fault → new ≡ old
+-- wherever the host stood, what is told is what the state machine tells of these items: nothing, where the host stops at them
+abbrev pub TellsItems : List Item → Opened → Opened → Type 0
+TellsItems items old new = (start : Start) (input : List Item) (gone : List Octets) → StandsAt (course start input) gone old.host
+    → old.host.fault ≡ None → untold new ≡ notices_in (course start input) items
 
-abbrev pub StaysAfterAFault : Option Whole → Option Whole → Type 0
-StaysAfterAFault = OfTheHost StaysIfStopped
+-- and of one item
+abbrev pub TellsItem : Item → Opened → Opened → Type 0
+TellsItem item old new = (start : Start) (input : List Item) (gone : List Octets) → StandsAt (course start input) gone old.host
+    → old.host.fault ≡ None → new.host.fault ≡ None → untold new ≡ notices_of (course start input) item
+
+abbrev pub HostTellsItems : List Item → Option Opened → Option Opened → Type 0
+HostTellsItems items = OfTheHost (TellsItems items)
+
+abbrev pub HostTellsItem : Item → Option Opened → Option Opened → Type 0
+HostTellsItem item = OfTheHost (TellsItem item)
+
+-- a host that has stopped stays as it is
+abbrev pub StaysIfStopped : Opened → Opened → Type 0
+StaysIfStopped old new = IsSome old.host.fault → new.host ≡ old.host
+
+abbrev pub HostStaysIfStopped : Option Opened → Option Opened → Type 0
+HostStaysIfStopped = OfTheHost StaysIfStopped
+
+-- nothing changes but that no notice is there any more
+abbrev pub FallsSilent : Opened → Opened → Type 0
+FallsSilent old new = new.host ≡ silent old.host
+
+abbrev pub HostFallsSilent : Option Opened → Option Opened → Type 0
+HostFallsSilent = OfTheHost FallsSilent
 
 -- the status of a host that has stopped
 abbrev pub fault_status : HostFault → ℕ
 fault_status fault = STOPPED + number_of_fault fault
 
-abbrev pub StoppedBy : ℕ → Whole → Type 0
-StoppedBy status whole = IfSome whole.fault (λ fault. status ≡ fault_status fault)
+abbrev pub StoppedBy : ℕ → Opened → Type 0
+StoppedBy status opened = IfSome opened.host.fault (λ fault. status ≡ fault_status fault)
+
+-- the status of a call: by why it is refused, if it is
+abbrev pub refusal_number : Refused → ℕ
+refusal_number NoSuchHandle = 1
+refusal_number NotAValue = 2
+refusal_number BadLength = 3
+refusal_number NoSuchConnection = 4
+refusal_number TimeWentBack = 5
+refusal_number Stopped = 6
+refusal_number NoServiceChanged = 7
+
+abbrev pub call_status : Option Refused → ℕ
+call_status None = DONE
+call_status (Some refused) = REFUSED + refusal_number refused
+
+-- wherever the host stood, it refuses what the state machine refuses there, and for that
+abbrev pub AnswersBy : (Course → Option Refused) → ℕ → Opened → Type 0
+AnswersBy refusal status opened = (start : Start) (input : List Item) (gone : List Octets) → StandsAt (course start input) gone opened.host
+    → opened.host.fault ≡ None → status ≡ call_status (refusal (course start input))
+
+abbrev pub AnswersCall : Call → ℕ → Opened → Type 0
+AnswersCall call = AnswersBy (λ at. call_refusal at.intake call)
+
+abbrev pub AnswersTable : Contents → ℕ → Opened → Type 0
+AnswersTable table = AnswersBy (λ at. replacement_refusal at.intake table)

@@ -8,6 +8,7 @@ use Rattle.gatt_host.specs.Whole.{StandsAt, Whole}
 use Rattle.gatt_laws.specs.Input.{course}
 use Rattle.gatt_subs.specs.Rows.{Subscriptions, subscriptions_read}
 use Rattle.gihandop_c.specs.declared.config.HostConfig.{HostConfig}
+use Rattle.gihandop_c.specs.declared.opened.Opened.{Opened}
 use Rattle.le_security.specs.declared.entry.Entry.{Entry}
 use Rattle.le_security.specs.KeyFile.{keys_read}
 use Rattle.octets.specs.Number.{Octets}
@@ -28,6 +29,6 @@ IsOpenedWith table keys rows config whole = (contents : Contents) (entries : Lis
     → StandsAt (course (start_of contents entries said (config_given config)) []) [] whole
 
 -- and it is the one that is open
-abbrev pub IsOpenWith : Octets → Octets → Octets → HostConfig → Option Whole → Type 0
-IsOpenWith table keys rows config (Some whole) = IsOpenedWith table keys rows config whole
+abbrev pub IsOpenWith : Octets → Octets → Octets → HostConfig → Option Opened → Type 0
+IsOpenWith table keys rows config (Some opened) = IsOpenedWith table keys rows config opened.host
 IsOpenWith table keys rows config None = ⊥

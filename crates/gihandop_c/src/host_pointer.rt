@@ -1,12 +1,12 @@
-//! A host that lies on the heap, behind a pointer that a program in C keeps.
+//! The pointer to a host on the heap, which a program in C keeps.
 
 ghost use Rattle.std.specs.Prelude.{◌≡◌, Option, Some, None, option_map};
 ghost use Rattle.std.specs.Coded.{coded_option};
-ghost use Rattle.gatt_host.specs.Whole.{Whole};
-ghost use Rattle.gatt_host.specs.contracts.host.Host.{the_row};
+ghost use Rattle.gihandop_c.specs.contracts.opened.Opened.{the_row};
+ghost use Rattle.gihandop_c.specs.declared.opened.Opened.{Opened as Open};
 
 use crate::box_parts::BoxParts;
-use gatt_host::Host;
+use crate::opened::Opened;
 use std::alloc::Global;
 use std::marker::Model;
 use std::{mem, ptr};
@@ -15,11 +15,11 @@ use std::{mem, ptr};
 #[repr(C)]
 pub struct HostPointer {
     at: *mut u8,
-    pub ghost host: { Option Whole } by { coded_option the_row.coded },
+    pub ghost host: { Option Open } by { coded_option the_row.coded },
 }
 
 impl Model for HostPointer {
-    ghost use Rattle.gatt_host.specs.contracts.host.Host.{the_row};
+    ghost use Rattle.gihandop_c.specs.contracts.opened.Opened.{the_row};
     ghost use Rattle.gihandop_c.specs.Owned.{owns_the_host};
 
     ghost also_owns = { λ p. owns_the_host the_row p.at p.host };
@@ -36,7 +36,7 @@ impl HostPointer {
     }
 
     /// To the host of a box.
-    fn of(parts: BoxParts<Host, Global>) -> HostPointer
+    fn of(parts: BoxParts<Opened, Global>) -> HostPointer
         ensures { result.host ≡ Some parts.value }
     {
         let BoxParts { at, alloc: _ } = parts;
@@ -44,11 +44,11 @@ impl HostPointer {
     }
 
     /// The parts of the box of the host, if there is one.
-    fn into_parts(self, alloc: Global) -> Option<BoxParts<Host, Global>>
+    fn into_parts(self, alloc: Global) -> Option<BoxParts<Opened, Global>>
         ensures { option_map (λ p. p.value) result ≡ self.host }
     {
         let HostPointer { at } = self;
-        let at = at as *mut Host;
+        let at = at as *mut Opened;
         if at.is_null() {
             None
         } else {
@@ -57,7 +57,7 @@ impl HostPointer {
     }
 
     /// Takes the host out, if there is one, and leaves none.
-    pub(crate) fn take(&mut self, alloc: Global) -> Option<Box<Host, Global>>
+    pub(crate) fn take(&mut self, alloc: Global) -> Option<Box<Opened, Global>>
         ensures taken { option_map (λ b. b.value) result ≡ self.old.host }
         ensures none { self.new.host ≡ None }
     {
@@ -66,7 +66,7 @@ impl HostPointer {
     }
 
     /// Puts a host in place of what is there.
-    pub(crate) fn put(&mut self, alloc: Global, host: Box<Host, Global>)
+    pub(crate) fn put(&mut self, alloc: Global, host: Box<Opened, Global>)
         ensures { self.new.host ≡ Some host.value }
     {
         drop(self.take(alloc));

@@ -2,14 +2,20 @@
 //! memory that the program keeps. `include/gihandop.h` declares them.
 #![tactic(auto)]
 
+mod asking;
 mod box_parts;
 mod config;
 mod exports;
 mod host_pointer;
+mod opened;
 mod opening;
+mod reading;
 mod status;
 mod stream;
 
 pub use config::HostConfig;
-pub use exports::{gh_close, gh_next_out, gh_open, gh_take};
+pub use exports::{
+    gh_authorize, gh_close, gh_deadline, gh_disconnect, gh_next_out, gh_open, gh_replace, gh_take,
+    gh_tick, gh_update, gh_value,
+};
 pub use host_pointer::HostPointer;

@@ -4,6 +4,7 @@ ghost use Rattle.std.specs.Prelude.{◌≡◌, ◌<◌, IfOk, IfErr, Ok};
 ghost use Rattle.att_table.specs.file.TableFile.{table_read};
 ghost use Rattle.gatt_subs.specs.Rows.{subscriptions_read};
 ghost use Rattle.gihandop_c.specs.Opening.{IsOpenedWith};
+ghost use Rattle.gihandop_c.specs.declared.status.TheConstants.{BAD_TABLE};
 ghost use Rattle.le_security.specs.KeyFile.{keys_read};
 
 use crate::config::{HostConfig, to_config};
@@ -40,7 +41,7 @@ pub(crate) fn open(
 /// The table of a table file, or the status of its first fault. What is not UTF-8 is no TOML.
 pub(crate) fn read_table(alloc: Global, octets: &[u8]) -> Result<Table, u32>
     ensures table { IfOk result (λ table. table_read octets.now ≡ Ok table) }
-    ensures refused { IfErr result (λ status. 0 < status) }
+    ensures refused { IfErr result (λ status. BAD_TABLE < status) }
 {
     let Ok(text) = str::from_utf8(octets) else {
         return Err(status::of_table_fault(TableFault::NotToml));

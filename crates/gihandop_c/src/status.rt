@@ -1,13 +1,15 @@
 //! What a function answers, as one number.
 
-ghost use Rattle.std.specs.Prelude.{◌≡◌, ◌+◌};
+ghost use Rattle.std.specs.Prelude.{◌≡◌, ◌+◌, Some};
 ghost use Rattle.att_table.specs.TableFault.{number_of as number_of_table_fault};
-ghost use Rattle.gatt_host.specs.Numbers.{number_of_fault};
+ghost use Rattle.gatt_host.specs.Asked.{refused_of};
+ghost use Rattle.gatt_host.specs.Numbers.{number_of_fault, number_of_refusal};
 ghost use Rattle.gatt_subs.specs.RowsFault.{number_of as number_of_rows_fault};
-ghost use Rattle.gihandop_c.specs.declared.status.TheConstants.{BAD_KEYS, BAD_ROWS, BAD_TABLE, STOPPED};
+ghost use Rattle.gihandop_c.specs.Boundary.{call_status};
+ghost use Rattle.gihandop_c.specs.declared.status.TheConstants.{BAD_KEYS, BAD_ROWS, BAD_TABLE, REFUSED, STOPPED};
 ghost use Rattle.le_security.specs.KeyFault.{number_of as number_of_key_fault};
 
-use gatt_host::{HostFault, KeyFault, RowsFault, TableFault};
+use gatt_host::{AppFault, HostFault, KeyFault, RowsFault, TableFault};
 
 /// It is done.
 pub(crate) const DONE: u32 = 0;
@@ -29,6 +31,12 @@ pub(crate) const BAD_CONFIG: u32 = 7;
 /// The host has stopped for good: this and the number of its fault, 1 to 7.
 pub(crate) const STOPPED: u32 = 20;
 
+/// The host refuses the call: this and the number of why, 1 to 7.
+pub(crate) const REFUSED: u32 = 40;
+
+/// The host had stopped before the call.
+pub(crate) const HAS_STOPPED: u32 = 46;
+
 /// The table file is refused: this and the number of its first fault, 1 to 11.
 pub(crate) const BAD_TABLE: u32 = 100;
 
@@ -42,6 +50,21 @@ pub(crate) fn of_host_fault(fault: HostFault) -> u32
     ensures { result ≡ STOPPED + number_of_fault fault }
 {
     STOPPED + u32::from(fault.number())
+}
+
+pub(crate) fn of_refusal(fault: AppFault) -> u32
+    ensures number { result ≡ REFUSED + number_of_refusal fault }
+    ensures status { result ≡ call_status (Some (refused_of fault)) }
+{
+    match fault {
+        AppFault::NoSuchHandle => REFUSED + 1,
+        AppFault::NotAValue => REFUSED + 2,
+        AppFault::BadLength => REFUSED + 3,
+        AppFault::NoSuchConnection => REFUSED + 4,
+        AppFault::TimeWentBack => REFUSED + 5,
+        AppFault::Stopped => HAS_STOPPED,
+        AppFault::NoServiceChanged => REFUSED + 7,
+    }
 }
 
 pub(crate) fn of_table_fault(fault: TableFault) -> u32

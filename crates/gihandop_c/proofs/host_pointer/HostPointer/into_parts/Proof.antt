@@ -29,7 +29,7 @@ use Rattle.std_alloc.proofs.BoxSteps.Steps.{box_in}
 use Rattle.std_alloc.proofs.ResultValues.{and_tt}
 use Rattle.std_heap.specs.contracts.Global as heap
 use Rattle.std_heap.specs.contracts.GlobalAllocator.TheImpl.{ghosts}
-use Rattle.gihandop_c.proofs.Pointers.{E, HostRow, pointer_word, pointer_out, null_or_block}
+use Rattle.gihandop_c.proofs.Pointers.{E, OpenRow, pointer_word, pointer_out, null_or_block}
 use Rattle.gihandop_c.specs.contracts.box_parts.BoxParts as parts
 use Rattle.gihandop_c.specs.contracts.host_pointer.HostPointer as pointer
 use Rattle.gihandop_c.specs.contracts.host_pointer.HostPointer.into_parts as f
@@ -40,7 +40,7 @@ use Rattle.gihandop_c.proofs.host_pointer.HostPointer.into_parts.Code as code
 pub into_parts_spec : {M : Type 1} → statement M
 into_parts_spec 𝓤 𝓛 𝓜 𝓡 wired =
     let H = 𝓛.H in let 𝓣 = tables 𝓤 H 𝓜 𝓡 𝓡.env in let c = f.clauses 𝓛 𝓜.mem 𝓡.returns in let fn = code.function in
-    let Parts : RattleType = parts.the_row HostRow heap.the_row ghosts in
+    let Parts : RattleType = parts.the_row OpenRow heap.the_row ghosts in
     let stayed : Stays f.ended.signature.params f.ended.kept =
     (stay_dropped (plain (λ _. pointer.the_row)) yes, (stay_dropped (plain (λ _. heap.the_row)) yes, tt)) in
     proved_at 𝓛 f.ended stayed c 𝓜 𝓡 (

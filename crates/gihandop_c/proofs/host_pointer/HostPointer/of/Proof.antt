@@ -20,7 +20,7 @@ use Rattle.std_alloc.proofs.BoxSteps.Form.{D, B, word, box_typed}
 use Rattle.std_alloc.proofs.BoxSteps.Steps.{box_out}
 use Rattle.std_heap.specs.contracts.Global as heap
 use Rattle.std_heap.specs.contracts.GlobalAllocator.TheImpl.{ghosts}
-use Rattle.gihandop_c.proofs.Pointers.{E, HostRow, pointer_word, pointer_in}
+use Rattle.gihandop_c.proofs.Pointers.{E, OpenRow, pointer_word, pointer_in}
 use Rattle.gihandop_c.specs.contracts.box_parts.BoxParts as parts
 use Rattle.gihandop_c.specs.contracts.host_pointer.HostPointer.of as f
 use Rattle.gihandop_c.specs.contracts.host_pointer.HostPointer.of.Key.{name}
@@ -30,7 +30,7 @@ use Rattle.gihandop_c.proofs.host_pointer.HostPointer.of.Code as code
 pub of_spec : {M : Type 1} → statement M
 of_spec 𝓤 𝓛 𝓜 𝓡 wired =
     let H = 𝓛.H in let 𝓣 = tables 𝓤 H 𝓜 𝓡 𝓡.env in let c = f.clauses 𝓛 𝓜.mem 𝓡.returns in
-    let Parts = parts.the_row HostRow heap.the_row ghosts in
+    let Parts = parts.the_row OpenRow heap.the_row ghosts in
     let stayed : Stays f.ended.signature.params f.ended.kept = (stay_dropped (plain (λ _. Parts)) yes, tt) in
     proved_at 𝓛 f.ended stayed c 𝓜 𝓡 (Goes-dropped 𝓛 0 (plain (λ _. Parts)) yes (λ κs x v. refl), tt) name code.function
     (code.unfolded 𝓤 H 𝓜 𝓡 wired) (λ z are.

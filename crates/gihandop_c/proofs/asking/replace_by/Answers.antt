@@ -1,0 +1,22 @@
+use Rattle.std.proofs.Common.{[], ◌∷◌, subst}
+use Rattle.att_table.specs.file.TableFile.{table_read}
+use Rattle.att_table.specs.Table.{Contents}
+use Rattle.gatt_laws.specs.Input.{ATable}
+use Rattle.gihandop_c.specs.Boundary.{AnswersTable, LeadsOn, TellsItem}
+use Rattle.gihandop_c.proofs.Carried.{same_table}
+use Rattle.gihandop_c.proofs.asking.replace_by.Goals as goal
+
+pub returns-in-Ok-clause-takes : goal.returns-in-Ok-clause-takes
+returns-in-Ok-clause-takes c = λ contents read below asked.
+    subst (λ (table : Contents). LeadsOn (ATable table ∷ []) [] c.args.open.now c.replace.new.open)
+    (same_table (table_read c.args.file.now) c.in-Ok.table contents c.in-Ok.ensures.table read) (c.replace.ensures.takes asked)
+
+pub returns-in-Ok-clause-tells : goal.returns-in-Ok-clause-tells
+returns-in-Ok-clause-tells c = λ contents read below asked.
+    subst (λ (table : Contents). TellsItem (ATable table) c.args.open.now c.replace.new.open)
+    (same_table (table_read c.args.file.now) c.in-Ok.table contents c.in-Ok.ensures.table read) (c.replace.ensures.tells asked)
+
+pub returns-in-Ok-clause-answers : goal.returns-in-Ok-clause-answers
+returns-in-Ok-clause-answers c = λ contents read below asked.
+    subst (λ (table : Contents). AnswersTable table c.replace.result c.args.open.now)
+    (same_table (table_read c.args.file.now) c.in-Ok.table contents c.in-Ok.ensures.table read) (c.replace.ensures.answers asked)

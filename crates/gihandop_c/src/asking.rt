@@ -1,0 +1,82 @@
+//! What the program asks of its host.
+
+ghost use Rattle.std.specs.Prelude.{◌≡◌, ◌≢◌, ◌<◌, ◌∷◌, [], IsSome, Ok};
+ghost use Rattle.att_table.specs.file.TableFile.{table_read};
+ghost use Rattle.att_table.specs.Table.{Contents};
+ghost use Rattle.gatt_host.specs.Asked.{call_of};
+ghost use Rattle.gatt_laws.specs.Input.{ACall, ATable};
+ghost use Rattle.gihandop_c.specs.Boundary.{AnswersCall, AnswersTable, FallsSilent, LeadsOn, TellsItem};
+ghost use Rattle.gihandop_c.specs.declared.status.TheConstants.{BAD_TABLE, DONE, HAS_STOPPED, OUTPUT_OWED};
+
+use crate::opened::Opened;
+use crate::{opening, status};
+use gatt_host::{App, Table};
+use std::alloc::Global;
+
+/// Makes a call of the application, once all is out.
+pub(crate) fn call(open: &mut Opened, call: App<'_>) -> u32
+    ensures takes { result ≢ OUTPUT_OWED
+        → LeadsOn (ACall (call_of call.entry) ∷ []) [] open.old open.new }
+    ensures tells { result ≢ OUTPUT_OWED
+        → TellsItem (ACall (call_of call.entry)) open.old open.new }
+    ensures answers { result ≢ OUTPUT_OWED
+        → AnswersCall (call_of call.entry) result open.old }
+    ensures refused { result ≢ DONE → result ≢ OUTPUT_OWED → FallsSilent open.old open.new }
+    ensures stopped { IsSome open.old.host.fault → result ≡ HAS_STOPPED }
+    ensures owed { result ≡ OUTPUT_OWED → open.new ≡ open.old }
+{
+    if !open.host.drained() {
+        return status::OUTPUT_OWED;
+    }
+    open.told = 0;
+    match open.host.app(call) {
+        Ok(()) => status::DONE,
+        Err(fault) => status::of_refusal(fault),
+    }
+}
+
+/// Replaces the table by that of a table file, once all is out. A file is not read as long as a packet
+/// is owed.
+pub(crate) fn replace_by(alloc: Global, open: &mut Opened, file: &[u8]) -> u32
+    ensures takes { (contents : Contents) → table_read file.now ≡ Ok contents
+        → result < BAD_TABLE → result ≢ OUTPUT_OWED
+        → LeadsOn (ATable contents ∷ []) [] open.old open.new }
+    ensures tells { (contents : Contents) → table_read file.now ≡ Ok contents
+        → result < BAD_TABLE → result ≢ OUTPUT_OWED
+        → TellsItem (ATable contents) open.old open.new }
+    ensures answers { (contents : Contents) → table_read file.now ≡ Ok contents
+        → result < BAD_TABLE → result ≢ OUTPUT_OWED
+        → AnswersTable contents result open.old }
+    ensures refused { result ≢ DONE → result < BAD_TABLE → result ≢ OUTPUT_OWED
+        → FallsSilent open.old open.new }
+    ensures owed { result ≡ OUTPUT_OWED → open.new ≡ open.old }
+    ensures unread { BAD_TABLE < result → open.new ≡ open.old }
+{
+    if !open.host.drained() {
+        return status::OUTPUT_OWED;
+    }
+    match opening::read_table(alloc, file) {
+        Ok(table) => replace(open, table),
+        Err(status) => status,
+    }
+}
+
+/// Replaces the table, once all is out.
+fn replace(open: &mut Opened, table: Table) -> u32
+    ensures takes { result ≢ OUTPUT_OWED
+        → LeadsOn (ATable table ∷ []) [] open.old open.new }
+    ensures tells { result ≢ OUTPUT_OWED → TellsItem (ATable table) open.old open.new }
+    ensures answers { result ≢ OUTPUT_OWED → AnswersTable table result open.old }
+    ensures refused { result ≢ DONE → result ≢ OUTPUT_OWED → FallsSilent open.old open.new }
+    ensures below { result < BAD_TABLE }
+    ensures owed { result ≡ OUTPUT_OWED → open.new ≡ open.old }
+{
+    if !open.host.drained() {
+        return status::OUTPUT_OWED;
+    }
+    open.told = 0;
+    match open.host.replace(table) {
+        Ok(_) => status::DONE,
+        Err((fault, _)) => status::of_refusal(fault),
+    }
+}
