@@ -12,7 +12,9 @@
  *     for (;;) {
  *         while (gh_next_out(&host, out, sizeof out, &count) == GH_DONE)
  *             send the octets of out, which are count;
- *         take something in: gh_take
+ *         take something in: gh_take, gh_update, gh_authorize, gh_disconnect, gh_tick, gh_replace;
+ *         while (gh_next_notice(&host, &notice) == GH_DONE)
+ *             see what a phone did;
  *     }
  *
  * Output is pulled, one packet a call, so the library has no buffer that may overflow, and a
@@ -28,6 +30,7 @@
 #ifndef GIHANDOP_H
 #define GIHANDOP_H
 
+#include <stdbool.h>
 #include <stddef.h>
 #include <stdint.h>
 
@@ -90,6 +93,23 @@ enum {
     /* the controller reports an error of its own. */
     GH_HARDWARE = 24,
 
+    /* The host refuses a call, and changes nothing but that no notice is there any more: */
+    GH_REFUSED = 40,
+    /* there is no attribute with the handle; */
+    GH_NO_SUCH_HANDLE = 41,
+    /* it is no characteristic value; */
+    GH_NOT_A_VALUE = 42,
+    /* the value is longer than its largest length, or a fixed one has another length; */
+    GH_BAD_LENGTH = 43,
+    /* no connection with the handle serves; */
+    GH_NO_SUCH_CONNECTION = 44,
+    /* the time is before the one that stands; */
+    GH_TIME_WENT_BACK = 45,
+    /* the host has stopped: gh_take says why; */
+    GH_HAS_STOPPED = 46,
+    /* a table has no value that tells of changes, or they have it at different handles. */
+    GH_NO_SERVICE_CHANGED = 47,
+
     /* A file is refused: this and the number of its first fault, as docs/FORMATS.md has them. */
     GH_BAD_TABLE = 100,
     GH_BAD_KEYS = 200,
@@ -123,6 +143,108 @@ uint32_t gh_take(struct gh_host *host, const uint8_t *octets, size_t length, siz
  * where nothing is owed, or the host has stopped.
  */
 uint32_t gh_next_out(struct gh_host *host, uint8_t *out, size_t room, size_t *count);
+
+/*
+ * Writes the characteristic value at a handle, as the application does: whoever has subscribed to it
+ * is told. 41 to 43 where it is refused.
+ */
+uint32_t gh_update(struct gh_host *host, uint16_t handle, const uint8_t *value, size_t length);
+
+/*
+ * Authorizes the connection with a handle, as it has it in HCI, while the time is below a moment, in
+ * milliseconds: 0 withdraws it. 44 where it is refused.
+ */
+uint32_t gh_authorize(struct gh_host *host, uint16_t connection, uint64_t until);
+
+/*
+ * Ends the connection with a handle: the peer is told Remote User Terminated Connection (13
+ * hexadecimal), and nothing more is sent to it. 44 where it is refused.
+ */
+uint32_t gh_disconnect(struct gh_host *host, uint16_t connection);
+
+/*
+ * Takes in the time, in milliseconds from any moment on. 45 where it goes back. It is wanted when
+ * gh_deadline says, and before a call that looks at the time: gh_authorize is one.
+ */
+uint32_t gh_tick(struct gh_host *host, uint64_t time);
+
+/*
+ * Replaces the table by that of another table file. Peers are told that it has changed, and what they
+ * have configured stays where it fits. Above GH_BAD_TABLE where the file is refused, and 47 where the
+ * host refuses the table.
+ */
+uint32_t gh_replace(struct gh_host *host, const uint8_t *table, size_t length);
+
+/* The longest value, in octets. */
+#define GH_LONGEST_VALUE 512
+
+/*
+ * Puts the value at a handle at the front of out and its length into *count. GH_NOTHING where there is
+ * no attribute with the handle, and GH_SHORT_BUFFER where *count is more than room. A client
+ * characteristic configuration has no octets.
+ */
+uint32_t gh_value(struct gh_host *host, uint16_t handle, uint8_t *out, size_t room, size_t *count);
+
+/*
+ * Puts the least time, in milliseconds, at which an indication that is not confirmed is late into *time:
+ * until then no time has to be told. GH_NOTHING where every one is confirmed.
+ */
+uint32_t gh_deadline(struct gh_host *host, uint64_t *time);
+
+/* What a notice tells of a connection. */
+enum {
+    /* It was accepted: address_kind, address. */
+    GH_CONNECTED = 1,
+    /* It is gone. */
+    GH_DISCONNECTED = 2,
+    /* Its link has a key that is worth this, and had none, or one that was worth another thing:
+       key_size, authenticated, secure. */
+    GH_SECURED = 3,
+    /* Its link has no key any more. */
+    GH_UNSECURED = 4,
+    /* It wrote a value, which gh_value has: attribute. To write the octets that stand counts. */
+    GH_WRITTEN = 5,
+    /* It wrote a client characteristic configuration, which has these bits now: attribute, bits. */
+    GH_CONFIGURED = 6,
+    /* It confirmed an indication of a value: attribute. */
+    GH_CONFIRMED = 7,
+    /* It did not confirm an indication in time, and is told nothing unasked any more. */
+    GH_TIMED_OUT = 8,
+    /* The host ends it, for a reason of Core 5.0, Vol 2 Part D, 2: reason. */
+    GH_ENDING = 9
+};
+
+/* A notice. Fields that its kind does not have are 0. */
+struct gh_notice {
+    uint8_t kind;
+    uint8_t bits;
+    uint8_t reason;
+    /* The size of the key, in octets, and whether it was exchanged with protection against a man in
+       the middle, and made by LE Secure Connections. */
+    uint8_t key_size;
+    bool authenticated;
+    bool secure;
+    /* The type of the peer's address, 0 public or 1 random, and its octets as on the wire. */
+    uint8_t address_kind;
+    uint8_t address[6];
+    /* The handle of the connection, as it has it in HCI. */
+    uint16_t connection;
+    /* The handle of the attribute. */
+    uint16_t attribute;
+};
+
+/*
+ * Puts the next notice of what was taken in last into *notice: of the octets of gh_take, or of one of
+ * the calls. GH_NOTHING where each has been handed out. The notices of one function are gone once the
+ * next has taken something in, so they are fetched before it.
+ */
+uint32_t gh_next_notice(struct gh_host *host, struct gh_notice *notice);
+
+/*
+ * Puts what a status says, a line of ASCII without a zero at its end, at the front of out and its length
+ * into *count. GH_NOTHING of a number that no function answers.
+ */
+uint32_t gh_text(uint32_t status, uint8_t *out, size_t room, size_t *count);
 
 #ifdef __cplusplus
 }

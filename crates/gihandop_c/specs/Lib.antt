@@ -2,3 +2,4 @@
 pub mod Boundary
 pub mod Opening
 pub mod Owned
+pub mod Telling

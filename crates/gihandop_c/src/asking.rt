@@ -14,22 +14,22 @@ use gatt_host::{App, Table};
 use std::alloc::Global;
 
 /// Makes a call of the application, once all is out.
-pub(crate) fn call(open: &mut Opened, call: App<'_>) -> u32
+pub(crate) fn call(opened: &mut Opened, call: App<'_>) -> u32
     ensures takes { result ≢ OUTPUT_OWED
-        → LeadsOn (ACall (call_of call.entry) ∷ []) [] open.old open.new }
+        → LeadsOn (ACall (call_of call.entry) ∷ []) [] opened.old opened.new }
     ensures tells { result ≢ OUTPUT_OWED
-        → TellsItem (ACall (call_of call.entry)) open.old open.new }
+        → TellsItem (ACall (call_of call.entry)) opened.old opened.new }
     ensures answers { result ≢ OUTPUT_OWED
-        → AnswersCall (call_of call.entry) result open.old }
-    ensures refused { result ≢ DONE → result ≢ OUTPUT_OWED → FallsSilent open.old open.new }
-    ensures stopped { IsSome open.old.host.fault → result ≡ HAS_STOPPED }
-    ensures owed { result ≡ OUTPUT_OWED → open.new ≡ open.old }
+        → AnswersCall (call_of call.entry) result opened.old }
+    ensures refused { result ≢ DONE → result ≢ OUTPUT_OWED → FallsSilent opened.old opened.new }
+    ensures stopped { IsSome opened.old.host.fault → result ≡ HAS_STOPPED }
+    ensures owed { result ≡ OUTPUT_OWED → opened.new ≡ opened.old }
 {
-    if !open.host.drained() {
+    if !opened.host.drained() {
         return status::OUTPUT_OWED;
     }
-    open.told = 0;
-    match open.host.app(call) {
+    opened.told = 0;
+    match opened.host.app(call) {
         Ok(()) => status::DONE,
         Err(fault) => status::of_refusal(fault),
     }
@@ -37,45 +37,45 @@ pub(crate) fn call(open: &mut Opened, call: App<'_>) -> u32
 
 /// Replaces the table by that of a table file, once all is out. A file is not read as long as a packet
 /// is owed.
-pub(crate) fn replace_by(alloc: Global, open: &mut Opened, file: &[u8]) -> u32
+pub(crate) fn replace_by(alloc: Global, opened: &mut Opened, file: &[u8]) -> u32
     ensures takes { (contents : Contents) → table_read file.now ≡ Ok contents
         → result < BAD_TABLE → result ≢ OUTPUT_OWED
-        → LeadsOn (ATable contents ∷ []) [] open.old open.new }
+        → LeadsOn (ATable contents ∷ []) [] opened.old opened.new }
     ensures tells { (contents : Contents) → table_read file.now ≡ Ok contents
         → result < BAD_TABLE → result ≢ OUTPUT_OWED
-        → TellsItem (ATable contents) open.old open.new }
+        → TellsItem (ATable contents) opened.old opened.new }
     ensures answers { (contents : Contents) → table_read file.now ≡ Ok contents
         → result < BAD_TABLE → result ≢ OUTPUT_OWED
-        → AnswersTable contents result open.old }
+        → AnswersTable contents result opened.old }
     ensures refused { result ≢ DONE → result < BAD_TABLE → result ≢ OUTPUT_OWED
-        → FallsSilent open.old open.new }
-    ensures owed { result ≡ OUTPUT_OWED → open.new ≡ open.old }
-    ensures unread { BAD_TABLE < result → open.new ≡ open.old }
+        → FallsSilent opened.old opened.new }
+    ensures owed { result ≡ OUTPUT_OWED → opened.new ≡ opened.old }
+    ensures unread { BAD_TABLE < result → opened.new ≡ opened.old }
 {
-    if !open.host.drained() {
+    if !opened.host.drained() {
         return status::OUTPUT_OWED;
     }
     match opening::read_table(alloc, file) {
-        Ok(table) => replace(open, table),
+        Ok(table) => replace(opened, table),
         Err(status) => status,
     }
 }
 
 /// Replaces the table, once all is out.
-fn replace(open: &mut Opened, table: Table) -> u32
+fn replace(opened: &mut Opened, table: Table) -> u32
     ensures takes { result ≢ OUTPUT_OWED
-        → LeadsOn (ATable table ∷ []) [] open.old open.new }
-    ensures tells { result ≢ OUTPUT_OWED → TellsItem (ATable table) open.old open.new }
-    ensures answers { result ≢ OUTPUT_OWED → AnswersTable table result open.old }
-    ensures refused { result ≢ DONE → result ≢ OUTPUT_OWED → FallsSilent open.old open.new }
+        → LeadsOn (ATable table ∷ []) [] opened.old opened.new }
+    ensures tells { result ≢ OUTPUT_OWED → TellsItem (ATable table) opened.old opened.new }
+    ensures answers { result ≢ OUTPUT_OWED → AnswersTable table result opened.old }
+    ensures refused { result ≢ DONE → result ≢ OUTPUT_OWED → FallsSilent opened.old opened.new }
     ensures below { result < BAD_TABLE }
-    ensures owed { result ≡ OUTPUT_OWED → open.new ≡ open.old }
+    ensures owed { result ≡ OUTPUT_OWED → opened.new ≡ opened.old }
 {
-    if !open.host.drained() {
+    if !opened.host.drained() {
         return status::OUTPUT_OWED;
     }
-    open.told = 0;
-    match open.host.replace(table) {
+    opened.told = 0;
+    match opened.host.replace(table) {
         Ok(_) => status::DONE,
         Err((fault, _)) => status::of_refusal(fault),
     }

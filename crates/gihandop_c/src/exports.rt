@@ -11,14 +11,16 @@ ghost use Rattle.gatt_host.specs.Whole.{all_out};
 ghost use Rattle.gatt_laws.specs.Calls.{AuthorizeCall, DisconnectCall, TickCall, UpdateCall};
 ghost use Rattle.gatt_laws.specs.Input.{ACall, ATable};
 ghost use Rattle.gatt_slots.specs.Slots.{slots_deadline};
-ghost use Rattle.gihandop_c.specs.Boundary.{AnswersCall, AnswersTable, HostFallsSilent, HostLeads, HostStaysIfStopped, HostTellsItem, HostTellsItems, StoppedBy};
+ghost use Rattle.gihandop_c.specs.Boundary.{AnswersCall, AnswersTable, HostFallsSilent, HostLeads, HostStaysIfStopped, HostTellsItem, HostTellsItems, OfTheHost, StoppedBy};
 ghost use Rattle.gihandop_c.specs.Opening.{IsOpenWith};
+ghost use Rattle.gihandop_c.specs.Telling.{HandsOut, HasHandedOutAll};
 ghost use Rattle.gihandop_c.specs.declared.status.TheConstants.{ALREADY_OPEN, BAD_TABLE, CLOSED, DONE, HAS_STOPPED, NOTHING, OUTPUT_OWED, SHORT_BUFFER};
 
 use crate::config::HostConfig;
 use crate::host_pointer::HostPointer;
+use crate::notices::NoticeFields;
 use crate::opened::Opened;
-use crate::{asking, opening, reading, status, stream};
+use crate::{asking, notices, opening, reading, status, stream, text};
 use gatt_host::App;
 use std::alloc::Global;
 
@@ -302,4 +304,38 @@ pub extern "C" fn gh_deadline(alloc: Global, host: &mut HostPointer, time: &mut 
     let answer = reading::deadline(&open, time);
     host.put(alloc, open);
     answer
+}
+
+/// Puts the next notice of what was taken in last into `notice`.
+#[unsafe(no_mangle)]
+pub extern "C" fn gh_next_notice(
+    alloc: Global,
+    host: &mut HostPointer,
+    notice: &mut NoticeFields,
+) -> u32
+    ensures closed { host.old.host ≡ None → result ≡ CLOSED }
+    ensures gives { result ≡ DONE
+        → OfTheHost (HandsOut notice.new) host.old.host host.new.host }
+    ensures nothing { result ≡ NOTHING → IfSome host.old.host HasHandedOutAll }
+    ensures unchanged { result ≢ DONE → host.new.host ≡ host.old.host }
+{
+    let Some(mut open) = host.take(alloc) else {
+        return status::CLOSED;
+    };
+    let answer = notices::next(&mut open, notice);
+    host.put(alloc, open);
+    answer
+}
+
+/// Puts what a status says, a line of ASCII, at the front of `out`, where it fits, and its length into
+/// `count`. There is nothing of a number that no function answers.
+#[unsafe(no_mangle)]
+pub extern "C" fn gh_text(status: u32, out: &mut [u8], count: &mut usize) -> u32
+    ensures short { result ≡ SHORT_BUFFER → length out.old < count.new }
+{
+    *count = 0;
+    match text::text(status) {
+        Some(text) => stream::copy(text.as_bytes(), out, count),
+        None => status::NOTHING,
+    }
 }

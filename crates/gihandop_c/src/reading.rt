@@ -10,15 +10,15 @@ use crate::opened::Opened;
 use crate::{status, stream};
 
 /// Puts the value at a handle at the front of `out`, where it fits, and its length into `count`.
-pub(crate) fn value(open: &Opened, handle: u16, out: &mut [u8], count: &mut usize) -> u32
+pub(crate) fn value(opened: &Opened, handle: u16, out: &mut [u8], count: &mut usize) -> u32
     ensures value { result ≡ DONE
-        → take count.new out.new ≡ value_at open.now.host.held.table.values handle }
+        → take count.new out.new ≡ value_at opened.now.host.held.table.values handle }
     ensures nothing { result ≡ NOTHING
-        → attribute_at open.now.host.held.table.attributes handle ≡ None }
+        → attribute_at opened.now.host.held.table.attributes handle ≡ None }
     ensures short { result ≡ SHORT_BUFFER → length out.old < count.new }
 {
     *count = 0;
-    let table = open.host.table();
+    let table = opened.host.table();
     if table.get(handle).is_none() {
         return status::NOTHING;
     }
@@ -26,11 +26,11 @@ pub(crate) fn value(open: &Opened, handle: u16, out: &mut [u8], count: &mut usiz
 }
 
 /// Puts the time until which none has to be told into `time`.
-pub(crate) fn deadline(open: &Opened, time: &mut u64) -> u32
-    ensures deadline { result ≡ DONE → slots_deadline open.now.host.held.slots ≡ Some time.new }
-    ensures nothing { result ≢ DONE → slots_deadline open.now.host.held.slots ≡ None }
+pub(crate) fn deadline(opened: &Opened, time: &mut u64) -> u32
+    ensures deadline { result ≡ DONE → slots_deadline opened.now.host.held.slots ≡ Some time.new }
+    ensures nothing { result ≢ DONE → slots_deadline opened.now.host.held.slots ≡ None }
 {
-    match open.host.deadline() {
+    match opened.host.deadline() {
         Some(deadline) => {
             *time = deadline;
             status::DONE

@@ -15,23 +15,23 @@ const LONGEST_PACKET: usize = 260;
 
 /// Takes in octets up to the end of the next packet, or all of them where none ends in them, and says
 /// how many. Where the host stops, or had stopped, no more are to be taken in, and it says all.
-pub(crate) fn take(open: &mut Opened, octets: &[u8], used: &mut usize) -> u32
-    ensures takes { LeadsOn (octet_items (take used.new octets.now)) [] open.old open.new }
+pub(crate) fn take(opened: &mut Opened, octets: &[u8], used: &mut usize) -> u32
+    ensures takes { LeadsOn (octet_items (take used.new octets.now)) [] opened.old opened.new }
     ensures tells { result ≢ OUTPUT_OWED
-        → TellsItems (octet_items (take used.new octets.now)) open.old open.new }
+        → TellsItems (octet_items (take used.new octets.now)) opened.old opened.new }
     ensures within { used.new ≤ length octets.now }
     ensures some { result ≡ DONE → 0 < length octets.now → 0 < used.new }
-    ensures going { result ≡ DONE → open.new.host.fault ≡ None }
-    ensures status { StoppedBy result open.new }
-    ensures owed { result ≡ OUTPUT_OWED → open.new ≡ open.old }
-    ensures stopped { StaysIfStopped open.old open.new }
+    ensures going { result ≡ DONE → opened.new.host.fault ≡ None }
+    ensures status { StoppedBy result opened.new }
+    ensures owed { result ≡ OUTPUT_OWED → opened.new ≡ opened.old }
+    ensures stopped { StaysIfStopped opened.old opened.new }
 {
     *used = 0;
-    if !open.host.drained() {
+    if !opened.host.drained() {
         return status::OUTPUT_OWED;
     }
-    open.told = 0;
-    match open.host.take(octets) {
+    opened.told = 0;
+    match opened.host.take(octets) {
         Ok(count) => {
             *used = count;
             status::DONE
@@ -44,18 +44,18 @@ pub(crate) fn take(open: &mut Opened, octets: &[u8], used: &mut usize) -> u32
 }
 
 /// Puts the next packet that is to go out at the front of `out`, and its length into `count`.
-pub(crate) fn next_out(open: &mut Opened, out: &mut [u8], count: &mut usize) -> u32
-    ensures goes { result ≡ DONE → LeadsOn [] (take count.new out.new ∷ []) open.old open.new }
-    ensures nothing { result ≡ NOTHING → all_out open.old.host ≡ true }
+pub(crate) fn next_out(opened: &mut Opened, out: &mut [u8], count: &mut usize) -> u32
+    ensures goes { result ≡ DONE → LeadsOn [] (take count.new out.new ∷ []) opened.old opened.new }
+    ensures nothing { result ≡ NOTHING → all_out opened.old.host ≡ true }
     ensures short { result ≡ SHORT_BUFFER → length out.old < 260 }
-    ensures unchanged { result ≢ DONE → open.new ≡ open.old }
+    ensures unchanged { result ≢ DONE → opened.new ≡ opened.old }
 {
     *count = 0;
     if out.len() < LONGEST_PACKET {
         return status::SHORT_BUFFER;
     }
     let mut packet = ArrayVec::new();
-    if !open.host.next_out(&mut packet) {
+    if !opened.host.next_out(&mut packet) {
         return status::NOTHING;
     }
     copy(packet.as_slice(), out, count)

@@ -8,15 +8,15 @@ use Rattle.gihandop_c.proofs.asking.replace_by.Goals as goal
 
 pub returns-in-Ok-clause-takes : goal.returns-in-Ok-clause-takes
 returns-in-Ok-clause-takes c = λ contents read below asked.
-    subst (λ (table : Contents). LeadsOn (ATable table ∷ []) [] c.args.open.now c.replace.new.open)
+    subst (λ (table : Contents). LeadsOn (ATable table ∷ []) [] c.args.opened.now c.replace.new.opened)
     (same_table (table_read c.args.file.now) c.in-Ok.table contents c.in-Ok.ensures.table read) (c.replace.ensures.takes asked)
 
 pub returns-in-Ok-clause-tells : goal.returns-in-Ok-clause-tells
 returns-in-Ok-clause-tells c = λ contents read below asked.
-    subst (λ (table : Contents). TellsItem (ATable table) c.args.open.now c.replace.new.open)
+    subst (λ (table : Contents). TellsItem (ATable table) c.args.opened.now c.replace.new.opened)
     (same_table (table_read c.args.file.now) c.in-Ok.table contents c.in-Ok.ensures.table read) (c.replace.ensures.tells asked)
 
 pub returns-in-Ok-clause-answers : goal.returns-in-Ok-clause-answers
 returns-in-Ok-clause-answers c = λ contents read below asked.
-    subst (λ (table : Contents). AnswersTable table c.replace.result c.args.open.now)
+    subst (λ (table : Contents). AnswersTable table c.replace.result c.args.opened.now)
     (same_table (table_read c.args.file.now) c.in-Ok.table contents c.in-Ok.ensures.table read) (c.replace.ensures.answers asked)

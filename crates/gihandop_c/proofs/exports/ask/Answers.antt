@@ -8,13 +8,13 @@ use Rattle.gihandop_c.proofs.exports.ask.Goals as goal
 pub returns-clause-takes : goal.returns-clause-takes
 returns-clause-takes c = λ asked.
     carried (LeadsOn (ACall (call_of c.args.call) ∷ []) []) c.args.host.now.host c.put.new.self.host
-    c.in-Some.open.value c.deref_mut.result.now c.call-answer.new.open c.in-Some.ensures.taken c.deref_mut.ensures.value c.put.ensures
+    c.in-Some.open.value c.deref_mut.result.now c.call-answer.new.opened c.in-Some.ensures.taken c.deref_mut.ensures.value c.put.ensures
     (c.call-answer.ensures.takes asked)
 
 pub returns-clause-tells : goal.returns-clause-tells
 returns-clause-tells c = λ asked.
     carried (TellsItem (ACall (call_of c.args.call))) c.args.host.now.host c.put.new.self.host
-    c.in-Some.open.value c.deref_mut.result.now c.call-answer.new.open c.in-Some.ensures.taken c.deref_mut.ensures.value c.put.ensures
+    c.in-Some.open.value c.deref_mut.result.now c.call-answer.new.opened c.in-Some.ensures.taken c.deref_mut.ensures.value c.put.ensures
     (c.call-answer.ensures.tells asked)
 
 pub returns-clause-answers : goal.returns-clause-answers

@@ -6,5 +6,5 @@ use Rattle.gihandop_c.proofs.exports.gh_next_out.Goals as goal
 pub returns-clause-goes : goal.returns-clause-goes
 returns-clause-goes c = λ done.
     carried (LeadsOn [] (take c.next_out-answer.new.count c.next_out-answer.new.out ∷ [])) c.args.host.now.host c.put.new.self.host
-    c.in-Some.open.value c.deref_mut.result.now c.next_out-answer.new.open c.in-Some.ensures.taken c.deref_mut.ensures.value c.put.ensures
+    c.in-Some.open.value c.deref_mut.result.now c.next_out-answer.new.opened c.in-Some.ensures.taken c.deref_mut.ensures.value c.put.ensures
     (c.next_out-answer.ensures.goes done)

@@ -7,13 +7,13 @@ use Rattle.gihandop_c.proofs.exports.gh_replace.Goals as goal
 pub returns-clause-takes : goal.returns-clause-takes
 returns-clause-takes c = λ contents read below asked.
     carried (LeadsOn (ATable contents ∷ []) []) c.args.host.now.host c.put.new.self.host
-    c.in-Some.open.value c.deref_mut.result.now c.replace_by-answer.new.open c.in-Some.ensures.taken c.deref_mut.ensures.value c.put.ensures
+    c.in-Some.open.value c.deref_mut.result.now c.replace_by-answer.new.opened c.in-Some.ensures.taken c.deref_mut.ensures.value c.put.ensures
     (c.replace_by-answer.ensures.takes contents read below asked)
 
 pub returns-clause-tells : goal.returns-clause-tells
 returns-clause-tells c = λ contents read below asked.
     carried (TellsItem (ATable contents)) c.args.host.now.host c.put.new.self.host
-    c.in-Some.open.value c.deref_mut.result.now c.replace_by-answer.new.open c.in-Some.ensures.taken c.deref_mut.ensures.value c.put.ensures
+    c.in-Some.open.value c.deref_mut.result.now c.replace_by-answer.new.opened c.in-Some.ensures.taken c.deref_mut.ensures.value c.put.ensures
     (c.replace_by-answer.ensures.tells contents read below asked)
 
 pub returns-clause-answers : goal.returns-clause-answers

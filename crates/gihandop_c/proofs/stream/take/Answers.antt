@@ -10,7 +10,7 @@ use Rattle.gihandop_c.proofs.stream.take.Goals as goal
 -- where the host stops, all the octets are said to be taken in
 pub returns-in-Err-clause-takes : goal.returns-in-Err-clause-takes
 returns-in-Err-clause-takes c = λ going.
-    subst (λ (taken : Octets). Leads (octet_items taken) [] c.args.open.now.host c.take.new.self)
+    subst (λ (taken : Octets). Leads (octet_items taken) [] c.args.opened.now.host c.take.new.self)
     (sym (take-length c.args.octets.now)) (c.in-Err.ensures.takes going)
 
 pub returns-in-Ok-clause-tells : goal.returns-in-Ok-clause-tells

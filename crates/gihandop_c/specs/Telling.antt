@@ -1,0 +1,53 @@
+-- What the program is told, as C reads it: this library's own.
+use Rattle.std.specs.Prelude.{◌≡◌, ℕ, ◌+◌, ◌-◌, ◌^◌, ◌<◌, false, replicate, slice_get, Option, Some, None}
+use Rattle.std.specs.Option.{option_map}
+use Rattle.gatt_host.specs.Telling.{notices_told}
+use Rattle.gatt_laws.specs.Notice.{Notice, Connected, Disconnected, Secured, Unsecured, Written, Configured, Confirmed, TimedOut, Ending}
+use Rattle.gihandop_c.specs.declared.notices.NoticeFields.{NoticeFields}
+use Rattle.gihandop_c.specs.declared.opened.Opened.{Opened}
+
+-- a kind, and a connection; and nothing else
+abbrev pub fields_of_connection : ℕ → ℕ → NoticeFields
+fields_of_connection kind handle = record {
+  kind = kind;
+  bits = 0;
+  reason = 0;
+  key_size = 0;
+  authenticated = false;
+  secure = false;
+  address_kind = 0;
+  address = replicate 6 0;
+  connection = handle;
+  attribute = 0;
+}
+
+-- and an attribute, with bits
+abbrev pub fields_of_attribute : ℕ → ℕ → ℕ → ℕ → NoticeFields
+fields_of_attribute kind handle attribute bits = record (fields_of_connection kind handle) { attribute = attribute; bits = bits }
+
+abbrev pub fields_of : Notice → NoticeFields
+fields_of (Connected handle peer) =
+    record (fields_of_connection 1 handle) { address_kind = peer.kind; address = peer.address }
+fields_of (Disconnected handle) = fields_of_connection 2 handle
+fields_of (Secured handle facts) =
+    record (fields_of_connection 3 handle) { key_size = facts.size; authenticated = facts.authenticated; secure = facts.secure }
+fields_of (Unsecured handle) = fields_of_connection 4 handle
+fields_of (Written handle attribute) = fields_of_attribute 5 handle attribute 0
+fields_of (Configured handle attribute bits) = fields_of_attribute 6 handle attribute bits
+fields_of (Confirmed handle attribute) = fields_of_attribute 7 handle attribute 0
+fields_of (TimedOut handle) = fields_of_connection 8 handle
+fields_of (Ending handle reason) = record (fields_of_connection 9 handle) { reason = reason }
+
+-- the first notice that has not been handed out
+abbrev pub next_notice : Opened → Option NoticeFields
+next_notice opened = option_map fields_of (slice_get (notices_told opened.host) opened.told)
+
+-- it is handed out, and counted
+pub record HandsOut (fields : NoticeFields) (old new : Opened) : Type 0 where
+  pub gives : next_notice old ≡ Some fields
+  pub counts : new.told ≡ old.told + 1
+  pub host : new.host ≡ old.host
+
+-- there is none, unless as many have been handed out as can be counted
+abbrev pub HasHandedOutAll : Opened → Type 0
+HasHandedOutAll opened = opened.told < 2 ^ 64 - 1 → next_notice opened ≡ None

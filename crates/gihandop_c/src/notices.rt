@@ -1,0 +1,152 @@
+//! What the application is told, as C reads it.
+
+ghost use Rattle.std.specs.Prelude.{◌≡◌, ◌≢◌, slice_get};
+ghost use Rattle.std.specs.Option.{option_map};
+ghost use Rattle.gatt_host.specs.Notices.{notice_of};
+ghost use Rattle.gatt_host.specs.Telling.{notices_told};
+ghost use Rattle.gatt_laws.specs.Notice.{Connected, Ending, Secured};
+ghost use Rattle.gihandop_c.specs.Telling.{fields_of, fields_of_attribute, fields_of_connection, HandsOut, HasHandedOutAll};
+ghost use Rattle.gihandop_c.specs.declared.status.TheConstants.{DONE, NOTHING};
+
+use crate::opened::Opened;
+use crate::status;
+use gatt_host::{Host, KeyFacts, Notice, Peer};
+
+/// What a notice says of a connection. What its kind has no word of is 0.
+#[repr(C)]
+#[derive(Clone, Copy)]
+pub struct NoticeFields {
+    /// 1 connected, 2 disconnected, 3 secured, 4 unsecured, 5 written, 6 configured, 7 confirmed,
+    /// 8 timed out, 9 ending.
+    pub kind: u8,
+    /// Of 6: the bits of the client characteristic configuration.
+    pub bits: u8,
+    /// Of 9: why, as Core 5.0, Vol 2 Part D, 2 has it.
+    pub reason: u8,
+    /// Of 3: the size of the key, in octets, and whether it was exchanged with protection against a man
+    /// in the middle, and made by LE Secure Connections.
+    pub key_size: u8,
+    pub authenticated: bool,
+    pub secure: bool,
+    /// Of 1: the type of the peer's address, 0 public or 1 random, and its octets as on the wire.
+    pub address_kind: u8,
+    pub address: [u8; 6],
+    /// The handle of the connection, as it has it in HCI.
+    pub connection: u16,
+    /// Of 5, 6 and 7: the handle of the attribute.
+    pub attribute: u16,
+}
+
+/// Puts the next notice into `notice`, if there is one.
+pub(crate) fn next(opened: &mut Opened, notice: &mut NoticeFields) -> u32
+    ensures gives { result ≡ DONE → HandsOut notice.new opened.old opened.new }
+    ensures nothing { result ≡ NOTHING → HasHandedOutAll opened.old }
+    ensures unchanged { result ≢ DONE → opened.new ≡ opened.old }
+{
+    let Some(behind) = opened.told.checked_add(1) else {
+        return status::NOTHING;
+    };
+    match at(&opened.host, opened.told) {
+        Some(next) => {
+            opened.told = behind;
+            *notice = next;
+            status::DONE
+        }
+        None => status::NOTHING,
+    }
+}
+
+/// The notice at a place, counted from 0.
+fn at(host: &Host, place: usize) -> Option<NoticeFields>
+    ensures { result ≡ option_map fields_of (slice_get (notices_told host.now) place) }
+{
+    let mut left = place;
+    for notice in host.notices() {
+        if left == 0 {
+            return Some(fields(notice));
+        }
+        left -= 1;
+    }
+    None
+}
+
+/// What a notice says.
+fn fields(notice: Notice<'_>) -> NoticeFields
+    ensures { result ≡ fields_of (notice_of notice.entry) }
+{
+    match notice {
+        Notice::Connected { handle, peer } => connected(handle, peer),
+        Notice::Disconnected { handle } => of_connection(2, handle),
+        Notice::Secured { handle, facts } => secured(handle, facts),
+        Notice::Unsecured { handle } => of_connection(4, handle),
+        Notice::Written {
+            handle,
+            attribute,
+            ..
+        } => of_attribute(5, handle, attribute, 0),
+        Notice::Configured {
+            handle,
+            attribute,
+            bits,
+        } => of_attribute(6, handle, attribute, bits),
+        Notice::Confirmed { handle, attribute } => of_attribute(7, handle, attribute, 0),
+        Notice::TimedOut { handle } => of_connection(8, handle),
+        Notice::Ending { handle, reason } => ending(handle, reason),
+    }
+}
+
+/// Of a notice with nothing but its connection.
+fn of_connection(kind: u8, handle: u16) -> NoticeFields
+    ensures { result ≡ fields_of_connection kind handle }
+{
+    NoticeFields {
+        kind,
+        bits: 0,
+        reason: 0,
+        key_size: 0,
+        authenticated: false,
+        secure: false,
+        address_kind: 0,
+        address: [0; 6],
+        connection: handle,
+        attribute: 0,
+    }
+}
+
+/// Of a notice of an attribute.
+fn of_attribute(kind: u8, handle: u16, attribute: u16, bits: u8) -> NoticeFields
+    ensures { result ≡ fields_of_attribute kind handle attribute bits }
+{
+    let mut said = of_connection(kind, handle);
+    said.attribute = attribute;
+    said.bits = bits;
+    said
+}
+
+fn connected(handle: u16, peer: Peer) -> NoticeFields
+    ensures { result ≡ fields_of (Connected handle peer) }
+{
+    let address = peer.address;
+    let mut said = of_connection(1, handle);
+    said.address_kind = peer.kind;
+    said.address = address;
+    said
+}
+
+fn secured(handle: u16, facts: KeyFacts) -> NoticeFields
+    ensures { result ≡ fields_of (Secured handle facts) }
+{
+    let mut said = of_connection(3, handle);
+    said.key_size = facts.size;
+    said.authenticated = facts.authenticated;
+    said.secure = facts.secure;
+    said
+}
+
+fn ending(handle: u16, reason: u8) -> NoticeFields
+    ensures { result ≡ fields_of (Ending handle reason) }
+{
+    let mut said = of_connection(9, handle);
+    said.reason = reason;
+    said
+}

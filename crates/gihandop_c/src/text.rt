@@ -1,0 +1,94 @@
+//! Each status in words.
+
+ghost use Rattle.std.specs.Prelude.{◌≡◌, ◌<◌, ◌-◌, length, is_some, nat_lt, IsSome};
+
+/// What the library itself answers, from 0.
+const LIBRARY: &[&str] = &[
+    "done",
+    "there is nothing to hand out",
+    "no host is open",
+    "a host is open already",
+    "packets have to go out first",
+    "the buffer is too short",
+    "memory was refused",
+    "the configuration is out of its limits",
+];
+
+/// Why a host has stopped, from 21.
+const HOST: &[&str] = &[
+    "host: an octet stands where a packet begins, and begins none",
+    "host: an event is too short for its fields, or has another length than it states",
+    "host: the controller could not be initialised",
+    "host: the controller reports an error of its own",
+];
+
+/// Why a call is refused, from 41.
+const CALLS: &[&str] = &[
+    "there is no attribute with the handle",
+    "it is no characteristic value",
+    "the value is longer than its largest length, or a fixed one has another length",
+    "no connection with the handle serves",
+    "the time is before the one that stands",
+    "the host has stopped",
+    "a table has no value that tells of changes, or they have it at different handles",
+];
+
+/// The faults of a table file, from 101.
+const TABLE: &[&str] = &[
+    "table: it is not TOML",
+    "table: a key that has to be there is not",
+    "table: a uuid is none, or is one that may not stand there",
+    "table: a value is not an even number of hexadecimal digits",
+    "table: a value of more than 512 octets, or a max out of its range",
+    "table: a need with a key_size out of its range, or with another key",
+    "table: a property that is unknown or not allowed there, or a config with nothing to configure",
+    "table: more attributes, configurations or octets than a table may have",
+    "table: an include of a service that does not stand before",
+    "table: memory was refused",
+    "table: a key that is unknown, or of another TOML type than its own",
+];
+
+/// The faults of a key file, from 201.
+const KEYS: &[&str] = &[
+    "keys: it is not TOML",
+    "keys: a key that each entry has to have is not there",
+    "keys: an address or a kind is none",
+    "keys: a rand or an ltk is not that many hexadecimal digits",
+    "keys: a size is out of its range",
+    "keys: an earlier entry has the same peer, rand and ediv",
+    "keys: more than 64 entries",
+    "keys: memory was refused",
+    "keys: a key that is unknown, or of another TOML type than its own",
+    "keys: a secure key with another rand or ediv than 0",
+];
+
+/// The faults of a rows file, from 301.
+const ROWS: &[&str] = &[
+    "rows: a line says nothing that a rows file may say",
+    "rows: a line says what an earlier one has said",
+    "rows: more of them than a rows file may have",
+    "rows: memory was refused",
+];
+
+/// What a status says, in ASCII; none of a number that no function answers.
+pub(crate) fn text(status: u32) -> Option<&'static str> {
+    match status {
+        0..=7 => nth(LIBRARY, status),
+        21..=24 => nth(HOST, status - 21),
+        41..=47 => nth(CALLS, status - 41),
+        101..=111 => nth(TABLE, status - 101),
+        201..=210 => nth(KEYS, status - 201),
+        301..=304 => nth(ROWS, status - 301),
+        _ => None,
+    }
+}
+
+/// The text at a place, counted from 0.
+fn nth(texts: &'static [&'static str], place: u32) -> Option<&'static str>
+    ensures { is_some result ≡ nat_lt place (length texts.now) }
+{
+    match texts.get(place as usize) {
+        Some(text) => Some(*text),
+        None => None,
+    }
+}
