@@ -186,10 +186,52 @@ uint32_t gh_replace(struct gh_host *host, const uint8_t *table, size_t length);
 uint32_t gh_value(struct gh_host *host, uint16_t handle, uint8_t *out, size_t room, size_t *count);
 
 /*
+ * Puts the handle of the value of the first characteristic of a type in the first service of a type into
+ * *handle. Types are UUIDs as octets, the lowest first: 2 for one of 16 bits, or 16. GH_NOTHING where
+ * there is none, or a length is another.
+ */
+uint32_t gh_find(struct gh_host *host, const uint8_t *service, size_t service_length,
+                 const uint8_t *characteristic, size_t characteristic_length, uint16_t *handle);
+
+/*
+ * Puts what peers have configured, and who is owed that the table has changed, at the front of out, and
+ * its length into *count: a rows file, for the next gh_open. GH_SHORT_BUFFER where *count is more than
+ * room. It takes memory until it returns.
+ */
+uint32_t gh_rows_text(struct gh_host *host, uint8_t *out, size_t room, size_t *count);
+
+/*
  * Puts the least time, in milliseconds, at which an indication that is not confirmed is late into *time:
  * until then no time has to be told. GH_NOTHING where every one is confirmed.
  */
 uint32_t gh_deadline(struct gh_host *host, uint64_t *time);
+
+/* A connection as it stands. */
+struct gh_connection {
+    /* As it has it in HCI. */
+    uint16_t handle;
+    /* The ATT_MTU, in octets. */
+    uint16_t mtu;
+    /* The type of the peer's address, 0 public or 1 random, and its octets as on the wire. */
+    uint8_t address_kind;
+    uint8_t address[6];
+    /* The size of the key of its link, in octets: 0 where that has none. */
+    uint8_t key_size;
+    /* Whether the key was exchanged with protection against a man in the middle, and made by LE Secure
+       Connections. */
+    bool authenticated;
+    bool secure;
+    /* The host ends it: it is served no more, and is not gone yet. */
+    bool ending;
+    /* It is authorized while the time is below this, in milliseconds. */
+    uint64_t authorized_until;
+};
+
+/*
+ * Puts the connection at a place into *connection. Places count from 0, in the order of the slots, and
+ * there are as many as connections: GH_NOTHING from there on.
+ */
+uint32_t gh_connection(struct gh_host *host, size_t place, struct gh_connection *connection);
 
 /* What a notice tells of a connection. */
 enum {

@@ -39,7 +39,10 @@ int main(int argc, char **argv)
     struct gh_config config = {.slots = 1, .rx_mtu = 247};
     uint32_t status = gh_open(&host, table, length, table, 0, table, 0, &config);
     if (status != GH_DONE) {
-        fprintf(stderr, "not opened: %u\n", (unsigned)status);
+        uint8_t text[128];
+        size_t count;
+        gh_text(status, text, sizeof text, &count);
+        fprintf(stderr, "%.*s\n", (int)count, (const char *)text);
         return 1;
     }
     drain(&host);

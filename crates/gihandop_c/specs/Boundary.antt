@@ -1,5 +1,5 @@
 -- What a function does to the host behind a pointer.
-use Rattle.std.specs.Prelude.{◌≡◌, ℕ, ◌+◌, List, [], ◌∷◌, drop, Option, Some, None, IfSome, IsSome}
+use Rattle.std.specs.Prelude.{◌≡◌, ℕ, ◌+◌, List, drop, Option, Some, None, IfSome, IsSome}
 use Rattle.att_table.specs.Table.{Contents}
 use Rattle.gatt_host.specs.declared.host_fault.HostFault.{HostFault}
 use Rattle.gatt_host.specs.Numbers.{number_of_fault}

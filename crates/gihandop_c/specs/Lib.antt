@@ -2,4 +2,5 @@
 pub mod Boundary
 pub mod Opening
 pub mod Owned
+pub mod Seeing
 pub mod Telling

@@ -11,16 +11,19 @@ ghost use Rattle.gatt_host.specs.Whole.{all_out};
 ghost use Rattle.gatt_laws.specs.Calls.{AuthorizeCall, DisconnectCall, TickCall, UpdateCall};
 ghost use Rattle.gatt_laws.specs.Input.{ACall, ATable};
 ghost use Rattle.gatt_slots.specs.Slots.{slots_deadline};
+ghost use Rattle.gatt_subs.specs.RowsText.{text_of};
 ghost use Rattle.gihandop_c.specs.Boundary.{AnswersCall, AnswersTable, HostFallsSilent, HostLeads, HostStaysIfStopped, HostTellsItem, HostTellsItems, OfTheHost, StoppedBy};
 ghost use Rattle.gihandop_c.specs.Opening.{IsOpenWith};
+ghost use Rattle.gihandop_c.specs.Seeing.{connection_at, found_by};
 ghost use Rattle.gihandop_c.specs.Telling.{HandsOut, HasHandedOutAll};
 ghost use Rattle.gihandop_c.specs.declared.status.TheConstants.{ALREADY_OPEN, BAD_TABLE, CLOSED, DONE, HAS_STOPPED, NOTHING, OUTPUT_OWED, SHORT_BUFFER};
 
 use crate::config::HostConfig;
+use crate::connections::ConnectionFields;
 use crate::host_pointer::HostPointer;
 use crate::notices::NoticeFields;
 use crate::opened::Opened;
-use crate::{asking, notices, opening, reading, status, stream, text};
+use crate::{asking, connections, notices, opening, reading, status, stream, text};
 use gatt_host::App;
 use std::alloc::Global;
 
@@ -286,6 +289,30 @@ pub extern "C" fn gh_value(
     answer
 }
 
+/// Puts what peers have configured, and who is owed that the table has changed, at the front of `out` as
+/// a rows file, where it fits, and its length into `count`.
+#[unsafe(no_mangle)]
+pub extern "C" fn gh_rows_text(
+    alloc: Global,
+    host: &mut HostPointer,
+    out: &mut [u8],
+    count: &mut usize,
+) -> u32
+    ensures closed { host.old.host ≡ None → result ≡ CLOSED }
+    ensures rows { result ≡ DONE → IfSome host.old.host (λ opened.
+        take count.new out.new ≡ text_of opened.host.held.rows) }
+    ensures short { result ≡ SHORT_BUFFER → length out.old < count.new }
+    ensures unchanged { host.new.host ≡ host.old.host }
+{
+    *count = 0;
+    let Some(open) = host.take(alloc) else {
+        return status::CLOSED;
+    };
+    let answer = reading::rows_text(alloc, &open, out, count);
+    host.put(alloc, open);
+    answer
+}
+
 /// Puts the least time, in milliseconds, at which an indication that is not confirmed is late into
 /// `time`; there is none where every one is confirmed. Until then no time has to be told.
 #[unsafe(no_mangle)]
@@ -302,6 +329,56 @@ pub extern "C" fn gh_deadline(alloc: Global, host: &mut HostPointer, time: &mut 
         return status::CLOSED;
     };
     let answer = reading::deadline(&open, time);
+    host.put(alloc, open);
+    answer
+}
+
+/// Puts the handle of the value of the first characteristic of a type in the first service of a type into
+/// `handle`. Types are UUIDs as octets, the lowest first: 2 for one of 16 bits, or 16.
+#[unsafe(no_mangle)]
+pub extern "C" fn gh_find(
+    alloc: Global,
+    host: &mut HostPointer,
+    service: &[u8],
+    characteristic: &[u8],
+    handle: &mut u16,
+) -> u32
+    ensures closed { host.old.host ≡ None → result ≡ CLOSED }
+    ensures found { result ≡ DONE → IfSome host.old.host (λ opened.
+        found_by opened.host.held.table service.now characteristic.now ≡ Some handle.new) }
+    ensures nothing { result ≡ NOTHING → IfSome host.old.host (λ opened.
+        found_by opened.host.held.table service.now characteristic.now ≡ None) }
+    ensures unchanged { host.new.host ≡ host.old.host }
+{
+    *handle = 0;
+    let Some(open) = host.take(alloc) else {
+        return status::CLOSED;
+    };
+    let answer = reading::find(&open, service, characteristic, handle);
+    host.put(alloc, open);
+    answer
+}
+
+/// Puts the connection at a place, counted from 0, in the order of the slots, into `connection`, if there
+/// are so many.
+#[unsafe(no_mangle)]
+pub extern "C" fn gh_connection(
+    alloc: Global,
+    host: &mut HostPointer,
+    place: usize,
+    connection: &mut ConnectionFields,
+) -> u32
+    ensures closed { host.old.host ≡ None → result ≡ CLOSED }
+    ensures there { result ≡ DONE
+        → IfSome host.old.host (λ opened. connection_at opened place ≡ Some connection.new) }
+    ensures nothing { result ≡ NOTHING
+        → IfSome host.old.host (λ opened. connection_at opened place ≡ None) }
+    ensures unchanged { host.new.host ≡ host.old.host }
+{
+    let Some(open) = host.take(alloc) else {
+        return status::CLOSED;
+    };
+    let answer = connections::connection(&open, place, connection);
     host.put(alloc, open);
     answer
 }

@@ -5,20 +5,23 @@
 mod asking;
 mod box_parts;
 mod config;
+mod connections;
 mod exports;
 mod host_pointer;
 mod notices;
 mod opened;
 mod opening;
 mod reading;
+mod rows_text;
 mod status;
 mod stream;
 mod text;
 
 pub use config::HostConfig;
+pub use connections::ConnectionFields;
 pub use exports::{
-    gh_authorize, gh_close, gh_deadline, gh_disconnect, gh_next_notice, gh_next_out, gh_open,
-    gh_replace, gh_take, gh_text, gh_tick, gh_update, gh_value,
+    gh_authorize, gh_close, gh_connection, gh_deadline, gh_disconnect, gh_find, gh_next_notice,
+    gh_next_out, gh_open, gh_replace, gh_rows_text, gh_take, gh_text, gh_tick, gh_update, gh_value,
 };
 pub use host_pointer::HostPointer;
 pub use notices::NoticeFields;

@@ -4,10 +4,15 @@ ghost use Rattle.std.specs.Prelude.{◌≡◌, ◌≢◌, ◌<◌, length, take,
 ghost use Rattle.att_attributes.specs.Attributes.{attribute_at};
 ghost use Rattle.att_table.specs.Table.{value_at};
 ghost use Rattle.gatt_slots.specs.Slots.{slots_deadline};
+ghost use Rattle.gatt_subs.specs.RowsText.{text_of};
+ghost use Rattle.gihandop_c.specs.Seeing.{found_by, uuid_of};
 ghost use Rattle.gihandop_c.specs.declared.status.TheConstants.{DONE, NOTHING, SHORT_BUFFER};
 
 use crate::opened::Opened;
+use crate::rows_text::RowsText;
 use crate::{status, stream};
+use gatt_host::from_16_bits;
+use std::alloc::Global;
 
 /// Puts the value at a handle at the front of `out`, where it fits, and its length into `count`.
 pub(crate) fn value(opened: &Opened, handle: u16, out: &mut [u8], count: &mut usize) -> u32
@@ -39,5 +44,59 @@ pub(crate) fn deadline(opened: &Opened, time: &mut u64) -> u32
             *time = 0;
             status::NOTHING
         }
+    }
+}
+
+/// Puts what peers have configured, as a rows file, at the front of `out`, where it fits, and its length
+/// into `count`.
+pub(crate) fn rows_text(alloc: Global, opened: &Opened, out: &mut [u8], count: &mut usize) -> u32
+    ensures rows { result ≡ DONE
+        → take count.new out.new ≡ text_of opened.now.host.held.rows }
+    ensures short { result ≡ SHORT_BUFFER → length out.old < count.new }
+{
+    *count = 0;
+    let mut text = RowsText {
+        octets: Vec::new(alloc),
+    };
+    if opened.host.rows().text(&mut text).is_err() {
+        return status::OUT_OF_MEMORY;
+    }
+    stream::copy(text.octets.as_slice(), out, count)
+}
+
+/// Puts the handle of the value of the first characteristic of a type in the first service of a type
+/// into `handle`.
+pub(crate) fn find(opened: &Opened, service: &[u8], characteristic: &[u8], handle: &mut u16) -> u32
+    ensures found { result ≡ DONE
+        → found_by opened.now.host.held.table service.now characteristic.now ≡ Some handle.new }
+    ensures nothing { result ≢ DONE
+        → found_by opened.now.host.held.table service.now characteristic.now ≡ None }
+{
+    *handle = 0;
+    let Some(service) = uuid(service) else {
+        return status::NOTHING;
+    };
+    let Some(characteristic) = uuid(characteristic) else {
+        return status::NOTHING;
+    };
+    match opened.host.table().find(service, characteristic) {
+        Some(found) => {
+            *handle = found;
+            status::DONE
+        }
+        None => status::NOTHING,
+    }
+}
+
+/// The UUID of 2 or 16 octets, the lowest first.
+fn uuid(octets: &[u8]) -> Option<u128>
+    ensures { result ≡ uuid_of octets.now }
+{
+    if let Ok(short) = <[u8; 2]>::try_from(octets) {
+        return Some(from_16_bits(u16::from_le_bytes(short)));
+    }
+    match <[u8; 16]>::try_from(octets) {
+        Ok(whole) => Some(u128::from_le_bytes(whole)),
+        Err(_) => None,
     }
 }

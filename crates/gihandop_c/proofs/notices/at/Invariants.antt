@@ -1,7 +1,5 @@
 use Rattle.std.proofs.Common.{◌≡◌, slice_get}
-use Rattle.std.specs.Option.{option_map}
 use Rattle.gatt_host.specs.Telling.{notices_told}
-use Rattle.gihandop_c.specs.Telling.{fields_of}
 use Rattle.gihandop_c.proofs.notices.at.Given as goal
 
 abbrev pub invariant-loop-notice : goal.invariant-loop-notice

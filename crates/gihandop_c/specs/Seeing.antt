@@ -1,0 +1,54 @@
+-- What the program sees of its host, as C reads it: this library's own.
+use Rattle.std.specs.Prelude.{ℕ, ◌==◌, false, length, if◌then◌else◌, slice_get, Option, Some, None}
+use Rattle.std.specs.Int.{w16, w128, from_le_bytes}
+use Rattle.std.specs.Option.{option_map}
+use Rattle.att_numbers.specs.AttributeType.{of_16_bits}
+use Rattle.att_policy.specs.declared.standing.KeyFacts.{KeyFacts}
+use Rattle.att_table.specs.Find.{value_found}
+use Rattle.att_table.specs.Table.{Contents}
+use Rattle.gatt_slots.specs.Connections.{connections_in}
+use Rattle.gatt_slots.specs.declared.connection.Connection.{Connection}
+use Rattle.gihandop_c.specs.declared.connections.ConnectionFields.{ConnectionFields}
+use Rattle.gihandop_c.specs.declared.opened.Opened.{Opened}
+use Rattle.octets.specs.Number.{Octets}
+
+-- a UUID as octets, the lowest first: 2 for one of 16 bits, or 16 (Core 5.0, Vol 3 Part F, 3.2.1)
+abbrev pub uuid_of : Octets → Option ℕ
+uuid_of octets =
+    if length octets == 2 then Some (of_16_bits (from_le_bytes w16 octets))
+    else if length octets == 16 then Some (from_le_bytes w128 octets) else None
+
+abbrev pub found_among : Contents → Option ℕ → Option ℕ → Option ℕ
+found_among table (Some service) (Some characteristic) = value_found table service characteristic
+found_among table service characteristic = None
+
+-- the handle of the value of the first characteristic of a type in the first service of a type
+abbrev pub found_by : Contents → Octets → Octets → Option ℕ
+found_by table service characteristic = found_among table (uuid_of service) (uuid_of characteristic)
+
+-- a connection without the key of its link
+abbrev pub without_a_key : Connection → ConnectionFields
+without_a_key connection = record {
+  handle = connection.handle;
+  mtu = connection.mtu;
+  address_kind = connection.peer.kind;
+  address = connection.peer.address;
+  key_size = 0;
+  authenticated = false;
+  secure = false;
+  ending = connection.ending;
+  authorized_until = connection.authorized_until;
+}
+
+-- and with what is known of that
+abbrev pub with_the_key : Option KeyFacts → ConnectionFields → ConnectionFields
+with_the_key None fields = fields
+with_the_key (Some facts) fields =
+    record fields { key_size = facts.size; authenticated = facts.authenticated; secure = facts.secure }
+
+abbrev pub connection_fields : Connection → ConnectionFields
+connection_fields connection = with_the_key connection.key (without_a_key connection)
+
+-- the connection at a place, in the order of the slots, if there are so many
+abbrev pub connection_at : Opened → ℕ → Option ConnectionFields
+connection_at opened place = option_map connection_fields (slice_get (connections_in opened.host.held.slots) place)
