@@ -35,8 +35,8 @@ pub(crate) fn call(opened: &mut Opened, call: App<'_>) -> u32
     }
 }
 
-/// Replaces the table by that of a table file, once all is out. A file is not read as long as a packet
-/// is owed.
+/// Replaces the table by that of a table file, once all is out. A file is not read as long as a
+/// packet is owed.
 pub(crate) fn replace_by(alloc: Global, opened: &mut Opened, file: &[u8]) -> u32
     ensures takes { (contents : Contents) → table_read file.now ≡ Ok contents
         → result < BAD_TABLE → result ≢ OUTPUT_OWED

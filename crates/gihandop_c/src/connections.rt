@@ -23,8 +23,8 @@ pub struct ConnectionFields {
     pub address: [u8; 6],
     /// The size of the key of its link, in octets: 0 where that has none.
     pub key_size: u8,
-    /// Whether the key was exchanged with protection against a man in the middle, and made by LE Secure
-    /// Connections.
+    /// Whether the key was exchanged with protection against a man in the middle, and made by LE
+    /// Secure Connections.
     pub authenticated: bool,
     pub secure: bool,
     /// The host ends it: it is served no more, and is not gone yet.

@@ -27,8 +27,8 @@ use crate::{asking, connections, notices, opening, reading, status, stream, text
 use gatt_host::App;
 use std::alloc::Global;
 
-/// Opens a host with the octets of a table file, a key file and a rows file. Where it answers another
-/// status than that it is done, everything is as it was.
+/// Opens a host with the octets of a table file, a key file and a rows file. Where it answers
+/// another status than that it is done, everything is as it was.
 #[unsafe(no_mangle)]
 pub extern "C" fn gh_open(
     alloc: Global,
@@ -74,8 +74,8 @@ pub extern "C" fn gh_close(alloc: Global, host: &mut HostPointer) -> u32
     }
 }
 
-/// Takes in octets of the stream from the controller, which may begin and end anywhere: up to the end
-/// of the next packet, and that packet, or all of them where none ends in them. Says how many.
+/// Takes in octets of the stream from the controller, which may begin and end anywhere: up to the
+/// end of the next packet, and that packet, or all of them where none ends in them. Says how many.
 #[unsafe(no_mangle)]
 pub extern "C" fn gh_take(
     alloc: Global,
@@ -104,9 +104,9 @@ pub extern "C" fn gh_take(
     answer
 }
 
-/// Puts the next packet that is to go to the controller at the front of `out`, which has room for 260
-/// octets, and its length into `count`, and takes in that it has gone; or answers that nothing is to
-/// go out.
+/// Puts the next packet that is to go to the controller at the front of `out`, which has room for
+/// 260 octets, and its length into `count`, and takes in that it has gone; or answers that nothing
+/// is to go out.
 #[unsafe(no_mangle)]
 pub extern "C" fn gh_next_out(
     alloc: Global,
@@ -236,7 +236,8 @@ pub extern "C" fn gh_tick(alloc: Global, host: &mut HostPointer, time: u64) -> u
     ask(alloc, host, App::Tick(time))
 }
 
-/// Replaces the table by that of another table file: what peers have configured stays where it fits.
+/// Replaces the table by that of another table file: what peers have configured stays where it
+/// fits.
 #[unsafe(no_mangle)]
 pub extern "C" fn gh_replace(alloc: Global, host: &mut HostPointer, table: &[u8]) -> u32
     ensures closed { host.old.host ≡ None → result ≡ CLOSED }
@@ -262,8 +263,8 @@ pub extern "C" fn gh_replace(alloc: Global, host: &mut HostPointer, table: &[u8]
     answer
 }
 
-/// Puts the value at a handle at the front of `out`, where it fits, and its length into `count`. Of a
-/// client characteristic configuration it is empty.
+/// Puts the value at a handle at the front of `out`, where it fits, and its length into `count`.
+/// Of a client characteristic configuration it is empty.
 #[unsafe(no_mangle)]
 pub extern "C" fn gh_value(
     alloc: Global,
@@ -289,8 +290,8 @@ pub extern "C" fn gh_value(
     answer
 }
 
-/// Puts what peers have configured, and who is owed that the table has changed, at the front of `out` as
-/// a rows file, where it fits, and its length into `count`.
+/// Puts what peers have configured, and who is owed that the table has changed, at the front of
+/// `out` as a rows file, where it fits, and its length into `count`.
 #[unsafe(no_mangle)]
 pub extern "C" fn gh_rows_text(
     alloc: Global,
@@ -333,8 +334,8 @@ pub extern "C" fn gh_deadline(alloc: Global, host: &mut HostPointer, time: &mut 
     answer
 }
 
-/// Puts the handle of the value of the first characteristic of a type in the first service of a type into
-/// `handle`. Types are UUIDs as octets, the lowest first: 2 for one of 16 bits, or 16.
+/// Puts the handle of the value of the first characteristic of a type in the first service of a
+/// type into `handle`. Types are UUIDs as octets, the lowest first: 2 for one of 16 bits, or 16.
 #[unsafe(no_mangle)]
 pub extern "C" fn gh_find(
     alloc: Global,
@@ -359,8 +360,8 @@ pub extern "C" fn gh_find(
     answer
 }
 
-/// Puts the connection at a place, counted from 0, in the order of the slots, into `connection`, if there
-/// are so many.
+/// Puts the connection at a place, counted from 0, in the order of the slots, into `connection`,
+/// if there are so many.
 #[unsafe(no_mangle)]
 pub extern "C" fn gh_connection(
     alloc: Global,
@@ -404,8 +405,8 @@ pub extern "C" fn gh_next_notice(
     answer
 }
 
-/// Puts what a status says, a line of ASCII, at the front of `out`, where it fits, and its length into
-/// `count`. There is nothing of a number that no function answers.
+/// Puts what a status says, a line of ASCII, at the front of `out`, where it fits, and its length
+/// into `count`. There is nothing of a number that no function answers.
 #[unsafe(no_mangle)]
 pub extern "C" fn gh_text(status: u32, out: &mut [u8], count: &mut usize) -> u32
     ensures short { result ≡ SHORT_BUFFER → length out.old < count.new }

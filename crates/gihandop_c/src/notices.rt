@@ -23,8 +23,8 @@ pub struct NoticeFields {
     pub bits: u8,
     /// Of 9: why, as Core 5.0, Vol 2 Part D, 2 has it.
     pub reason: u8,
-    /// Of 3: the size of the key, in octets, and whether it was exchanged with protection against a man
-    /// in the middle, and made by LE Secure Connections.
+    /// Of 3: the size of the key, in octets, and whether it was exchanged with protection against
+    /// a man in the middle, and made by LE Secure Connections.
     pub key_size: u8,
     pub authenticated: bool,
     pub secure: bool,

@@ -13,8 +13,8 @@ use gatt_host::{Host, KeyFault, Keys, OpenFault, Rows, RowsFault, Table, TableFa
 use std::alloc::Global;
 use std::str;
 
-/// A host that serves a table to peers with these keys, and what they have configured; or the status
-/// of the first file with a fault, and of the first fault there.
+/// A host that serves a table to peers with these keys, and what they have configured; or the
+/// status of the first file with a fault, and of the first fault there.
 pub(crate) fn open(
     alloc: Global,
     table: &[u8],

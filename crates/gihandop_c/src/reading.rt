@@ -47,8 +47,8 @@ pub(crate) fn deadline(opened: &Opened, time: &mut u64) -> u32
     }
 }
 
-/// Puts what peers have configured, as a rows file, at the front of `out`, where it fits, and its length
-/// into `count`.
+/// Puts what peers have configured, as a rows file, at the front of `out`, where it fits, and its
+/// length into `count`.
 pub(crate) fn rows_text(alloc: Global, opened: &Opened, out: &mut [u8], count: &mut usize) -> u32
     ensures rows { result ≡ DONE
         → take count.new out.new ≡ text_of opened.now.host.held.rows }
@@ -64,8 +64,8 @@ pub(crate) fn rows_text(alloc: Global, opened: &Opened, out: &mut [u8], count: &
     stream::copy(text.octets.as_slice(), out, count)
 }
 
-/// Puts the handle of the value of the first characteristic of a type in the first service of a type
-/// into `handle`.
+/// Puts the handle of the value of the first characteristic of a type in the first service of a
+/// type into `handle`.
 pub(crate) fn find(opened: &Opened, service: &[u8], characteristic: &[u8], handle: &mut u16) -> u32
     ensures found { result ≡ DONE
         → found_by opened.now.host.held.table service.now characteristic.now ≡ Some handle.new }

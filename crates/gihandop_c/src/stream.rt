@@ -13,8 +13,9 @@ use arrayvec::ArrayVec;
 /// The longest packet that goes out, in octets.
 const LONGEST_PACKET: usize = 260;
 
-/// Takes in octets up to the end of the next packet, or all of them where none ends in them, and says
-/// how many. Where the host stops, or had stopped, no more are to be taken in, and it says all.
+/// Takes in octets up to the end of the next packet, or all of them where none ends in them, and
+/// says how many. Where the host stops, or had stopped, no more are to be taken in, and it says
+/// all.
 pub(crate) fn take(opened: &mut Opened, octets: &[u8], used: &mut usize) -> u32
     ensures takes { LeadsOn (octet_items (take used.new octets.now)) [] opened.old opened.new }
     ensures tells { result ≢ OUTPUT_OWED
