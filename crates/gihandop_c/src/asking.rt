@@ -1,9 +1,10 @@
 //! What the program asks of its host.
 
-ghost use Rattle.std.specs.Prelude.{◌≡◌, ◌≢◌, ◌<◌, ◌∷◌, [], IsSome, Ok};
+ghost use Rattle.std.specs.Prelude.{◌≡◌, ◌≢◌, ◌<◌, ◌∷◌, [], false, IsSome, Ok};
 ghost use Rattle.att_table.specs.file.TableFile.{table_read};
 ghost use Rattle.att_table.specs.Table.{Contents};
 ghost use Rattle.gatt_host.specs.Asked.{call_of};
+ghost use Rattle.gatt_host.specs.Whole.{all_out};
 ghost use Rattle.gatt_laws.specs.Input.{ACall, ATable};
 ghost use Rattle.gihandop_c.specs.Boundary.{AnswersCall, AnswersTable, FallsSilent, LeadsOn, TellsItem};
 ghost use Rattle.gihandop_c.specs.declared.status.TheConstants.{BAD_TABLE, DONE, HAS_STOPPED, OUTPUT_OWED};
@@ -23,6 +24,7 @@ pub(crate) fn call(opened: &mut Opened, call: App<'_>) -> u32
         → AnswersCall (call_of call.entry) result opened.old }
     ensures refused { result ≢ DONE → result ≢ OUTPUT_OWED → FallsSilent opened.old opened.new }
     ensures stopped { IsSome opened.old.host.fault → result ≡ HAS_STOPPED }
+    ensures owes { result ≡ OUTPUT_OWED → all_out opened.old.host ≡ false }
     ensures owed { result ≡ OUTPUT_OWED → opened.new ≡ opened.old }
 {
     if !opened.host.drained() {
@@ -49,6 +51,7 @@ pub(crate) fn replace_by(alloc: Global, opened: &mut Opened, file: &[u8]) -> u32
         → AnswersTable contents result opened.old }
     ensures refused { result ≢ DONE → result < BAD_TABLE → result ≢ OUTPUT_OWED
         → FallsSilent opened.old opened.new }
+    ensures owes { result ≡ OUTPUT_OWED → all_out opened.old.host ≡ false }
     ensures owed { result ≡ OUTPUT_OWED → opened.new ≡ opened.old }
     ensures unread { BAD_TABLE < result → opened.new ≡ opened.old }
 {
@@ -69,6 +72,7 @@ fn replace(opened: &mut Opened, table: Table) -> u32
     ensures answers { result ≢ OUTPUT_OWED → AnswersTable table result opened.old }
     ensures refused { result ≢ DONE → result ≢ OUTPUT_OWED → FallsSilent opened.old opened.new }
     ensures below { result < BAD_TABLE }
+    ensures owes { result ≡ OUTPUT_OWED → all_out opened.old.host ≡ false }
     ensures owed { result ≡ OUTPUT_OWED → opened.new ≡ opened.old }
 {
     if !opened.host.drained() {

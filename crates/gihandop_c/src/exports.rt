@@ -1,7 +1,7 @@
 //! The functions that C calls. None of them wants anything of its arguments beside what their types
 //! say: what may be wrong is tested, and answered by a status.
 
-ghost use Rattle.std.specs.Prelude.{◌≡◌, ◌≢◌, ◌<◌, ◌≤◌, ◌∷◌, [], length, take, true, IfSome, IsSome, Some, None, Ok};
+ghost use Rattle.std.specs.Prelude.{◌≡◌, ◌≢◌, ◌<◌, ◌≤◌, ◌∷◌, [], length, take, false, true, IfSome, IsSome, Some, None, Ok};
 ghost use Rattle.att_attributes.specs.Attributes.{attribute_at};
 ghost use Rattle.att_table.specs.file.TableFile.{table_read};
 ghost use Rattle.att_table.specs.Table.{Contents, value_at};
@@ -91,7 +91,11 @@ pub extern "C" fn gh_take(
     ensures within { used.new ≤ length octets.now }
     ensures some { result ≡ DONE → 0 < length octets.now → 0 < used.new }
     ensures going { result ≡ DONE → IfSome host.new.host (λ opened. opened.host.fault ≡ None) }
+    ensures goes_on { result ≢ OUTPUT_OWED
+        → IfSome host.new.host (λ opened. opened.host.fault ≡ None → result ≡ DONE) }
     ensures status { IfSome host.new.host (StoppedBy result) }
+    ensures owes { result ≡ OUTPUT_OWED
+        → IfSome host.old.host (λ opened. all_out opened.host ≡ false) }
     ensures owed { result ≡ OUTPUT_OWED → host.new.host ≡ host.old.host }
     ensures stopped { HostStaysIfStopped host.old.host host.new.host }
 {
@@ -144,6 +148,8 @@ fn ask(alloc: Global, host: &mut HostPointer, call: App<'_>) -> u32
         → HostFallsSilent host.old.host host.new.host }
     ensures stopped { IfSome host.old.host (λ opened. IsSome opened.host.fault
         → result ≡ HAS_STOPPED) }
+    ensures owes { result ≡ OUTPUT_OWED
+        → IfSome host.old.host (λ opened. all_out opened.host ≡ false) }
     ensures owed { result ≡ OUTPUT_OWED → host.new.host ≡ host.old.host }
 {
     let Some(mut open) = host.take(alloc) else {
@@ -168,6 +174,8 @@ pub extern "C" fn gh_update(alloc: Global, host: &mut HostPointer, handle: u16, 
         → HostFallsSilent host.old.host host.new.host }
     ensures stopped { IfSome host.old.host (λ opened. IsSome opened.host.fault
         → result ≡ HAS_STOPPED) }
+    ensures owes { result ≡ OUTPUT_OWED
+        → IfSome host.old.host (λ opened. all_out opened.host ≡ false) }
     ensures owed { result ≡ OUTPUT_OWED → host.new.host ≡ host.old.host }
 {
     ask(alloc, host, App::Update(handle, value))
@@ -193,6 +201,8 @@ pub extern "C" fn gh_authorize(
         → HostFallsSilent host.old.host host.new.host }
     ensures stopped { IfSome host.old.host (λ opened. IsSome opened.host.fault
         → result ≡ HAS_STOPPED) }
+    ensures owes { result ≡ OUTPUT_OWED
+        → IfSome host.old.host (λ opened. all_out opened.host ≡ false) }
     ensures owed { result ≡ OUTPUT_OWED → host.new.host ≡ host.old.host }
 {
     ask(alloc, host, App::Authorize(connection, until))
@@ -212,6 +222,8 @@ pub extern "C" fn gh_disconnect(alloc: Global, host: &mut HostPointer, connectio
         → HostFallsSilent host.old.host host.new.host }
     ensures stopped { IfSome host.old.host (λ opened. IsSome opened.host.fault
         → result ≡ HAS_STOPPED) }
+    ensures owes { result ≡ OUTPUT_OWED
+        → IfSome host.old.host (λ opened. all_out opened.host ≡ false) }
     ensures owed { result ≡ OUTPUT_OWED → host.new.host ≡ host.old.host }
 {
     ask(alloc, host, App::Disconnect(connection))
@@ -231,6 +243,8 @@ pub extern "C" fn gh_tick(alloc: Global, host: &mut HostPointer, time: u64) -> u
         → HostFallsSilent host.old.host host.new.host }
     ensures stopped { IfSome host.old.host (λ opened. IsSome opened.host.fault
         → result ≡ HAS_STOPPED) }
+    ensures owes { result ≡ OUTPUT_OWED
+        → IfSome host.old.host (λ opened. all_out opened.host ≡ false) }
     ensures owed { result ≡ OUTPUT_OWED → host.new.host ≡ host.old.host }
 {
     ask(alloc, host, App::Tick(time))
@@ -252,6 +266,8 @@ pub extern "C" fn gh_replace(alloc: Global, host: &mut HostPointer, table: &[u8]
         → IfSome host.old.host (AnswersTable contents result) }
     ensures refused { result ≢ DONE → result < BAD_TABLE → result ≢ OUTPUT_OWED
         → HostFallsSilent host.old.host host.new.host }
+    ensures owes { result ≡ OUTPUT_OWED
+        → IfSome host.old.host (λ opened. all_out opened.host ≡ false) }
     ensures owed { result ≡ OUTPUT_OWED → host.new.host ≡ host.old.host }
     ensures unread { BAD_TABLE < result → host.new.host ≡ host.old.host }
 {

@@ -1,6 +1,6 @@
 //! The stream from the controller, and the packets that go back.
 
-ghost use Rattle.std.specs.Prelude.{◌≡◌, ◌≢◌, ◌<◌, ◌≤◌, ◌∷◌, [], length, take, true, None};
+ghost use Rattle.std.specs.Prelude.{◌≡◌, ◌≢◌, ◌<◌, ◌≤◌, ◌∷◌, [], length, take, false, true, None};
 ghost use Rattle.gatt_host.specs.Feeding.{octet_items};
 ghost use Rattle.gatt_host.specs.Whole.{all_out};
 ghost use Rattle.gihandop_c.specs.Boundary.{LeadsOn, StaysIfStopped, StoppedBy, TellsItems};
@@ -24,6 +24,8 @@ pub(crate) fn take(opened: &mut Opened, octets: &[u8], used: &mut usize) -> u32
     ensures some { result ≡ DONE → 0 < length octets.now → 0 < used.new }
     ensures going { result ≡ DONE → opened.new.host.fault ≡ None }
     ensures status { StoppedBy result opened.new }
+    ensures goes_on { opened.new.host.fault ≡ None → result ≢ OUTPUT_OWED → result ≡ DONE }
+    ensures owes { result ≡ OUTPUT_OWED → all_out opened.old.host ≡ false }
     ensures owed { result ≡ OUTPUT_OWED → opened.new ≡ opened.old }
     ensures stopped { StaysIfStopped opened.old opened.new }
 {
