@@ -5,10 +5,10 @@ use Rattle.gatt_host.specs.declared.host_fault.HostFault.{HostFault}
 use Rattle.gatt_host.specs.Numbers.{number_of_fault}
 use Rattle.gatt_host.specs.Telling.{notices_told, silent}
 use Rattle.gatt_host.specs.Whole.{Leads, StandsAt}
-use Rattle.gatt_laws.specs.Calls.{Call, Refused, NoSuchHandle, NotAValue, BadLength, NoSuchConnection, TimeWentBack, Stopped, NoServiceChanged}
-use Rattle.gatt_laws.specs.Input.{Course, Item, course, call_refusal, replacement_refusal}
-use Rattle.gatt_laws.specs.Notice.{Notice, notices_in, notices_of}
-use Rattle.gatt_laws.specs.Start.{Start}
+use Rattle.gatt_laws.specs.machine.Calls.{Call, Refused, NoSuchHandle, NotAValue, BadLength, NoSuchConnection, TimeWentBack, Stopped, NoServiceChanged}
+use Rattle.gatt_laws.specs.machine.Input.{Course, Item, course, call_refusal, replacement_refusal}
+use Rattle.gatt_laws.specs.machine.Notice.{Notice, notices_in, notices_of}
+use Rattle.gatt_laws.specs.machine.Start.{Start}
 use Rattle.gihandop_c.specs.declared.opened.Opened.{Opened}
 use Rattle.gihandop_c.specs.declared.status.TheConstants.{DONE, REFUSED, STOPPED}
 use Rattle.octets.specs.Number.{Octets}

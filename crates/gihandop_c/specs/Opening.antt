@@ -5,7 +5,7 @@ use Rattle.att_table.specs.file.TableFile.{table_read}
 use Rattle.gatt_host.specs.declared.config.Config.{Config}
 use Rattle.gatt_host.specs.Opening.{start_of}
 use Rattle.gatt_host.specs.Whole.{StandsAt, Whole}
-use Rattle.gatt_laws.specs.Input.{course}
+use Rattle.gatt_laws.specs.machine.Input.{course}
 use Rattle.gatt_subs.specs.Rows.{Subscriptions, subscriptions_read}
 use Rattle.gihandop_c.specs.declared.config.HostConfig.{HostConfig}
 use Rattle.gihandop_c.specs.declared.opened.Opened.{Opened}

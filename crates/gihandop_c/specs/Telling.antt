@@ -2,7 +2,7 @@
 use Rattle.std.specs.Prelude.{◌≡◌, ℕ, ◌+◌, ◌-◌, ◌^◌, ◌<◌, false, replicate, slice_get, Option, Some, None}
 use Rattle.std.specs.Option.{option_map}
 use Rattle.gatt_host.specs.Telling.{notices_told}
-use Rattle.gatt_laws.specs.Notice.{Notice, Connected, Disconnected, Secured, Unsecured, Written, Configured, Confirmed, TimedOut, Ending}
+use Rattle.gatt_laws.specs.machine.Notice.{Notice, Connected, Disconnected, Secured, Unsecured, Written, Configured, Confirmed, TimedOut, Ending}
 use Rattle.gihandop_c.specs.declared.notices.NoticeFields.{NoticeFields}
 use Rattle.gihandop_c.specs.declared.opened.Opened.{Opened}
 

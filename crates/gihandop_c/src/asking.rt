@@ -5,7 +5,7 @@ ghost use Rattle.att_table.specs.file.TableFile.{table_read};
 ghost use Rattle.att_table.specs.Table.{Contents};
 ghost use Rattle.gatt_host.specs.Asked.{call_of};
 ghost use Rattle.gatt_host.specs.Whole.{all_out};
-ghost use Rattle.gatt_laws.specs.Input.{ACall, ATable};
+ghost use Rattle.gatt_laws.specs.machine.Input.{ACall, ATable};
 ghost use Rattle.gihandop_c.specs.Boundary.{AnswersCall, AnswersTable, FallsSilent, LeadsOn, TellsItem};
 ghost use Rattle.gihandop_c.specs.declared.status.TheConstants.{BAD_TABLE, DONE, HAS_STOPPED, OUTPUT_OWED};
 

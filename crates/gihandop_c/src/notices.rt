@@ -4,7 +4,7 @@ ghost use Rattle.std.specs.Prelude.{◌≡◌, ◌≢◌, slice_get};
 ghost use Rattle.std.specs.Option.{option_map};
 ghost use Rattle.gatt_host.specs.Notices.{notice_of};
 ghost use Rattle.gatt_host.specs.Telling.{notices_told};
-ghost use Rattle.gatt_laws.specs.Notice.{Connected, Ending, Secured};
+ghost use Rattle.gatt_laws.specs.machine.Notice.{Connected, Ending, Secured};
 ghost use Rattle.gihandop_c.specs.Telling.{fields_of, fields_of_attribute, fields_of_connection, HandsOut, HasHandedOutAll};
 ghost use Rattle.gihandop_c.specs.declared.status.TheConstants.{DONE, NOTHING};
 

@@ -1,7 +1,7 @@
 use Rattle.std.proofs.Common.{[], ◌∷◌, subst}
 use Rattle.att_table.specs.file.TableFile.{table_read}
 use Rattle.att_table.specs.Table.{Contents}
-use Rattle.gatt_laws.specs.Input.{ATable}
+use Rattle.gatt_laws.specs.machine.Input.{ATable}
 use Rattle.gihandop_c.specs.Boundary.{AnswersTable, LeadsOn, TellsItem}
 use Rattle.gihandop_c.proofs.Carried.{same_table}
 use Rattle.gihandop_c.proofs.asking.replace_by.Goals as goal

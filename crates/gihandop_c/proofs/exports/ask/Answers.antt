@@ -1,6 +1,6 @@
 use Rattle.std.proofs.Common.{[], ◌∷◌}
 use Rattle.gatt_host.specs.Asked.{call_of}
-use Rattle.gatt_laws.specs.Input.{ACall}
+use Rattle.gatt_laws.specs.machine.Input.{ACall}
 use Rattle.gihandop_c.specs.Boundary.{AnswersCall, LeadsOn, TellsItem}
 use Rattle.gihandop_c.proofs.Carried.{carried, carried_before}
 use Rattle.gihandop_c.proofs.exports.ask.Goals as goal

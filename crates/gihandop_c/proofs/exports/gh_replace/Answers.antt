@@ -1,5 +1,5 @@
 use Rattle.std.proofs.Common.{[], ◌∷◌}
-use Rattle.gatt_laws.specs.Input.{ATable}
+use Rattle.gatt_laws.specs.machine.Input.{ATable}
 use Rattle.gihandop_c.specs.Boundary.{AnswersTable, LeadsOn, TellsItem}
 use Rattle.gihandop_c.proofs.Carried.{carried, carried_before}
 use Rattle.gihandop_c.proofs.exports.gh_replace.Goals as goal

@@ -2,8 +2,8 @@ use Rattle.std.proofs.Common.{[], ◌∙◌, ap, subst, sym}
 use Rattle.std.proofs.Math.Seq.{take-length}
 use Rattle.gatt_host.specs.Feeding.{octet_items}
 use Rattle.gatt_host.specs.Whole.{Leads}
-use Rattle.gatt_laws.specs.Input.{course}
-use Rattle.gatt_laws.specs.Notice.{notices_in}
+use Rattle.gatt_laws.specs.machine.Input.{course}
+use Rattle.gatt_laws.specs.machine.Notice.{notices_in}
 use Rattle.octets.specs.Number.{Octets}
 use Rattle.gihandop_c.proofs.stream.take.Goals as goal
 
