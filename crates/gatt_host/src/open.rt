@@ -5,6 +5,7 @@ ghost use Rattle.std.specs.Option.{option_map_or};
 ghost use Rattle.gatt_laws.specs.machine.Input.{course};
 ghost use Rattle.gatt_laws.specs.machine.Start.{is_static};
 ghost use Rattle.gatt_host.specs.Opening.{is_configured, start_of};
+ghost use Rattle.gatt_host.specs.Promises.{Promise};
 ghost use Rattle.gatt_host.specs.Whole.{StandsAt};
 
 use crate::config::{Config, OpenFault};
@@ -29,6 +30,7 @@ const STATIC: u8 = 0xC0;
 impl Host {
     /// A host that serves a table to peers with these keys. Of what the rows have, it keeps what fits
     /// the keys and the table. It owes the controller the first command.
+    #[tactic(auto, using(crate::proofs::Promises::keeps_its_promise))]
     pub fn open(
         alloc: Global,
         table: Table,
@@ -40,6 +42,8 @@ impl Host {
         ensures opened { IfOk result
             (λ host. StandsAt (course (start_of table keys rows config) []) [] host) }
         ensures no_fault { IfOk result (λ host. host.fault ≡ None) }
+        // And of all that it takes in from then on, for every start and input:
+        ensures promise { Promise }
     {
         let mut rows = rows;
         if !is_configured(&config) {

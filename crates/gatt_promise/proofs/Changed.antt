@@ -1,0 +1,378 @@
+-- Values and configurations change by right alone.
+use Rattle.std.proofs.Common.{◌≡◌, ℕ, zero, suc, arith, ◌<◌, Bool, true, false, List, [], ◌∷◌, Option, Some, None, Result, Ok, Err, refl, sym, ap, subst, ◌∙◌}
+use Rattle.std.specs.Prelude.{IfSome, is_some, ◌==◌, ◌&&◌, ◌||◌, if◌then◌else◌}
+use Rattle.std.proofs.lemmas.Bool.{eqb-true}
+use Rattle.att_numbers.specs.Types.{Handle, Row, Values}
+use Rattle.att_pdu.specs.Grammar.{request_of, is_due}
+use Rattle.att_policy.specs.Refusal.{Refusal}
+use Rattle.att_policy.specs.declared.standing.Standing.{Standing}
+use Rattle.att_attributes.specs.Attributes.{attribute_at}
+use Rattle.att_attributes.specs.declared.attr.Attr.{Attr}
+use Rattle.att_table.specs.ConfigRow.{bits_at}
+use Rattle.att_table.specs.Table.{Contents, value_at, with_value}
+use Rattle.att_writes.proofs.Untouched.{keeps_others}
+use Rattle.att_writes.specs.Applied.{Stored, stored_in, applied_to, stored_after as kept_or_new}
+use Rattle.att_writes.specs.Queue.{touched_by}
+use Rattle.att_writes.specs.SameBut.{is_touched}
+use Rattle.gatt_conn.specs.Answer.{Question, Writing, writing_asked, stored_after, handles_after}
+use Rattle.gatt_laws.proofs.Ends.{end_keeps}
+use Rattle.gatt_laws.proofs.Headline.{writes_what_may_be_written}
+use Rattle.gatt_laws.proofs.Notices.{is_among, none-once, none-touched}
+use Rattle.gatt_laws.proofs.Stores.{other-value}
+use Rattle.gatt_laws.specs.laws.Headline.{Each, MayUse}
+use Rattle.gatt_laws.specs.machine.Event.{Ordinal, Own, Event, Connected, Gone, KeyAsked, Encrypted, Refreshed, Asks, Signals, Authorized, Ended, Of, Completed, Credit, Update, Tick, Replaced, Nothing}
+use Rattle.gatt_laws.specs.machine.Part.{Part, is_live, key_of, row_of, mtu_of, standing_of, connection_of, prepared_of, after_ending}
+use Rattle.gatt_laws.specs.machine.Room.{Room}
+use Rattle.gatt_laws.specs.machine.State.{State, with_completed, after_completed, change_of, step}
+use Rattle.gatt_laws.specs.machine.Turn.{Turn, turn_to, served, is_full, after_channel, channel_answer, with_step, lost_encryption, live_turn, turn_of, remote_user_terminated, authentication_failure}
+use Rattle.le_hci.specs.declared.peer.Peer.{Peer}
+use Rattle.le_security.proofs.Peers.{equal_peers}
+use Rattle.le_security.specs.Entry.{same_peer}
+use Rattle.le_security.specs.Link.{Step, Encryption, Refresh}
+use Rattle.octets.specs.Number.{Octets}
+use Rattle.gatt_promise.specs.Changed.{MayWriteThere, ChangesValuesByRight, ConfiguresItsOwn, ConfiguresItsBond, ConfiguresOwn, ChangesAnOwnRow, ChangesOwnRowsByRight, ChangesBondsByRight}
+
+-- Among the handles that are written.
+
+among-next : (P : Handle → Type 0) (attribute handle : Handle) (later : Bool) (same : Bool) → (handle == attribute) ≡ same → P handle
+    → (later ≡ true → P attribute) → (same || later) ≡ true → P attribute
+among-next P attribute handle later true is this rest among = subst P (eqb-true handle attribute is) this
+among-next P attribute handle later false is this rest among = rest among
+
+each-among : (P : Handle → Type 0) (attribute : Handle) (handles : List Handle) → Each P handles → is_among attribute handles ≡ true → P attribute
+each-among P attribute [] each among = cc among
+each-among P attribute (handle ∷ handles) each among =
+    among-next P attribute handle (is_among attribute handles) (handle == attribute) refl each.0 (each-among P attribute handles each.1) among
+
+-- what is not written is as it was
+module _ (table : Contents) (row : Row) (standing : Standing) where
+  record Same (attribute : Handle) (new : Stored) : Type 0 where
+    value : 0 < attribute → value_at new.values attribute ≡ value_at table.values attribute
+    bits : bits_at new.row attribute ≡ bits_at row attribute
+
+  same-if : (writing : Writing) (attribute : Handle) (result : Result Stored Refusal)
+      → applied_to writing.access table row standing writing.entries ≡ result
+      → is_touched writing.entries attribute ≡ false
+      → Same attribute (kept_or_new (stored_in table row) result)
+  same-if writing attribute (Ok new) is none =
+      let keeps = keeps_others writing.access table.attributes standing writing.entries (stored_in table row) new is in
+      record { value = λ used. keeps.values attribute used none; bits = keeps.row attribute none }
+  same-if writing attribute (Err refusal) is none = record { value = λ used. refl; bits = refl }
+
+  refused-same : (writing : Writing) (attribute : Handle) (result : Result Stored Refusal)
+      → applied_to writing.access table row standing writing.entries ≡ result
+      → is_among attribute (touched_by writing.entries result) ≡ false
+      → Same attribute (kept_or_new (stored_in table row) result)
+  refused-same writing attribute (Ok new) is none =
+      same-if writing attribute (Ok new) is (none-touched attribute writing.entries (none-once attribute _ none))
+  refused-same writing attribute (Err refusal) is none = record { value = λ used. refl; bits = refl }
+
+  -- what is asked to be written, and may be
+  record IsRight (attribute : Handle) (writing : Option Writing) : Type 0 where
+    asked : Writing
+    is : writing ≡ Some asked
+    there : is_touched asked.entries attribute ≡ true
+    may : MayUse asked.access table.attributes standing attribute
+
+  abbrev NotSame : Handle → Stored → Type 0
+  NotSame attribute new = Same attribute new → ⊥
+
+  right-if : (writing : Writing) (attribute : Handle) (touched among : Bool)
+      → is_touched writing.entries attribute ≡ touched
+      → is_among attribute (touched_by writing.entries (applied_to writing.access table row standing writing.entries)) ≡ among
+      → Each (MayUse writing.access table.attributes standing)
+      (touched_by writing.entries (applied_to writing.access table row standing writing.entries))
+      → NotSame attribute (kept_or_new (stored_in table row) (applied_to writing.access table row standing writing.entries))
+      → IsRight attribute (Some writing)
+  right-if writing attribute true true is among each differs = record {
+    asked = writing;
+    is = refl;
+    there = is;
+    may = each-among (MayUse writing.access table.attributes standing) attribute _ each among;
+  }
+  right-if writing attribute touched false is among each differs =
+      absurd (differs (refused-same writing attribute (applied_to writing.access table row standing writing.entries) refl among))
+  right-if writing attribute false true is among each differs =
+      absurd (differs (same-if writing attribute (applied_to writing.access table row standing writing.entries) refl is))
+
+  right : (writing : Option Writing) (attribute : Handle)
+      → IfSome writing (λ of. Each (MayUse of.access table.attributes standing) (handles_after table row standing writing))
+      → NotSame attribute (stored_after table row standing writing)
+      → IsRight attribute writing
+  right None attribute each differs = absurd (differs (record { value = λ used. refl; bits = refl }))
+  right (Some writing) attribute each differs =
+      right-if writing attribute (is_touched writing.entries attribute)
+      (is_among attribute (touched_by writing.entries (applied_to writing.access table row standing writing.entries))) refl refl each differs
+
+-- What happens to one connection.
+
+module _ (room : Room) (bond : Row) (owed : Bool) (part : Part) where
+  abbrev its_turn : Own → Turn
+  its_turn own = turn_of room bond owed part own
+
+  -- a PDU that is served may write
+  record Writes (pdu : Octets) (attribute : Handle) : Type 0 where
+    serves : is_live part.mark ≡ true
+    right : IsRight room.table (row_of bond part) (standing_of room part) attribute (writing_asked (prepared_of part) (request_of pdu (mtu_of room part)))
+
+  served-writes : (pdu : Octets) (attribute : Handle) → is_live part.mark ≡ true
+      → NotSame room.table (row_of bond part) (standing_of room part) attribute
+      (stored_after room.table (row_of bond part) (standing_of room part) (writing_asked (prepared_of part) (request_of pdu (mtu_of room part))))
+      → Writes pdu attribute
+  served-writes pdu attribute live differs =
+      let asked : Question = request_of pdu (mtu_of room part) in
+      record {
+        serves = live;
+        right = right room.table (row_of bond part) (standing_of room part) (writing_asked (prepared_of part) asked) attribute
+            (writes_what_may_be_written room.table (row_of bond part) (connection_of room part) asked) differs;
+      }
+
+  abbrev stored_then : Octets → Stored
+  stored_then pdu = stored_after room.table (row_of bond part) (standing_of room part) (writing_asked (prepared_of part) (request_of pdu (mtu_of room part)))
+
+  -- the values, the row of the bond, and its own row
+  record TurnsByRight (own : Own) (attribute : Handle) (turn : Turn) : Type 0 where
+    by_value : 0 < attribute → (value_at turn.values attribute ≡ value_at room.table.values attribute → ⊥)
+        → (pdu : Octets) × (own ≡ Asks pdu) × Writes pdu attribute
+    by_bond : (bits_at turn.bond attribute ≡ bits_at bond attribute → ⊥)
+        → (is_some (key_of part) ≡ true) × (pdu : Octets) × (own ≡ Asks pdu) × Writes pdu attribute
+
+  abbrev OwnByRight : Own → Handle → Turn → Type 0
+  OwnByRight own attribute turn = (bits_at turn.part.row attribute ≡ bits_at part.row attribute → ⊥)
+      → (is_some (key_of part) ≡ false) × (pdu : Octets) × (own ≡ Asks pdu) × Writes pdu attribute
+
+  -- what leaves them
+  left : (own : Own) (attribute : Handle) (turn : Turn) → turn.values ≡ room.table.values → turn.bond ≡ bond → TurnsByRight own attribute turn
+  left own attribute turn values bonds = record {
+    by_value = λ used differs. absurd (differs (ap (λ (of : Values). value_at of attribute) values));
+    by_bond = λ differs. absurd (differs (ap (λ (of : Row). bits_at of attribute) bonds));
+  }
+
+  left-own : (own : Own) (attribute : Handle) (turn : Turn) → turn.part.row ≡ part.row → OwnByRight own attribute turn
+  left-own own attribute turn rows = λ differs. absurd (differs (ap (λ (of : Row). bits_at of attribute) rows))
+
+  bond-right : (pdu : Octets) (attribute : Handle) (keyed : Bool) → is_some (key_of part) ≡ keyed → is_live part.mark ≡ true
+      → (bits_at (if is_some (key_of part) then (stored_then pdu).row else bond) attribute ≡ bits_at bond attribute → ⊥)
+      → (is_some (key_of part) ≡ true) × Writes pdu attribute
+  bond-right pdu attribute true is live differs = (
+    is,
+    served-writes pdu attribute live (λ same. differs (
+        (λ i. bits_at (if is i then (stored_then pdu).row else bond) attribute)
+        ∙ same.bits
+        ∙ (λ i. bits_at (if is i then bond else part.row) attribute))),
+  )
+  bond-right pdu attribute false is live differs = absurd (differs (λ i. bits_at (if is i then (stored_then pdu).row else bond) attribute))
+
+  own-right : (pdu : Octets) (attribute : Handle) (keyed : Bool) → is_some (key_of part) ≡ keyed → is_live part.mark ≡ true
+      → (bits_at (if is_some (key_of part) then part.row else (stored_then pdu).row) attribute ≡ bits_at part.row attribute → ⊥)
+      → (is_some (key_of part) ≡ false) × Writes pdu attribute
+  own-right pdu attribute false is live differs = (
+    is,
+    served-writes pdu attribute live (λ same. differs (
+        (λ i. bits_at (if is i then part.row else (stored_then pdu).row) attribute)
+        ∙ same.bits
+        ∙ (λ i. bits_at (if is i then bond else part.row) attribute))),
+  )
+  own-right pdu attribute true is live differs = absurd (differs (λ i. bits_at (if is i then part.row else (stored_then pdu).row) attribute))
+
+  -- a PDU of the Attribute Protocol
+  abbrev asked_turn : Octets → Bool → Bool → Turn
+  asked_turn pdu live ended =
+      if live then (if ended then turn_to room bond owed (after_ending part remote_user_terminated) else served room bond owed part pdu (request_of pdu (mtu_of room part)))
+      else turn_to room bond owed part
+
+  asks-right : (pdu : Octets) (attribute : Handle) (live ended : Bool) → is_live part.mark ≡ live → TurnsByRight (Asks pdu) attribute (asked_turn pdu live ended)
+  asks-right pdu attribute true true is = left (Asks pdu) attribute (asked_turn pdu true true) refl refl
+  asks-right pdu attribute true false is = record {
+    by_value = λ used differs. (pdu, refl, served-writes pdu attribute is (λ same. differs (same.value used)));
+    by_bond = λ differs. let writes = bond-right pdu attribute (is_some (key_of part)) refl is differs in (writes.0, pdu, refl, writes.1);
+  }
+  asks-right pdu attribute false ended is = left (Asks pdu) attribute (asked_turn pdu false ended) refl refl
+
+  asks-own : (pdu : Octets) (attribute : Handle) (live ended : Bool) → is_live part.mark ≡ live → OwnByRight (Asks pdu) attribute (asked_turn pdu live ended)
+  asks-own pdu attribute true true is = left-own (Asks pdu) attribute (asked_turn pdu true true) refl
+  asks-own pdu attribute true false is = λ differs.
+      let writes = own-right pdu attribute (is_some (key_of part)) refl is differs in (writes.0, pdu, refl, writes.1)
+  asks-own pdu attribute false ended is = left-own (Asks pdu) attribute (asked_turn pdu false ended) refl
+
+  -- and all else
+  live-left : (own : Own) (attribute : Handle) (live : Bool) → (live_turn room bond owed part own).values ≡ room.table.values
+      → (live_turn room bond owed part own).bond ≡ bond
+      → TurnsByRight own attribute (if live then live_turn room bond owed part own else turn_to room bond owed part)
+  live-left own attribute true values bonds = left own attribute (live_turn room bond owed part own) values bonds
+  live-left own attribute false values bonds = left own attribute (turn_to room bond owed part) refl refl
+
+  turn-right : (own : Own) (attribute : Handle) → TurnsByRight own attribute (turn_of room bond owed part own)
+  unfolding live_turn
+  turn-right (Connected handle peer) attribute = left (Connected handle peer) attribute (turn_of room bond owed part (Connected handle peer)) refl refl
+  turn-right Gone attribute = left Gone attribute (turn_of room bond owed part Gone) refl refl
+  turn-right (Asks pdu) attribute =
+      asks-right pdu attribute (is_live part.mark) (is_due (request_of pdu (mtu_of room part)) && is_full room part) refl
+  turn-right (Signals channel payload) attribute = live-left (Signals channel payload) attribute (is_live part.mark) refl refl
+  turn-right (KeyAsked random_number diversifier) attribute = live-left (KeyAsked random_number diversifier) attribute (is_live part.mark) refl refl
+  turn-right (Encrypted status enabled) attribute = live-left (Encrypted status enabled) attribute (is_live part.mark) refl refl
+  turn-right (Refreshed status) attribute = live-left (Refreshed status) attribute (is_live part.mark) refl refl
+  turn-right (Authorized until) attribute = live-left (Authorized until) attribute (is_live part.mark) refl refl
+  turn-right Ended attribute = live-left Ended attribute (is_live part.mark) refl refl
+
+  live-own : (own : Own) (attribute : Handle) (live : Bool) → (live_turn room bond owed part own).part.row ≡ part.row
+      → OwnByRight own attribute (if live then live_turn room bond owed part own else turn_to room bond owed part)
+  live-own own attribute true rows = left-own own attribute (live_turn room bond owed part own) rows
+  live-own own attribute false rows = left-own own attribute (turn_to room bond owed part) refl
+
+  channel-row : (channel : ℕ) (answer : Option Octets) (full : Bool) → is_full room part ≡ full → (after_channel room part channel answer).row ≡ part.row
+  channel-row channel None full is = refl
+  channel-row channel (Some answer) true is = rw is refl
+  channel-row channel (Some answer) false is = rw is refl
+
+  link-row : (step : Step) (lost : Bool) → (if lost then after_ending (with_step part step) authentication_failure else with_step part step).row ≡ part.row
+  link-row step true = refl
+  link-row step false = refl
+
+  abbrev OwnRowBy : Own → Handle → Type 0
+  OwnRowBy (Connected handle peer) attribute = Unit
+  OwnRowBy Gone attribute = Unit
+  OwnRowBy own attribute = OwnByRight own attribute (turn_of room bond owed part own)
+
+  turn-own : (own : Own) (attribute : Handle) → OwnRowBy own attribute
+  unfolding live_turn
+  turn-own (Connected handle peer) attribute = tt
+  turn-own Gone attribute = tt
+  turn-own (Asks pdu) attribute = asks-own pdu attribute (is_live part.mark) (is_due (request_of pdu (mtu_of room part)) && is_full room part) refl
+  turn-own (Signals channel payload) attribute =
+      live-own (Signals channel payload) attribute (is_live part.mark) (channel-row channel (channel_answer channel payload) (is_full room part) refl)
+  turn-own (KeyAsked random_number diversifier) attribute = live-own (KeyAsked random_number diversifier) attribute (is_live part.mark) refl
+  turn-own (Encrypted status enabled) attribute =
+      live-own (Encrypted status enabled) attribute (is_live part.mark)
+      (link-row (Encryption status enabled) (lost_encryption (key_of part) (key_of (with_step part (Encryption status enabled)))))
+  turn-own (Refreshed status) attribute =
+      live-own (Refreshed status) attribute (is_live part.mark)
+      (link-row (Refresh status) (lost_encryption (key_of part) (key_of (with_step part (Refresh status)))))
+  turn-own (Authorized until) attribute = live-own (Authorized until) attribute (is_live part.mark) refl
+  turn-own Ended attribute = live-own Ended attribute (is_live part.mark) refl
+
+-- An event.
+
+module _ (state : State) (at : Ordinal) where
+  may-write : (own : Own) (attribute : Handle) (pdu : Octets) → own ≡ Asks pdu
+      → Writes state.room (state.bonds (state.parts at).peer) (state.owed (state.parts at).peer) (state.parts at) pdu attribute
+      → MayWriteThere state at own attribute
+  may-write own attribute pdu is writes = record {
+    serves = writes.serves;
+    pdu = pdu;
+    asks = is;
+    writing = writes.right.asked;
+    asked = writes.right.is;
+    there = writes.right.there;
+    may = writes.right.may;
+  }
+
+  turns : (own : Own) (attribute : Handle)
+      → TurnsByRight state.room (state.bonds (state.parts at).peer) (state.owed (state.parts at).peer) (state.parts at) own attribute
+      (turn_of state.room (state.bonds (state.parts at).peer) (state.owed (state.parts at).peer) (state.parts at) own)
+  turns own attribute = turn-right state.room (state.bonds (state.parts at).peer) (state.owed (state.parts at).peer) (state.parts at) own attribute
+
+  value-right : (own : Own) (attribute : Handle) → 0 < attribute
+      → (value_at (turn_of state.room (state.bonds (state.parts at).peer) (state.owed (state.parts at).peer) (state.parts at) own).values attribute
+      ≡ value_at state.room.table.values attribute → ⊥)
+      → MayWriteThere state at own attribute
+  value-right own attribute used differs =
+      let writes = (turns own attribute).by_value used differs in may-write own attribute writes.0 writes.1 writes.2
+
+  bond-right-if : (own : Own) (peer : Peer) (attribute : Handle) (same : Bool) → same_peer peer (state.parts at).peer ≡ same
+      → (bits_at (if same then (turn_of state.room (state.bonds (state.parts at).peer) (state.owed (state.parts at).peer) (state.parts at) own).bond
+      else state.bonds peer) attribute ≡ bits_at (state.bonds peer) attribute → ⊥)
+      → ConfiguresItsBond state at own peer attribute
+  bond-right-if own peer attribute true is differs =
+      let equal : peer ≡ (state.parts at).peer = equal_peers peer (state.parts at).peer is in
+      let writes = (turns own attribute).by_bond (λ same. differs (same ∙ ap (λ (of : Peer). bits_at (state.bonds of) attribute) (sym equal))) in
+      record { keyed = writes.0; of = is; may = may-write own attribute writes.1 writes.2 writes.3 }
+  bond-right-if own peer attribute false is differs = absurd (differs refl)
+
+  its-own : (own : Own) (attribute : Handle)
+      → (is_some (key_of (state.parts at)) ≡ false) × (pdu : Octets) × (own ≡ Asks pdu)
+      × Writes state.room (state.bonds (state.parts at).peer) (state.owed (state.parts at).peer) (state.parts at) pdu attribute
+      → ConfiguresItsOwn state at own attribute
+  its-own own attribute writes = record { keyless = writes.0; may = may-write own attribute writes.1 writes.2 writes.3 }
+
+  own-right-at : (own : Own) (attribute : Handle)
+      → (bits_at (turn_of state.room (state.bonds (state.parts at).peer) (state.owed (state.parts at).peer) (state.parts at) own).part.row attribute
+      ≡ bits_at (state.parts at).row attribute → ⊥)
+      → ConfiguresOwn state at own attribute
+  own-right-at (Connected handle peer) attribute differs = tt
+  own-right-at Gone attribute differs = tt
+  own-right-at (Asks pdu) attribute differs = its-own (Asks pdu) attribute (turn-own state.room (state.bonds (state.parts at).peer) (state.owed (state.parts at).peer) (state.parts at) (Asks pdu) attribute differs)
+  own-right-at (Signals channel payload) attribute differs = its-own (Signals channel payload) attribute (turn-own state.room (state.bonds (state.parts at).peer) (state.owed (state.parts at).peer) (state.parts at) (Signals channel payload) attribute differs)
+  own-right-at (KeyAsked random_number diversifier) attribute differs = its-own (KeyAsked random_number diversifier) attribute (turn-own state.room (state.bonds (state.parts at).peer) (state.owed (state.parts at).peer) (state.parts at) (KeyAsked random_number diversifier) attribute differs)
+  own-right-at (Encrypted status enabled) attribute differs = its-own (Encrypted status enabled) attribute (turn-own state.room (state.bonds (state.parts at).peer) (state.owed (state.parts at).peer) (state.parts at) (Encrypted status enabled) attribute differs)
+  own-right-at (Refreshed status) attribute differs = its-own (Refreshed status) attribute (turn-own state.room (state.bonds (state.parts at).peer) (state.owed (state.parts at).peer) (state.parts at) (Refreshed status) attribute differs)
+  own-right-at (Authorized until) attribute differs = its-own (Authorized until) attribute (turn-own state.room (state.bonds (state.parts at).peer) (state.owed (state.parts at).peer) (state.parts at) (Authorized until) attribute differs)
+  own-right-at Ended attribute differs = its-own Ended attribute (turn-own state.room (state.bonds (state.parts at).peer) (state.owed (state.parts at).peer) (state.parts at) Ended attribute differs)
+
+  own-right-if : (own : Own) (ordinal : Ordinal) (attribute : Handle) (same : Bool) → (ordinal == at) ≡ same
+      → (bits_at (if same then (turn_of state.room (state.bonds (state.parts at).peer) (state.owed (state.parts at).peer) (state.parts at) own).part
+      else state.parts ordinal).row attribute ≡ bits_at (state.parts ordinal).row attribute → ⊥)
+      → (ordinal ≡ at) × ConfiguresOwn state at own attribute
+  own-right-if own ordinal attribute true is differs =
+      let equal : ordinal ≡ at = eqb-true ordinal at is in
+      (equal, own-right-at own attribute (λ same. differs (same ∙ ap (λ (of : Ordinal). bits_at (state.parts of).row attribute) (sym equal))))
+  own-right-if own ordinal attribute false is differs = absurd (differs refl)
+
+used-there : (attributes : List Attr) (handle : Handle) (attr : Attr) → attribute_at attributes handle ≡ Some attr → 0 < handle
+used-there attributes zero attr there = cc there
+used-there attributes (suc handle) attr there = omega arith
+
+updated-right : (values : Values) (handle attribute : Handle) (value : Octets) (same : Bool) → (handle == attribute) ≡ same → 0 < handle → 0 < attribute
+    → (value_at (with_value values handle value) attribute ≡ value_at values attribute → ⊥) → handle ≡ attribute
+updated-right values handle attribute value true is there used differs = eqb-true handle attribute is
+updated-right values handle attribute value false is there used differs = absurd (differs (other-value values handle attribute value there used is))
+
+pub changes_values_by_right : ChangesValuesByRight
+unfolding step change_of
+changes_values_by_right state (Of ordinal own) attribute used possible differs = value-right state ordinal own attribute used differs
+changes_values_by_right state (Completed entries) attribute used possible differs = differs refl
+changes_values_by_right state (Credit allowed opcode status (Some init)) attribute used possible differs = differs refl
+changes_values_by_right state (Credit allowed opcode status None) attribute used possible differs = differs refl
+changes_values_by_right state (Update handle value) attribute used possible differs =
+    updated-right state.room.table.values handle attribute value (handle == attribute) refl
+    (used-there state.room.table.attributes handle possible.attr possible.there) used differs
+changes_values_by_right state (Tick time) attribute used possible differs = differs refl
+changes_values_by_right state (Replaced table) attribute used possible differs = tt
+changes_values_by_right state Nothing attribute used possible differs = differs refl
+
+pub changes_bonds_by_right : ChangesBondsByRight
+unfolding step change_of
+changes_bonds_by_right state (Of ordinal own) peer attribute differs =
+    bond-right-if state ordinal own peer attribute (same_peer peer (state.parts ordinal).peer) refl differs
+changes_bonds_by_right state (Completed entries) peer attribute differs = differs refl
+changes_bonds_by_right state (Credit allowed opcode status (Some init)) peer attribute differs = differs refl
+changes_bonds_by_right state (Credit allowed opcode status None) peer attribute differs = differs refl
+changes_bonds_by_right state (Update handle value) peer attribute differs = differs refl
+changes_bonds_by_right state (Tick time) peer attribute differs = differs refl
+changes_bonds_by_right state (Replaced table) peer attribute differs = tt
+changes_bonds_by_right state Nothing peer attribute differs = differs refl
+
+completed-row : (ordinal : Ordinal) (entries : List (Ordinal × ℕ)) (part : Part) → (after_completed ordinal entries part).row ≡ part.row
+completed-row ordinal [] part = refl
+completed-row ordinal (entry ∷ entries) part =
+    completed-row ordinal entries (if entry.0 == ordinal then with_completed part entry.1 else part)
+    ∙ elim (entry.0 == ordinal) as (λ (own : Bool). (if own then with_completed part entry.1 else part).row ≡ part.row) [ true ↦ refl | false ↦ refl ]
+
+change-own : (state : State) (event : Event) (ordinal : Ordinal) (attribute : Handle)
+    → (bits_at ((change_of state event).state.parts ordinal).row attribute ≡ bits_at (state.parts ordinal).row attribute → ⊥)
+    → ChangesAnOwnRow state event ordinal attribute
+unfolding change_of
+change-own state (Of at own) ordinal attribute differs = own-right-if state at own ordinal attribute (ordinal == at) refl differs
+change-own state (Completed entries) ordinal attribute differs =
+    differs (ap (λ (row : Row). bits_at row attribute) (completed-row ordinal entries (state.parts ordinal)))
+change-own state (Credit allowed opcode status (Some init)) ordinal attribute differs = differs refl
+change-own state (Credit allowed opcode status None) ordinal attribute differs = differs refl
+change-own state (Update handle value) ordinal attribute differs = differs refl
+change-own state (Tick time) ordinal attribute differs = differs refl
+change-own state (Replaced table) ordinal attribute differs = tt
+change-own state Nothing ordinal attribute differs = differs refl
+
+pub changes_own_rows_by_right : ChangesOwnRowsByRight
+changes_own_rows_by_right state event ordinal attribute differs =
+    change-own state event ordinal attribute
+    (λ same. differs (ap (λ (row : Row). bits_at row attribute) (end_keeps (λ (of : Part). of.row) (λ of pdus pending given reply reason. refl) state event ordinal) ∙ same))

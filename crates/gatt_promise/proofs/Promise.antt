@@ -1,0 +1,89 @@
+-- The promise is kept.
+use Rattle.gatt_laws.proofs.Courses.{continues, keeps_what_is_gone}
+use Rattle.gatt_laws.proofs.Given.{is_given_the_front}
+use Rattle.gatt_laws.proofs.Headline.{refusals_change_nothing, sends_what_may_be_read, writes_what_may_be_written}
+use Rattle.gatt_laws.proofs.MayBeHeard.{tells_what_may_be_heard}
+use Rattle.gatt_laws.proofs.NextParts.{gives_nothing_to_the_absent}
+use Rattle.gatt_laws.proofs.NothingCrosses.{leaves_connections_the_same, nothing_crosses}
+use Rattle.gatt_laws.proofs.OwnQueues.{leaves_others_prepared}
+use Rattle.gatt_laws.proofs.OwnWrites.{executes_its_own}
+use Rattle.gatt_laws.proofs.Preparing.{prepares_by_itself, prepares_the_same}
+use Rattle.gatt_laws.proofs.RowsOfTheTable.{always_has_rows_of_its_table}
+use Rattle.gatt_laws.proofs.SameView.{does_the_same_to_who_sees_the_same, leaves_who_sees_nothing}
+use Rattle.gatt_laws.proofs.Streams.{takes_the_division}
+use Rattle.gatt_laws.proofs.TwoWorlds.{gives_the_same, keeps_alike}
+use Rattle.gatt_laws.proofs.Unfinished.{leaves_less_than_a_packet}
+use Rattle.gatt_laws.proofs.ValuesOfTheTable.{always_has_a_table}
+use Rattle.gatt_laws.proofs.Queued.{always_has_bounded_queues}
+use Rattle.gatt_laws.proofs.Refusals.{refuses_by_the_first_broken_rule, refuses_the_first_entry, refuses_the_first_handle, refuses_the_first_listed}
+use Rattle.gatt_laws.proofs.Runs.{is_where_events_lead}
+use Rattle.gatt_laws.proofs.SameCourse.{same_view_same_packets}
+use Rattle.gatt_laws.proofs.Silence.{gives_all_that_it_may}
+use Rattle.gatt_laws.proofs.Telling.{tells_the_application}
+use Rattle.gatt_promise.proofs.Alone.{gives_the_same_to_one, keeps_alike_to_one, nothing_crosses_to_one_in_courses}
+use Rattle.gatt_promise.proofs.Changed.{changes_bonds_by_right, changes_own_rows_by_right, changes_values_by_right}
+use Rattle.gatt_promise.proofs.FirstCase.{ignored_changes_nothing, refused_changes_nothing, refuses_by_the_first_case}
+use Rattle.gatt_promise.proofs.Front.{is_always_given_the_front}
+use Rattle.gatt_promise.proofs.Gained.{gains_only_what_is_due}
+use Rattle.gatt_promise.specs.Promise.{KeepsConnectionsApart, KeepsThePolicy, Promise, RunsInOrder}
+
+pub keeps_the_policy : KeepsThePolicy
+keeps_the_policy = record {
+  gains = gains_only_what_is_due;
+  sends = sends_what_may_be_read;
+  values = changes_values_by_right;
+  own_rows = changes_own_rows_by_right;
+  bonds = changes_bonds_by_right;
+  refuses = refuses_by_the_first_case;
+  refused_unchanged = refused_changes_nothing;
+  ignored_unchanged = ignored_changes_nothing;
+  gives = is_always_given_the_front;
+  gives_by_now = is_given_the_front;
+  gives_all = gives_all_that_it_may;
+  bounded = always_has_bounded_queues;
+  tells = tells_what_may_be_heard;
+  writes = writes_what_may_be_written;
+  refuses_named = refuses_by_the_first_broken_rule;
+  refuses_listed = refuses_the_first_listed;
+  refuses_handles = refuses_the_first_handle;
+  refuses_entries = refuses_the_first_entry;
+  answers_unchanged = refusals_change_nothing;
+}
+
+pub keeps_connections_apart : KeepsConnectionsApart
+keeps_connections_apart = record {
+  executes = executes_its_own;
+  prepares = prepares_the_same;
+  prepares_by_itself = prepares_by_itself;
+  leaves_prepared = leaves_others_prepared;
+  crosses = nothing_crosses;
+  leaves = leaves_connections_the_same;
+  keeps_alike = keeps_alike;
+  gives_the_same = gives_the_same;
+  crosses_to_one = nothing_crosses_to_one_in_courses;
+  keeps_alike_to_one = keeps_alike_to_one;
+  gives_the_same_to_one = gives_the_same_to_one;
+  views = same_view_same_packets;
+  sees_nothing = leaves_who_sees_nothing;
+  sees_the_same = does_the_same_to_who_sees_the_same;
+  absent = gives_nothing_to_the_absent;
+}
+
+pub runs_in_order : RunsInOrder
+runs_in_order = record {
+  continues = continues;
+  keeps = keeps_what_is_gone;
+  divides = takes_the_division;
+  unfinished = leaves_less_than_a_packet;
+  events = is_where_events_lead;
+  table = always_has_a_table;
+  rows = always_has_rows_of_its_table;
+}
+
+pub keeps_its_promise : Promise
+keeps_its_promise = record {
+  runs = runs_in_order;
+  policy = keeps_the_policy;
+  apart = keeps_connections_apart;
+  application = tells_the_application;
+}

@@ -1,0 +1,76 @@
+-- What an event changes of values and configurations: what the connection that acts may then write, and asks to; what the
+-- application writes; and all of it, where it replaces the table. And nothing else.
+use Rattle.std.specs.Prelude.{◌≡◌, ◌<◌, true, false, is_some, Some}
+use Rattle.att_numbers.specs.Types.{Handle}
+use Rattle.att_pdu.specs.Grammar.{request_of}
+use Rattle.att_table.specs.ConfigRow.{bits_at}
+use Rattle.att_table.specs.Table.{value_at}
+use Rattle.att_writes.specs.SameBut.{is_touched}
+use Rattle.gatt_conn.specs.Answer.{Writing, writing_asked}
+use Rattle.gatt_laws.specs.laws.Headline.{MayUse}
+use Rattle.gatt_laws.specs.laws.Possible.{Possible}
+use Rattle.gatt_laws.specs.machine.Event.{Ordinal, Own, Event, Connected, Gone, Asks, Of, Update, Replaced}
+use Rattle.gatt_laws.specs.machine.Part.{is_live, key_of, mtu_of, prepared_of, standing_of}
+use Rattle.gatt_laws.specs.machine.State.{State, step}
+use Rattle.le_hci.specs.declared.peer.Peer.{Peer}
+use Rattle.le_security.specs.Entry.{same_peer}
+use Rattle.octets.specs.Number.{Octets}
+
+-- a connection that serves asks to write the attribute at a handle, and may write it in the way in which it asks to
+pub record MayWriteThere (state : State) (ordinal : Ordinal) (own : Own) (attribute : Handle) : Type 0 where
+  pub serves : is_live (state.parts ordinal).mark ≡ true
+  pub pdu : Octets
+  pub asks : own ≡ Asks pdu
+  pub writing : Writing
+  pub asked : writing_asked (prepared_of (state.parts ordinal)) (request_of pdu (mtu_of state.room (state.parts ordinal))) ≡ Some writing
+  pub there : is_touched writing.entries attribute ≡ true
+  pub may : MayUse writing.access state.room.table.attributes (standing_of state.room (state.parts ordinal)) attribute
+
+-- by whom the value of an attribute may be changed
+abbrev pub ChangesAValue : State → Event → Handle → Type 0
+ChangesAValue state (Of ordinal own) attribute = MayWriteThere state ordinal own attribute
+ChangesAValue state (Update handle value) attribute = handle ≡ attribute
+ChangesAValue state (Replaced table) attribute = Unit
+ChangesAValue state event attribute = ⊥
+
+-- a value that differs after an event that may come
+abbrev pub ChangesValuesByRight : Type 0
+ChangesValuesByRight = (state : State) (event : Event) (attribute : Handle) → 0 < attribute → Possible (λ table. Unit) state event
+    → (value_at (step state event).room.table.values attribute ≡ value_at state.room.table.values attribute → ⊥)
+    → ChangesAValue state event attribute
+
+-- a connection that configures an attribute: without a key in its own row, and with one in that of its peer's bond
+pub record ConfiguresItsOwn (state : State) (ordinal : Ordinal) (own : Own) (attribute : Handle) : Type 0 where
+  pub keyless : is_some (key_of (state.parts ordinal)) ≡ false
+  pub may : MayWriteThere state ordinal own attribute
+
+pub record ConfiguresItsBond (state : State) (ordinal : Ordinal) (own : Own) (peer : Peer) (attribute : Handle) : Type 0 where
+  pub keyed : is_some (key_of (state.parts ordinal)) ≡ true
+  pub of : same_peer peer (state.parts ordinal).peer ≡ true
+  pub may : MayWriteThere state ordinal own attribute
+
+-- one that comes or goes has no row
+abbrev pub ConfiguresOwn : State → Ordinal → Own → Handle → Type 0
+ConfiguresOwn state ordinal (Connected handle peer) attribute = Unit
+ConfiguresOwn state ordinal Gone attribute = Unit
+ConfiguresOwn state ordinal own attribute = ConfiguresItsOwn state ordinal own attribute
+
+abbrev pub ChangesAnOwnRow : State → Event → Ordinal → Handle → Type 0
+ChangesAnOwnRow state (Of at own) ordinal attribute = (ordinal ≡ at) × ConfiguresOwn state at own attribute
+ChangesAnOwnRow state (Replaced table) ordinal attribute = Unit
+ChangesAnOwnRow state event ordinal attribute = ⊥
+
+abbrev pub ChangesOwnRowsByRight : Type 0
+ChangesOwnRowsByRight = (state : State) (event : Event) (ordinal : Ordinal) (attribute : Handle)
+    → (bits_at ((step state event).parts ordinal).row attribute ≡ bits_at (state.parts ordinal).row attribute → ⊥)
+    → ChangesAnOwnRow state event ordinal attribute
+
+abbrev pub ChangesABond : State → Event → Peer → Handle → Type 0
+ChangesABond state (Of ordinal own) peer attribute = ConfiguresItsBond state ordinal own peer attribute
+ChangesABond state (Replaced table) peer attribute = Unit
+ChangesABond state event peer attribute = ⊥
+
+abbrev pub ChangesBondsByRight : Type 0
+ChangesBondsByRight = (state : State) (event : Event) (peer : Peer) (attribute : Handle)
+    → (bits_at ((step state event).bonds peer) attribute ≡ bits_at (state.bonds peer) attribute → ⊥)
+    → ChangesABond state event peer attribute

@@ -1,0 +1,207 @@
+-- The refusals in their order, and that a request is refused by the first case of it that there is: the cases are those of
+-- Core 5.0, Vol 3 Part F, 3.4.1.1; their order is this profile's own. No definition of an answer is in it.
+use Rattle.std.specs.Prelude.{◌≡◌, ◌+◌, ◌==◌, nat_lt, Bool, true, false, ◌&&◌, ◌||◌, not, if◌then◌else◌, List, [], ◌∷◌, length, map, take, filter, Option, Some, None, Ok, Err}
+use Rattle.std.specs.Option.{option_map, option_and_then, option_or}
+use Rattle.att_numbers.specs.AttributeType.{of_16_bits}
+use Rattle.att_numbers.specs.Types.{Handle, Opcode, Code, Row, Values}
+use Rattle.att_numbers.specs.declared.error_code.TheConstants.{INVALID_HANDLE, INVALID_PDU, REQUEST_NOT_SUPPORTED, INVALID_OFFSET, PREPARE_QUEUE_FULL, ATTRIBUTE_NOT_FOUND, INVALID_ATTRIBUTE_VALUE_LENGTH, UNSUPPORTED_GROUP_TYPE, OUT_OF_RANGE}
+use Rattle.att_numbers.specs.declared.opcode.TheConstants.{EXCHANGE_MTU_REQUEST, FIND_INFORMATION_REQUEST, FIND_BY_TYPE_VALUE_REQUEST, READ_BY_TYPE_REQUEST, READ_REQUEST, READ_BLOB_REQUEST, READ_MULTIPLE_REQUEST, READ_BY_GROUP_TYPE_REQUEST, WRITE_REQUEST, PREPARE_WRITE_REQUEST, EXECUTE_WRITE_REQUEST, HANDLE_VALUE_CONFIRMATION, WRITE_COMMAND}
+use Rattle.att_pdu.specs.Grammar.{is_due}
+use Rattle.att_pdu.specs.Request.{ExchangeMtuRequest, FindInformationRequest, FindByTypeValueRequest, ReadByTypeRequest, ReadRequest, ReadBlobRequest, ReadMultipleRequest, ReadByGroupTypeRequest, WriteRequest, PrepareWriteRequest, ExecuteWriteRequest, ConfirmationPdu, WriteCommandPdu}
+use Rattle.att_pdu.specs.Response.{Response, ErrorResponse}
+use Rattle.att_pdu.specs.Uuid.{number_of}
+use Rattle.att_pdu.specs.declared.grammar.PduFault.TheVariants.{Ignored, Invalid, Unsupported}
+use Rattle.att_policy.specs.Policy.{first_broken_of}
+use Rattle.att_policy.specs.Refusal.{Refusal}
+use Rattle.att_policy.specs.declared.policy.Access.{Access}
+use Rattle.att_policy.specs.declared.policy.Access.TheVariants.{Read, Write}
+use Rattle.att_policy.specs.declared.standing.Standing.{Standing}
+use Rattle.att_attributes.specs.Attributes.{attributes_in, guard_at, is_configuration_at, is_fixed_at, largest_at, configuration_bits_at}
+use Rattle.att_attributes.specs.Group.{is_service_type}
+use Rattle.att_attributes.specs.OfType.{handles_of_type}
+use Rattle.att_attributes.specs.declared.attr.Attr.{Attr}
+use Rattle.att_reads.specs.Access.{value_for}
+use Rattle.att_reads.specs.Answer.{is_match}
+use Rattle.att_table.specs.Table.{Contents, value_at}
+use Rattle.att_writes.specs.Applied.{Stored, after_entry, stored_in}
+use Rattle.att_writes.specs.Entry.{Entry}
+use Rattle.att_writes.specs.Fault.{has_bits_within}
+use Rattle.att_writes.specs.Queue.{has_room}
+use Rattle.gatt_conn.specs.Answer.{Question, Writing, answer_to, writing_asked, stored_by, conn_after}
+use Rattle.gatt_conn.specs.Connection.{Connection}
+use Rattle.gatt_conn.specs.Transcript.{asks_execution}
+use Rattle.gatt_laws.specs.laws.View.{are_none}
+
+-- the first that there is
+abbrev pub first_there : {A : Type 0} → List (Option A) → Option A
+first_there [] = None
+first_there (one ∷ rest) = option_or one (first_there rest)
+
+-- a case of the list, with the handle at fault and its code
+abbrev pub case_if : Bool → Handle → Code → Option Refusal
+case_if applies handle code = if applies then Some (record { handle = handle; code = code }) else None
+
+-- a request of no known opcode, and one of another form than its own, or longer than the ATT_MTU: they name no handle
+abbrev pub is_unknown : Question → Bool
+is_unknown (Err (Unsupported opcode)) = true
+is_unknown question = false
+
+abbrev pub is_malformed : Question → Bool
+is_malformed (Err (Invalid opcode)) = true
+is_malformed question = false
+
+-- the range of handles that a request looks at
+abbrev pub range_of : Question → Option (Handle × Handle)
+range_of (Ok (FindInformationRequest first last)) = Some (first, last)
+range_of (Ok (FindByTypeValueRequest first last type value)) = Some (first, last)
+range_of (Ok (ReadByTypeRequest first last type)) = Some (first, last)
+range_of (Ok (ReadByGroupTypeRequest first last type)) = Some (first, last)
+range_of question = None
+
+-- it begins with 0, or is empty
+abbrev pub bad_range : Question → Option Refusal
+bad_range question =
+    option_and_then (λ (range : Handle × Handle). case_if ((range.0 == 0) || nat_lt range.1 range.0) range.0 INVALID_HANDLE) (range_of question)
+
+-- only services are read by group
+abbrev pub bad_group : Question → Option Refusal
+bad_group (Ok (ReadByGroupTypeRequest first last type)) = case_if (not (is_service_type (number_of type))) first UNSUPPORTED_GROUP_TYPE
+bad_group question = None
+
+-- what is found in the range: attributes, those of a type, or those that have a value which the client may read and is equal
+abbrev pub found_in_range : Contents → Row → Standing → Question → List Handle
+found_in_range table row standing (Ok (FindInformationRequest first last)) = map (λ (attr : Attr). attr.handle) (attributes_in table.attributes first last)
+found_in_range table row standing (Ok (FindByTypeValueRequest first last type value)) =
+    filter (is_match table row standing value) (handles_of_type table.attributes (of_16_bits type) first last)
+found_in_range table row standing (Ok (ReadByTypeRequest first last type)) = handles_of_type table.attributes (number_of type) first last
+found_in_range table row standing (Ok (ReadByGroupTypeRequest first last type)) = handles_of_type table.attributes (number_of type) first last
+found_in_range table row standing question = []
+
+abbrev pub nothing_found : Contents → Row → Standing → Question → Option Refusal
+nothing_found table row standing question =
+    option_and_then (λ (range : Handle × Handle). case_if (are_none (found_in_range table row standing question)) range.0 ATTRIBUTE_NOT_FOUND) (range_of question)
+
+-- the first rule of the policy that is broken at a handle
+abbrev pub broken_at : Access → List Attr → Standing → Handle → Option Refusal
+broken_at access attributes standing handle =
+    option_map (λ broken. record { handle = handle; code = broken.1 }) (first_broken_of access (guard_at attributes handle) standing)
+
+-- the handles whose values are asked for, in their order, of a list the first
+abbrev pub handles_read : Contents → Question → List Handle
+handles_read table (Ok (ReadRequest handle)) = handle ∷ []
+handles_read table (Ok (ReadBlobRequest handle offset)) = handle ∷ []
+handles_read table (Ok (ReadMultipleRequest handles)) = handles
+handles_read table (Ok (ReadByTypeRequest first last type)) = take 1 (handles_of_type table.attributes (number_of type) first last)
+handles_read table (Ok (ReadByGroupTypeRequest first last type)) = take 1 (handles_of_type table.attributes (number_of type) first last)
+handles_read table question = []
+
+abbrev pub unreadable : Contents → Standing → Question → Option Refusal
+unreadable table standing question = first_there (map (broken_at Read table.attributes standing) (handles_read table question))
+
+-- a part of a value from behind its end
+abbrev pub bad_offset : Contents → Row → Question → Option Refusal
+bad_offset table row (Ok (ReadBlobRequest handle offset)) = case_if (nat_lt (length (value_for table row handle)) offset) handle INVALID_OFFSET
+bad_offset table row question = None
+
+-- a write that is to be prepared: the policy, and then the room
+abbrev pub unprepared : Contents → Connection → Question → Option Refusal
+unprepared table conn (Ok (PrepareWriteRequest handle offset part)) =
+    first_there (broken_at Write table.attributes conn.standing handle ∷ case_if (not (has_room conn.queue part)) handle PREPARE_QUEUE_FULL ∷ [])
+unprepared table conn question = None
+
+-- a write against the values that stand: from behind the end, past the largest length, or bits that are none. A configuration
+-- is written whole, with two octets; and a fixed value keeps its length
+abbrev pub is_behind_the_end : List Attr → Values → Entry → Bool
+is_behind_the_end attributes values entry =
+    if is_configuration_at attributes entry.handle then not (entry.offset == 0) else nat_lt (length (value_at values entry.handle)) entry.offset
+
+abbrev pub has_bad_length : List Attr → Values → Entry → Bool
+has_bad_length attributes values entry =
+    if is_configuration_at attributes entry.handle then not (length entry.part == 2)
+    else nat_lt (if is_fixed_at attributes entry.handle then length (value_at values entry.handle) else largest_at attributes entry.handle)
+    (entry.offset + length entry.part)
+
+abbrev pub has_bad_bits : List Attr → Entry → Bool
+has_bad_bits attributes entry =
+    is_configuration_at attributes entry.handle && not (has_bits_within (configuration_bits_at attributes entry.handle) entry.part)
+
+abbrev pub bad_entry : Access → List Attr → Standing → Values → Entry → Option Refusal
+bad_entry access attributes standing values entry = first_there (
+    broken_at access attributes standing entry.handle
+    ∷ case_if (is_behind_the_end attributes values entry) entry.handle INVALID_OFFSET
+    ∷ case_if (has_bad_length attributes values entry) entry.handle INVALID_ATTRIBUTE_VALUE_LENGTH
+    ∷ case_if (has_bad_bits attributes entry) entry.handle OUT_OF_RANGE
+    ∷ [])
+
+-- writes in their order, each against what those before it leave
+abbrev pub bad_entries : Access → List Attr → Standing → Stored → List Entry → List (Option Refusal)
+bad_entries access attributes standing stored [] = []
+bad_entries access attributes standing stored (entry ∷ entries) =
+    bad_entry access attributes standing stored.values entry
+    ∷ bad_entries access attributes standing (after_entry attributes stored entry) entries
+
+abbrev pub unwritten : Contents → Row → Connection → Question → Option Refusal
+unwritten table row conn question =
+    option_and_then (λ (writing : Writing). first_there (bad_entries writing.access table.attributes conn.standing (stored_in table row) writing.entries))
+    (writing_asked conn.queue question)
+
+-- the first case: of what is asked at a table and a row, by a connection
+abbrev pub first_case : Contents → Row → Connection → Question → Option Refusal
+first_case table row conn question = first_there (
+    case_if (is_unknown question) 0 REQUEST_NOT_SUPPORTED
+    ∷ case_if (is_malformed question) 0 INVALID_PDU
+    ∷ bad_range question
+    ∷ bad_group question
+    ∷ nothing_found table row conn.standing question
+    ∷ unreadable table conn.standing question
+    ∷ bad_offset table row question
+    ∷ unprepared table conn question
+    ∷ unwritten table row conn question
+    ∷ [])
+
+-- the opcode that a refusal names: Core 5.0, Vol 3 Part F, 3.4.8. Of what is ignored none is named
+abbrev pub opcode_of : Question → Opcode
+opcode_of (Ok (ExchangeMtuRequest client_rx_mtu)) = EXCHANGE_MTU_REQUEST
+opcode_of (Ok (FindInformationRequest first last)) = FIND_INFORMATION_REQUEST
+opcode_of (Ok (FindByTypeValueRequest first last type value)) = FIND_BY_TYPE_VALUE_REQUEST
+opcode_of (Ok (ReadByTypeRequest first last type)) = READ_BY_TYPE_REQUEST
+opcode_of (Ok (ReadRequest handle)) = READ_REQUEST
+opcode_of (Ok (ReadBlobRequest handle offset)) = READ_BLOB_REQUEST
+opcode_of (Ok (ReadMultipleRequest handles)) = READ_MULTIPLE_REQUEST
+opcode_of (Ok (ReadByGroupTypeRequest first last type)) = READ_BY_GROUP_TYPE_REQUEST
+opcode_of (Ok (WriteRequest handle value)) = WRITE_REQUEST
+opcode_of (Ok (PrepareWriteRequest handle offset part)) = PREPARE_WRITE_REQUEST
+opcode_of (Ok (ExecuteWriteRequest flags)) = EXECUTE_WRITE_REQUEST
+opcode_of (Ok ConfirmationPdu) = HANDLE_VALUE_CONFIRMATION
+opcode_of (Ok (WriteCommandPdu handle value)) = WRITE_COMMAND
+opcode_of (Err Ignored) = 0
+opcode_of (Err (Invalid opcode)) = opcode
+opcode_of (Err (Unsupported opcode)) = opcode
+
+-- an answer, where it refuses
+abbrev pub error_in : Option Response → Option Response
+error_in (Some (ErrorResponse request handle code)) = Some (ErrorResponse request handle code)
+error_in answer = None
+
+abbrev pub refused_by : Question → Refusal → Response
+refused_by question refusal = ErrorResponse (opcode_of question) refusal.handle refusal.code
+
+-- what is answered refuses exactly where there is a case, and by the first; a command, a confirmation and what is ignored are
+-- not answered
+abbrev pub RefusesByTheFirstCase : Type 0
+RefusesByTheFirstCase = (table : Contents) (row : Row) (conn : Connection) (question : Question) →
+    error_in (answer_to table row conn question)
+    ≡ (if is_due question then option_map (refused_by question) (first_case table row conn question) else None)
+
+-- what is refused changes no value, no configuration, no ATT_MTU and nothing that is prepared, but that an execution leaves
+-- nothing prepared; a command too, and what is ignored is no case but changes nothing either
+pub record ChangesNothing (table : Contents) (row : Row) (conn : Connection) (question : Question) : Type 0 where
+  pub stored : stored_by table row conn question ≡ stored_in table row
+  pub kept : conn_after table.attributes conn question ≡ (if asks_execution question then record conn { queue = [] } else conn)
+
+abbrev pub RefusedChangesNothing : Type 0
+RefusedChangesNothing = (table : Contents) (row : Row) (conn : Connection) (question : Question) (refusal : Refusal) →
+    first_case table row conn question ≡ Some refusal → ChangesNothing table row conn question
+
+abbrev pub IgnoredChangesNothing : Type 0
+IgnoredChangesNothing = (table : Contents) (row : Row) (conn : Connection) → ChangesNothing table row conn (Err Ignored)

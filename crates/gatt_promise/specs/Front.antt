@@ -1,0 +1,28 @@
+-- What is given to a connection, also to one that has gone since, is the front of what was queued for it.
+use Rattle.std.specs.Prelude.{◌≡◌, if◌then◌else◌, List, [], ◌∷◌}
+use Rattle.gatt_laws.specs.laws.Given.{packets_given_by_now}
+use Rattle.gatt_laws.specs.laws.Runs.{events_of}
+use Rattle.gatt_laws.specs.laws.SameView.{packets_to}
+use Rattle.gatt_laws.specs.machine.Event.{Ordinal, Event}
+use Rattle.gatt_laws.specs.machine.Input.{Item}
+use Rattle.gatt_laws.specs.machine.Part.{is_there}
+use Rattle.gatt_laws.specs.machine.Start.{Start, state_at}
+use Rattle.gatt_laws.specs.machine.State.{State, step}
+use Rattle.octets.specs.Number.{Octets}
+
+-- of its queue as it stood last while the connection was there, the packets that count as given
+abbrev pub front_after : Ordinal → List Octets → State → List Octets
+front_after ordinal front state =
+    if is_there (state.parts ordinal).mark then packets_given_by_now state.room.told (state.parts ordinal) else front
+
+abbrev pub front_in : Ordinal → List Octets → State → List Event → List Octets
+front_in ordinal front state [] = front
+front_in ordinal front state (event ∷ events) =
+    front_in ordinal (front_after ordinal front (step state event)) (step state event) events
+
+abbrev pub front_of : Ordinal → Start → List Item → List Octets
+front_of ordinal start input = front_in ordinal [] (state_at start) (events_of start input)
+
+-- the packets that were given to a connection are these
+abbrev pub IsAlwaysGivenTheFront : Type 0
+IsAlwaysGivenTheFront = (start : Start) (ordinal : Ordinal) (input : List Item) → packets_to ordinal start input ≡ front_of ordinal start input

@@ -1,0 +1,6 @@
+pub mod Alone
+pub mod Changed
+pub mod FirstCase
+pub mod Front
+pub mod Gained
+pub mod Promise
