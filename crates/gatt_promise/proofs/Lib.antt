@@ -4,3 +4,4 @@ pub mod FirstCase
 pub mod Front
 pub mod Gained
 pub mod Promise
+pub mod examples

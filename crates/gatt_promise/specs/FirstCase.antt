@@ -186,12 +186,15 @@ error_in answer = None
 abbrev pub refused_by : Question → Refusal → Response
 refused_by question refusal = ErrorResponse (opcode_of question) refusal.handle refusal.code
 
--- what is answered refuses exactly where there is a case, and by the first; a command, a confirmation and what is ignored are
--- not answered
+-- an answer refuses exactly where there is a case, and by the first; a command, a confirmation and what is ignored are not
+-- answered
+abbrev pub IsByTheFirstCase : Contents → Row → Connection → Question → Option Response → Type 0
+IsByTheFirstCase table row conn question answer =
+    error_in answer ≡ (if is_due question then option_map (refused_by question) (first_case table row conn question) else None)
+
 abbrev pub RefusesByTheFirstCase : Type 0
 RefusesByTheFirstCase = (table : Contents) (row : Row) (conn : Connection) (question : Question) →
-    error_in (answer_to table row conn question)
-    ≡ (if is_due question then option_map (refused_by question) (first_case table row conn question) else None)
+    IsByTheFirstCase table row conn question (answer_to table row conn question)
 
 -- what is refused changes no value, no configuration, no ATT_MTU and nothing that is prepared, but that an execution leaves
 -- nothing prepared; a command too, and what is ignored is no case but changes nothing either

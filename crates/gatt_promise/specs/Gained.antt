@@ -87,11 +87,12 @@ pub record TellsOnly (state : State) (ordinal : Ordinal) (raised waiting : List 
   pub may : Each (λ handle. may_hear_at state.room.table.attributes (row_in state ordinal) (standing_of state.room (state.parts ordinal)) handle ≡ true)
       (picked picks raised ++ option_to_list indicated)
 
-pub record Gains (state : State) (event : Event) (ordinal : Ordinal) : Type 0 where
+-- so from a state to the one in which the event ends
+pub record Gains (state : State) (event : Event) (new : State) (ordinal : Ordinal) : Type 0 where
   pub told : List Response
-  pub queue : ((step state event).parts ordinal).pdus ≡ kept_queue state ordinal event ++ (answers state ordinal event ++ map att_pdu told)
-  pub only : TellsOnly (step state event) ordinal (raised_for state ordinal event) (state.parts ordinal).pending.waiting told
+  pub queue : (new.parts ordinal).pdus ≡ kept_queue state ordinal event ++ (answers state ordinal event ++ map att_pdu told)
+  pub only : TellsOnly new ordinal (raised_for state ordinal event) (state.parts ordinal).pending.waiting told
 
 -- in every state, and so however connections interleave
 abbrev pub GainsOnlyWhatIsDue : Type 0
-GainsOnlyWhatIsDue = (state : State) (event : Event) (ordinal : Ordinal) → Gains state event ordinal
+GainsOnlyWhatIsDue = (state : State) (event : Event) (ordinal : Ordinal) → Gains state event (step state event) ordinal
