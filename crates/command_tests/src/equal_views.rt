@@ -130,9 +130,49 @@ const ORDERS: &[&str] = &[
     "VUVUVVUVUUVUVUVVUVUUVUVVUUVVVUVUVUUVV",
 ];
 
-/// Writes both phones' lines in an order.
-fn interleave(order: &str, script: &mut String) -> Result<(), AllocError> {
-    let (mut of_u, mut of_v) = (LINES_OF_U.lines(), LINES_OF_V.lines());
+/// All that U sees: its own lines, what the application writes, and what V writes. Of its level it is
+/// told both times.
+const SEEN_BY_U: &str = "\
+connect U 1 c0:00:00:00:00:0a
+U < 021900
+U < 1204000100
+V < 12030005
+U < 0a0300
+update 3 06
+V < 12030007
+";
+
+/// What V does besides, of which U sees nothing: it comes, exchanges its ATT_MTU, reads, prepares a
+/// write and drops it, and is refused an attribute that is not there.
+const UNSEEN_BY_U: &str = "\
+connect V 1 c0:00:00:00:00:01
+V < 026400
+V < 0a0900
+V < 160600000061
+V < 1800
+V < 0aff00
+";
+
+const TOLD_U: &str = "\
+U > 03f700
+U > 13
+U > 1b030005
+U > 0b05
+U > 1b030006
+U > 1b030007
+";
+
+/// What U sees stays in its order, and the rest falls between: V comes first, or behind U.
+const UNSEEN_ORDERS: &[&str] = &["VVVVVVUUUUUUU", "UUUVUVUVUVVVU", "VUVUVUVUVVUUU"];
+
+/// Writes lines of two texts in an order, U for the first of them and V for the other.
+fn interleave(
+    order: &str,
+    first: &str,
+    other: &str,
+    script: &mut String,
+) -> Result<(), AllocError> {
+    let (mut of_u, mut of_v) = (first.lines(), other.lines());
     for phone in order.bytes() {
         put_line(next_line(phone, &mut of_u, &mut of_v), script)?;
     }
@@ -157,7 +197,23 @@ fn put_line(line: &str, script: &mut String) -> Result<(), AllocError> {
 /// Whether both phones hear what they are to hear of a script with their lines in an order.
 fn hear(alloc: Global, order: &str) -> bool {
     let mut script = String::new(alloc);
-    interleave(order, &mut script).is_ok() && hear_script(alloc, &script)
+    interleave(order, LINES_OF_U, LINES_OF_V, &mut script).is_ok() && hear_script(alloc, &script)
+}
+
+/// Whether U hears what it is to hear where it sees the same.
+fn hear_seen(alloc: Global, order: &str) -> bool {
+    let mut script = String::new(alloc);
+    let mut printed: Vec<u8> = Vec::new(alloc);
+    interleave(order, SEEN_BY_U, UNSEEN_BY_U, &mut script).is_ok()
+        && is_run(alloc, &script, &mut printed)
+        && is_told(printed.as_slice())
+}
+
+fn is_told(printed: &[u8]) -> bool {
+    match str::from_utf8(printed) {
+        Ok(text) => is_heard_by(text, "U", TOLD_U),
+        Err(_) => false,
+    }
 }
 
 fn hear_script(alloc: Global, script: &str) -> bool {
@@ -203,6 +259,17 @@ fn is_next(line: &str, name: &str, wanted: &mut Lines<'_>) -> bool {
 #[test]
 fn each_hears_the_same_in_each_order(rt: HostRuntime) {
     check_orders(&rt, rt.alloc(), ORDERS);
+}
+
+#[test]
+fn hears_the_same_where_it_sees_the_same(rt: HostRuntime) {
+    check_seen(&rt, rt.alloc(), UNSEEN_ORDERS);
+}
+
+fn check_seen(rt: &impl Abort, alloc: Global, orders: &[&str]) {
+    for order in orders {
+        assert!(rt; hear_seen(alloc, order), "{order}");
+    }
 }
 
 fn check_orders(rt: &impl Abort, alloc: Global, orders: &[&str]) {
