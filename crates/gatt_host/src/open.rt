@@ -5,7 +5,7 @@ ghost use Rattle.std.specs.Option.{option_map_or};
 ghost use Rattle.gatt_laws.specs.machine.Input.{course};
 ghost use Rattle.gatt_laws.specs.machine.Start.{is_static};
 ghost use Rattle.gatt_host.specs.Opening.{is_configured, start_of};
-ghost use Rattle.gatt_host.specs.Promises.{Promise};
+ghost use Rattle.gatt_host.specs.Promises.{GivesWhatIsDue, Promise};
 ghost use Rattle.gatt_host.specs.Whole.{StandsAt};
 
 use crate::config::{Config, OpenFault};
@@ -42,6 +42,8 @@ impl Host {
         ensures opened { IfOk result
             (λ host. StandsAt (course (start_of table keys rows config) []) [] host) }
         ensures no_fault { IfOk result (λ host. host.fault ≡ None) }
+        // What goes out from then on is what is due, whatever is taken in.
+        ensures runs { IfOk result (GivesWhatIsDue (start_of table keys rows config)) }
         // And of all that it takes in from then on, for every start and input:
         ensures promise { Promise }
     {

@@ -4,4 +4,5 @@ pub mod FirstCase
 pub mod Front
 pub mod Gained
 pub mod Promise
+pub mod Waiting
 pub mod examples

@@ -4,7 +4,7 @@ use Rattle.gatt_laws.proofs.Given.{is_given_the_front}
 use Rattle.gatt_laws.proofs.Headline.{refusals_change_nothing, sends_what_may_be_read, writes_what_may_be_written}
 use Rattle.gatt_laws.proofs.MayBeHeard.{tells_what_may_be_heard}
 use Rattle.gatt_laws.proofs.NextParts.{gives_nothing_to_the_absent}
-use Rattle.gatt_laws.proofs.NothingCrosses.{leaves_connections_the_same, nothing_crosses}
+use Rattle.gatt_laws.proofs.NothingCrosses.{crosses_nowhere, leaves_connections_the_same, nothing_crosses}
 use Rattle.gatt_laws.proofs.OwnQueues.{leaves_others_prepared}
 use Rattle.gatt_laws.proofs.OwnWrites.{executes_its_own}
 use Rattle.gatt_laws.proofs.Preparing.{prepares_by_itself, prepares_the_same}
@@ -25,6 +25,7 @@ use Rattle.gatt_promise.proofs.Changed.{changes_bonds_by_right, changes_own_rows
 use Rattle.gatt_promise.proofs.FirstCase.{ignored_changes_nothing, refused_changes_nothing, refuses_by_the_first_case}
 use Rattle.gatt_promise.proofs.Front.{is_always_given_the_front}
 use Rattle.gatt_promise.proofs.Gained.{gains_only_what_is_due}
+use Rattle.gatt_promise.proofs.Waiting.{waits_only_behind_a_backlog}
 use Rattle.gatt_promise.specs.Promise.{KeepsConnectionsApart, KeepsThePolicy, Promise, RunsInOrder}
 
 pub keeps_the_policy : KeepsThePolicy
@@ -40,6 +41,7 @@ keeps_the_policy = record {
   gives = is_always_given_the_front;
   gives_by_now = is_given_the_front;
   gives_all = gives_all_that_it_may;
+  waits = waits_only_behind_a_backlog;
   bounded = always_has_bounded_queues;
   tells = tells_what_may_be_heard;
   writes = writes_what_may_be_written;
@@ -57,6 +59,7 @@ keeps_connections_apart = record {
   prepares_by_itself = prepares_by_itself;
   leaves_prepared = leaves_others_prepared;
   crosses = nothing_crosses;
+  crosses_of_any = crosses_nowhere;
   leaves = leaves_connections_the_same;
   keeps_alike = keeps_alike;
   gives_the_same = gives_the_same;

@@ -21,9 +21,11 @@ use Rattle.gatt_laws.specs.laws.TwoWorlds.{GivesNothingToTheAbsent, GivesTheSame
 use Rattle.gatt_laws.specs.laws.ValuesOfTheTable.{AlwaysHasATable}
 use Rattle.gatt_promise.specs.Alone.{GivesTheSameToOne, KeepsAlikeToOne, NothingCrossesToOneInCourses}
 use Rattle.gatt_promise.specs.Changed.{ChangesBondsByRight, ChangesOwnRowsByRight, ChangesValuesByRight}
+use Rattle.gatt_promise.specs.Crossing.{NothingCrossesOfAny}
 use Rattle.gatt_promise.specs.FirstCase.{IgnoredChangesNothing, RefusedChangesNothing, RefusesByTheFirstCase}
 use Rattle.gatt_promise.specs.Front.{IsAlwaysGivenTheFront}
 use Rattle.gatt_promise.specs.Gained.{GainsOnlyWhatIsDue}
+use Rattle.gatt_promise.specs.Waiting.{WaitsOnlyBehindABacklog}
 
 -- Each connection is sent the front of the answers of the written policy.
 pub record KeepsThePolicy : Type 0 where
@@ -48,6 +50,8 @@ pub record KeepsThePolicy : Type 0 where
   pub gives : IsAlwaysGivenTheFront
   pub gives_by_now : IsGivenTheFront
   pub gives_all : GivesAllThatItMay
+  -- and an indication waits behind one that is unconfirmed, or behind 8 PDUs
+  pub waits : WaitsOnlyBehindABacklog
   -- at most 16 PDUs wait, and no more is given than a share beyond what is completed
   pub bounded : AlwaysHasBoundedQueues
   -- and of each answer by itself, at any table and any row
@@ -70,6 +74,7 @@ pub record KeepsConnectionsApart : Type 0 where
   -- values that no connection of a peer may know change nothing of what its connections are given, nor of what they are: in whole
   -- courses, and at each event
   pub crosses : NothingCrosses
+  pub crosses_of_any : NothingCrossesOfAny
   pub leaves : LeavesConnectionsTheSame
   pub keeps_alike : KeepsAlike
   pub gives_the_same : GivesTheSame

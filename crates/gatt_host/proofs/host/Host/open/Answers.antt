@@ -1,10 +1,11 @@
 use Rattle.std.proofs.Common.{◌≡◌, true, None, sym, ◌∙◌}
+use Rattle.gatt_host.proofs.Promises.{gives_what_is_due}
 use Rattle.gatt_host.proofs.host.Host.open.Goals as goal
 use Rattle.gatt_host.proofs.whole.Opened.{held_at_first, reached_when_opened, stands_when_opened, without_fault}
 use Rattle.gatt_host.specs.contracts.host_state.HostState.{the_view}
 use Rattle.gatt_host.specs.declared.last_event.LastEvent.TheVariants as last
 use Rattle.gatt_host.specs.Held.{Held}
-use Rattle.gatt_host.specs.Opening.{is_configured}
+use Rattle.gatt_host.specs.Opening.{is_configured, start_of}
 use Rattle.gatt_host.specs.Whole.{Whole}
 use Rattle.gatt_subs.specs.Fit.{HasFittedBonds, fitted_rows}
 
@@ -47,3 +48,6 @@ returns-clause-opened c =
 
 pub invariant_of-result-2 : goal.invariant_of-result-2
 invariant_of-result-2 c = reached_when_opened c.args.table c.args.keys c.args.rows c.args.config _ (returns-clause-opened c)
+
+pub returns-clause-runs : goal.returns-clause-runs
+returns-clause-runs c = gives_what_is_due (start_of c.args.table c.args.keys c.args.rows c.args.config) _ (returns-clause-opened c)
