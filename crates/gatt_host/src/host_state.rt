@@ -1,15 +1,11 @@
-ghost use Rattle.std.specs.Prelude.{◌≡◌, ◌<◌, ◌≤◌, ◌^◌, [], if◌then◌else◌, is_some, length, map, true, Some, IfSome, IsSome, IsOk, IfErr, OnErr};
+ghost use Rattle.std.specs.Prelude.{◌≡◌, ◌<◌, ◌≤◌, [], if◌then◌else◌, is_some, length, map, true, Some, IfSome, IsSome};
 ghost use Rattle.std.specs.Bool.{OnFalse, OnTrue};
 ghost use Rattle.std.specs.Option.{option_to_list};
 ghost use Rattle.att_attributes.specs.Attributes.{attribute_at, is_fixed_at};
 ghost use Rattle.att_table.specs.ConfigRow.{IsRowOf};
 ghost use Rattle.att_table.specs.Table.{room_at};
-ghost use Rattle.gatt_host.specs.Answers.{following_if, stop_of};
-ghost use Rattle.gatt_laws.specs.machine.Packets.{completed_event, status_event, status_of};
-ghost use Rattle.le_acl.specs.Shares.{acl_len, share};
-ghost use Rattle.le_hci.specs.InitTold.{told_in};
 ghost use Rattle.gatt_host.specs.GoingOut.{is_drained};
-ghost use Rattle.gatt_host.specs.Held.{open_slots, next_of, after_out, after_end, opened, Credits, after_ask_key, after_authorize, after_coming, after_completing, after_disconnect, after_going, after_link, after_nothing, after_replacing, after_signals, after_tick, after_update, kept_at, row_at, with_last, Serves};
+ghost use Rattle.gatt_host.specs.Held.{open_slots, next_of, after_out, after_end, after_ask_key, after_authorize, after_completing, after_disconnect, after_going, after_link, after_nothing, after_replacing, after_signals, after_tick, after_update, kept_at, row_at, with_last, Serves};
 ghost use Rattle.gatt_slots.specs.Slots.{all_heard};
 ghost use Rattle.gatt_slots.specs.Hearing.{row_in_force};
 ghost use Rattle.le_hci.specs.Event.{completed_packets_of};
@@ -17,7 +13,6 @@ ghost use Rattle.le_security.specs.Link.{Encryption, Refresh};
 
 use crate::controller::Controller;
 use crate::going_out::{init_out, is_drained, is_init_drained, next_out};
-use crate::host_fault::HostFault;
 use crate::last_event::LastEvent;
 use arrayvec::ArrayVec;
 use att_policy::KeyFacts;
@@ -25,7 +20,6 @@ use att_table::Table;
 use gatt_slots::{REMOTE_USER_TERMINATED, Slots};
 use gatt_subs::Rows;
 use le_h4::PacketBuf;
-use le_hci::Peer;
 use le_security::Keys;
 use std::marker::Model;
 use std::mem;
@@ -98,7 +92,7 @@ impl HostState {
 
     /// Ends an event that raises nothing: what waits may be released. This is what the application is
     /// told of it.
-    fn end(&mut self, last: LastEvent)
+    pub(crate) fn end(&mut self, last: LastEvent)
         ensures { self.new ≡ with_last last (after_nothing self.old) }
     {
         self.last = last;
@@ -296,73 +290,6 @@ impl HostState {
         }
     }
 
-    /// A connection comes, and takes a slot.
-    pub(crate) fn come(&mut self, place: usize, handle: u16, peer: Peer)
-        requires place { place < length self.old.slots }
-        requires handle { handle < 2 ^ 12 }
-        requires told { IsSome (told_in self.old.controller.init) }
-        ensures { self.new ≡ after_coming place handle peer self.old }
-    {
-        let Some(buffers) = self.controller.told() else {
-            unreachable!()
-        };
-        let share = share(self.slots.len(), buffers.packets);
-        let acl_len = acl_len(buffers.length);
-        let key_known = self.keys.known(&peer);
-        self.slots.come(place, handle, peer, key_known, self.rx_mtu, share, acl_len);
-        self.controller.came();
-        self.end(LastEvent::Connected { handle, peer });
-    }
-
-    /// A command is complete.
-    pub(crate) fn completed(
-        &mut self,
-        allowed: u8,
-        opcode: u16,
-        returned: &[u8],
-    ) -> Result<(), HostFault>
-        ensures credits { IsOk result → Credits
-            (completed_event self.old.controller allowed opcode returned.now) allowed opcode
-            (status_of returned.now) self.old self.new }
-        ensures stops { IfErr result (λ fault. stop_of
-            (completed_event self.old.controller allowed opcode returned.now) ≡ Some fault) }
-        ensures unchanged { OnErr result (self.new ≡ self.old) }
-    {
-        let followed = self.controller.completed(allowed, opcode, returned)?;
-        self.open_slots(followed);
-        self.nothing();
-        Ok(())
-    }
-
-    /// A command is under way, or refused.
-    pub(crate) fn status(&mut self, status: u8, allowed: u8, opcode: u16) -> Result<(), HostFault>
-        ensures credits { IsOk result
-            → Credits (status_event self.old.controller status allowed opcode) allowed opcode
-            (Some status) self.old self.new }
-        ensures stops { IfErr result (λ fault. stop_of
-            (status_event self.old.controller status allowed opcode) ≡ Some fault) }
-        ensures unchanged { OnErr result (self.new ≡ self.old) }
-    {
-        self.controller.status(status, allowed, opcode)?;
-        self.nothing();
-        Ok(())
-    }
-
-    /// Where the controller is now initialised, as many slots are opened as it takes packets.
-    fn open_slots(&mut self, followed: bool)
-        ensures { self.new ≡ record self.old {
-          slots = opened (following_if followed self.old.controller) self.old.slots;
-        } }
-    {
-        if !followed || !self.controller.is_ready() {
-            return;
-        }
-        if let Some(buffers) = self.controller.told() {
-            let count = self.slots.len().min(usize::from(buffers.packets));
-            self.slots.truncate(count);
-        }
-    }
-
     /// A table replaces the one that stands, which is given back.
     pub(crate) fn replace(&mut self, table: Table) -> Table
         ensures given { result ≡ self.old.table }
@@ -429,23 +356,6 @@ fn ended_if(ended: bool, handle: u16) -> LastEvent
     } else {
         LastEvent::Quiet
     }
-}
-
-/// How many packets of one connection may be outstanding.
-fn share(slots: usize, packets: u16) -> u16
-    requires slots { 0 < slots }
-    requires packets { 0 < packets }
-    ensures share { result ≡ share slots packets }
-    ensures some { 0 < result }
-{
-    (usize::from(packets) / slots.min(usize::from(packets))) as u16
-}
-
-/// The most octets of data in a packet.
-fn acl_len(told: u16) -> u16
-    ensures { result ≡ acl_len told }
-{
-    told.min(251)
 }
 
 /// The value of a changer where all attributes have changed, from the first handle to the last: Core

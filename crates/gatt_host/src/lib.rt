@@ -5,6 +5,7 @@ mod app;
 mod calling;
 mod calls;
 mod config;
+mod connecting;
 mod connections;
 mod controller;
 mod driving;

@@ -1,0 +1,100 @@
+//! The controller comes to be ready, and connections come: how many slots there are, and what a
+//! connection that takes one may have.
+
+ghost use Rattle.std.specs.Prelude.{◌≡◌, ◌<◌, ◌^◌, length, Some, IsSome, IsOk, IfErr, OnErr};
+ghost use Rattle.gatt_host.specs.Answers.{following_if, stop_of};
+ghost use Rattle.gatt_host.specs.Held.{after_coming, opened, Credits};
+ghost use Rattle.gatt_laws.specs.machine.Packets.{completed_event, status_event, status_of};
+ghost use Rattle.le_acl.specs.Shares.{acl_len, share};
+ghost use Rattle.le_hci.specs.InitTold.{told_in};
+
+use crate::host_fault::HostFault;
+use crate::host_state::HostState;
+use crate::last_event::LastEvent;
+use le_hci::Peer;
+
+impl HostState {
+    /// A connection comes, and takes a slot.
+    pub(crate) fn come(&mut self, place: usize, handle: u16, peer: Peer)
+        requires place { place < length self.old.slots }
+        requires handle { handle < 2 ^ 12 }
+        requires told { IsSome (told_in self.old.controller.init) }
+        ensures { self.new ≡ after_coming place handle peer self.old }
+    {
+        let Some(buffers) = self.controller.told() else {
+            unreachable!()
+        };
+        let share = share(self.slots.len(), buffers.packets);
+        let acl_len = acl_len(buffers.length);
+        let key_known = self.keys.known(&peer);
+        self.slots.come(place, handle, peer, key_known, self.rx_mtu, share, acl_len);
+        self.controller.came();
+        self.end(LastEvent::Connected { handle, peer });
+    }
+
+    /// A command is complete.
+    pub(crate) fn completed(
+        &mut self,
+        allowed: u8,
+        opcode: u16,
+        returned: &[u8],
+    ) -> Result<(), HostFault>
+        ensures credits { IsOk result → Credits
+            (completed_event self.old.controller allowed opcode returned.now) allowed opcode
+            (status_of returned.now) self.old self.new }
+        ensures stops { IfErr result (λ fault. stop_of
+            (completed_event self.old.controller allowed opcode returned.now) ≡ Some fault) }
+        ensures unchanged { OnErr result (self.new ≡ self.old) }
+    {
+        let followed = self.controller.completed(allowed, opcode, returned)?;
+        self.open_slots(followed);
+        self.nothing();
+        Ok(())
+    }
+
+    /// A command is under way, or refused.
+    pub(crate) fn status(&mut self, status: u8, allowed: u8, opcode: u16) -> Result<(), HostFault>
+        ensures credits { IsOk result
+            → Credits (status_event self.old.controller status allowed opcode) allowed opcode
+            (Some status) self.old self.new }
+        ensures stops { IfErr result (λ fault. stop_of
+            (status_event self.old.controller status allowed opcode) ≡ Some fault) }
+        ensures unchanged { OnErr result (self.new ≡ self.old) }
+    {
+        self.controller.status(status, allowed, opcode)?;
+        self.nothing();
+        Ok(())
+    }
+
+    /// Where the controller is now initialised, as many slots are opened as it takes packets.
+    fn open_slots(&mut self, followed: bool)
+        ensures { self.new ≡ record self.old {
+          slots = opened (following_if followed self.old.controller) self.old.slots;
+        } }
+    {
+        if !followed || !self.controller.is_ready() {
+            return;
+        }
+        if let Some(buffers) = self.controller.told() {
+            let count = self.slots.len().min(usize::from(buffers.packets));
+            self.slots.truncate(count);
+        }
+    }
+}
+
+/// How many packets of one connection may be outstanding.
+fn share(slots: usize, packets: u16) -> u16
+    requires slots { 0 < slots }
+    requires packets { 0 < packets }
+    ensures share { result ≡ share slots packets }
+    ensures some { 0 < result }
+{
+    (usize::from(packets) / slots.min(usize::from(packets))) as u16
+}
+
+/// The most octets of data in a packet.
+fn acl_len(told: u16) -> u16
+    ensures { result ≡ acl_len told }
+{
+    told.min(251)
+}
