@@ -1,0 +1,77 @@
+-- What happens to a host, and what is recorded of it: this profile's own.
+use Rattle.std.specs.Prelude.{◌≡◌, ℕ, List, [], ◌∷◌, ◌++◌, Option, Some, None}
+use Rattle.std.specs.List.{flat_map}
+use Rattle.gatt_host.specs.Asked.{call_of}
+use Rattle.gatt_host.specs.Feeding.{octet_items}
+use Rattle.gatt_laws.specs.Calls.{Call, Refused}
+use Rattle.gatt_laws.specs.Input.{Item, ACall}
+use Rattle.octets.specs.Number.{Octets}
+use Rattle.gatt_device.specs.declared.happenings.Next.{Next}
+use Rattle.gatt_device.specs.declared.happenings.Next.TheVariants as next
+
+-- octets came from the controller, or the application asked something
+pub data Happening : Type 0 where
+  Came : (octets : Octets) → Happening
+  Asked : (call : Call) → Happening
+
+-- what is recorded: up to which deadline it was waited, if there was one; what happened then; what a call was answered, which
+-- is why it is refused, if it is; and that the stream of the controller has ended, or cannot be read
+pub data Entry : Type 0 where
+  Waited : (deadline : Option ℕ) → Entry
+  Happened : (happening : Happening) → Entry
+  Answered : (refusal : Option Refused) → Entry
+  Ended : Entry
+  Failed : Entry
+
+-- of what is given: its octets, its calls, and how it is recorded
+abbrev pub next_octets : Next → Octets
+next_octets (next.Octets octets) = octets.now
+next_octets (next.Call call) = []
+next_octets next.Ended = []
+next_octets next.Failed = []
+
+abbrev pub next_calls : Next → List Call
+next_calls (next.Octets octets) = []
+next_calls (next.Call call) = call_of call ∷ []
+next_calls next.Ended = []
+next_calls next.Failed = []
+
+abbrev pub next_entry : Next → Entry
+next_entry (next.Octets octets) = Happened (Came octets.now)
+next_entry (next.Call call) = Happened (Asked (call_of call))
+next_entry next.Ended = Ended
+next_entry next.Failed = Failed
+
+-- these calls are handed out, where it is known which come
+abbrev pub Hands : Option (List Call) → Option (List Call) → List Call → Type 0
+Hands None after calls = Unit
+Hands (Some before) None calls = ⊥
+Hands (Some before) (Some after) calls = before ≡ calls ++ after
+
+-- these entries stand behind those before, where they are known
+abbrev pub Records : List Entry → Option (List Entry) → Option (List Entry) → Type 0
+Records entries None after = Unit
+Records entries (Some before) None = ⊥
+Records entries (Some before) (Some after) = after ≡ before ++ entries
+
+-- of what happened: the octets, the calls, and what a host takes in
+abbrev pub octets_of : Happening → Octets
+octets_of (Came octets) = octets
+octets_of (Asked call) = []
+
+abbrev pub octets_in : List Happening → Octets
+octets_in happened = flat_map octets_of happened
+
+abbrev pub calls_of : Happening → List Call
+calls_of (Came octets) = []
+calls_of (Asked call) = call ∷ []
+
+abbrev pub calls_in : List Happening → List Call
+calls_in happened = flat_map calls_of happened
+
+abbrev pub items_of : Happening → List Item
+items_of (Came octets) = octet_items octets
+items_of (Asked call) = ACall call ∷ []
+
+abbrev pub items_in : List Happening → List Item
+items_in happened = flat_map items_of happened
