@@ -1,1 +1,2 @@
 pub mod Happened
+pub mod Time

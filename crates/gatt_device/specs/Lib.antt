@@ -1,2 +1,3 @@
 pub mod Happenings
 pub mod Serving
+pub mod Time

@@ -1,5 +1,5 @@
-//! What happens to a host, one thing after another: its controller sends octets, and its application
-//! asks something.
+//! What happens to a host, one thing after another: its controller sends octets, or its
+//! application asks something.
 
 ghost use Rattle.std.specs.Prelude.{◌≡◌, ◌∷◌, [], List, Option};
 ghost use Rattle.std.specs.Io.KnownBytes.{Consumes};
@@ -34,16 +34,16 @@ pub trait Happenings {
     /// What has happened so far, and what each call was answered, where that is known.
     ghost history: { Self → Option (List Entry) };
 
-    /// Waits for what happens next, and gives it. Its octets, or those of a value, may lie in `buffer`.
-    /// Where there is a deadline, in milliseconds, the time is to be told then, if nothing happens
-    /// before.
+    /// Waits for what happens next, and gives it. Its octets, or those of a value, may lie in
+    /// `buffer`. Where there is a deadline, in milliseconds, a tick is to tell the time then, if
+    /// nothing happens before.
     fn next<'a>(&mut self, deadline: Option<u64>, buffer: &'a mut [u8]) -> Next<'a>
         ensures octets { Consumes (octets self.old) (octets self.new) (next_octets result) }
         ensures calls { Hands (calls self.old) (calls self.new) (next_calls result) }
         ensures history { Records (Waited deadline ∷ next_entry result ∷ [])
             (history self.old) (history self.new) };
 
-    /// Takes in what the call that was given last is answered: that it is done, or why it is refused.
+    /// Hears what the call that was given last is answered: that it is done, or why it is refused.
     fn answered(&mut self, answer: Result<(), AppFault>)
         ensures octets { octets self.new ≡ octets self.old }
         ensures calls { calls self.new ≡ calls self.old }

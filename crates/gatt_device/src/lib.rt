@@ -1,5 +1,5 @@
-//! A device that serves on: what comes from its controller, and what its application asks, is taken in
-//! as it happens. There is no socket and no clock in it: who calls it brings both.
+//! A device that serves on: what its controller sends and what its application asks is taken in as
+//! it happens. There is no socket and no clock in it: its caller brings both.
 #![tactic(auto)]
 
 mod happenings;

@@ -10,6 +10,7 @@ ghost use Rattle.gatt_host.specs.Whole.{all_out, outcome_of};
 ghost use Rattle.gatt_laws.specs.Input.{ACall};
 ghost use Rattle.octets.specs.Stream.{CountsIf};
 ghost use Rattle.gatt_device.specs.Serving.{known, RecordsTheAnswer, Serves};
+ghost use Rattle.gatt_device.specs.Time.{KeepsTheTime};
 
 use crate::happenings::{Happenings, Next};
 use gatt_host::{App, Host, HostFault, Listener, feed, feed_to};
@@ -30,12 +31,11 @@ pub enum End {
 }
 
 /// Serves a host by what happens: writes what is owed, and then waits in each turn for what happens
-/// next, takes it in, and writes what it brings to the controller before the next is waited for. Each
-/// call is answered as soon as it is taken in, and then each notice is heard, before anything is
-/// written. A tick that goes back is a call like others: it is answered
-/// `AppFault::TimeWentBack`, and changes nothing. After a fault of the host it answers that, and waits
-/// for nothing more.
-#[tactic(auto, using(gatt_host::proofs::Promises::keeps_the_policy, gatt_host::proofs::Promises::keeps_connections_apart))]
+/// next, takes it in, and writes what it brings, before the next is waited for. A call is answered
+/// as soon as it is taken in, then what it tells is heard, and then what it brings is written. A
+/// tick that goes back is answered `AppFault::TimeWentBack`, as other calls that are refused, and
+/// changes nothing. After a fault of the host it answers that, and waits for nothing more.
+#[tactic(auto, using(crate::proofs::Time::keeps_the_time, gatt_host::proofs::Promises::keeps_the_policy, gatt_host::proofs::Promises::keeps_connections_apart))]
 pub fn serve_happenings<H: Happenings, W: Sink, L: Listener>(
     host: &mut Host,
     happenings: &mut H,
@@ -62,6 +62,7 @@ pub fn serve_happenings<H: Happenings, W: Sink, L: Listener>(
     // And of all that is taken in, for every start and input:
     ensures policy { KeepsThePolicy }
     ensures apart { KeepsConnectionsApart }
+    ensures time { KeepsTheTime }
 {
     feed(host, &[], out)?;
     let mut buffer = [0; ROOM];
