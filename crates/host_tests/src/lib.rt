@@ -23,6 +23,8 @@ mod faults;
 #[cfg(test)]
 mod frames;
 #[cfg(test)]
+mod happenings;
+#[cfg(test)]
 mod initialisation;
 #[cfg(test)]
 mod isolation;

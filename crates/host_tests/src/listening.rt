@@ -19,7 +19,7 @@ const SETTING: &Setting<'static> = &Setting {
 
 /// Hears notices that are known beforehand.
 #[derive(Drop)]
-struct Expects {
+pub struct Expects {
     wanted: &'static [Notice<'static>],
     /// How many were heard.
     heard: usize,
@@ -28,7 +28,7 @@ struct Expects {
 }
 
 impl Expects {
-    fn new(wanted: &'static [Notice<'static>]) -> Expects {
+    pub fn new(wanted: &'static [Notice<'static>]) -> Expects {
         Expects {
             wanted,
             heard: 0,
@@ -37,7 +37,7 @@ impl Expects {
     }
 
     /// Whether it has heard these and no other.
-    fn is_met(&self) -> bool {
+    pub fn is_met(&self) -> bool {
         !self.differs && self.heard == self.wanted.len()
     }
 }

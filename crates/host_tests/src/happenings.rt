@@ -1,0 +1,195 @@
+//! A host is served by what happens, at its controller and at its application.
+
+ghost use Rattle.std.specs.Prelude.{None};
+
+use crate::listening::Expects;
+use crate::player::{Setting, ready};
+use crate::wire::spelled;
+use att_table::examples::BELL;
+use gatt_device::{End, Happenings, Next, serve_happenings};
+use gatt_host::{App, AppFault, HostFault, Notice, Peer};
+use octets::{ArraySink, Sink};
+use std::alloc::Global;
+use std::process::Abort;
+
+const SETTING: &Setting<'static> = &Setting {
+    table: BELL,
+    slots: 1,
+    rx_mtu: 247,
+    packets: 4,
+};
+
+/// What happens in a turn: up to which deadline it is waited, in milliseconds, what is given, and what
+/// it is answered, if it is a call.
+type Turn = (Option<u64>, Next<'static>, Option<Result<(), AppFault>>);
+
+/// Happens as it is listed, and then no more can be read.
+#[derive(Drop)]
+struct Listed {
+    turns: &'static [Turn],
+    /// How many were asked for.
+    asked: usize,
+    /// What is to be answered, before the next is asked for.
+    awaited: Option<Result<(), AppFault>>,
+    /// Whether there was another deadline, or another answer.
+    differs: bool,
+}
+
+impl Happenings for Listed {
+    ghost octets = { λ _. None };
+
+    ghost calls = { λ _. None };
+
+    ghost history = { λ _. None };
+
+    fn next<'a>(&mut self, deadline: Option<u64>, _buffer: &'a mut [u8]) -> Next<'a> {
+        let Some(&(wanted, next, answer)) = self.turns.get(self.asked) else {
+            return Next::Failed;
+        };
+        if deadline != wanted || self.awaited.is_some() {
+            self.differs = true;
+        }
+        self.asked = self.asked.saturating_add(1);
+        self.awaited = answer;
+        next
+    }
+
+    fn answered(&mut self, answer: Result<(), AppFault>) {
+        if self.awaited != Some(answer) {
+            self.differs = true;
+        }
+        self.awaited = None;
+    }
+}
+
+/// A phone connects, and a tick comes amid its event. It asks for indications of the bell, is given
+/// one and confirms it, and is sent away.
+const DAY: &[Turn] = &[
+    (
+        None,
+        Next::Octets(b"\x04\x3E\x13\x01\x00\x40\x00\x01"),
+        None,
+    ),
+    (None, Next::Call(App::Tick(5)), Some(Ok(()))),
+    (
+        None,
+        Next::Octets(b"\x01\x0A\x00\x00\x00\x00\xC0\x18\x00\x00\x00\x48\x00\x00"),
+        None,
+    ),
+    (
+        None,
+        Next::Octets(b"\x02\x40\x20\x09\x00\x05\x00\x04\x00\x12\x04\x00\x02\x00"),
+        None,
+    ),
+    (None, Next::Call(App::Update(3, &[0x01])), Some(Ok(()))),
+    (
+        Some(30_005),
+        Next::Call(App::Tick(4)),
+        Some(Err(AppFault::TimeWentBack)),
+    ),
+    (
+        Some(30_005),
+        Next::Call(App::Update(10, &[0x01])),
+        Some(Err(AppFault::NoSuchHandle)),
+    ),
+    (
+        Some(30_005),
+        Next::Octets(b"\x02\x40\x20\x05\x00\x01\x00\x04\x00\x1E"),
+        None,
+    ),
+    (None, Next::Call(App::Disconnect(0x40)), Some(Ok(()))),
+    (None, Next::Ended, None),
+];
+
+const TOLD: &[Notice<'static>] = &[
+    Notice::Connected {
+        handle: 0x40,
+        peer: Peer {
+            kind: 1,
+            address: [0x0A, 0x00, 0x00, 0x00, 0x00, 0xC0],
+        },
+    },
+    Notice::Configured {
+        handle: 0x40,
+        attribute: 4,
+        bits: 2,
+    },
+    Notice::Confirmed {
+        handle: 0x40,
+        attribute: 3,
+    },
+    Notice::Ending {
+        handle: 0x40,
+        reason: 0x13,
+    },
+];
+
+/// A response, an indication, and a command.
+const WRITTEN: &str = "024000050001000400130240000800040004001d03000101060403400013";
+
+/// An octet that begins no packet.
+const DESYNC: &[Turn] = &[
+    (None, Next::Octets(b"\x07"), None),
+    (None, Next::Ended, None),
+];
+
+/// So many turns at most, what happens, why it is over, how many turns were asked for, what is
+/// written, and what is told.
+type Case = (
+    u64,
+    &'static [Turn],
+    Result<End, HostFault>,
+    usize,
+    &'static str,
+    &'static [Notice<'static>],
+);
+
+const CASES: &[Case] = &[
+    (100, DAY, Ok(End::Ended), 10, WRITTEN, TOLD),
+    (2, DAY, Ok(End::Turns), 2, "", &[]),
+    (0, DAY, Ok(End::Turns), 0, "", &[]),
+    (100, &[], Ok(End::Failed), 0, "", &[]),
+    (100, DESYNC, Err(HostFault::Desync(0x07)), 1, "", &[]),
+];
+
+/// Serves a new host by what is listed, and says whether all is as it is to be but what is written.
+fn serves<W: Sink>(rt: &impl Abort, alloc: Global, case: Case, out: &mut W) -> bool {
+    let (turns, listed, end, asked, _, told) = case;
+    let mut host = ready(rt, alloc, SETTING);
+    let mut happenings = Listed {
+        turns: listed,
+        asked: 0,
+        awaited: None,
+        differs: false,
+    };
+    let mut listener = Expects::new(told);
+    let over = serve_happenings(&mut host, &mut happenings, out, &mut listener, turns);
+    drop(host);
+    over == end
+        && happenings.asked == asked
+        && happenings.awaited.is_none()
+        && !happenings.differs
+        && listener.is_met()
+}
+
+#[test]
+fn as_listed(rt: HostRuntime) {
+    for (place, &case) in CASES.iter().enumerate() {
+        let mut written = ArraySink::<64>::new();
+        assert!(rt; serves(&rt, rt.alloc(), case, &mut written), "{place}");
+        let wanted = spelled(&rt, case.4, 0);
+        assert!(rt; written.octets() == wanted.as_slice(), "written {place}");
+    }
+}
+
+/// The writer has room for the response, and not for the indication: the call that brings it is
+/// answered all the same.
+#[test]
+fn where_the_writer_fails(rt: HostRuntime) {
+    let told = TOLD.get(..2).unwrap_or(&[]);
+    let case = (100, DAY, Err(HostFault::Write), 5, "", told);
+    let mut written = ArraySink::<14>::new();
+    assert!(rt; serves(&rt, rt.alloc(), case, &mut written));
+    let wanted = spelled(&rt, "0240000500010004001302400008", 0);
+    assert!(rt; written.octets() == wanted.as_slice());
+}
