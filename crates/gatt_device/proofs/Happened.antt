@@ -13,11 +13,11 @@ use Rattle.gatt_host.specs.Feeding.{Feeds, TakesAll}
 use Rattle.gatt_host.specs.Listening.{HearsOf, Listens}
 use Rattle.gatt_host.specs.Whole.{StandsAt, Whole, all_out}
 use Rattle.gatt_laws.proofs.Courses.{items_append}
-use Rattle.gatt_laws.specs.Calls.{Call}
-use Rattle.gatt_laws.specs.Deadline.{deadline}
-use Rattle.gatt_laws.specs.Input.{Course, Item, after_items, at_start, course}
-use Rattle.gatt_laws.specs.Notice.{Notice}
-use Rattle.gatt_laws.specs.Start.{Start}
+use Rattle.gatt_laws.specs.machine.Calls.{Call}
+use Rattle.gatt_laws.specs.laws.Deadline.{deadline}
+use Rattle.gatt_laws.specs.machine.Input.{Course, Item, after_items, at_start, course}
+use Rattle.gatt_laws.specs.machine.Notice.{Notice}
+use Rattle.gatt_laws.specs.machine.Start.{Start}
 use Rattle.octets.specs.Number.{Octets}
 use Rattle.octets.specs.Stream.{CountsNone}
 use Rattle.gatt_device.specs.declared.serving.End.{End}

@@ -2,12 +2,12 @@
 use Rattle.std.proofs.Common.{◌≡◌, ℕ, ◌<◌, ◌≤◌, Bool, true, false, List, Option, Some, None, Result, Ok, Err, refl, sym, subst, arith, lt-ltb}
 use Rattle.std.specs.Prelude.{nat_lt, if◌then◌else◌}
 use Rattle.gatt_laws.proofs.Always.{always, any_tables}
-use Rattle.gatt_laws.specs.Calls.{Refused, TickCall, TimeWentBack, call_event}
-use Rattle.gatt_laws.specs.Event.{Event, Of, Completed, Credit, Update, Tick, Replaced, Nothing}
-use Rattle.gatt_laws.specs.Input.{Course, Item, after_item, after_items, after_result, call_refusal, refusal_in, unless_stopped}
-use Rattle.gatt_laws.specs.Packets.{Fault}
-use Rattle.gatt_laws.specs.Possible.{Possible}
-use Rattle.gatt_laws.specs.State.{State, change_of, step}
+use Rattle.gatt_laws.specs.machine.Calls.{Refused, TickCall, TimeWentBack, call_event}
+use Rattle.gatt_laws.specs.machine.Event.{Event, Of, Completed, Credit, Update, Tick, Replaced, Nothing}
+use Rattle.gatt_laws.specs.machine.Input.{Course, Item, after_item, after_items, after_result, call_refusal, refusal_in, unless_stopped}
+use Rattle.gatt_laws.specs.machine.Packets.{Fault}
+use Rattle.gatt_laws.specs.laws.Possible.{Possible}
+use Rattle.gatt_laws.specs.machine.State.{State, change_of, step}
 use Rattle.gatt_device.specs.Time.{KeepsTheTime, time_at}
 
 abbrev IsFrom : ℕ → State → Type 0

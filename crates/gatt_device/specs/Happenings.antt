@@ -3,8 +3,8 @@ use Rattle.std.specs.Prelude.{◌≡◌, ℕ, List, [], ◌∷◌, ◌++◌, Opt
 use Rattle.std.specs.List.{flat_map}
 use Rattle.gatt_host.specs.Asked.{call_of}
 use Rattle.gatt_host.specs.Feeding.{octet_items}
-use Rattle.gatt_laws.specs.Calls.{Call, Refused}
-use Rattle.gatt_laws.specs.Input.{Item, ACall}
+use Rattle.gatt_laws.specs.machine.Calls.{Call, Refused}
+use Rattle.gatt_laws.specs.machine.Input.{Item, ACall}
 use Rattle.octets.specs.Number.{Octets}
 use Rattle.gatt_device.specs.declared.happenings.Next.{Next}
 use Rattle.gatt_device.specs.declared.happenings.Next.TheVariants as next

@@ -5,11 +5,11 @@ use Rattle.gatt_host.specs.declared.host_fault.HostFault.{HostFault}
 use Rattle.gatt_host.specs.Feeding.{Feeds, TakesAll}
 use Rattle.gatt_host.specs.Listening.{Listens}
 use Rattle.gatt_host.specs.Whole.{StandsAt, Whole}
-use Rattle.gatt_laws.specs.Calls.{Call}
-use Rattle.gatt_laws.specs.Deadline.{deadline}
-use Rattle.gatt_laws.specs.Input.{Course, Item, after_items, call_refusal, course}
-use Rattle.gatt_laws.specs.Notice.{Notice}
-use Rattle.gatt_laws.specs.Start.{Start}
+use Rattle.gatt_laws.specs.machine.Calls.{Call}
+use Rattle.gatt_laws.specs.laws.Deadline.{deadline}
+use Rattle.gatt_laws.specs.machine.Input.{Course, Item, after_items, call_refusal, course}
+use Rattle.gatt_laws.specs.machine.Notice.{Notice}
+use Rattle.gatt_laws.specs.machine.Start.{Start}
 use Rattle.octets.specs.Number.{Octets}
 use Rattle.gatt_device.specs.declared.serving.End.{End}
 use Rattle.gatt_device.specs.declared.serving.End.TheVariants as end

@@ -1,7 +1,7 @@
 -- What is so of the time, whatever a host takes in: this profile's own.
 use Rattle.std.specs.Prelude.{◌≡◌, ℕ, ◌<◌, ◌≤◌, List, Some, None}
-use Rattle.gatt_laws.specs.Calls.{Call, Refused, TickCall, TimeWentBack}
-use Rattle.gatt_laws.specs.Input.{Course, Item, ACall, after_item, after_items, call_refusal}
+use Rattle.gatt_laws.specs.machine.Calls.{Call, Refused, TickCall, TimeWentBack}
+use Rattle.gatt_laws.specs.machine.Input.{Course, Item, ACall, after_item, after_items, call_refusal}
 
 -- in milliseconds
 abbrev pub time_at : Course → ℕ

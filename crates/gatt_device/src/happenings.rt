@@ -4,7 +4,7 @@
 ghost use Rattle.std.specs.Prelude.{◌≡◌, ◌∷◌, [], List, Option};
 ghost use Rattle.std.specs.Io.KnownBytes.{Consumes};
 ghost use Rattle.gatt_host.specs.Asked.{refusal_of};
-ghost use Rattle.gatt_laws.specs.Calls.{Call};
+ghost use Rattle.gatt_laws.specs.machine.Calls.{Call};
 ghost use Rattle.octets.specs.Number.{Octets};
 ghost use Rattle.gatt_device.specs.Happenings.{next_calls, next_entry, next_octets, Answered, Entry, Hands, Records, Waited};
 

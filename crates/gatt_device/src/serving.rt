@@ -7,7 +7,7 @@ ghost use Rattle.gatt_host.specs.Listening.{Hears, Listens};
 ghost use Rattle.gatt_host.specs.Promises.{KeepsConnectionsApart, KeepsThePolicy};
 ghost use Rattle.gatt_host.specs.Telling.{notices_told};
 ghost use Rattle.gatt_host.specs.Whole.{all_out, outcome_of};
-ghost use Rattle.gatt_laws.specs.Input.{ACall};
+ghost use Rattle.gatt_laws.specs.machine.Input.{ACall};
 ghost use Rattle.octets.specs.Stream.{CountsIf};
 ghost use Rattle.gatt_device.specs.Serving.{known, RecordsTheAnswer, Serves};
 ghost use Rattle.gatt_device.specs.Time.{KeepsTheTime};

@@ -12,8 +12,8 @@ use Rattle.gatt_host.proofs.whole.Hearing.{going_hears}
 use Rattle.gatt_host.specs.Asked.{call_of}
 use Rattle.gatt_host.specs.Feeding.{octet_items}
 use Rattle.gatt_host.specs.Whole.{Whole}
-use Rattle.gatt_laws.specs.Input.{ACall}
-use Rattle.gatt_laws.specs.Notice.{Notice}
+use Rattle.gatt_laws.specs.machine.Input.{ACall}
+use Rattle.gatt_laws.specs.machine.Notice.{Notice}
 use Rattle.octets.proofs.Writing.{counts_none}
 use Rattle.octets.specs.Number.{Octets}
 

@@ -5,8 +5,8 @@ use Rattle.gatt_host.proofs.whole.Driving.{call_feeds}
 use Rattle.gatt_host.proofs.whole.Hearing.{call_heard, listens_then}
 use Rattle.gatt_host.proofs.whole.HearingTurns.{nothing_heard}
 use Rattle.gatt_host.specs.Asked.{call_of}
-use Rattle.gatt_laws.specs.Calls.{Refused}
-use Rattle.gatt_laws.specs.Input.{ACall}
+use Rattle.gatt_laws.specs.machine.Calls.{Refused}
+use Rattle.gatt_laws.specs.machine.Input.{ACall}
 
 pub returns-clause-feeds : goal.returns-clause-feeds
 returns-clause-feeds g c =
