@@ -140,7 +140,8 @@ uint32_t gh_take(struct gh_host *host, const uint8_t *octets, size_t length, siz
 /*
  * Puts the next packet that is to go to the controller at the front of out, which has room for at least
  * GH_LONGEST_PACKET octets, puts its length into *count, and takes in that it has gone. GH_NOTHING
- * where nothing is owed, or the host has stopped.
+ * where nothing is owed, or the host has stopped, and *count is 0 then. Where a packet is owed and there
+ * is less room, GH_SHORT_BUFFER: nothing is changed, and *count is GH_LONGEST_PACKET.
  */
 uint32_t gh_next_out(struct gh_host *host, uint8_t *out, size_t room, size_t *count);
 

@@ -1,3 +1,5 @@
 -- Lemmas of this crate.
 pub mod Carried
 pub mod Pointers
+pub mod Refusals
+pub mod Texts

@@ -1,5 +1,5 @@
 -- What a function does to the host behind a pointer.
-use Rattle.std.specs.Prelude.{◌≡◌, ℕ, ◌+◌, List, drop, Option, Some, None, IfSome, IsSome}
+use Rattle.std.specs.Prelude.{◌≡◌, ℕ, ◌+◌, List, drop, Option, Some, None, IsSome}
 use Rattle.att_table.specs.Table.{Contents}
 use Rattle.gatt_host.specs.declared.host_fault.HostFault.{HostFault}
 use Rattle.gatt_host.specs.Numbers.{number_of_fault}
@@ -63,9 +63,6 @@ HostFallsSilent = OfTheHost FallsSilent
 -- the status of a host that has stopped
 abbrev pub fault_status : HostFault → ℕ
 fault_status fault = STOPPED + number_of_fault fault
-
-abbrev pub StoppedBy : ℕ → Opened → Type 0
-StoppedBy status opened = IfSome opened.host.fault (λ fault. status ≡ fault_status fault)
 
 -- the status of a call: by why it is refused, if it is
 abbrev pub refusal_number : Refused → ℕ

@@ -1,6 +1,8 @@
 -- What the contracts of this crate cite.
 pub mod Boundary
+pub mod Files
 pub mod Opening
 pub mod Owned
 pub mod Seeing
+pub mod Statuses
 pub mod Telling

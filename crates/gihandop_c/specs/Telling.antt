@@ -1,5 +1,5 @@
 -- What the program is told, as C reads it: this library's own.
-use Rattle.std.specs.Prelude.{◌≡◌, ℕ, ◌+◌, ◌-◌, ◌^◌, ◌<◌, false, replicate, slice_get, Option, Some, None}
+use Rattle.std.specs.Prelude.{◌≡◌, ℕ, ◌+◌, ◌-◌, ◌^◌, nat_lt, if◌then◌else◌, false, replicate, slice_get, Option, Some, None}
 use Rattle.std.specs.Option.{option_map}
 use Rattle.gatt_host.specs.Telling.{notices_told}
 use Rattle.gatt_laws.specs.machine.Notice.{Notice, Connected, Disconnected, Secured, Unsecured, Written, Configured, Confirmed, TimedOut, Ending}
@@ -38,16 +38,13 @@ fields_of (Confirmed handle attribute) = fields_of_attribute 7 handle attribute 
 fields_of (TimedOut handle) = fields_of_connection 8 handle
 fields_of (Ending handle reason) = record (fields_of_connection 9 handle) { reason = reason }
 
--- the first notice that has not been handed out
+-- the first notice that has not been handed out, of as many as can be counted
 abbrev pub next_notice : Opened → Option NoticeFields
-next_notice opened = option_map fields_of (slice_get (notices_told opened.host) opened.told)
+next_notice opened =
+    if nat_lt opened.told (2 ^ 64 - 1) then option_map fields_of (slice_get (notices_told opened.host) opened.told) else None
 
 -- it is handed out, and counted
 pub record HandsOut (fields : NoticeFields) (old new : Opened) : Type 0 where
   pub gives : next_notice old ≡ Some fields
   pub counts : new.told ≡ old.told + 1
   pub host : new.host ≡ old.host
-
--- there is none, unless as many have been handed out as can be counted
-abbrev pub HasHandedOutAll : Opened → Type 0
-HasHandedOutAll opened = opened.told < 2 ^ 64 - 1 → next_notice opened ≡ None

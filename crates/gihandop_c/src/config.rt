@@ -1,6 +1,6 @@
 //! What a host is opened with, as a program in C gives it.
 
-ghost use Rattle.std.specs.Prelude.{◌≡◌, ◌<◌, IfSome, IsNone};
+ghost use Rattle.std.specs.Prelude.{◌≡◌, nat_lt, false, true, IfSome, IsNone, IsSome};
 ghost use Rattle.gihandop_c.specs.Opening.{config_given};
 
 use arrayvec::ArrayVec;
@@ -27,7 +27,8 @@ pub struct HostConfig {
 /// The same as a host takes it; none where the advertising data is too long.
 pub(crate) fn to_config(config: &HostConfig) -> Option<Config>
     ensures config { IfSome result (λ given. given ≡ config_given config.now) }
-    ensures too_long { IsNone result → 31 < config.now.advertising_length }
+    ensures fits { IsSome result → nat_lt 31 config.now.advertising_length ≡ false }
+    ensures too_long { IsNone result → nat_lt 31 config.now.advertising_length ≡ true }
 {
     let octets = config
         .advertising

@@ -1,9 +1,10 @@
 //! Who is connected, as C reads it.
 
-ghost use Rattle.std.specs.Prelude.{◌≡◌, ◌≢◌, slice_get, Some, None};
+ghost use Rattle.std.specs.Prelude.{◌≡◌, ◌≢◌, slice_get, Some};
 ghost use Rattle.std.specs.Option.{option_map};
 ghost use Rattle.gatt_slots.specs.Connections.{connections_in};
 ghost use Rattle.gihandop_c.specs.Seeing.{connection_at, connection_fields, with_the_key, without_a_key};
+ghost use Rattle.gihandop_c.specs.Statuses.{connection_status};
 ghost use Rattle.gihandop_c.specs.declared.status.TheConstants.{DONE};
 
 use crate::opened::Opened;
@@ -35,8 +36,9 @@ pub struct ConnectionFields {
 
 /// Puts the connection at a place into `connection`, if there are so many.
 pub(crate) fn connection(opened: &Opened, place: usize, connection: &mut ConnectionFields) -> u32
+    ensures status { result ≡ connection_status place opened.now }
     ensures there { result ≡ DONE → connection_at opened.now place ≡ Some connection.new }
-    ensures nothing { result ≢ DONE → connection_at opened.now place ≡ None }
+    ensures untouched { result ≢ DONE → connection.new ≡ connection.old }
 {
     match at(&opened.host, place) {
         Some(there) => {

@@ -5,8 +5,9 @@ ghost use Rattle.std.specs.Option.{option_map};
 ghost use Rattle.gatt_host.specs.Notices.{notice_of};
 ghost use Rattle.gatt_host.specs.Telling.{notices_told};
 ghost use Rattle.gatt_laws.specs.machine.Notice.{Connected, Ending, Secured};
-ghost use Rattle.gihandop_c.specs.Telling.{fields_of, fields_of_attribute, fields_of_connection, HandsOut, HasHandedOutAll};
-ghost use Rattle.gihandop_c.specs.declared.status.TheConstants.{DONE, NOTHING};
+ghost use Rattle.gihandop_c.specs.Telling.{fields_of, fields_of_attribute, fields_of_connection, HandsOut};
+ghost use Rattle.gihandop_c.specs.Statuses.{notice_status};
+ghost use Rattle.gihandop_c.specs.declared.status.TheConstants.{DONE};
 
 use crate::opened::Opened;
 use crate::status;
@@ -39,9 +40,10 @@ pub struct NoticeFields {
 
 /// Puts the next notice into `notice`, if there is one.
 pub(crate) fn next(opened: &mut Opened, notice: &mut NoticeFields) -> u32
+    ensures status { result ≡ notice_status opened.old }
     ensures gives { result ≡ DONE → HandsOut notice.new opened.old opened.new }
-    ensures nothing { result ≡ NOTHING → HasHandedOutAll opened.old }
     ensures unchanged { result ≢ DONE → opened.new ≡ opened.old }
+    ensures untouched { result ≢ DONE → notice.new ≡ notice.old }
 {
     let Some(behind) = opened.told.checked_add(1) else {
         return status::NOTHING;

@@ -1,12 +1,12 @@
 //! What the program reads of its host.
 
-ghost use Rattle.std.specs.Prelude.{◌≡◌, ◌≢◌, ◌<◌, length, take, Some, None};
-ghost use Rattle.att_attributes.specs.Attributes.{attribute_at};
+ghost use Rattle.std.specs.Prelude.{◌≡◌, ◌≢◌, ◌≤◌, length, take, Some};
 ghost use Rattle.att_table.specs.Table.{value_at};
 ghost use Rattle.gatt_slots.specs.Slots.{slots_deadline};
 ghost use Rattle.gatt_subs.specs.RowsText.{text_of};
 ghost use Rattle.gihandop_c.specs.Seeing.{found_by, uuid_of};
-ghost use Rattle.gihandop_c.specs.declared.status.TheConstants.{DONE, NOTHING, SHORT_BUFFER};
+ghost use Rattle.gihandop_c.specs.Statuses.{deadline_status, find_status, rows_text_status, value_status};
+ghost use Rattle.gihandop_c.specs.declared.status.TheConstants.{DONE, OUT_OF_MEMORY, SHORT_BUFFER};
 
 use crate::opened::Opened;
 use crate::rows_text::RowsText;
@@ -16,11 +16,13 @@ use std::alloc::Global;
 
 /// Puts the value at a handle at the front of `out`, where it fits, and its length into `count`.
 pub(crate) fn value(opened: &Opened, handle: u16, out: &mut [u8], count: &mut usize) -> u32
+    ensures status { result ≡ value_status handle (length out.old) opened.now }
     ensures value { result ≡ DONE
         → take count.new out.new ≡ value_at opened.now.host.held.table.values handle }
-    ensures nothing { result ≡ NOTHING
-        → attribute_at opened.now.host.held.table.attributes handle ≡ None }
-    ensures short { result ≡ SHORT_BUFFER → length out.old < count.new }
+    ensures within { result ≡ DONE → count.new ≤ length out.old }
+    ensures needs { result ≡ SHORT_BUFFER
+        → count.new ≡ length (value_at opened.now.host.held.table.values handle) }
+    ensures untouched { result ≢ DONE → out.new ≡ out.old }
 {
     *count = 0;
     let table = opened.host.table();
@@ -32,8 +34,8 @@ pub(crate) fn value(opened: &Opened, handle: u16, out: &mut [u8], count: &mut us
 
 /// Puts the time until which none has to be told into `time`.
 pub(crate) fn deadline(opened: &Opened, time: &mut u64) -> u32
+    ensures status { result ≡ deadline_status opened.now }
     ensures deadline { result ≡ DONE → slots_deadline opened.now.host.held.slots ≡ Some time.new }
-    ensures nothing { result ≢ DONE → slots_deadline opened.now.host.held.slots ≡ None }
 {
     match opened.host.deadline() {
         Some(deadline) => {
@@ -50,9 +52,14 @@ pub(crate) fn deadline(opened: &Opened, time: &mut u64) -> u32
 /// Puts what peers have configured, as a rows file, at the front of `out`, where it fits, and its
 /// length into `count`.
 pub(crate) fn rows_text(alloc: Global, opened: &Opened, out: &mut [u8], count: &mut usize) -> u32
+    ensures status { result ≢ OUT_OF_MEMORY
+        → result ≡ rows_text_status (length out.old) opened.now }
     ensures rows { result ≡ DONE
         → take count.new out.new ≡ text_of opened.now.host.held.rows }
-    ensures short { result ≡ SHORT_BUFFER → length out.old < count.new }
+    ensures within { result ≡ DONE → count.new ≤ length out.old }
+    ensures needs { result ≡ SHORT_BUFFER
+        → count.new ≡ length (text_of opened.now.host.held.rows) }
+    ensures untouched { result ≢ DONE → out.new ≡ out.old }
 {
     *count = 0;
     let mut text = RowsText {
@@ -67,10 +74,9 @@ pub(crate) fn rows_text(alloc: Global, opened: &Opened, out: &mut [u8], count: &
 /// Puts the handle of the value of the first characteristic of a type in the first service of a
 /// type into `handle`.
 pub(crate) fn find(opened: &Opened, service: &[u8], characteristic: &[u8], handle: &mut u16) -> u32
+    ensures status { result ≡ find_status service.now characteristic.now opened.now }
     ensures found { result ≡ DONE
         → found_by opened.now.host.held.table service.now characteristic.now ≡ Some handle.new }
-    ensures nothing { result ≢ DONE
-        → found_by opened.now.host.held.table service.now characteristic.now ≡ None }
 {
     *handle = 0;
     let Some(service) = uuid(service) else {

@@ -1,9 +1,10 @@
 //! The stream from the controller, and the packets that go back.
 
-ghost use Rattle.std.specs.Prelude.{◌≡◌, ◌≢◌, ◌<◌, ◌≤◌, ◌∷◌, [], length, take, false, true, None};
-ghost use Rattle.gatt_host.specs.Feeding.{octet_items};
+ghost use Rattle.std.specs.Prelude.{◌≡◌, ◌≢◌, ◌<◌, ◌≤◌, ◌∷◌, [], length, take, if◌then◌else◌};
+ghost use Rattle.gatt_host.specs.Feeding.{octet_items, TakesUpToAPacket};
 ghost use Rattle.gatt_host.specs.Whole.{all_out};
-ghost use Rattle.gihandop_c.specs.Boundary.{LeadsOn, StaysIfStopped, StoppedBy, TellsItems};
+ghost use Rattle.gihandop_c.specs.Boundary.{LeadsOn, StaysIfStopped, TellsItems};
+ghost use Rattle.gihandop_c.specs.Statuses.{out_status, room_status, take_status};
 ghost use Rattle.gihandop_c.specs.declared.status.TheConstants.{DONE, NOTHING, OUTPUT_OWED, SHORT_BUFFER};
 
 use crate::opened::Opened;
@@ -21,11 +22,11 @@ pub(crate) fn take(opened: &mut Opened, octets: &[u8], used: &mut usize) -> u32
     ensures tells { result ≢ OUTPUT_OWED
         → TellsItems (octet_items (take used.new octets.now)) opened.old opened.new }
     ensures within { used.new ≤ length octets.now }
+    ensures up_to { result ≡ DONE → TakesUpToAPacket octets.now used.new opened.old.host }
     ensures some { result ≡ DONE → 0 < length octets.now → 0 < used.new }
-    ensures going { result ≡ DONE → opened.new.host.fault ≡ None }
-    ensures status { StoppedBy result opened.new }
-    ensures goes_on { opened.new.host.fault ≡ None → result ≢ OUTPUT_OWED → result ≡ DONE }
-    ensures owes { result ≡ OUTPUT_OWED → all_out opened.old.host ≡ false }
+    ensures all { result ≢ DONE → result ≢ OUTPUT_OWED → used.new ≡ length octets.now }
+    ensures none { result ≡ OUTPUT_OWED → used.new ≡ 0 }
+    ensures status { result ≡ take_status opened.old opened.new }
     ensures owed { result ≡ OUTPUT_OWED → opened.new ≡ opened.old }
     ensures stopped { StaysIfStopped opened.old opened.new }
 {
@@ -48,14 +49,16 @@ pub(crate) fn take(opened: &mut Opened, octets: &[u8], used: &mut usize) -> u32
 
 /// Puts the next packet that is to go out at the front of `out`, and its length into `count`.
 pub(crate) fn next_out(opened: &mut Opened, out: &mut [u8], count: &mut usize) -> u32
+    ensures status { result ≡ out_status (length out.old) opened.old }
     ensures goes { result ≡ DONE → LeadsOn [] (take count.new out.new ∷ []) opened.old opened.new }
-    ensures nothing { result ≡ NOTHING → all_out opened.old.host ≡ true }
-    ensures short { result ≡ SHORT_BUFFER → length out.old < 260 }
+    ensures within { result ≡ DONE → count.new ≤ length out.old }
+    ensures needs { result ≡ SHORT_BUFFER → count.new ≡ 260 }
     ensures unchanged { result ≢ DONE → opened.new ≡ opened.old }
+    ensures untouched { result ≢ DONE → out.new ≡ out.old }
 {
     *count = 0;
     if out.len() < LONGEST_PACKET {
-        return status::SHORT_BUFFER;
+        return too_short(opened, count);
     }
     let mut packet = ArrayVec::new();
     if !opened.host.next_out(&mut packet) {
@@ -64,12 +67,26 @@ pub(crate) fn next_out(opened: &mut Opened, out: &mut [u8], count: &mut usize) -
     copy(packet.as_slice(), out, count)
 }
 
+/// Says how long a buffer has to be, where a packet is owed.
+#[cold]
+fn too_short(opened: &Opened, count: &mut usize) -> u32
+    ensures status { result ≡ (if all_out opened.now.host then NOTHING else SHORT_BUFFER) }
+    ensures needs { result ≡ SHORT_BUFFER → count.new ≡ 260 }
+{
+    if opened.host.drained() {
+        return status::NOTHING;
+    }
+    *count = LONGEST_PACKET;
+    status::SHORT_BUFFER
+}
+
 /// Copies octets to the front of `out`, where they fit, and says how many there are in any case.
 pub(crate) fn copy(octets: &[u8], out: &mut [u8], count: &mut usize) -> u32
     ensures done { result ≡ DONE → take count.new out.new ≡ octets.now }
-    ensures fits { length octets.now ≤ length out.old → result ≡ DONE }
-    ensures short { length out.old < length octets.now → result ≡ SHORT_BUFFER }
+    ensures status { result ≡ room_status (length octets.now) (length out.old) }
+    ensures within { result ≡ DONE → length octets.now ≤ length out.old }
     ensures count { count.new ≡ length octets.now }
+    ensures untouched { result ≢ DONE → out.new ≡ out.old }
 {
     *count = octets.len();
     if out.len() < octets.len() {

@@ -1,6 +1,7 @@
 //! Each status in words.
 
-ghost use Rattle.std.specs.Prelude.{◌≡◌, ◌<◌, ◌-◌, length, is_some, nat_lt, IsSome};
+ghost use Rattle.std.specs.Prelude.{◌≡◌, is_some};
+ghost use Rattle.gihandop_c.specs.Statuses.{is_status};
 
 /// What the library itself answers, from 0.
 const LIBRARY: &[&str] = &[
@@ -71,24 +72,16 @@ const ROWS: &[&str] = &[
 ];
 
 /// What a status says, in ASCII; none of a number that no function answers.
-pub(crate) fn text(status: u32) -> Option<&'static str> {
-    match status {
-        0..=7 => nth(LIBRARY, status),
-        21..=24 => nth(HOST, status - 21),
-        41..=47 => nth(CALLS, status - 41),
-        101..=111 => nth(TABLE, status - 101),
-        201..=210 => nth(KEYS, status - 201),
-        301..=304 => nth(ROWS, status - 301),
-        _ => None,
-    }
-}
-
-/// The text at a place, counted from 0.
-fn nth(texts: &'static [&'static str], place: u32) -> Option<&'static str>
-    ensures { is_some result ≡ nat_lt place (length texts.now) }
+pub(crate) fn text(status: u32) -> Option<&'static str>
+    ensures { is_some result ≡ is_status status }
 {
-    match texts.get(place as usize) {
-        Some(text) => Some(*text),
-        None => None,
+    match status {
+        0..=7 => Some(LIBRARY[status as usize]),
+        21..=24 => Some(HOST[status as usize - 21]),
+        41..=47 => Some(CALLS[status as usize - 41]),
+        101..=111 => Some(TABLE[status as usize - 101]),
+        201..=210 => Some(KEYS[status as usize - 201]),
+        301..=304 => Some(ROWS[status as usize - 301]),
+        _ => None,
     }
 }

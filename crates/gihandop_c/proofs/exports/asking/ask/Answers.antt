@@ -3,7 +3,7 @@ use Rattle.gatt_host.specs.Asked.{call_of}
 use Rattle.gatt_laws.specs.machine.Input.{ACall}
 use Rattle.gihandop_c.specs.Boundary.{AnswersCall, LeadsOn, TellsItem}
 use Rattle.gihandop_c.proofs.Carried.{carried, carried_before}
-use Rattle.gihandop_c.proofs.exports.ask.Goals as goal
+use Rattle.gihandop_c.proofs.exports.asking.ask.Goals as goal
 
 pub returns-clause-takes : goal.returns-clause-takes
 returns-clause-takes c = λ asked.

@@ -1,7 +1,7 @@
 use Rattle.std.proofs.Common.{[], ◌∷◌, take}
 use Rattle.gihandop_c.specs.Boundary.{LeadsOn}
 use Rattle.gihandop_c.proofs.Carried.{carried}
-use Rattle.gihandop_c.proofs.exports.gh_next_out.Goals as goal
+use Rattle.gihandop_c.proofs.exports.stream.gh_next_out.Goals as goal
 
 pub returns-clause-goes : goal.returns-clause-goes
 returns-clause-goes c = λ done.

@@ -1,0 +1,80 @@
+-- What each function answers, where memory suffices: this library's own.
+use Rattle.std.specs.Prelude.{◌≡◌, ◌↔◌, ℕ, nat_le, nat_lt, Bool, false, ◌&&◌, ◌||◌, is_none, length, if◌then◌else◌, Option, Some, None}
+use Rattle.att_attributes.specs.Attributes.{attribute_at}
+use Rattle.att_table.specs.Table.{value_at}
+use Rattle.gatt_host.specs.declared.host_fault.HostFault.{HostFault}
+use Rattle.gatt_host.specs.Whole.{all_out}
+use Rattle.gatt_slots.specs.Slots.{slots_deadline}
+use Rattle.gatt_subs.specs.RowsText.{text_of}
+use Rattle.gihandop_c.specs.declared.opened.Opened.{Opened}
+use Rattle.gihandop_c.specs.declared.status.TheConstants.{CLOSED, DONE, NOTHING, OUTPUT_OWED, SHORT_BUFFER}
+use Rattle.gihandop_c.specs.Boundary.{fault_status}
+use Rattle.gihandop_c.specs.Seeing.{connection_at, found_by}
+use Rattle.gihandop_c.specs.Telling.{next_notice}
+use Rattle.octets.specs.Number.{Octets}
+
+-- of a handle that is closed, that it is; and else by its host
+abbrev pub if_open : (Opened → ℕ) → Option Opened → ℕ
+if_open status None = CLOSED
+if_open status (Some opened) = status opened
+
+-- whether so many octets fit a buffer
+abbrev pub room_status : ℕ → ℕ → ℕ
+room_status length room = if nat_lt room length then SHORT_BUFFER else DONE
+
+-- whether there is what is asked for
+abbrev pub there_status : {A : Type 0} → Option A → ℕ
+there_status None = NOTHING
+there_status (Some it) = DONE
+
+-- of octets: nothing is taken in as long as a packet is owed, and else it is done, or the host has stopped
+abbrev pub outcome_status : Option HostFault → ℕ
+outcome_status None = DONE
+outcome_status (Some fault) = fault_status fault
+
+abbrev pub take_status : Opened → Opened → ℕ
+take_status old new = if all_out old.host then outcome_status new.host.fault else OUTPUT_OWED
+
+-- a call waits as long as a packet is owed, and no longer
+abbrev pub WaitsForOutput : ℕ → Opened → Type 0
+WaitsForOutput status opened = (status ≡ OUTPUT_OWED) ↔ (all_out opened.host ≡ false)
+
+-- of the next packet: whether one is owed comes before whether the longest would fit
+abbrev pub out_status : ℕ → Opened → ℕ
+out_status room opened = if all_out opened.host then NOTHING else room_status 260 room
+
+-- of the next notice
+abbrev pub notice_status : Opened → ℕ
+notice_status opened = there_status (next_notice opened)
+
+-- of the value at a handle: whether there is an attribute comes first
+abbrev pub value_status : ℕ → ℕ → Opened → ℕ
+value_status handle room opened =
+    if is_none (attribute_at opened.host.held.table.attributes handle) then NOTHING
+    else room_status (length (value_at opened.host.held.table.values handle)) room
+
+-- of what is looked up
+abbrev pub find_status : Octets → Octets → Opened → ℕ
+find_status service characteristic opened = there_status (found_by opened.host.held.table service characteristic)
+
+abbrev pub connection_status : ℕ → Opened → ℕ
+connection_status place opened = there_status (connection_at opened place)
+
+abbrev pub deadline_status : Opened → ℕ
+deadline_status opened = there_status (slots_deadline opened.host.held.slots)
+
+abbrev pub rows_text_status : ℕ → Opened → ℕ
+rows_text_status room opened = room_status (length (text_of opened.host.held.rows)) room
+
+-- a function answers it
+abbrev pub is_within : ℕ → ℕ → ℕ → Bool
+is_within first last status = nat_le first status && nat_le status last
+
+abbrev pub is_status : ℕ → Bool
+is_status status =
+    is_within 0 7 status || is_within 21 24 status || is_within 41 47 status
+    || is_within 101 111 status || is_within 201 210 status || is_within 301 304 status
+
+-- of a text
+abbrev pub text_status : ℕ → ℕ → ℕ → ℕ
+text_status status length room = if is_status status then room_status length room else NOTHING

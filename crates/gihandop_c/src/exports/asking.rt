@@ -1,0 +1,163 @@
+//! What the program has its host do, beside what the controller brings.
+
+ghost use Rattle.std.specs.Prelude.{◌≡◌, ◌≢◌, ◌+◌, ◌<◌, ◌∷◌, [], IfSome, IsSome, None, Ok, Err};
+ghost use Rattle.att_table.specs.declared.table_fault.TableFault.{TableFault};
+ghost use Rattle.att_table.specs.Table.{Contents};
+ghost use Rattle.att_table.specs.TableFault.{number_of as number_of_table_fault};
+ghost use Rattle.gatt_host.specs.Asked.{call_of};
+ghost use Rattle.gatt_laws.specs.machine.Calls.{AuthorizeCall, DisconnectCall, TickCall, UpdateCall};
+ghost use Rattle.gatt_laws.specs.machine.Input.{ACall, ATable};
+ghost use Rattle.gihandop_c.specs.Boundary.{AnswersCall, AnswersTable, HostFallsSilent, HostLeads, HostTellsItem};
+ghost use Rattle.gihandop_c.specs.Files.{table_in};
+ghost use Rattle.gihandop_c.specs.Opening.{IsNotOfMemory};
+ghost use Rattle.gihandop_c.specs.Statuses.{WaitsForOutput};
+ghost use Rattle.gihandop_c.specs.declared.status.TheConstants.{BAD_TABLE, CLOSED, DONE, HAS_STOPPED, OUTPUT_OWED};
+
+use crate::host_pointer::HostPointer;
+use crate::{asking, status};
+use gatt_host::App;
+use std::alloc::Global;
+
+/// Makes a call of the application.
+fn ask(alloc: Global, host: &mut HostPointer, call: App<'_>) -> u32
+    ensures closed { host.old.host ≡ None → result ≡ CLOSED }
+    ensures takes { result ≢ OUTPUT_OWED
+        → HostLeads (ACall (call_of call.entry) ∷ []) [] host.old.host host.new.host }
+    ensures tells { result ≢ OUTPUT_OWED
+        → HostTellsItem (ACall (call_of call.entry)) host.old.host host.new.host }
+    ensures answers { result ≢ OUTPUT_OWED
+        → IfSome host.old.host (AnswersCall (call_of call.entry) result) }
+    ensures refused { result ≢ DONE → result ≢ OUTPUT_OWED
+        → HostFallsSilent host.old.host host.new.host }
+    ensures stopped { IfSome host.old.host (λ opened. IsSome opened.host.fault
+        → result ≡ HAS_STOPPED) }
+    ensures owes { IfSome host.old.host (WaitsForOutput result) }
+    ensures owed { result ≡ OUTPUT_OWED → host.new.host ≡ host.old.host }
+{
+    let Some(mut open) = host.take(alloc) else {
+        return status::CLOSED;
+    };
+    let answer = asking::call(&mut open, call);
+    host.put(alloc, open);
+    answer
+}
+
+/// Writes the characteristic value at a handle, as the application does.
+#[unsafe(no_mangle)]
+pub extern "C" fn gh_update(alloc: Global, host: &mut HostPointer, handle: u16, value: &[u8]) -> u32
+    ensures closed { host.old.host ≡ None → result ≡ CLOSED }
+    ensures takes { result ≢ OUTPUT_OWED
+        → HostLeads (ACall (UpdateCall handle value.now) ∷ []) [] host.old.host host.new.host }
+    ensures tells { result ≢ OUTPUT_OWED
+        → HostTellsItem (ACall (UpdateCall handle value.now)) host.old.host host.new.host }
+    ensures answers { result ≢ OUTPUT_OWED
+        → IfSome host.old.host (AnswersCall (UpdateCall handle value.now) result) }
+    ensures refused { result ≢ DONE → result ≢ OUTPUT_OWED
+        → HostFallsSilent host.old.host host.new.host }
+    ensures stopped { IfSome host.old.host (λ opened. IsSome opened.host.fault
+        → result ≡ HAS_STOPPED) }
+    ensures owes { IfSome host.old.host (WaitsForOutput result) }
+    ensures owed { result ≡ OUTPUT_OWED → host.new.host ≡ host.old.host }
+{
+    ask(alloc, host, App::Update(handle, value))
+}
+
+/// Authorizes the connection with a handle while the time is below a moment, in milliseconds: 0
+/// withdraws it.
+#[unsafe(no_mangle)]
+pub extern "C" fn gh_authorize(
+    alloc: Global,
+    host: &mut HostPointer,
+    connection: u16,
+    until: u64,
+) -> u32
+    ensures closed { host.old.host ≡ None → result ≡ CLOSED }
+    ensures takes { result ≢ OUTPUT_OWED
+        → HostLeads (ACall (AuthorizeCall connection until) ∷ []) [] host.old.host host.new.host }
+    ensures tells { result ≢ OUTPUT_OWED
+        → HostTellsItem (ACall (AuthorizeCall connection until)) host.old.host host.new.host }
+    ensures answers { result ≢ OUTPUT_OWED
+        → IfSome host.old.host (AnswersCall (AuthorizeCall connection until) result) }
+    ensures refused { result ≢ DONE → result ≢ OUTPUT_OWED
+        → HostFallsSilent host.old.host host.new.host }
+    ensures stopped { IfSome host.old.host (λ opened. IsSome opened.host.fault
+        → result ≡ HAS_STOPPED) }
+    ensures owes { IfSome host.old.host (WaitsForOutput result) }
+    ensures owed { result ≡ OUTPUT_OWED → host.new.host ≡ host.old.host }
+{
+    ask(alloc, host, App::Authorize(connection, until))
+}
+
+/// Ends the connection with a handle.
+#[unsafe(no_mangle)]
+pub extern "C" fn gh_disconnect(alloc: Global, host: &mut HostPointer, connection: u16) -> u32
+    ensures closed { host.old.host ≡ None → result ≡ CLOSED }
+    ensures takes { result ≢ OUTPUT_OWED
+        → HostLeads (ACall (DisconnectCall connection) ∷ []) [] host.old.host host.new.host }
+    ensures tells { result ≢ OUTPUT_OWED
+        → HostTellsItem (ACall (DisconnectCall connection)) host.old.host host.new.host }
+    ensures answers { result ≢ OUTPUT_OWED
+        → IfSome host.old.host (AnswersCall (DisconnectCall connection) result) }
+    ensures refused { result ≢ DONE → result ≢ OUTPUT_OWED
+        → HostFallsSilent host.old.host host.new.host }
+    ensures stopped { IfSome host.old.host (λ opened. IsSome opened.host.fault
+        → result ≡ HAS_STOPPED) }
+    ensures owes { IfSome host.old.host (WaitsForOutput result) }
+    ensures owed { result ≡ OUTPUT_OWED → host.new.host ≡ host.old.host }
+{
+    ask(alloc, host, App::Disconnect(connection))
+}
+
+/// Takes in the time, in milliseconds, which never goes back.
+#[unsafe(no_mangle)]
+pub extern "C" fn gh_tick(alloc: Global, host: &mut HostPointer, time: u64) -> u32
+    ensures closed { host.old.host ≡ None → result ≡ CLOSED }
+    ensures takes { result ≢ OUTPUT_OWED
+        → HostLeads (ACall (TickCall time) ∷ []) [] host.old.host host.new.host }
+    ensures tells { result ≢ OUTPUT_OWED
+        → HostTellsItem (ACall (TickCall time)) host.old.host host.new.host }
+    ensures answers { result ≢ OUTPUT_OWED
+        → IfSome host.old.host (AnswersCall (TickCall time) result) }
+    ensures refused { result ≢ DONE → result ≢ OUTPUT_OWED
+        → HostFallsSilent host.old.host host.new.host }
+    ensures stopped { IfSome host.old.host (λ opened. IsSome opened.host.fault
+        → result ≡ HAS_STOPPED) }
+    ensures owes { IfSome host.old.host (WaitsForOutput result) }
+    ensures owed { result ≡ OUTPUT_OWED → host.new.host ≡ host.old.host }
+{
+    ask(alloc, host, App::Tick(time))
+}
+
+/// Replaces the table by that of another table file: what peers have configured stays where it
+/// fits.
+#[unsafe(no_mangle)]
+pub extern "C" fn gh_replace(alloc: Global, host: &mut HostPointer, table: &[u8]) -> u32
+    ensures closed { host.old.host ≡ None → result ≡ CLOSED }
+    ensures takes { (contents : Contents) → table_in table.now ≡ Ok contents
+        → result < BAD_TABLE → result ≢ OUTPUT_OWED
+        → HostLeads (ATable contents ∷ []) [] host.old.host host.new.host }
+    ensures tells { (contents : Contents) → table_in table.now ≡ Ok contents
+        → result < BAD_TABLE → result ≢ OUTPUT_OWED
+        → HostTellsItem (ATable contents) host.old.host host.new.host }
+    ensures answers { (contents : Contents) → table_in table.now ≡ Ok contents
+        → IsNotOfMemory result → result ≢ OUTPUT_OWED
+        → IfSome host.old.host (AnswersTable contents result) }
+    ensures stopped { (contents : Contents) → table_in table.now ≡ Ok contents
+        → IsNotOfMemory result → IfSome host.old.host (λ opened.
+        IsSome opened.host.fault → result ≡ HAS_STOPPED) }
+    ensures file { (fault : TableFault) → table_in table.now ≡ Err fault
+        → IsNotOfMemory result → result ≢ OUTPUT_OWED → IfSome host.old.host (λ opened.
+        result ≡ BAD_TABLE + number_of_table_fault fault) }
+    ensures refused { result ≢ DONE → result < BAD_TABLE → result ≢ OUTPUT_OWED
+        → HostFallsSilent host.old.host host.new.host }
+    ensures owes { IfSome host.old.host (WaitsForOutput result) }
+    ensures owed { result ≡ OUTPUT_OWED → host.new.host ≡ host.old.host }
+    ensures unread { BAD_TABLE < result → host.new.host ≡ host.old.host }
+{
+    let Some(mut open) = host.take(alloc) else {
+        return status::CLOSED;
+    };
+    let answer = asking::replace_by(alloc, &mut open, table);
+    host.put(alloc, open);
+    answer
+}

@@ -1,0 +1,150 @@
+//! What the program looks up in its host.
+
+ghost use Rattle.std.specs.Prelude.{◌≡◌, ◌≢◌, ◌≤◌, length, take, IfSome, Some, None};
+ghost use Rattle.att_table.specs.Table.{value_at};
+ghost use Rattle.gatt_slots.specs.Slots.{slots_deadline};
+ghost use Rattle.gatt_subs.specs.RowsText.{text_of};
+ghost use Rattle.gihandop_c.specs.Seeing.{connection_at, found_by};
+ghost use Rattle.gihandop_c.specs.Statuses.{connection_status, deadline_status, find_status, if_open, rows_text_status, text_status, value_status};
+ghost use Rattle.gihandop_c.specs.declared.status.TheConstants.{CLOSED, DONE, OUT_OF_MEMORY, SHORT_BUFFER};
+
+use crate::connections::ConnectionFields;
+use crate::host_pointer::HostPointer;
+use crate::{connections, reading, status, stream, text};
+use std::alloc::Global;
+
+/// Puts the value at a handle at the front of `out`, where it fits, and its length into `count`.
+/// Of a client characteristic configuration it is empty.
+#[unsafe(no_mangle)]
+pub extern "C" fn gh_value(
+    alloc: Global,
+    host: &mut HostPointer,
+    handle: u16,
+    out: &mut [u8],
+    count: &mut usize,
+) -> u32
+    ensures status { result ≡ if_open (value_status handle (length out.old)) host.old.host }
+    ensures value { result ≡ DONE → IfSome host.old.host (λ opened.
+        take count.new out.new ≡ value_at opened.host.held.table.values handle) }
+    ensures within { result ≡ DONE → count.new ≤ length out.old }
+    ensures needs { result ≡ SHORT_BUFFER → IfSome host.old.host (λ opened.
+        count.new ≡ length (value_at opened.host.held.table.values handle)) }
+    ensures unchanged { host.new.host ≡ host.old.host }
+    ensures untouched { result ≢ DONE → out.new ≡ out.old }
+{
+    *count = 0;
+    let Some(open) = host.take(alloc) else {
+        return status::CLOSED;
+    };
+    let answer = reading::value(&open, handle, out, count);
+    host.put(alloc, open);
+    answer
+}
+
+/// Puts the handle of the value of the first characteristic of a type in the first service of a
+/// type into `handle`. Types are UUIDs as octets, the lowest first: 2 for one of 16 bits, or 16.
+#[unsafe(no_mangle)]
+pub extern "C" fn gh_find(
+    alloc: Global,
+    host: &mut HostPointer,
+    service: &[u8],
+    characteristic: &[u8],
+    handle: &mut u16,
+) -> u32
+    ensures status { result ≡ if_open (find_status service.now characteristic.now) host.old.host }
+    ensures found { result ≡ DONE → IfSome host.old.host (λ opened.
+        found_by opened.host.held.table service.now characteristic.now ≡ Some handle.new) }
+    ensures unchanged { host.new.host ≡ host.old.host }
+{
+    *handle = 0;
+    let Some(open) = host.take(alloc) else {
+        return status::CLOSED;
+    };
+    let answer = reading::find(&open, service, characteristic, handle);
+    host.put(alloc, open);
+    answer
+}
+
+/// Puts the connection at a place, counted from 0, in the order of the slots, into `connection`,
+/// if there are so many.
+#[unsafe(no_mangle)]
+pub extern "C" fn gh_connection(
+    alloc: Global,
+    host: &mut HostPointer,
+    place: usize,
+    connection: &mut ConnectionFields,
+) -> u32
+    ensures status { result ≡ if_open (connection_status place) host.old.host }
+    ensures there { result ≡ DONE
+        → IfSome host.old.host (λ opened. connection_at opened place ≡ Some connection.new) }
+    ensures unchanged { host.new.host ≡ host.old.host }
+    ensures untouched { result ≢ DONE → connection.new ≡ connection.old }
+{
+    let Some(open) = host.take(alloc) else {
+        return status::CLOSED;
+    };
+    let answer = connections::connection(&open, place, connection);
+    host.put(alloc, open);
+    answer
+}
+
+/// Puts the least time, in milliseconds, at which an indication that is not confirmed is late into
+/// `time`; there is none where every one is confirmed. Until then no time has to be told.
+#[unsafe(no_mangle)]
+pub extern "C" fn gh_deadline(alloc: Global, host: &mut HostPointer, time: &mut u64) -> u32
+    ensures status { result ≡ if_open deadline_status host.old.host }
+    ensures deadline { result ≡ DONE → IfSome host.old.host (λ opened.
+        slots_deadline opened.host.held.slots ≡ Some time.new) }
+    ensures unchanged { host.new.host ≡ host.old.host }
+{
+    *time = 0;
+    let Some(open) = host.take(alloc) else {
+        return status::CLOSED;
+    };
+    let answer = reading::deadline(&open, time);
+    host.put(alloc, open);
+    answer
+}
+
+/// Puts what peers have configured, and who is owed that the table has changed, at the front of
+/// `out` as a rows file, where it fits, and its length into `count`.
+#[unsafe(no_mangle)]
+pub extern "C" fn gh_rows_text(
+    alloc: Global,
+    host: &mut HostPointer,
+    out: &mut [u8],
+    count: &mut usize,
+) -> u32
+    ensures closed { host.old.host ≡ None → result ≡ CLOSED }
+    ensures status { result ≢ OUT_OF_MEMORY
+        → result ≡ if_open (rows_text_status (length out.old)) host.old.host }
+    ensures rows { result ≡ DONE → IfSome host.old.host (λ opened.
+        take count.new out.new ≡ text_of opened.host.held.rows) }
+    ensures within { result ≡ DONE → count.new ≤ length out.old }
+    ensures needs { result ≡ SHORT_BUFFER → IfSome host.old.host (λ opened.
+        count.new ≡ length (text_of opened.host.held.rows)) }
+    ensures unchanged { host.new.host ≡ host.old.host }
+    ensures untouched { result ≢ DONE → out.new ≡ out.old }
+{
+    *count = 0;
+    let Some(open) = host.take(alloc) else {
+        return status::CLOSED;
+    };
+    let answer = reading::rows_text(alloc, &open, out, count);
+    host.put(alloc, open);
+    answer
+}
+
+/// Puts what a status says, a line of ASCII, at the front of `out`, where it fits, and its length
+/// into `count`. There is nothing of a number that no function answers.
+#[unsafe(no_mangle)]
+pub extern "C" fn gh_text(status: u32, out: &mut [u8], count: &mut usize) -> u32
+    ensures status { result ≡ text_status status count.new (length out.old) }
+    ensures untouched { result ≢ DONE → out.new ≡ out.old }
+{
+    *count = 0;
+    match text::text(status) {
+        Some(text) => stream::copy(text.as_bytes(), out, count),
+        None => status::NOTHING,
+    }
+}

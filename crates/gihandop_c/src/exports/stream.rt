@@ -1,0 +1,97 @@
+//! Octets of the controller go in, and what they bring comes out.
+
+ghost use Rattle.std.specs.Prelude.{◌≡◌, ◌≢◌, ◌<◌, ◌≤◌, ◌∷◌, [], length, take, IfSome, None};
+ghost use Rattle.gatt_host.specs.Feeding.{octet_items, TakesUpToAPacket};
+ghost use Rattle.gihandop_c.specs.Boundary.{HostLeads, HostStaysIfStopped, HostTellsItems, OfTheHost};
+ghost use Rattle.gihandop_c.specs.Statuses.{if_open, notice_status, out_status, take_status};
+ghost use Rattle.gihandop_c.specs.Telling.{HandsOut};
+ghost use Rattle.gihandop_c.specs.declared.status.TheConstants.{CLOSED, DONE, OUTPUT_OWED, SHORT_BUFFER};
+
+use crate::host_pointer::HostPointer;
+use crate::notices::NoticeFields;
+use crate::{notices, status, stream};
+use std::alloc::Global;
+
+/// Takes in octets of the stream from the controller, which may begin and end anywhere: up to the
+/// end of the next packet, and that packet, or all of them where none ends in them. Says how many.
+#[unsafe(no_mangle)]
+pub extern "C" fn gh_take(
+    alloc: Global,
+    host: &mut HostPointer,
+    octets: &[u8],
+    used: &mut usize,
+) -> u32
+    ensures closed { host.old.host ≡ None → result ≡ CLOSED }
+    ensures takes { HostLeads (octet_items (take used.new octets.now)) []
+        host.old.host host.new.host }
+    ensures tells { result ≢ OUTPUT_OWED → HostTellsItems (octet_items (take used.new octets.now))
+        host.old.host host.new.host }
+    ensures within { used.new ≤ length octets.now }
+    ensures up_to { result ≡ DONE → IfSome host.old.host
+        (λ opened. TakesUpToAPacket octets.now used.new opened.host) }
+    ensures some { result ≡ DONE → 0 < length octets.now → 0 < used.new }
+    ensures all { result ≢ CLOSED → result ≢ OUTPUT_OWED → result ≢ DONE
+        → used.new ≡ length octets.now }
+    ensures none { result ≡ OUTPUT_OWED → used.new ≡ 0 }
+    ensures closed_none { host.old.host ≡ None → used.new ≡ 0 }
+    ensures status { OfTheHost (λ old new. result ≡ take_status old new)
+        host.old.host host.new.host }
+    ensures owed { result ≡ OUTPUT_OWED → host.new.host ≡ host.old.host }
+    ensures stopped { HostStaysIfStopped host.old.host host.new.host }
+{
+    *used = 0;
+    let Some(mut open) = host.take(alloc) else {
+        return status::CLOSED;
+    };
+    let answer = stream::take(&mut open, octets, used);
+    host.put(alloc, open);
+    answer
+}
+
+/// Puts the next packet that is to go to the controller at the front of `out`, which has room for
+/// 260 octets, and its length into `count`, and takes in that it has gone; or answers that nothing
+/// is to go out.
+#[unsafe(no_mangle)]
+pub extern "C" fn gh_next_out(
+    alloc: Global,
+    host: &mut HostPointer,
+    out: &mut [u8],
+    count: &mut usize,
+) -> u32
+    ensures status { result ≡ if_open (out_status (length out.old)) host.old.host }
+    ensures goes { result ≡ DONE → HostLeads [] (take count.new out.new ∷ [])
+        host.old.host host.new.host }
+    ensures within { result ≡ DONE → count.new ≤ length out.old }
+    ensures needs { result ≡ SHORT_BUFFER → count.new ≡ 260 }
+    ensures unchanged { result ≢ DONE → host.new.host ≡ host.old.host }
+    ensures untouched { result ≢ DONE → out.new ≡ out.old }
+{
+    *count = 0;
+    let Some(mut open) = host.take(alloc) else {
+        return status::CLOSED;
+    };
+    let answer = stream::next_out(&mut open, out, count);
+    host.put(alloc, open);
+    answer
+}
+
+/// Puts the next notice of what was taken in last into `notice`.
+#[unsafe(no_mangle)]
+pub extern "C" fn gh_next_notice(
+    alloc: Global,
+    host: &mut HostPointer,
+    notice: &mut NoticeFields,
+) -> u32
+    ensures status { result ≡ if_open notice_status host.old.host }
+    ensures gives { result ≡ DONE
+        → OfTheHost (HandsOut notice.new) host.old.host host.new.host }
+    ensures unchanged { result ≢ DONE → host.new.host ≡ host.old.host }
+    ensures untouched { result ≢ DONE → notice.new ≡ notice.old }
+{
+    let Some(mut open) = host.take(alloc) else {
+        return status::CLOSED;
+    };
+    let answer = notices::next(&mut open, notice);
+    host.put(alloc, open);
+    answer
+}
