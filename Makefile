@@ -1,0 +1,66 @@
+# Installs the host as a library for C, and the program gatt_shell.
+#
+#     make install            in /usr/local, or in PREFIX
+#     make install DESTDIR=/tmp/package PREFIX=/usr LIBDIR=/usr/lib/x86_64-linux-gnu
+#
+# The archive and the program are proved as they are made, by Rattle's command rt, and not here: where
+# one is missing this says what makes it, and installs nothing.
+
+VERSION = 0.1.0
+
+PREFIX = /usr/local
+BINDIR = $(PREFIX)/bin
+LIBDIR = $(PREFIX)/lib
+INCLUDEDIR = $(PREFIX)/include
+DATADIR = $(PREFIX)/share
+DESTDIR =
+
+CFLAGS = -O2
+INSTALL = install
+
+ARCHIVE = crates/gihandop_c/out/libgihandop_c.a
+PROGRAM = crates/gatt_shell/out/gatt_shell
+BUILD = out
+
+all: $(ARCHIVE) $(PROGRAM) $(BUILD)/libgihandop_heap.a $(BUILD)/gihandop.pc
+
+$(ARCHIVE):
+	@echo 'there is no $@: `rt lib` in crates/gihandop_c proves the host and makes it' >&2; exit 1
+
+$(PROGRAM):
+	@echo 'there is no $@: `./gatt_shell --version` proves the program and makes it' >&2; exit 1
+
+# The memory over malloc. A program that has heap.o with a pool of its own does not take it from here.
+$(BUILD)/libgihandop_heap.a: c/heap.c
+	mkdir -p $(BUILD)
+	$(CC) -std=c11 $(CPPFLAGS) $(CFLAGS) -c -o $(BUILD)/heap.o c/heap.c
+	rm -f $@
+	$(AR) rcs $@ $(BUILD)/heap.o
+
+.PHONY: all install uninstall check $(BUILD)/gihandop.pc
+
+# The folders may be others than those of the last time.
+$(BUILD)/gihandop.pc: c/gihandop.pc.in
+	mkdir -p $(BUILD)
+	sed -e 's|@PREFIX@|$(PREFIX)|' -e 's|@LIBDIR@|$(LIBDIR)|' -e 's|@INCLUDEDIR@|$(INCLUDEDIR)|' \
+	    -e 's|@VERSION@|$(VERSION)|' c/gihandop.pc.in > $@
+
+install: all
+	$(INSTALL) -d $(DESTDIR)$(BINDIR) $(DESTDIR)$(LIBDIR)/pkgconfig $(DESTDIR)$(INCLUDEDIR) \
+	    $(DESTDIR)$(DATADIR)/gihandop $(DESTDIR)$(DATADIR)/man/man1
+	$(INSTALL) -m 755 $(PROGRAM) $(DESTDIR)$(BINDIR)/gatt_shell
+	$(INSTALL) -m 644 $(ARCHIVE) $(DESTDIR)$(LIBDIR)/libgihandop_c.a
+	$(INSTALL) -m 644 $(BUILD)/libgihandop_heap.a $(DESTDIR)$(LIBDIR)/libgihandop_heap.a
+	$(INSTALL) -m 644 $(BUILD)/gihandop.pc $(DESTDIR)$(LIBDIR)/pkgconfig/gihandop.pc
+	$(INSTALL) -m 644 include/gihandop.h $(DESTDIR)$(INCLUDEDIR)/gihandop.h
+	$(INSTALL) -m 644 c/heap.c $(DESTDIR)$(DATADIR)/gihandop/heap.c
+	$(INSTALL) -m 644 docs/gatt_shell.1 $(DESTDIR)$(DATADIR)/man/man1/gatt_shell.1
+
+uninstall:
+	rm -f $(DESTDIR)$(BINDIR)/gatt_shell $(DESTDIR)$(LIBDIR)/libgihandop_c.a \
+	    $(DESTDIR)$(LIBDIR)/libgihandop_heap.a $(DESTDIR)$(LIBDIR)/pkgconfig/gihandop.pc \
+	    $(DESTDIR)$(INCLUDEDIR)/gihandop.h $(DESTDIR)$(DATADIR)/man/man1/gatt_shell.1
+	rm -rf $(DESTDIR)$(DATADIR)/gihandop
+
+check: all
+	tests/run $(PROGRAM)
