@@ -85,7 +85,7 @@ runs_in_order = record {
 
 pub keeps_its_promise : Promise
 keeps_its_promise = record {
-  runs = runs_in_order;
+  order = runs_in_order;
   policy = keeps_the_policy;
   apart = keeps_connections_apart;
   application = tells_the_application;

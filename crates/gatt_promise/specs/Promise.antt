@@ -105,7 +105,7 @@ pub record RunsInOrder : Type 0 where
   pub rows : AlwaysHasRowsOfItsTable
 
 pub record Promise : Type 0 where
-  pub runs : RunsInOrder
+  pub order : RunsInOrder
   pub policy : KeepsThePolicy
   pub apart : KeepsConnectionsApart
   pub application : TellsTheApplication
