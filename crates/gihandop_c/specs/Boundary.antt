@@ -46,6 +46,14 @@ HostTellsItems items = OfTheHost (TellsItems items)
 abbrev pub HostTellsItem : Item → Option Opened → Option Opened → Type 0
 HostTellsItem item = OfTheHost (TellsItem item)
 
+-- the host stays as it is, and so does how many notices were handed out
+pub record Stays (old new : Opened) : Type 0 where
+  pub host : new.host ≡ old.host
+  pub told : new.told ≡ old.told
+
+abbrev pub HostStays : Option Opened → Option Opened → Type 0
+HostStays = OfTheHost Stays
+
 -- a host that has stopped stays as it is
 abbrev pub StaysIfStopped : Opened → Opened → Type 0
 StaysIfStopped old new = IsSome old.host.fault → new.host ≡ old.host

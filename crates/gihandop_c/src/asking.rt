@@ -30,9 +30,10 @@ pub(crate) fn call(opened: &mut Opened, call: App<'_>) -> u32
     ensures owes { WaitsForOutput result opened.old }
     ensures owed { result ≡ OUTPUT_OWED → opened.new ≡ opened.old }
 {
-    if !opened.host.drained() {
+    if !opened.is_drained() {
         return status::OUTPUT_OWED;
     }
+    opened.drained = false;
     opened.told = 0;
     match opened.host.app(call) {
         Ok(()) => status::DONE,
@@ -63,7 +64,7 @@ pub(crate) fn replace_by(alloc: Global, opened: &mut Opened, file: &[u8]) -> u32
     ensures owed { result ≡ OUTPUT_OWED → opened.new ≡ opened.old }
     ensures unread { BAD_TABLE < result → opened.new ≡ opened.old }
 {
-    if !opened.host.drained() {
+    if !opened.is_drained() {
         return status::OUTPUT_OWED;
     }
     match opening::read_table(alloc, file) {
@@ -84,9 +85,10 @@ fn replace(opened: &mut Opened, table: Table) -> u32
     ensures owes { WaitsForOutput result opened.old }
     ensures owed { result ≡ OUTPUT_OWED → opened.new ≡ opened.old }
 {
-    if !opened.host.drained() {
+    if !opened.is_drained() {
         return status::OUTPUT_OWED;
     }
+    opened.drained = false;
     opened.told = 0;
     match opened.host.replace(table) {
         Ok(_) => status::DONE,

@@ -1,5 +1,9 @@
 //! A host, and what of it has been handed out.
 
+ghost use Rattle.std.specs.Prelude.{◌≡◌, ◌||◌, not, true};
+ghost use Rattle.gatt_host.specs.Whole.{all_out};
+
+use arrayvec::ArrayVec;
 use gatt_host::Host;
 
 /// What lies behind the pointer that a program in C keeps.
@@ -8,4 +12,31 @@ pub struct Opened {
     pub(crate) host: Host,
     /// How many of the notices that the host tells now have been handed out.
     pub(crate) told: usize,
+    /// The host was asked for a packet, and owes none.
+    pub(crate) drained: bool,
+    /// Room for a packet on its way out: what it holds between two calls means nothing.
+    pub(crate) packet: ArrayVec<u8, 260>,
+    pub ghost out: { (not drained || all_out host) ≡ true },
+}
+
+impl Opened {
+    /// With a host that nothing was asked of yet.
+    pub(crate) fn new(host: Host) -> Opened
+        ensures { result.host ≡ host }
+    {
+        Opened {
+            host,
+            told: 0,
+            drained: false,
+            packet: ArrayVec::new(),
+        }
+    }
+
+    /// Whether no packet is owed.
+    #[inline(always)]
+    pub(crate) fn is_drained(&self) -> bool
+        ensures { result ≡ all_out self.now.host }
+    {
+        self.drained || self.host.drained()
+    }
 }

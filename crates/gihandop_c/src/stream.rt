@@ -9,7 +9,6 @@ ghost use Rattle.gihandop_c.specs.declared.status.TheConstants.{DONE, NOTHING, O
 
 use crate::opened::Opened;
 use crate::status;
-use arrayvec::ArrayVec;
 
 /// The longest packet that goes out, in octets.
 const LONGEST_PACKET: usize = 260;
@@ -31,9 +30,10 @@ pub(crate) fn take(opened: &mut Opened, octets: &[u8], used: &mut usize) -> u32
     ensures stopped { StaysIfStopped opened.old opened.new }
 {
     *used = 0;
-    if !opened.host.drained() {
+    if !opened.is_drained() {
         return status::OUTPUT_OWED;
     }
+    opened.drained = false;
     opened.told = 0;
     match opened.host.take(octets) {
         Ok(count) => {
@@ -53,18 +53,20 @@ pub(crate) fn next_out(opened: &mut Opened, out: &mut [u8], count: &mut usize) -
     ensures goes { result ≡ DONE → LeadsOn [] (take count.new out.new ∷ []) opened.old opened.new }
     ensures within { result ≡ DONE → count.new ≤ length out.old }
     ensures needs { result ≡ SHORT_BUFFER → count.new ≡ 260 }
-    ensures unchanged { result ≢ DONE → opened.new ≡ opened.old }
+    ensures unchanged { result ≢ DONE → opened.new.host ≡ opened.old.host }
+    ensures told { opened.new.told ≡ opened.old.told }
     ensures untouched { result ≢ DONE → out.new ≡ out.old }
 {
     *count = 0;
     if out.len() < LONGEST_PACKET {
         return too_short(opened, count);
     }
-    let mut packet = ArrayVec::new();
-    if !opened.host.next_out(&mut packet) {
+    if !opened.host.next_out(&mut opened.packet) {
+        opened.drained = true;
         return status::NOTHING;
     }
-    copy(packet.as_slice(), out, count)
+    opened.drained = false;
+    copy(opened.packet.as_slice(), out, count)
 }
 
 /// Says how long a buffer has to be, where a packet is owed.
@@ -73,7 +75,7 @@ fn too_short(opened: &Opened, count: &mut usize) -> u32
     ensures status { result ≡ (if all_out opened.now.host then NOTHING else SHORT_BUFFER) }
     ensures needs { result ≡ SHORT_BUFFER → count.new ≡ 260 }
 {
-    if opened.host.drained() {
+    if opened.is_drained() {
         return status::NOTHING;
     }
     *count = LONGEST_PACKET;

@@ -33,10 +33,7 @@ pub extern "C" fn gh_open(
         return status::ALREADY_OPEN;
     }
     let opened = match opening::open(alloc, table, keys, rows, config) {
-        Ok(opened) => Opened {
-            host: opened,
-            told: 0,
-        },
+        Ok(host) => Opened::new(host),
         Err(status) => return status,
     };
     let Ok(boxed) = Box::new(alloc, opened) else {

@@ -2,7 +2,7 @@
 
 ghost use Rattle.std.specs.Prelude.{◌≡◌, ◌≢◌, ◌<◌, ◌≤◌, ◌∷◌, [], length, take, IfSome, None};
 ghost use Rattle.gatt_host.specs.Feeding.{octet_items, TakesUpToAPacket};
-ghost use Rattle.gihandop_c.specs.Boundary.{HostLeads, HostStaysIfStopped, HostTellsItems, OfTheHost};
+ghost use Rattle.gihandop_c.specs.Boundary.{HostLeads, HostStays, HostStaysIfStopped, HostTellsItems, OfTheHost};
 ghost use Rattle.gihandop_c.specs.Statuses.{if_open, notice_status, out_status, take_status};
 ghost use Rattle.gihandop_c.specs.Telling.{HandsOut};
 ghost use Rattle.gihandop_c.specs.declared.status.TheConstants.{CLOSED, DONE, OUTPUT_OWED, SHORT_BUFFER};
@@ -63,7 +63,7 @@ pub extern "C" fn gh_next_out(
         host.old.host host.new.host }
     ensures within { result ≡ DONE → count.new ≤ length out.old }
     ensures needs { result ≡ SHORT_BUFFER → count.new ≡ 260 }
-    ensures unchanged { result ≢ DONE → host.new.host ≡ host.old.host }
+    ensures unchanged { result ≢ DONE → HostStays host.old.host host.new.host }
     ensures untouched { result ≢ DONE → out.new ≡ out.old }
 {
     *count = 0;

@@ -2,6 +2,7 @@ use Rattle.std.proofs.Common.{[], ◌∷◌}
 use Rattle.gatt_host.specs.Asked.{call_of}
 use Rattle.gatt_laws.specs.machine.Input.{ACall}
 use Rattle.gihandop_c.specs.Boundary.{AnswersCall, LeadsOn, TellsItem}
+use Rattle.gihandop_c.specs.Statuses.{WaitsForOutput}
 use Rattle.gihandop_c.proofs.Carried.{carried, carried_before}
 use Rattle.gihandop_c.proofs.exports.asking.ask.Goals as goal
 
@@ -21,3 +22,8 @@ pub returns-clause-answers : goal.returns-clause-answers
 returns-clause-answers c = λ asked.
     carried_before (AnswersCall (call_of c.args.call) c.call-answer.result) c.args.host.now.host
     c.in-Some.open.value c.deref_mut.result.now c.in-Some.ensures.taken c.deref_mut.ensures.value (c.call-answer.ensures.answers asked)
+
+pub returns-clause-owes : goal.returns-clause-owes
+returns-clause-owes c =
+    carried_before (WaitsForOutput c.call-answer.result) c.args.host.now.host
+    c.in-Some.open.value c.deref_mut.result.now c.in-Some.ensures.taken c.deref_mut.ensures.value c.call-answer.ensures.owes

@@ -1,6 +1,7 @@
 use Rattle.std.proofs.Common.{[], ◌∷◌}
 use Rattle.gatt_laws.specs.machine.Input.{ATable}
 use Rattle.gihandop_c.specs.Boundary.{AnswersTable, LeadsOn, TellsItem}
+use Rattle.gihandop_c.specs.Statuses.{WaitsForOutput}
 use Rattle.gihandop_c.proofs.Carried.{carried, carried_before}
 use Rattle.gihandop_c.proofs.exports.asking.gh_replace.Goals as goal
 
@@ -21,3 +22,8 @@ returns-clause-answers c = λ contents read enough asked.
     carried_before (AnswersTable contents c.replace_by-answer.result) c.args.host.now.host
     c.in-Some.open.value c.deref_mut.result.now c.in-Some.ensures.taken c.deref_mut.ensures.value
     (c.replace_by-answer.ensures.answers contents read enough asked)
+
+pub returns-clause-owes : goal.returns-clause-owes
+returns-clause-owes c =
+    carried_before (WaitsForOutput c.replace_by-answer.result) c.args.host.now.host
+    c.in-Some.open.value c.deref_mut.result.now c.in-Some.ensures.taken c.deref_mut.ensures.value c.replace_by-answer.ensures.owes

@@ -1,5 +1,5 @@
 use Rattle.std.proofs.Common.{[], ◌∷◌, take}
-use Rattle.gihandop_c.specs.Boundary.{LeadsOn}
+use Rattle.gihandop_c.specs.Boundary.{LeadsOn, Stays}
 use Rattle.gihandop_c.proofs.Carried.{carried}
 use Rattle.gihandop_c.proofs.exports.stream.gh_next_out.Goals as goal
 
@@ -8,3 +8,9 @@ returns-clause-goes c = λ done.
     carried (LeadsOn [] (take c.next_out-answer.new.count c.next_out-answer.new.out ∷ [])) c.args.host.now.host c.put.new.self.host
     c.in-Some.open.value c.deref_mut.result.now c.next_out-answer.new.opened c.in-Some.ensures.taken c.deref_mut.ensures.value c.put.ensures
     (c.next_out-answer.ensures.goes done)
+
+pub returns-clause-unchanged : goal.returns-clause-unchanged
+returns-clause-unchanged c = λ other.
+    carried Stays c.args.host.now.host c.put.new.self.host
+    c.in-Some.open.value c.deref_mut.result.now c.next_out-answer.new.opened c.in-Some.ensures.taken c.deref_mut.ensures.value c.put.ensures
+    (record { host = c.next_out-answer.ensures.unchanged other; told = c.next_out-answer.ensures.told })
