@@ -25,7 +25,7 @@
  * compiler of C cannot test is owed by the program: each pointer is to as many octets as the length
  * beside it says, and is not NULL where that is 0; what is written lies apart from all else that is
  * passed; a struct gh_host begins as GH_HOST_INIT, and is changed by these functions alone; one call
- * at a time for each host, none of a signal handler; and 32 KiB of stack.
+ * at a time for each host, none of a signal handler; and 40 KiB of stack.
  */
 #ifndef GIHANDOP_H
 #define GIHANDOP_H
