@@ -152,12 +152,16 @@ class Controller:
         port = free_port()
         words = [program, "serve", table, keys, f"127.0.0.1:{port}"] + (["--rows", rows] if rows else [])
         self.serving = subprocess.Popen(words, stdin=subprocess.DEVNULL, stdout=subprocess.DEVNULL, stderr=subprocess.PIPE)
+        self.play(joined(port, self.serving), recording)
+
+    def play(self, stream, recording=None):
+        """Plays the controller of a host until it advertises, and goes on."""
         self.recording = Recording(recording) if recording else None
         self.lock = threading.RLock()
         self.links = {}
         self.advertising = threading.Event()
         self.faults = []
-        self.stream = joined(port, self.serving)
+        self.stream = stream
         self.reader = threading.Thread(target=self.read, daemon=True)
         self.reader.start()
         if not self.advertising.wait(PATIENCE):

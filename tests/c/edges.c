@@ -1,0 +1,229 @@
+/*
+ * What the functions answer to a program that does what it should not, as the header says: handles
+ * that are closed or open, files and configurations that are refused, output that is owed, and
+ * short buffers.
+ *
+ *     edges TABLE KEYS         examples/door.toml and keys.toml
+ */
+#include "controller.h"
+
+#include <stdio.h>
+#include <string.h>
+
+static struct file table, keys, none;
+static uint8_t out[GH_LONGEST_PACKET];
+
+/* What each function answers for a host, in the order of the header, but gh_open and gh_close. */
+static void each(struct gh_host *host, uint32_t statuses[13])
+{
+    const uint8_t type[] = {0xF0, 0xFF};
+    size_t count = 1000;
+    uint16_t handle = 1000;
+    uint64_t time = 1000;
+    struct gh_connection connection;
+    struct gh_notice notice;
+    statuses[0] = gh_take(host, reset_complete, sizeof reset_complete, &count);
+    CHECK(statuses[0] == GH_DONE || count == 0 || count == sizeof reset_complete);
+    statuses[1] = gh_next_out(host, out, sizeof out, &count);
+    statuses[2] = gh_update(host, 10, type, 1);
+    statuses[3] = gh_authorize(host, 64, 0);
+    statuses[4] = gh_disconnect(host, 64);
+    statuses[5] = gh_tick(host, 1);
+    statuses[6] = gh_replace(host, table.octets, table.length);
+    statuses[7] = gh_value(host, 3, out, sizeof out, &count);
+    statuses[8] = gh_find(host, type, sizeof type, type, sizeof type, &handle);
+    statuses[9] = gh_rows_text(host, out, sizeof out, &count);
+    statuses[10] = gh_deadline(host, &time);
+    statuses[11] = gh_connection(host, 0, &connection);
+    statuses[12] = gh_next_notice(host, &notice);
+}
+
+static void closed_handles(void)
+{
+    struct gh_host host = GH_HOST_INIT;
+    uint32_t statuses[13];
+    each(&host, statuses);
+    for (int at = 0; at < 13; at++)
+        CHECK(statuses[at] == GH_CLOSED);
+    CHECK(gh_close(&host) == GH_CLOSED);
+
+    CHECK(open_host(&host, &table, &keys, NULL, 4) == GH_DONE);
+    CHECK(gh_close(&host) == GH_DONE);
+    CHECK(host.at == NULL);
+    CHECK(gh_close(&host) == GH_CLOSED);
+    each(&host, statuses);
+    for (int at = 0; at < 13; at++)
+        CHECK(statuses[at] == GH_CLOSED);
+}
+
+static uint32_t opened(const char *a, size_t a_length, const char *b, size_t b_length,
+                       const char *c, size_t c_length)
+{
+    struct gh_host host = GH_HOST_INIT;
+    const struct gh_config config = {.slots = 1, .rx_mtu = 23};
+    uint32_t status = gh_open(&host, (const uint8_t *)a, a_length, (const uint8_t *)b, b_length,
+                              (const uint8_t *)c, c_length, &config);
+    CHECK((status == GH_DONE) == (host.at != NULL));
+    gh_close(&host);
+    return status;
+}
+
+static uint32_t configured(struct gh_config config)
+{
+    struct gh_host host = GH_HOST_INIT;
+    uint32_t status = gh_open(&host, table.octets, table.length, keys.octets, keys.length,
+                              none.octets, 0, &config);
+    CHECK((status == GH_DONE) == (host.at != NULL));
+    gh_close(&host);
+    return status;
+}
+
+static void refused_openings(void)
+{
+    static const char nothing[] = "service = []";
+    const char *text = (const char *)table.octets;
+    CHECK(opened(nothing, 12, "", 0, "", 0) == GH_DONE);
+    CHECK(opened("", 0, "", 0, "", 0) == GH_BAD_TABLE + 2);
+    CHECK(opened("service = ", 10, "", 0, "", 0) == GH_BAD_TABLE + 1);
+    CHECK(opened("\xFF", 1, "", 0, "", 0) == GH_BAD_TABLE + 1);
+    CHECK(opened(text, table.length, "\xFF", 1, "", 0) == GH_BAD_KEYS + 1);
+    CHECK(opened(text, table.length, "other = 1", 9, "", 0) == GH_BAD_KEYS + 9);
+    CHECK(opened(text, table.length, "", 0, "\xFF\n", 2) == GH_BAD_ROWS + 1);
+    CHECK(opened(text, table.length, "", 0, "no row\n", 7) == GH_BAD_ROWS + 1);
+    /* Of files with faults the first is told. */
+    CHECK(opened("service = ", 10, "other = 1", 9, "no row\n", 7) == GH_BAD_TABLE + 1);
+    CHECK(opened(nothing, 12, "other = 1", 9, "no row\n", 7) == GH_BAD_KEYS + 9);
+
+    const struct gh_config good = {
+        .slots = 8,
+        .rx_mtu = 517,
+        .is_random = 1,
+        .address = {1, 2, 3, 4, 5, 0xC6},
+        .advertising_length = 31,
+    };
+    struct gh_config bad;
+    CHECK(configured(good) == GH_DONE);
+    bad = good, bad.slots = 0;
+    CHECK(configured(bad) == GH_BAD_CONFIG);
+    bad = good, bad.slots = 9;
+    CHECK(configured(bad) == GH_BAD_CONFIG);
+    bad = good, bad.slots = SIZE_MAX;
+    CHECK(configured(bad) == GH_BAD_CONFIG);
+    bad = good, bad.rx_mtu = 22;
+    CHECK(configured(bad) == GH_BAD_CONFIG);
+    bad = good, bad.rx_mtu = 518;
+    CHECK(configured(bad) == GH_BAD_CONFIG);
+    bad = good, bad.address[5] = 0x86;
+    CHECK(configured(bad) == GH_BAD_CONFIG);
+    bad.is_random = 0;
+    CHECK(configured(bad) == GH_DONE);
+    bad = good, bad.advertising_length = 32;
+    CHECK(configured(bad) == GH_BAD_CONFIG);
+    bad = good, bad.advertising_length = 255;
+    CHECK(configured(bad) == GH_BAD_CONFIG);
+}
+
+static void open_over_open(void)
+{
+    struct gh_host host = GH_HOST_INIT;
+    struct gh_config config = {.slots = 1, .rx_mtu = 23};
+    struct heard heard;
+    CHECK(open_host(&host, &table, &keys, NULL, 4) == GH_DONE);
+    connect_phone(&host, 64);
+    void *at = host.at;
+    const uint8_t *text = none.octets;
+    CHECK(gh_open(&host, text, 0, text, 0, text, 0, &config) == GH_ALREADY_OPEN);
+    text = table.octets;
+    CHECK(gh_open(&host, text, table.length, text, 0, text, 0, &config) == GH_ALREADY_OPEN);
+    CHECK(host.at == at);
+    say(&host, 64, (const uint8_t *)"\x0A\x03\x00", 3, &heard);
+    CHECK(is_heard(&heard, (const uint8_t *)"\x0BLock", 5));
+    gh_close(&host);
+}
+
+static void output_that_is_owed(void)
+{
+    struct gh_host host = GH_HOST_INIT;
+    uint32_t statuses[13];
+    size_t count;
+    CHECK(begin_host(&host, &table, &keys, NULL, 4) == GH_DONE);
+    /* Reset is owed. */
+    CHECK(gh_next_out(&host, out, GH_LONGEST_PACKET - 1, &count) == GH_SHORT_BUFFER && count == 0);
+    CHECK(gh_next_out(&host, out, 0, &count) == GH_SHORT_BUFFER && count == 0);
+    CHECK(gh_take(&host, reset_complete, sizeof reset_complete, &count) == GH_OUTPUT_OWED);
+    CHECK(count == 0);
+    CHECK(gh_update(&host, 10, none.octets, 1) == GH_OUTPUT_OWED);
+    CHECK(gh_update(&host, 9999, none.octets, 1) == GH_OUTPUT_OWED);
+    CHECK(gh_authorize(&host, 64, 1) == GH_OUTPUT_OWED);
+    CHECK(gh_disconnect(&host, 64) == GH_OUTPUT_OWED);
+    CHECK(gh_tick(&host, 5) == GH_OUTPUT_OWED);
+    CHECK(gh_replace(&host, table.octets, table.length) == GH_OUTPUT_OWED);
+    CHECK(gh_replace(&host, none.octets, 0) == GH_OUTPUT_OWED);
+    CHECK(gh_next_out(&host, out, sizeof out, &count) == GH_DONE && count == 4);
+    CHECK(memcmp(out, "\x01\x03\x0C\x00", 4) == 0);
+    CHECK(gh_next_out(&host, out, sizeof out, &count) == GH_NOTHING && count == 0);
+    /* None of these calls took anything in. */
+    CHECK(gh_tick(&host, 0) == GH_DONE);
+    each(&host, statuses);
+    CHECK(statuses[0] == GH_DONE && statuses[1] == GH_DONE);
+    gh_close(&host);
+}
+
+static void short_buffers(void)
+{
+    struct gh_host host = GH_HOST_INIT;
+    uint8_t text[256];
+    size_t count;
+    CHECK(open_host(&host, &table, &keys, NULL, 4) == GH_DONE);
+    CHECK(gh_value(&host, 3, text, 3, &count) == GH_SHORT_BUFFER && count == 4);
+    CHECK(gh_value(&host, 3, text, 0, &count) == GH_SHORT_BUFFER && count == 4);
+    CHECK(gh_value(&host, 3, text, 4, &count) == GH_DONE && count == 4);
+    CHECK(memcmp(text, "Lock", 4) == 0);
+    CHECK(gh_value(&host, 7, text, 0, &count) == GH_DONE && count == 0);
+    CHECK(gh_value(&host, 0, text, sizeof text, &count) == GH_NOTHING && count == 0);
+    CHECK(gh_value(&host, 22, text, sizeof text, &count) == GH_NOTHING && count == 0);
+    CHECK(gh_rows_text(&host, text, 0, &count) == GH_DONE && count == 0);
+    connect_phone(&host, 64);
+    encrypt(&host, 64);
+    say(&host, 64, (const uint8_t *)"\x12\x0B\x00\x01\x00", 5, NULL);
+    static const char row[] = "0 00:11:22:33:44:55 11 1\n";
+    CHECK(gh_rows_text(&host, text, sizeof row - 2, &count) == GH_SHORT_BUFFER);
+    CHECK(count == sizeof row - 1);
+    CHECK(gh_rows_text(&host, text, sizeof row - 1, &count) == GH_DONE && count == sizeof row - 1);
+    CHECK(memcmp(text, row, sizeof row - 1) == 0);
+    gh_close(&host);
+}
+
+static void texts(void)
+{
+    uint8_t text[128];
+    size_t count, said = 0;
+    for (uint32_t status = 0; status < 1000; status++) {
+        bool has_one = status <= 7 || (status >= 21 && status <= 24)
+            || (status >= 41 && status <= 47) || (status >= 101 && status <= 111)
+            || (status >= 201 && status <= 210) || (status >= 301 && status <= 304);
+        CHECK(gh_text(status, text, sizeof text, &count) == (has_one ? GH_DONE : GH_NOTHING));
+        CHECK((count > 0) == has_one);
+        for (size_t at = 0; at < count; at++)
+            CHECK(text[at] >= ' ' && text[at] <= '~');
+        said += has_one;
+    }
+    CHECK(said == 8 + 4 + 7 + 11 + 10 + 4);
+    CHECK(gh_text(UINT32_MAX, text, sizeof text, &count) == GH_NOTHING);
+    CHECK(gh_text(GH_DONE, text, 3, &count) == GH_SHORT_BUFFER && count == 4);
+}
+
+int main(int argc, char **argv)
+{
+    if (argc != 3)
+        return 2;
+    read_file(argv[1], &table);
+    read_file(argv[2], &keys);
+    closed_handles();
+    refused_openings();
+    open_over_open();
+    output_that_is_owed();
+    short_buffers();
+    texts();
+    return result();
+}
