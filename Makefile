@@ -3,8 +3,8 @@
 #     make install            in /usr/local, or in PREFIX
 #     make install DESTDIR=/tmp/package PREFIX=/usr LIBDIR=/usr/lib/x86_64-linux-gnu
 #
-# The archive and the program are proved as they are made, by Rattle's command rt, and not here: where
-# one is missing this says what makes it, and installs nothing.
+# The archive and the program are proved as they are made, by Rattle's command rt, and not here:
+# where one is missing this says what makes it, and installs nothing.
 
 VERSION = 0.1.0
 
@@ -30,7 +30,7 @@ $(ARCHIVE):
 $(PROGRAM):
 	@echo 'there is no $@: `./gatt_shell --version` proves the program and makes it' >&2; exit 1
 
-# The memory over malloc. A program that has heap.o with a pool of its own does not take it from here.
+# The memory over malloc. A program that has heap.o with a pool of its own takes none from here.
 $(BUILD)/libgihandop_heap.a: c/heap.c
 	mkdir -p $(BUILD)
 	$(CC) -std=c11 $(CPPFLAGS) $(CFLAGS) -c -o $(BUILD)/heap.o c/heap.c

@@ -1,14 +1,14 @@
 /*
- * A door lock: serves phones over a controller, turns a motor, which is a line on standard output, and
- * keeps what phones with keys have configured.
+ * A door lock: serves phones over a controller, turns a motor, which is a line on standard output,
+ * and keeps what phones with keys have configured.
  *
  *     lockd TABLE KEYS LINE [ROWS]
  *
  * LINE leads to the controller, as line.h says: listen:127.0.0.1:5000, connect:127.0.0.1:5000,
- * /dev/ttyUSB0:115200 or hci0. ROWS is read first, where it is there, and is replaced whenever it would
- * say something else: before the phone is answered, so that what a phone was told is kept. A line on
- * standard input is a button inside: open or shut. Who has no key is sent away after half a minute.
- * SIGTERM and SIGINT end the connections, and then the program.
+ * /dev/ttyUSB0:115200 or hci0. ROWS is read first, where it is there, and is replaced whenever it
+ * would say something else: before the phone is answered, so that what it was told is kept. A line
+ * on standard input is a button inside: open or shut. Who has no key is sent away after half a
+ * minute. SIGTERM and SIGINT end the connections, and then the program.
  */
 #define _GNU_SOURCE
 #include "files.h"
@@ -208,7 +208,7 @@ static bool read_some(const struct pollfd *polled, void *into, size_t room, size
 static bool serve(int signals)
 {
     struct gh_connection phone;
-    struct pollfd polled[3] = {{.fd = line}, {.fd = STDIN_FILENO}, {.fd = signals, .events = POLLIN}};
+    struct pollfd polled[3] = {{line, 0, 0}, {STDIN_FILENO, 0, 0}, {signals, POLLIN, 0}};
     uint64_t end = 0;
     for (;;) {
         bool is_out = send_owed();
