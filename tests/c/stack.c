@@ -102,7 +102,7 @@ int main(int argc, char **argv)
            "gh_rows_text %zu, gh_replace %zu\n",
            open, take, hand, tick, rows, replace);
     /* What the header asks for. */
-    CHECK(open < 32 * 1024 && replace < 32 * 1024);
+    CHECK(open < 40 * 1024 && replace < 40 * 1024);
     CHECK(take < 4096 && hand < 4096 && tick < 4096 && rows < 4096);
     gh_close(&host);
     return result();
