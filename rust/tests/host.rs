@@ -2,10 +2,11 @@
 
 mod controller;
 
-use controller::{BELL, Controller, DOOR, KEYS, PORCH, PORCH_NEXT, TABLET};
+use controller::{BELL, Controller, DOOR, KEYS, PORCH, PORCH_NEXT, TABLET, data};
 use gihandop::{Config, Error, Files, Host, Key, Notice, Peer, Uuid};
+use std::cell::RefCell;
 use std::error::Error as _;
-use std::io::{self, ErrorKind};
+use std::io::{self, ErrorKind, Write};
 
 const STATE: u16 = 10;
 const STATE_CONFIGURATION: u16 = 11;
@@ -56,8 +57,10 @@ fn a_phone_with_a_key_opens_the_lock() {
     assert_eq!(door.notices[0].connection(), 64);
     assert_eq!(door.host.value(STATE), Some(vec![1]));
 
+    door.connect(65, [9; 6]);
     let there: Vec<_> = door.host.connections().collect();
-    assert_eq!(there.len(), 1);
+    assert_eq!(there.len(), 2);
+    assert_eq!((there[1].handle, there[1].key), (65, None));
     assert_eq!(
         (there[0].handle, there[0].mtu, there[0].peer),
         (64, 23, peer)
@@ -187,7 +190,7 @@ fn what_is_refused_says_why() {
     };
     assert_eq!(opened(DOOR, KEYS, "", &slots).0, Error::BadConfig);
     let advertising = Config {
-        advertising: vec![0; 300],
+        advertising: vec![0; 260],
         ..Config::default()
     };
     assert_eq!(opened(DOOR, KEYS, "", &advertising).0, Error::BadConfig);
@@ -237,4 +240,50 @@ fn a_stream_out_of_step_stops_the_host() {
     let inner = error.get_ref().and_then(|it| it.downcast_ref::<Error>());
     assert_eq!(inner, Some(&Error::Desync));
     assert!(Error::Desync.source().is_none());
+}
+
+/// A writer that notes each packet in a list that others write to as well.
+struct Noting<'a>(&'a RefCell<Vec<String>>);
+
+impl Write for Noting<'_> {
+    fn write(&mut self, octets: &[u8]) -> io::Result<usize> {
+        self.0.borrow_mut().push(format!("{:02x?}", &octets[9..]));
+        Ok(octets.len())
+    }
+
+    fn flush(&mut self) -> io::Result<()> {
+        Ok(())
+    }
+}
+
+#[test]
+fn each_packet_is_heard_of_before_it_is_answered() {
+    let mut door = Controller::new(DOOR, "");
+    door.connect(64, TABLET);
+    door.encrypt(64);
+    let order = RefCell::new(Vec::new());
+    let two = [data(64, &[0x12, 10, 0, 1]), data(64, &[0x0a, 3, 0])].concat();
+    let fed = door.host.feed(&two, Noting(&order), |_, notice| {
+        order.borrow_mut().push(format!("{notice:?}"));
+    });
+    fed.expect("the list takes all");
+    let written = "Written { connection: 64, attribute: 10 }";
+    assert_eq!(
+        order.into_inner(),
+        [written, "[13]", "[0b, 4c, 6f, 63, 6b]"]
+    );
+}
+
+#[test]
+fn many_rows_are_given_whole() {
+    let mut table = String::from("[[service]]\nuuid = \"fff0\"\n");
+    let mut rows = String::new();
+    for number in 0..60 {
+        table += "[[service.characteristic]]\nuuid = \"fff1\"\nvalue = \"00\"\n";
+        table += "properties = [\"notify\"]\n";
+        rows += &format!("0 00:11:22:33:44:55 {} 1\n", 3 * number + 4);
+    }
+    assert!(rows.len() > 1024);
+    let host = Controller::new(&table, &rows).host;
+    assert_eq!(host.rows().expect("there is memory"), rows);
 }
