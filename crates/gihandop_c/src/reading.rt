@@ -22,6 +22,7 @@ pub(crate) fn value(opened: &Opened, handle: u16, out: &mut [u8], count: &mut us
     ensures within { result ≡ DONE → count.new ≤ length out.old }
     ensures needs { result ≡ SHORT_BUFFER
         → count.new ≡ length (value_at opened.now.host.held.table.values handle) }
+    ensures none { result ≢ DONE → result ≢ SHORT_BUFFER → count.new ≡ 0 }
     ensures untouched { result ≢ DONE → out.new ≡ out.old }
 {
     *count = 0;
@@ -59,6 +60,7 @@ pub(crate) fn rows_text(alloc: Global, opened: &Opened, out: &mut [u8], count: &
     ensures within { result ≡ DONE → count.new ≤ length out.old }
     ensures needs { result ≡ SHORT_BUFFER
         → count.new ≡ length (text_of opened.now.host.held.rows) }
+    ensures none { result ≢ DONE → result ≢ SHORT_BUFFER → count.new ≡ 0 }
     ensures untouched { result ≢ DONE → out.new ≡ out.old }
 {
     *count = 0;

@@ -53,6 +53,7 @@ pub(crate) fn next_out(opened: &mut Opened, out: &mut [u8], count: &mut usize) -
     ensures goes { result ≡ DONE → LeadsOn [] (take count.new out.new ∷ []) opened.old opened.new }
     ensures within { result ≡ DONE → count.new ≤ length out.old }
     ensures needs { result ≡ SHORT_BUFFER → count.new ≡ 260 }
+    ensures none { result ≢ DONE → result ≢ SHORT_BUFFER → count.new ≡ 0 }
     ensures unchanged { result ≢ DONE → opened.new.host ≡ opened.old.host }
     ensures told { opened.new.told ≡ opened.old.told }
     ensures untouched { result ≢ DONE → out.new ≡ out.old }
@@ -74,6 +75,7 @@ pub(crate) fn next_out(opened: &mut Opened, out: &mut [u8], count: &mut usize) -
 fn too_short(opened: &Opened, count: &mut usize) -> u32
     ensures status { result ≡ (if all_out opened.now.host then NOTHING else SHORT_BUFFER) }
     ensures needs { result ≡ SHORT_BUFFER → count.new ≡ 260 }
+    ensures none { result ≡ NOTHING → count.new ≡ count.old }
 {
     if opened.is_drained() {
         return status::NOTHING;
@@ -88,6 +90,7 @@ pub(crate) fn copy(octets: &[u8], out: &mut [u8], count: &mut usize) -> u32
     ensures status { result ≡ room_status (length octets.now) (length out.old) }
     ensures within { result ≡ DONE → length octets.now ≤ length out.old }
     ensures count { count.new ≡ length octets.now }
+    ensures none { result ≢ DONE → result ≢ SHORT_BUFFER → count.new ≡ 0 }
     ensures untouched { result ≢ DONE → out.new ≡ out.old }
 {
     *count = octets.len();

@@ -29,6 +29,7 @@ pub extern "C" fn gh_value(
     ensures within { result ≡ DONE → count.new ≤ length out.old }
     ensures needs { result ≡ SHORT_BUFFER → IfSome host.old.host (λ opened.
         count.new ≡ length (value_at opened.host.held.table.values handle)) }
+    ensures none { result ≢ DONE → result ≢ SHORT_BUFFER → count.new ≡ 0 }
     ensures unchanged { host.new.host ≡ host.old.host }
     ensures untouched { result ≢ DONE → out.new ≡ out.old }
 {
@@ -123,6 +124,7 @@ pub extern "C" fn gh_rows_text(
     ensures within { result ≡ DONE → count.new ≤ length out.old }
     ensures needs { result ≡ SHORT_BUFFER → IfSome host.old.host (λ opened.
         count.new ≡ length (text_of opened.host.held.rows)) }
+    ensures none { result ≢ DONE → result ≢ SHORT_BUFFER → count.new ≡ 0 }
     ensures unchanged { host.new.host ≡ host.old.host }
     ensures untouched { result ≢ DONE → out.new ≡ out.old }
 {

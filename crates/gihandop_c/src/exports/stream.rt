@@ -63,6 +63,7 @@ pub extern "C" fn gh_next_out(
         host.old.host host.new.host }
     ensures within { result ≡ DONE → count.new ≤ length out.old }
     ensures needs { result ≡ SHORT_BUFFER → count.new ≡ 260 }
+    ensures none { result ≢ DONE → result ≢ SHORT_BUFFER → count.new ≡ 0 }
     ensures unchanged { result ≢ DONE → HostStays host.old.host host.new.host }
     ensures untouched { result ≢ DONE → out.new ≡ out.old }
 {
