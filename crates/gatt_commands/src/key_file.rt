@@ -12,7 +12,7 @@ use std::io::Read;
 use std::str;
 
 /// Reads a key file, and gives its keys.
-pub(crate) fn read_keys<R: Read>(alloc: Global, reader: &mut R) -> Result<Keys, ShellFault>
+pub fn read_keys<R: Read>(alloc: Global, reader: &mut R) -> Result<Keys, ShellFault>
     ensures keys { IfOk result
         (λ keys. IfSome (R.remaining reader.old) (λ octets. keys_in octets ≡ Ok keys)) }
     ensures refused { (number : ℕ) → result ≡ Err (ShellFault.Keys number) → number ≢ 8

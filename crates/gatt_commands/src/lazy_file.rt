@@ -9,7 +9,7 @@ use std::io::Read;
 /// A file that is opened by its first read, which fails where it cannot be opened. So of several
 /// files none is opened before the ones in front of it are judged.
 #[derive(Drop)]
-pub(crate) struct LazyFile<'a, F: Files> {
+pub struct LazyFile<'a, F: Files> {
     files: &'a F,
     path: &'a str,
     opened: Option<F::File>,
@@ -17,7 +17,7 @@ pub(crate) struct LazyFile<'a, F: Files> {
 
 impl<'a, F: Files> LazyFile<'a, F> {
     /// The file at this path, which is not opened yet.
-    pub(crate) fn new(files: &'a F, path: &'a str) -> Self
+    pub fn new(files: &'a F, path: &'a str) -> Self
         ensures { result.path.now ≡ path.now }
     {
         LazyFile {

@@ -12,7 +12,7 @@ use std::alloc::AllocError;
 
 /// Adds the line of a notice to a text.
 #[tactic(auto, unfolding(crate::specs::Notices::notice_line))]
-pub(crate) fn add_line(text: &mut Vec<u8>, notice: &Notice<'_>) -> Result<(), AllocError>
+pub fn add_line(text: &mut Vec<u8>, notice: &Notice<'_>) -> Result<(), AllocError>
     ensures ok { OnOk result (text.new.items ≡ text.old.items ++ notice_line notice.now) }
 {
     add_notice(text, notice)?;
@@ -86,7 +86,7 @@ fn add_attribute(
 }
 
 /// Adds a space and a number in decimal.
-fn add_number(text: &mut Vec<u8>, number: u64) -> Result<(), AllocError>
+pub fn add_number(text: &mut Vec<u8>, number: u64) -> Result<(), AllocError>
     ensures ok { OnOk result (text.new.items ≡ text.old.items ++ 32 ∷ decimal number) }
 {
     text.extend_from_slice(b" ")?;
@@ -125,7 +125,7 @@ fn digit_of(is_so: bool) -> u8
 }
 
 /// Adds a space and a value in hexadecimal, or a hyphen for no octets.
-fn add_value(text: &mut Vec<u8>, value: &[u8]) -> Result<(), AllocError>
+pub fn add_value(text: &mut Vec<u8>, value: &[u8]) -> Result<(), AllocError>
     ensures ok { OnOk result (text.new.items ≡ text.old.items ++ 32 ∷ value_text value.now) }
 {
     text.extend_from_slice(b" ")?;

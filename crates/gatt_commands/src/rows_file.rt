@@ -12,7 +12,7 @@ use std::io::Read;
 use std::str;
 
 /// Reads a rows file, and gives its rows.
-pub(crate) fn read_rows<R: Read>(alloc: Global, reader: &mut R) -> Result<Rows, ShellFault>
+pub fn read_rows<R: Read>(alloc: Global, reader: &mut R) -> Result<Rows, ShellFault>
     ensures rows { IfOk result
         (λ rows. IfSome (R.remaining reader.old) (λ octets. rows_in octets ≡ Ok rows)) }
     ensures refused { (number : ℕ) → result ≡ Err (ShellFault.Rows number) → number ≢ 4

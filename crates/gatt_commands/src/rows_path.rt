@@ -10,7 +10,7 @@ pub struct RowsPath<'a>(pub Option<&'a str>);
 
 /// A rows file that is opened by its first read. One that is not there is empty, as is none at all.
 #[derive(Drop)]
-pub(crate) struct RowsReader<'a, F: Files> {
+pub struct RowsReader<'a, F: Files> {
     files: &'a F,
     path: RowsPath<'a>,
     opened: Option<F::File>,
@@ -18,7 +18,7 @@ pub(crate) struct RowsReader<'a, F: Files> {
 
 impl<'a, F: Files> RowsReader<'a, F> {
     /// The file at this path, which is not opened yet.
-    pub(crate) fn new(files: &'a F, path: RowsPath<'a>) -> Self {
+    pub fn new(files: &'a F, path: RowsPath<'a>) -> Self {
         RowsReader {
             files,
             path,

@@ -13,7 +13,7 @@ use std::io::Read;
 use std::str;
 
 /// Reads a table file, and gives its table.
-pub(crate) fn read_table<R: Read>(alloc: Global, reader: &mut R) -> Result<Table, ShellFault>
+pub fn read_table<R: Read>(alloc: Global, reader: &mut R) -> Result<Table, ShellFault>
     ensures table { IfOk result
         (λ table. IfSome (R.remaining reader.old) (λ octets. table_in octets ≡ Ok table)) }
     ensures refused { (number : ℕ) → result ≡ Err (ShellFault.Table number) → number ≢ 10

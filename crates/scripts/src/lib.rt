@@ -11,7 +11,9 @@ mod script;
 mod script_fault;
 
 pub use act::{Act, PhoneAct};
+pub use line::first_word;
 pub use name::Name;
+pub use numeral::{read_u16, read_u64};
 pub use payload::Payload;
 pub use script::{MAX_PHONES, Script};
 pub use script_fault::ScriptFault;

@@ -47,7 +47,7 @@ pub fn read_line(line: &str) -> Option<Line<'_>>
 }
 
 /// The first word of a text that has another one, and what stands behind its space.
-fn first_word(text: &str) -> Option<(&str, &str)>
+pub fn first_word(text: &str) -> Option<(&str, &str)>
     ensures first { IfSome result
         (λ parts. words_of text.now ≡ parts.0.now ∷ words_of parts.1.now) }
     ensures only { IfNone result (words_of text.now ≡ text.now ∷ []) }

@@ -1,0 +1,12 @@
+use Rattle.std.proofs.Common.{◌≡◌, ◌++◌}
+use Rattle.std.specs.List.{flat_map}
+use Rattle.gatt_slots.specs.Connections.{connections_in}
+use Rattle.device_lines.proofs.told.add_connections.Given as goal
+use Rattle.device_lines.specs.Told.{connection_lines}
+
+-- what is told of those that the iterator still has is what is missing
+abbrev pub invariant-loop-connection : goal.invariant-loop-connection
+invariant-loop-connection l = record {
+  told : l.text.items ++ flat_map connection_lines l.connection-iterator
+      ≡ l.fn.text.items ++ flat_map connection_lines (connections_in l.fn.host.held.slots);
+}

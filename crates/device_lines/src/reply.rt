@@ -1,0 +1,54 @@
+//! What the application is answered.
+
+ghost use Rattle.std.specs.Prelude.{◌≡◌, ◌++◌, OnOk};
+ghost use Rattle.device_lines.specs.Reply.{reply_line, reply_text};
+
+use gatt_commands::{add_number, add_value};
+use gatt_host::AppFault;
+use std::alloc::AllocError;
+
+/// What one line of the application is answered.
+#[derive(Clone, Copy)]
+pub enum Reply<'a> {
+    /// It is done.
+    Done,
+    /// It is refused, for this fault, which these words name.
+    Refused { fault: AppFault, words: &'a str },
+    /// The value at a handle.
+    Value { handle: u16, value: &'a [u8] },
+    /// It asks nothing: what is wrong, in words.
+    Bad(&'a str),
+}
+
+/// Adds the line of an answer to a text.
+#[tactic(auto, unfolding(crate::specs::Reply::reply_line))]
+pub fn add_reply(text: &mut Vec<u8>, reply: &Reply<'_>) -> Result<(), AllocError>
+    ensures ok { OnOk result (text.new.items ≡ text.old.items ++ reply_line reply.now) }
+{
+    add_text(text, reply)?;
+    text.extend_from_slice(b"\n")
+}
+
+/// Adds what an answer says.
+fn add_text(text: &mut Vec<u8>, reply: &Reply<'_>) -> Result<(), AllocError>
+    ensures ok { OnOk result (text.new.items ≡ text.old.items ++ reply_text reply.now) }
+{
+    match reply {
+        Reply::Done => text.extend_from_slice(b"ok"),
+        Reply::Refused { fault, words } => {
+            text.extend_from_slice(b"fault")?;
+            add_number(text, u64::from(fault.number()))?;
+            text.extend_from_slice(b": ")?;
+            text.extend_from_slice(words.as_bytes())
+        }
+        Reply::Value { handle, value } => {
+            text.extend_from_slice(b"value")?;
+            add_number(text, u64::from(*handle))?;
+            add_value(text, value)
+        }
+        Reply::Bad(words) => {
+            text.extend_from_slice(b"bad: ")?;
+            text.extend_from_slice(words.as_bytes())
+        }
+    }
+}

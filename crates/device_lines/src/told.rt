@@ -1,0 +1,67 @@
+//! What the application is told without asking.
+
+ghost use Rattle.std.specs.Prelude.{◌≡◌, ◌++◌, OnOk};
+ghost use Rattle.std.specs.List.{flat_map};
+ghost use Rattle.gatt_slots.specs.Connections.{connections_in};
+ghost use Rattle.device_lines.specs.Told.{connection_lines, told_line};
+
+use gatt_commands::add_line;
+use gatt_host::{Connection, Host, Notice};
+use std::alloc::AllocError;
+
+/// What the application is told beside the notices of a host.
+#[derive(Clone, Copy)]
+pub enum Told<'a> {
+    /// A controller is served.
+    Serving,
+    /// There is no controller, and so no connection.
+    Waiting,
+    /// The host has stopped, for what these words say.
+    Stopped(&'a str),
+}
+
+/// Adds the line of what is told to a text.
+pub fn add_told(text: &mut Vec<u8>, told: &Told<'_>) -> Result<(), AllocError>
+    ensures ok { OnOk result (text.new.items ≡ text.old.items ++ told_line told.now) }
+{
+    match told {
+        Told::Serving => text.extend_from_slice(b"+ serving\n"),
+        Told::Waiting => text.extend_from_slice(b"+ waiting\n"),
+        Told::Stopped(words) => {
+            text.extend_from_slice(b"+ stopped: ")?;
+            text.extend_from_slice(words.as_bytes())?;
+            text.extend_from_slice(b"\n")
+        }
+    }
+}
+
+/// Adds the lines of all connections of a host, in the order of their slots: of each that it came,
+/// and what its key is worth, if it has one.
+pub fn add_connections(text: &mut Vec<u8>, host: &Host) -> Result<(), AllocError>
+    ensures ok { OnOk result (text.new.items
+        ≡ text.old.items ++ flat_map connection_lines (connections_in host.now.held.slots)) }
+{
+    for connection in host.connections() {
+        add_connection(text, &connection)?;
+    }
+    Ok(())
+}
+
+/// Adds the lines of a connection.
+fn add_connection(text: &mut Vec<u8>, connection: &Connection) -> Result<(), AllocError>
+    ensures ok { OnOk result (text.new.items
+        ≡ text.old.items ++ connection_lines connection.now) }
+{
+    let handle = connection.handle;
+    add_line(
+        text,
+        &Notice::Connected {
+            handle,
+            peer: connection.peer,
+        },
+    )?;
+    match connection.key {
+        Some(facts) => add_line(text, &Notice::Secured { handle, facts }),
+        None => Ok(()),
+    }
+}
