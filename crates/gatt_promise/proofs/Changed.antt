@@ -1,7 +1,7 @@
 -- Values and configurations change by right alone.
 use Rattle.std.proofs.Common.{◌≡◌, ℕ, zero, suc, arith, ◌<◌, Bool, true, false, List, [], ◌∷◌, Option, Some, None, Result, Ok, Err, refl, sym, ap, subst, ◌∙◌}
 use Rattle.std.specs.Prelude.{IfSome, is_some, ◌==◌, ◌&&◌, ◌||◌, if◌then◌else◌}
-use Rattle.std.proofs.lemmas.Bool.{eqb-true}
+use Rattle.std.proofs.lemmas.Bool.{eqb-true, eq-eqb}
 use Rattle.att_numbers.specs.Types.{Handle, Row, Values}
 use Rattle.att_pdu.specs.Grammar.{request_of, is_due}
 use Rattle.att_policy.specs.Refusal.{Refusal}
@@ -21,7 +21,7 @@ use Rattle.gatt_laws.proofs.Notices.{is_among, none-once, none-touched}
 use Rattle.gatt_laws.proofs.Stores.{other-value}
 use Rattle.gatt_laws.specs.laws.Headline.{Each, MayUse}
 use Rattle.gatt_laws.specs.machine.Event.{Ordinal, Own, Event, Connected, Gone, KeyAsked, Encrypted, Refreshed, Asks, Signals, Authorized, Ended, Of, Completed, Credit, Update, Tick, Replaced, Nothing}
-use Rattle.gatt_laws.specs.machine.Part.{Part, is_live, key_of, row_of, mtu_of, standing_of, connection_of, prepared_of, after_ending}
+use Rattle.gatt_laws.specs.machine.Part.{Part, come, is_live, is_there, key_of, row_of, mtu_of, standing_of, connection_of, prepared_of, after_ending}
 use Rattle.gatt_laws.specs.machine.Room.{Room}
 use Rattle.gatt_laws.specs.machine.State.{State, with_completed, after_completed, change_of, step}
 use Rattle.gatt_laws.specs.machine.Turn.{Turn, turn_to, served, is_full, after_channel, channel_answer, with_step, lost_encryption, live_turn, turn_of, remote_user_terminated, authentication_failure}
@@ -295,12 +295,30 @@ module _ (state : State) (at : Ordinal) where
       → ConfiguresItsOwn state at own attribute
   its-own own attribute writes = record { keyless = writes.0; may = may-write own attribute writes.1 writes.2 writes.3 }
 
+  -- one that comes where none is, and one that goes, has nothing configured
+  row-then : (own : Own) → ((step state (Of at own)).parts at).row
+      ≡ (turn_of state.room (state.bonds (state.parts at).peer) (state.owed (state.parts at).peer) (state.parts at) own).part.row
+  unfolding change_of
+  row-then own =
+      end_keeps (λ (of : Part). of.row) (λ of pdus pending given reply reason. refl) state (Of at own) at
+      ∙ ap (λ (same : Bool). (if same
+      then (turn_of state.room (state.bonds (state.parts at).peer) (state.owed (state.parts at).peer) (state.parts at) own).part else state.parts at).row)
+      (eq-eqb at at refl)
+
+  come-anew : (handle : ℕ) (peer : Peer) (attribute : Handle) (there : Bool)
+      → (bits_at (if there then state.parts at else come handle peer).row attribute ≡ bits_at (state.parts at).row attribute → ⊥)
+      → bits_at (if there then state.parts at else come handle peer).row attribute ≡ 0
+  come-anew handle peer attribute true differs = absurd (differs refl)
+  come-anew handle peer attribute false differs = refl
+
   own-right-at : (own : Own) (attribute : Handle)
       → (bits_at (turn_of state.room (state.bonds (state.parts at).peer) (state.owed (state.parts at).peer) (state.parts at) own).part.row attribute
       ≡ bits_at (state.parts at).row attribute → ⊥)
       → ConfiguresOwn state at own attribute
-  own-right-at (Connected handle peer) attribute differs = tt
-  own-right-at Gone attribute differs = tt
+  own-right-at (Connected handle peer) attribute differs =
+      ap (λ (row : Row). bits_at row attribute) (row-then (Connected handle peer))
+      ∙ come-anew handle peer attribute (is_there (state.parts at).mark) differs
+  own-right-at Gone attribute differs = ap (λ (row : Row). bits_at row attribute) (row-then Gone)
   own-right-at (Asks pdu) attribute differs = its-own (Asks pdu) attribute (turn-own state.room (state.bonds (state.parts at).peer) (state.owed (state.parts at).peer) (state.parts at) (Asks pdu) attribute differs)
   own-right-at (Signals channel payload) attribute differs = its-own (Signals channel payload) attribute (turn-own state.room (state.bonds (state.parts at).peer) (state.owed (state.parts at).peer) (state.parts at) (Signals channel payload) attribute differs)
   own-right-at (KeyAsked random_number diversifier) attribute differs = its-own (KeyAsked random_number diversifier) attribute (turn-own state.room (state.bonds (state.parts at).peer) (state.owed (state.parts at).peer) (state.parts at) (KeyAsked random_number diversifier) attribute differs)

@@ -33,7 +33,7 @@ use Rattle.att_table.specs.Table.{Contents, value_at}
 use Rattle.att_writes.specs.Applied.{Stored, after_entry, after_entries, applied_to, stored_in, stored_after, unless_refused as unless_entry}
 use Rattle.att_writes.specs.Entry.{Entry, whole}
 use Rattle.att_writes.specs.Fault.{configuration_fault, fault_of, form_fault, has_bits_within, room_of, unless_broken, value_fault}
-use Rattle.att_writes.specs.Queue.{has_room, prepare_fault, queue_after, unless_broken as unless_forbidden}
+use Rattle.att_writes.specs.Queue.{touched_by, has_room, prepare_fault, queue_after, unless_broken as unless_forbidden}
 use Rattle.gatt_conn.specs.Answer.{entry_at, prepare_response, written_response}
 use Rattle.gatt_conn.specs.Connection.{Connection}
 use Rattle.gatt_laws.specs.laws.View.{are_none}
@@ -331,6 +331,18 @@ unfolding refusal-in
 stays-where old (Ok new) refusal is = cc is
 stays-where old (Err of) refusal is = refl
 
+touched-none : (entries : List Entry) (done : Result Stored Refusal) (refusal : Refusal) → refusal-in done ≡ Some refusal → touched_by entries done ≡ []
+unfolding refusal-in
+touched-none entries (Ok new) refusal is = cc is
+touched-none entries (Err of) refusal is = refl
+
+heard-of-nothing : (access : Access) (table : Contents) (row : Row) (standing : Standing) (entries : List Entry) (refusal : Refusal)
+    → option_or (first_there (bad_entries access table.attributes standing (stored_in table row) entries)) None ≡ Some refusal
+    → touched_by entries (applied_to access table row standing entries) ≡ []
+heard-of-nothing access table row standing entries refusal is =
+    touched-none entries (applied_to access table row standing entries) refusal
+    (entries-case access table.attributes standing (stored_in table row) entries ∙ sym (or-none _) ∙ is)
+
 written-nothing : (access : Access) (table : Contents) (row : Row) (standing : Standing) (entries : List Entry) (refusal : Refusal)
     → option_or (first_there (bad_entries access table.attributes standing (stored_in table row) entries)) None ≡ Some refusal
     → stored_after (stored_in table row) (applied_to access table row standing entries) ≡ stored_in table row
@@ -348,29 +360,42 @@ prepared-nothing conn entry refusal None false is = refl
 
 pub refused_changes_nothing : RefusedChangesNothing
 refused_changes_nothing table row conn (Ok (ExchangeMtuRequest client_rx_mtu)) refusal is = cc is
-refused_changes_nothing table row conn (Ok (FindInformationRequest first last)) refusal is = record { stored = refl; kept = refl }
-refused_changes_nothing table row conn (Ok (FindByTypeValueRequest first last kind value)) refusal is = record { stored = refl; kept = refl }
-refused_changes_nothing table row conn (Ok (ReadByTypeRequest first last kind)) refusal is = record { stored = refl; kept = refl }
-refused_changes_nothing table row conn (Ok (ReadRequest handle)) refusal is = record { stored = refl; kept = refl }
-refused_changes_nothing table row conn (Ok (ReadBlobRequest handle offset)) refusal is = record { stored = refl; kept = refl }
-refused_changes_nothing table row conn (Ok (ReadMultipleRequest handles)) refusal is = record { stored = refl; kept = refl }
-refused_changes_nothing table row conn (Ok (ReadByGroupTypeRequest first last kind)) refusal is = record { stored = refl; kept = refl }
+refused_changes_nothing table row conn (Ok (FindInformationRequest first last)) refusal is = record { stored = refl; written = refl; kept = refl }
+refused_changes_nothing table row conn (Ok (FindByTypeValueRequest first last kind value)) refusal is = record { stored = refl; written = refl; kept = refl }
+refused_changes_nothing table row conn (Ok (ReadByTypeRequest first last kind)) refusal is = record { stored = refl; written = refl; kept = refl }
+refused_changes_nothing table row conn (Ok (ReadRequest handle)) refusal is = record { stored = refl; written = refl; kept = refl }
+refused_changes_nothing table row conn (Ok (ReadBlobRequest handle offset)) refusal is = record { stored = refl; written = refl; kept = refl }
+refused_changes_nothing table row conn (Ok (ReadMultipleRequest handles)) refusal is = record { stored = refl; written = refl; kept = refl }
+refused_changes_nothing table row conn (Ok (ReadByGroupTypeRequest first last kind)) refusal is = record { stored = refl; written = refl; kept = refl }
 refused_changes_nothing table row conn (Ok (WriteRequest handle value)) refusal is =
-    record { stored = written-nothing Write table row conn.standing (whole handle value ∷ []) refusal is; kept = refl }
+    record {
+      stored = written-nothing Write table row conn.standing (whole handle value ∷ []) refusal is;
+      written = heard-of-nothing Write table row conn.standing (whole handle value ∷ []) refusal is;
+      kept = refl;
+    }
 refused_changes_nothing table row conn (Ok (PrepareWriteRequest handle offset part)) refusal is =
     let entry : Entry = entry_at handle offset part in
     record {
       stored = refl;
+      written = refl;
       kept =
           prepared-nothing conn entry refusal (first_broken_of Write (guard_at table.attributes handle) conn.standing) (has_room conn.queue part) is;
     }
 refused_changes_nothing table row conn (Ok (ExecuteWriteRequest flags.Cancel)) refusal is = cc is
 refused_changes_nothing table row conn (Ok (ExecuteWriteRequest flags.Write)) refusal is =
-    record { stored = written-nothing Write table row conn.standing conn.queue refusal is; kept = refl }
+    record {
+      stored = written-nothing Write table row conn.standing conn.queue refusal is;
+      written = heard-of-nothing Write table row conn.standing conn.queue refusal is;
+      kept = refl;
+    }
 refused_changes_nothing table row conn (Ok ConfirmationPdu) refusal is = cc is
 refused_changes_nothing table row conn (Ok (WriteCommandPdu handle value)) refusal is =
-    record { stored = written-nothing Command table row conn.standing (whole handle value ∷ []) refusal is; kept = refl }
-refused_changes_nothing table row conn (Err fault) refusal is = record { stored = refl; kept = refl }
+    record {
+      stored = written-nothing Command table row conn.standing (whole handle value ∷ []) refusal is;
+      written = heard-of-nothing Command table row conn.standing (whole handle value ∷ []) refusal is;
+      kept = refl;
+    }
+refused_changes_nothing table row conn (Err fault) refusal is = record { stored = refl; written = refl; kept = refl }
 
 pub ignored_changes_nothing : IgnoredChangesNothing
-ignored_changes_nothing table row conn = record { stored = refl; kept = refl }
+ignored_changes_nothing table row conn = record { stored = refl; written = refl; kept = refl }

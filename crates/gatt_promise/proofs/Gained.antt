@@ -25,7 +25,8 @@ use Rattle.gatt_laws.specs.machine.State.{State, Change, with_completed, after_c
 use Rattle.gatt_laws.specs.machine.Turn.{Turn, turn_to, served, is_full, request_turn, after_channel, channel_answer, with_step, lost_encryption, gained_encryption, handles_written, values_among, live_turn, turn_of, remote_user_terminated, authentication_failure}
 use Rattle.gatt_subs.proofs.Heard.{both, releases_only_what_is_heard}
 use Rattle.gatt_subs.specs.Hearing.{may_hear_at, is_indicated, wants_indications}
-use Rattle.gatt_subs.specs.Indications.{Indications, after_replacement, times_out, first_of, from_due, hears, is_notified, is_waiting, may_indicate, released_handle, with_handle}
+use Rattle.gatt_subs.specs.Indications.{Indications, after_replacement, times_out, first_of, from_due, hears, is_notified, is_waiting, may_indicate, released_handle, rest_of, unconfirmed_since, with_handle}
+use Rattle.gatt_subs.specs.declared.pending.Unconfirmed.{Unconfirmed}
 use Rattle.gatt_subs.specs.Told.{Hearer, notification_of, indication_of, pending_after_raise}
 use Rattle.le_acl.specs.History.{packets_allowed}
 use Rattle.le_acl.specs.Packets.{Pdu}
@@ -77,6 +78,10 @@ record Hears (attributes : List Attr) (values : Values) (hearer : Hearer) (raise
       ++ option_to_list (option_map (λ handle. indication_of values handle hearer.mtu) indicated)
   due : IfSome indicated (λ handle. (is_waiting raised handle || is_waiting hearer.pending.waiting handle) ≡ true)
   may : Each (MayHear attributes hearer.row hearer.standing) (picked picks raised ++ option_to_list indicated)
+  notified : Each (λ handle. wants_indications hearer.row handle ≡ false) (picked picks raised)
+  asked : Each (λ handle. wants_indications hearer.row handle ≡ true) (option_to_list indicated)
+  in_time : hearer.pending.timed_out ≡ true → told ≡ []
+  single : IfSome indicated (λ handle. hearer.pending.unconfirmed ≡ None)
 
 released-may : (attributes : List Attr) (hearer : Hearer) (found : Option Handle)
     → released_handle hearer.pending attributes hearer.row hearer.standing hearer.backlog ≡ found
@@ -84,6 +89,42 @@ released-may : (attributes : List Attr) (hearer : Hearer) (found : Option Handle
 released-may attributes hearer None is = tt
 released-may attributes hearer (Some handle) is =
     ((releases_only_what_is_heard hearer.pending attributes hearer.row hearer.standing hearer.backlog handle is).may, tt)
+
+released-asked : (attributes : List Attr) (hearer : Hearer) (found : Option Handle)
+    → released_handle hearer.pending attributes hearer.row hearer.standing hearer.backlog ≡ found
+    → Each (λ handle. wants_indications hearer.row handle ≡ true) (option_to_list found)
+released-asked attributes hearer None is = tt
+released-asked attributes hearer (Some handle) is =
+    ((releases_only_what_is_heard hearer.pending attributes hearer.row hearer.standing hearer.backlog handle is).wanted, tt)
+
+-- only where none is unconfirmed, and nobody is late
+none-unconfirmed : (unconfirmed : Option Unconfirmed) (in_time room : Bool) → (not (is_some unconfirmed) && in_time && room) ≡ true → unconfirmed ≡ None
+none-unconfirmed None in_time room is = refl
+none-unconfirmed (Some one) in_time room is = cc is
+
+any-handle : (found : Option Handle) (P : Type 0) → P → IfSome found (λ handle. P)
+any-handle None P is = tt
+any-handle (Some handle) P is = is
+
+released-single : (attributes : List Attr) (hearer : Hearer) (may : Bool) → may_indicate hearer.pending hearer.backlog ≡ may
+    → IfSome (if may then first_of (from_due (is_indicated attributes hearer.row hearer.standing) hearer.pending.waiting) else None)
+    (λ handle. hearer.pending.unconfirmed ≡ None)
+released-single attributes hearer true is =
+    any-handle (first_of (from_due (is_indicated attributes hearer.row hearer.standing) hearer.pending.waiting)) (hearer.pending.unconfirmed ≡ None)
+    (none-unconfirmed hearer.pending.unconfirmed (not hearer.pending.timed_out) (nat_lt hearer.backlog 8) is)
+released-single attributes hearer false is = tt
+
+late-silent : (unconfirmed late room : Bool) → late ≡ true → (unconfirmed && not late && room) ≡ false
+late-silent true late room is = rw is refl
+late-silent false late room is = refl
+
+released-late : (attributes : List Attr) (values : Values) (hearer : Hearer) (may : Bool) → may_indicate hearer.pending hearer.backlog ≡ may
+    → hearer.pending.timed_out ≡ true
+    → option_to_list (option_map (λ handle. indication_of values handle hearer.mtu)
+    (if may then first_of (from_due (is_indicated attributes hearer.row hearer.standing) hearer.pending.waiting) else None)) ≡ []
+released-late attributes values hearer true is late =
+    cc (is, late-silent (not (is_some hearer.pending.unconfirmed)) hearer.pending.timed_out (nat_lt hearer.backlog 8) late)
+released-late attributes values hearer false is late = refl
 
 hears-at-end : (attributes : List Attr) (values : Values) (hearer : Hearer) (live : Bool)
     → Hears attributes values hearer [] (option_to_list (if live then option_map (λ handle. indication_of values handle hearer.mtu)
@@ -94,8 +135,13 @@ hears-at-end attributes values hearer true = record {
   is = refl;
   due = released-waits attributes hearer (may_indicate hearer.pending hearer.backlog);
   may = released-may attributes hearer (released_handle hearer.pending attributes hearer.row hearer.standing hearer.backlog) refl;
+  notified = tt;
+  asked = released-asked attributes hearer (released_handle hearer.pending attributes hearer.row hearer.standing hearer.backlog) refl;
+  in_time = released-late attributes values hearer (may_indicate hearer.pending hearer.backlog) refl;
+  single = released-single attributes hearer (may_indicate hearer.pending hearer.backlog) refl;
 }
-hears-at-end attributes values hearer false = record { picks = []; indicated = None; is = refl; due = tt; may = tt }
+hears-at-end attributes values hearer false =
+    record { picks = []; indicated = None; is = refl; due = tt; may = tt; notified = tt; asked = tt; in_time = λ late. refl; single = tt }
 
 -- what waits once a value is raised waited before, or is that value
 raised-waits-if : (waiting : List Handle) (handle other : Handle) (waits : Bool)
@@ -132,27 +178,66 @@ due-before attributes hearer handle handles other is =
     joined false false before true waits is = waits refl
     joined false false before false waits is = cc is
 
-notified-may : (attributes : List Attr) (hearer : Hearer) (handle : Handle)
+-- a value that is raised leaves what is unconfirmed, and whether one is late
+raised-keeps : {A : Type 0} (fact : Indications → A) (attributes : List Attr) (hearer : Hearer) (handle : Handle)
+    → ((pending : Indications) (waiting : List Handle) → fact (record pending { waiting = waiting }) ≡ fact pending)
+    → fact (pending_after_raise attributes hearer handle) ≡ fact hearer.pending
+raised-keeps fact attributes hearer handle keeps =
+    elim hearer.live as (λ (live : Bool).
+    fact (if live then (if hears hearer.pending attributes hearer.row hearer.standing handle && wants_indications hearer.row handle
+    then record hearer.pending { waiting = with_handle hearer.pending.waiting handle } else hearer.pending) else hearer.pending) ≡ fact hearer.pending) [
+      | true ↦
+          elim (hears hearer.pending attributes hearer.row hearer.standing handle && wants_indications hearer.row handle) as (λ (indicates : Bool).
+          fact (if indicates then record hearer.pending { waiting = with_handle hearer.pending.waiting handle } else hearer.pending) ≡ fact hearer.pending) [
+            | true ↦ keeps hearer.pending (with_handle hearer.pending.waiting handle)
+            | false ↦ refl
+          ]
+      | false ↦ refl
+    ]
+
+-- what a notification that is due says of its connection
+record IsDue (attributes : List Attr) (hearer : Hearer) (handle : Handle) : Type 0 where
+  may : MayHear attributes hearer.row hearer.standing handle
+  unasked : wants_indications hearer.row handle ≡ false
+  in_time : hearer.pending.timed_out ≡ false
+
+not-so : (test : Bool) → not test ≡ true → test ≡ false
+not-so true is = cc is
+not-so false is = refl
+
+is-due : (attributes : List Attr) (hearer : Hearer) (handle : Handle)
     → (hearer.live && is_notified hearer.pending attributes hearer.row hearer.standing handle hearer.backlog) ≡ true
-    → MayHear attributes hearer.row hearer.standing handle
-notified-may attributes hearer handle is =
+    → IsDue attributes hearer handle
+is-due attributes hearer handle is =
     let notified = (both hearer.live (is_notified hearer.pending attributes hearer.row hearer.standing handle hearer.backlog) is).1 in
-    let heard = (both (hears hearer.pending attributes hearer.row hearer.standing handle) (not (wants_indications hearer.row handle))
-    (both _ (nat_lt hearer.backlog 8) notified).0).0 in
-    (both (not hearer.pending.timed_out) (may_hear_at attributes hearer.row hearer.standing handle) heard).1
+    let before_room = (both _ (nat_lt hearer.backlog 8) notified).0 in
+    let ways = both (hears hearer.pending attributes hearer.row hearer.standing handle) (not (wants_indications hearer.row handle)) before_room in
+    let heard = both (not hearer.pending.timed_out) (may_hear_at attributes hearer.row hearer.standing handle) ways.0 in
+    record {
+      may = heard.1;
+      unasked = not-so (wants_indications hearer.row handle) ways.1;
+      in_time = not-so hearer.pending.timed_out heard.0;
+    }
 
 hears-next : (attributes : List Attr) (values : Values) (hearer : Hearer) (handle : Handle) (handles : List Handle) (later : List Response) (tells : Bool)
     → (hearer.live && is_notified hearer.pending attributes hearer.row hearer.standing handle hearer.backlog) ≡ tells
     → Hears attributes values (hearer_after hearer (heard_raised attributes values hearer handle)) handles later
     → Hears attributes values hearer (handle ∷ handles) (option_to_list (if tells then Some (notification_of values handle hearer.mtu) else None) ++ later)
-hears-next attributes values hearer handle handles later true is rest = record {
-  picks = true ∷ rest.picks;
-  indicated = rest.indicated;
-  is = ap (λ (responses : List Response). notification_of values handle hearer.mtu ∷ responses) rest.is;
-  due = if-some _ (λ other. (is_waiting (handle ∷ handles) other || is_waiting hearer.pending.waiting other) ≡ true) rest.indicated
-      (due-before attributes hearer handle handles) rest.due;
-  may = (notified-may attributes hearer handle is, rest.may);
-}
+hears-next attributes values hearer handle handles later true is rest =
+    let due = is-due attributes hearer handle is in
+    record {
+      picks = true ∷ rest.picks;
+      indicated = rest.indicated;
+      is = ap (λ (responses : List Response). notification_of values handle hearer.mtu ∷ responses) rest.is;
+      due = if-some _ (λ other. (is_waiting (handle ∷ handles) other || is_waiting hearer.pending.waiting other) ≡ true) rest.indicated
+          (due-before attributes hearer handle handles) rest.due;
+      may = (due.may, rest.may);
+      notified = (due.unasked, rest.notified);
+      asked = rest.asked;
+      in_time = λ late. cc (late, due.in_time);
+      single = if-some _ (λ other. hearer.pending.unconfirmed ≡ None) rest.indicated
+          (λ other none. sym (raised-keeps (λ (pending : Indications). pending.unconfirmed) attributes hearer handle (λ pending waiting. refl)) ∙ none) rest.single;
+    }
 hears-next attributes values hearer handle handles later false is rest = record {
   picks = false ∷ rest.picks;
   indicated = rest.indicated;
@@ -160,6 +245,11 @@ hears-next attributes values hearer handle handles later false is rest = record 
   due = if-some _ (λ other. (is_waiting (handle ∷ handles) other || is_waiting hearer.pending.waiting other) ≡ true) rest.indicated
       (due-before attributes hearer handle handles) rest.due;
   may = rest.may;
+  notified = rest.notified;
+  asked = rest.asked;
+  in_time = λ late. rest.in_time (raised-keeps (λ (pending : Indications). pending.timed_out) attributes hearer handle (λ pending waiting. refl) ∙ late);
+  single = if-some _ (λ other. hearer.pending.unconfirmed ≡ None) rest.indicated
+      (λ other none. sym (raised-keeps (λ (pending : Indications). pending.unconfirmed) attributes hearer handle (λ pending waiting. refl)) ∙ none) rest.single;
 }
 
 hears-in-turn : (attributes : List Attr) (values : Values) (hearer : Hearer) (now : ℕ) (handles : List Handle)
@@ -170,6 +260,42 @@ hears-in-turn attributes values hearer now (handle ∷ handles) =
     hears-next attributes values hearer handle handles (heard_in_turn attributes values (hearer_after hearer first) now handles).responses
     (hearer.live && is_notified hearer.pending attributes hearer.row hearer.standing handle hearer.backlog) refl
     (hears-in-turn attributes values (hearer_after hearer first) now handles)
+
+-- What waits then, and whether one is late.
+
+rest-waits : (is_due : Handle → Bool) (handle : Handle) (waiting : List Handle) → is_waiting (rest_of (from_due is_due waiting)) handle ≡ true
+    → is_waiting waiting handle ≡ true
+rest-waits is_due handle [] is = cc is
+rest-waits is_due handle (next ∷ rest) is = rest-waits-if (is_due next) (rest-waits is_due handle rest) is
+  where
+    rest-waits-if : (due : Bool) → (is_waiting (rest_of (from_due is_due rest)) handle ≡ true → is_waiting rest handle ≡ true)
+        → is_waiting (rest_of (if due then next ∷ rest else from_due is_due rest)) handle ≡ true → ((next == handle) || is_waiting rest handle) ≡ true
+    rest-waits-if true later waits = ap (λ (others : Bool). (next == handle) || others) waits ∙ or-true (next == handle)
+    rest-waits-if false later waits = ap (λ (others : Bool). (next == handle) || others) (later waits) ∙ or-true (next == handle)
+
+record Leaves (hearer : Hearer) (raised : List Handle) (pending : Indications) : Type 0 where
+  waits : (handle : Handle) → is_waiting pending.waiting handle ≡ true → (is_waiting raised handle || is_waiting hearer.pending.waiting handle) ≡ true
+  late : pending.timed_out ≡ hearer.pending.timed_out
+
+leaves-at-end : (attributes : List Attr) (hearer : Hearer) (now : ℕ) (live may : Bool)
+    → Leaves hearer [] (if live then (if may then (let due = from_due (is_indicated attributes hearer.row hearer.standing) hearer.pending.waiting in
+    record hearer.pending { waiting = rest_of due; unconfirmed = option_map (unconfirmed_since now) (first_of due) }) else hearer.pending) else hearer.pending)
+leaves-at-end attributes hearer now true true = record {
+  waits = λ handle. rest-waits (is_indicated attributes hearer.row hearer.standing) handle hearer.pending.waiting;
+  late = refl;
+}
+leaves-at-end attributes hearer now true false = record { waits = λ handle is. is; late = refl }
+leaves-at-end attributes hearer now false may = record { waits = λ handle is. is; late = refl }
+
+leaves-in-turn : (attributes : List Attr) (values : Values) (hearer : Hearer) (now : ℕ) (handles : List Handle)
+    → Leaves hearer handles (heard_in_turn attributes values hearer now handles).pending
+leaves-in-turn attributes values hearer now [] = leaves-at-end attributes hearer now hearer.live (may_indicate hearer.pending hearer.backlog)
+leaves-in-turn attributes values hearer now (handle ∷ handles) =
+    let rest = leaves-in-turn attributes values (hearer_after hearer (heard_raised attributes values hearer handle)) now handles in
+    record {
+      waits = λ other is. due-before attributes hearer handle handles other (rest.waits other is);
+      late = rest.late ∙ raised-keeps (λ (pending : Indications). pending.timed_out) attributes hearer handle (λ pending waiting. refl);
+    }
 
 -- What an event changes before its end.
 
@@ -554,20 +680,58 @@ step-queue state event ordinal =
     (nat_lt (length (command_of_init change.state.controller) + count_before ordinal (parts_finished change) change.state.slots) change.state.controller.credit)
     ∙ finished-queue change.state.room change.state.bonds (change.raised ordinal) (change.state.parts ordinal)
 
+-- and what it leaves of the indications
+given-pending : (part : Part) (given : ℕ) (live : Bool) → (if live then record part { given = given } else part).pending ≡ part.pending
+given-pending part given true = refl
+given-pending part given false = refl
+
+sent-pending : (part : Part) (sent : Bool) → (if sent then without_command part else part).pending ≡ part.pending
+sent-pending part true =
+    elim (is_some part.reason) as (λ (has : Bool). (if has then record part { reason = None } else record part { reply = None }).pending ≡ part.pending) [
+      | true ↦ refl
+      | false ↦ refl
+    ]
+sent-pending part false = refl
+
+pending-at : Room → Bonds → List Handle → Part → Indications
+pending-at room bonds handles part =
+    (heard_in_turn room.table.attributes room.table.values (hearer_of room (bonds part.peer) part) room.time handles).pending
+
+step-pending : (state : State) (event : Event) (ordinal : Ordinal)
+    → (let change : Change = change_of state event in
+    ((step state event).parts ordinal).pending
+    ≡ pending-at change.state.room change.state.bonds (change.raised ordinal) (change.state.parts ordinal))
+unfolding step after_hearing pending-at
+step-pending state event ordinal =
+    let change : Change = change_of state event in
+    let room : Room = change.state.room in
+    let part : Part = change.state.parts ordinal in
+    let heard : Part = after_hearing room (change.state.bonds part.peer) (change.raised ordinal) part in
+    sent-pending (parts_finished change ordinal)
+    (nat_lt (length (command_of_init change.state.controller) + count_before ordinal (parts_finished change) change.state.slots) change.state.controller.credit)
+    ∙ given-pending heard (packets_allowed (share_of room.slots room.told) (size_of room.told) heard.pdus heard.done) (is_live heard.mark)
+
+-- what is told, by what is raised
+record TellsOf (state : State) (event : Event) (ordinal : Ordinal) (told : List Response) (raised : List Handle) : Type 0 where
+  only : TellsOnly (step state event) ordinal raised (state.parts ordinal).pending.waiting told
+  single : IfSome only.indicated (λ handle. ((change_of state event).state.parts ordinal).pending.unconfirmed ≡ None)
+
 -- what a hearer is told, in the words of the state in which the event ends
 tells-only : (state : State) (event : Event) (ordinal : Ordinal) (raised : List Handle) (told : List Response)
     → (let change : Change = change_of state event in let part : Part = change.state.parts ordinal in
-    Hears change.state.room.table.attributes change.state.room.table.values (hearer_of change.state.room (change.state.bonds part.peer) part) raised told
-    → TellsOnly (step state event) ordinal raised (state.parts ordinal).pending.waiting told)
+    let hearer : Hearer = hearer_of change.state.room (change.state.bonds part.peer) part in
+    Hears change.state.room.table.attributes change.state.room.table.values hearer raised told
+    → Leaves hearer raised ((step state event).parts ordinal).pending
+    → TellsOf state event ordinal told raised)
 unfolding step
-tells-only state event ordinal raised told hears =
+tells-only state event ordinal raised told hears leaves =
     let change : Change = change_of state event in
     let part : Part = change.state.parts ordinal in
     let room : Room = change.state.room in
     let mtu = end_keeps (λ (of : Part). mtu_of room of) (λ of pdus pending given reply reason. refl) state event ordinal in
     let row = end_keeps (λ (of : Part). row_of (change.state.bonds of.peer) of) (λ of pdus pending given reply reason. refl) state event ordinal in
     let standing = end_keeps (λ (of : Part). standing_of room of) (λ of pdus pending given reply reason. refl) state event ordinal in
-    record {
+    let only : TellsOnly (step state event) ordinal raised (state.parts ordinal).pending.waiting told = record {
       picks = hears.picks;
       indicated = hears.indicated;
       is = hears.is ∙ ap (λ (of : Mtu).
@@ -580,28 +744,42 @@ tells-only state event ordinal raised told hears =
           (sym standing)
           (subst (λ (of : Row). Each (MayHear room.table.attributes of (standing_of room part)) (picked hears.picks raised ++ option_to_list hears.indicated))
           (sym row) hears.may);
-    }
+      notified = subst (λ (of : Row). Each (λ handle. wants_indications of handle ≡ false) (picked hears.picks raised)) (sym row) hears.notified;
+      asked = subst (λ (of : Row). Each (λ handle. wants_indications of handle ≡ true) (option_to_list hears.indicated)) (sym row) hears.asked;
+      waits = λ handle is.
+          waited (is_waiting raised handle) (is_waiting part.pending.waiting handle) (is_waiting (state.parts ordinal).pending.waiting handle)
+          (change-waited state event ordinal handle) (leaves.waits handle is);
+      in_time = λ late. hears.in_time (sym leaves.late ∙ late);
+    } in
+    record { only = only; single = hears.single }
   where
     waited : (raised now before : Bool) → (now ≡ true → before ≡ true) → (raised || now) ≡ true → (raised || before) ≡ true
     waited true now before waits is = refl
     waited false now before waits is = waits is
 
 pub gains_only_what_is_due : GainsOnlyWhatIsDue
-unfolding told-at
+unfolding told-at pending-at
 gains_only_what_is_due state event ordinal =
     let change : Change = change_of state event in
     let part : Part = change.state.parts ordinal in
     let room : Room = change.state.room in
     let raised : List Handle = change.raised ordinal in
     let told : List Response = told-at room change.state.bonds raised part in
+    let hearer : Hearer = hearer_of room (change.state.bonds part.peer) part in
+    let hears : Hears room.table.attributes room.table.values hearer raised told =
+    hears-in-turn room.table.attributes room.table.values hearer room.time raised in
+    let leaves : Leaves hearer raised ((step state event).parts ordinal).pending =
+    subst (λ (pending : Indications). Leaves hearer raised pending) (sym (step-pending state event ordinal))
+    (leaves-in-turn room.table.attributes room.table.values hearer room.time raised) in
+    let tells : TellsOf state event ordinal told (raised_for state ordinal event) =
+    subst (TellsOf state event ordinal told) (change-raises state event ordinal)
+    (tells-only state event ordinal raised told hears leaves) in
     record {
       told = told;
       queue =
           step-queue state event ordinal
           ∙ ap (λ (pdus : List Pdu). pdus ++ map att_pdu told) (change-queue state event ordinal)
           ∙ append_assoc (kept_queue state ordinal event) (answers state ordinal event) (map att_pdu told);
-      only = subst (λ (handles : List Handle). TellsOnly (step state event) ordinal handles (state.parts ordinal).pending.waiting told)
-          (change-raises state event ordinal)
-          (tells-only state event ordinal raised told
-          (hears-in-turn room.table.attributes room.table.values (hearer_of room (change.state.bonds part.peer) part) room.time raised));
+      only = tells.only;
+      single = tells.single;
     }

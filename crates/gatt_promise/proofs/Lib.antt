@@ -4,5 +4,7 @@ pub mod FirstCase
 pub mod Front
 pub mod Gained
 pub mod Promise
+pub mod Standing
+pub mod Stopping
 pub mod Waiting
 pub mod examples

@@ -1,4 +1,5 @@
 -- The promise is kept.
+use Rattle.gatt_conn.proofs.Dues.{answered_where_due}
 use Rattle.gatt_laws.proofs.Courses.{continues, keeps_what_is_gone}
 use Rattle.gatt_laws.proofs.Given.{is_given_the_front}
 use Rattle.gatt_laws.proofs.Headline.{refusals_change_nothing, sends_what_may_be_read, writes_what_may_be_written}
@@ -18,19 +19,30 @@ use Rattle.gatt_laws.proofs.Queued.{always_has_bounded_queues}
 use Rattle.gatt_laws.proofs.Refusals.{refuses_by_the_first_broken_rule, refuses_the_first_entry, refuses_the_first_handle, refuses_the_first_listed}
 use Rattle.gatt_laws.proofs.Runs.{is_where_events_lead}
 use Rattle.gatt_laws.proofs.SameCourse.{same_view_same_packets}
-use Rattle.gatt_laws.proofs.Silence.{gives_all_that_it_may}
+use Rattle.gatt_laws.proofs.Silence.{gives_all_that_it_may, only_serves_the_live, only_the_live_act}
 use Rattle.gatt_laws.proofs.Telling.{tells_the_application}
 use Rattle.gatt_promise.proofs.Alone.{gives_the_same_to_one, keeps_alike_to_one, nothing_crosses_to_one_in_courses}
 use Rattle.gatt_promise.proofs.Changed.{changes_bonds_by_right, changes_own_rows_by_right, changes_values_by_right}
 use Rattle.gatt_promise.proofs.FirstCase.{ignored_changes_nothing, refused_changes_nothing, refuses_by_the_first_case}
 use Rattle.gatt_promise.proofs.Front.{is_always_given_the_front}
 use Rattle.gatt_promise.proofs.Gained.{gains_only_what_is_due}
+use Rattle.gatt_promise.proofs.Standing.{authorizes_by_the_application, encrypts_by_the_controller, keeps_the_guards, keeps_the_keys, tells_the_time_alone}
+use Rattle.gatt_promise.proofs.Stopping.{takes_all_data}
 use Rattle.gatt_promise.proofs.Waiting.{waits_only_behind_a_backlog}
 use Rattle.gatt_promise.specs.Promise.{KeepsConnectionsApart, KeepsThePolicy, Promise, RunsInOrder}
 
 pub keeps_the_policy : KeepsThePolicy
 keeps_the_policy = record {
   gains = gains_only_what_is_due;
+  answers = answered_where_due;
+  guards = keeps_the_guards;
+  keys = keeps_the_keys;
+  authorizations = authorizes_by_the_application;
+  links = encrypts_by_the_controller;
+  time = tells_the_time_alone;
+  silent = only_serves_the_live;
+  inert = only_the_live_act;
+  takes_all = takes_all_data;
   sends = sends_what_may_be_read;
   values = changes_values_by_right;
   own_rows = changes_own_rows_by_right;

@@ -49,10 +49,13 @@ pub record ConfiguresItsBond (state : State) (ordinal : Ordinal) (own : Own) (pe
   pub of : same_peer peer (state.parts ordinal).peer ≡ true
   pub may : MayWriteThere state ordinal own attribute
 
--- one that comes or goes has no row
+-- one that comes begins with nothing configured, and one that goes leaves nothing
+abbrev pub HasNothing : State → Ordinal → Own → Handle → Type 0
+HasNothing state ordinal own attribute = bits_at ((step state (Of ordinal own)).parts ordinal).row attribute ≡ 0
+
 abbrev pub ConfiguresOwn : State → Ordinal → Own → Handle → Type 0
-ConfiguresOwn state ordinal (Connected handle peer) attribute = Unit
-ConfiguresOwn state ordinal Gone attribute = Unit
+ConfiguresOwn state ordinal (Connected handle peer) attribute = HasNothing state ordinal (Connected handle peer) attribute
+ConfiguresOwn state ordinal Gone attribute = HasNothing state ordinal Gone attribute
 ConfiguresOwn state ordinal own attribute = ConfiguresItsOwn state ordinal own attribute
 
 abbrev pub ChangesAnOwnRow : State → Event → Ordinal → Handle → Type 0

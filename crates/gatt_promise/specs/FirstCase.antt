@@ -1,6 +1,7 @@
--- The refusals in their order, and that a request is refused by the first case of it that there is: the cases are those of
--- Core 5.0, Vol 3 Part F, 3.4.1.1; their order is this profile's own. No definition of an answer is in it.
-use Rattle.std.specs.Prelude.{◌≡◌, ◌+◌, ◌==◌, nat_lt, Bool, true, false, ◌&&◌, ◌||◌, not, if◌then◌else◌, List, [], ◌∷◌, length, map, take, filter, Option, Some, None, Ok, Err}
+-- The refusals in their order, and that a request is refused by the first case that applies: the cases are those of Core 5.0, Vol 3
+-- Part F, 3.4.1.1, and OUT_OF_RANGE of the Core Specification Supplement; their order is this profile's own. No definition of a
+-- response is in it: of what answers requests it takes what a request asks to be written, and when a value is equal to another.
+use Rattle.std.specs.Prelude.{◌≡◌, ◌+◌, ◌==◌, nat_lt, Bool, true, false, ◌&&◌, ◌||◌, not, is_some, if◌then◌else◌, List, [], ◌∷◌, length, map, take, filter, Option, Some, None, Ok, Err}
 use Rattle.std.specs.Option.{option_map, option_and_then, option_or}
 use Rattle.att_numbers.specs.AttributeType.{of_16_bits}
 use Rattle.att_numbers.specs.Types.{Handle, Opcode, Code, Row, Values}
@@ -27,7 +28,7 @@ use Rattle.att_writes.specs.Applied.{Stored, after_entry, stored_in}
 use Rattle.att_writes.specs.Entry.{Entry}
 use Rattle.att_writes.specs.Fault.{has_bits_within}
 use Rattle.att_writes.specs.Queue.{has_room}
-use Rattle.gatt_conn.specs.Answer.{Question, Writing, answer_to, writing_asked, stored_by, conn_after}
+use Rattle.gatt_conn.specs.Answer.{Question, Writing, answer_to, writing_asked, stored_by, handles_by, conn_after}
 use Rattle.gatt_conn.specs.Connection.{Connection}
 use Rattle.gatt_conn.specs.Transcript.{asks_execution}
 use Rattle.gatt_laws.specs.laws.View.{are_none}
@@ -186,8 +187,7 @@ error_in answer = None
 abbrev pub refused_by : Question → Refusal → Response
 refused_by question refusal = ErrorResponse (opcode_of question) refusal.handle refusal.code
 
--- an answer refuses exactly where there is a case, and by the first; a command, a confirmation and what is ignored are not
--- answered
+-- an answer is an Error Response exactly where one is due and a case applies, and by the first
 abbrev pub IsByTheFirstCase : Contents → Row → Connection → Question → Option Response → Type 0
 IsByTheFirstCase table row conn question answer =
     error_in answer ≡ (if is_due question then option_map (refused_by question) (first_case table row conn question) else None)
@@ -196,12 +196,19 @@ abbrev pub RefusesByTheFirstCase : Type 0
 RefusesByTheFirstCase = (table : Contents) (row : Row) (conn : Connection) (question : Question) →
     IsByTheFirstCase table row conn question (answer_to table row conn question)
 
--- what is refused changes no value, no configuration, no ATT_MTU and nothing that is prepared, but that an execution leaves
--- nothing prepared; a command too, and what is ignored is no case but changes nothing either
+-- and there is an answer exactly where one is due: not to a command, to a confirmation and to what is ignored
+abbrev pub AnswersWhereDue : Type 0
+AnswersWhereDue = (table : Contents) (row : Row) (conn : Connection) (question : Question) →
+    is_some (answer_to table row conn question) ≡ is_due question
+
+-- no value is changed, no configuration, no ATT_MTU and nothing that is prepared, but that an execution leaves nothing prepared;
+-- and so nobody hears of a write
 pub record ChangesNothing (table : Contents) (row : Row) (conn : Connection) (question : Question) : Type 0 where
   pub stored : stored_by table row conn question ≡ stored_in table row
+  pub written : handles_by table row conn question ≡ []
   pub kept : conn_after table.attributes conn question ≡ (if asks_execution question then record conn { queue = [] } else conn)
 
+-- what is refused changes nothing, a command too; and what is ignored, which is no case, changes nothing either
 abbrev pub RefusedChangesNothing : Type 0
 RefusedChangesNothing = (table : Contents) (row : Row) (conn : Connection) (question : Question) (refusal : Refusal) →
     first_case table row conn question ≡ Some refusal → ChangesNothing table row conn question

@@ -1,6 +1,6 @@
 -- What the queue of a connection gains at an event: the answer to what it did itself, and values that it may hear of. And
 -- nothing else. Core 5.0, Vol 3 Part F, 3.3 and 3.4.7; what is told when is this profile's own.
-use Rattle.std.specs.Prelude.{◌≡◌, ◌==◌, Bool, true, ◌&&◌, ◌||◌, not, IfSome, if◌then◌else◌, List, [], ◌∷◌, ◌++◌, map, Option}
+use Rattle.std.specs.Prelude.{◌≡◌, ◌==◌, Bool, true, false, ◌&&◌, ◌||◌, not, IfSome, if◌then◌else◌, List, [], ◌∷◌, ◌++◌, map, Option, None}
 use Rattle.std.specs.Option.{option_map, option_to_list}
 use Rattle.att_numbers.specs.Types.{Handle}
 use Rattle.att_pdu.specs.Grammar.{request_of}
@@ -12,9 +12,9 @@ use Rattle.gatt_laws.specs.laws.OwnWrites.{row_in}
 use Rattle.gatt_laws.specs.machine.Event.{Ordinal, Own, Event, Connected, Gone, Encrypted, Refreshed, Asks, Signals, Of, Update, Replaced}
 use Rattle.gatt_laws.specs.machine.Heard.{att_pdu}
 use Rattle.gatt_laws.specs.machine.Part.{Part, is_live, is_there, key_of, mtu_of, standing_of, connection_of}
-use Rattle.gatt_laws.specs.machine.State.{State, step}
+use Rattle.gatt_laws.specs.machine.State.{State, change_of, step}
 use Rattle.gatt_laws.specs.machine.Turn.{channel_answer, gained_encryption, handles_written, is_full, values_among, with_step}
-use Rattle.gatt_subs.specs.Hearing.{may_hear_at}
+use Rattle.gatt_subs.specs.Hearing.{may_hear_at, wants_indications}
 use Rattle.gatt_subs.specs.Indications.{is_waiting}
 use Rattle.gatt_subs.specs.Told.{notification_of, indication_of}
 use Rattle.le_acl.specs.Packets.{Pdu}
@@ -74,9 +74,10 @@ picked [] handles = []
 picked (pick ∷ picks) [] = []
 picked (pick ∷ picks) (handle ∷ handles) = if pick then handle ∷ picked picks handles else picked picks handles
 
--- what is told: notifications of values that are raised, each at most once and in their order; and behind them at most one
--- indication, of a value that is raised or waited. Each tells the octets that the value then has, as many as fit, and is one
--- that the connection may then hear of
+-- what is told: notifications of values that are raised, each at most as often and in their order; and behind them at most one
+-- indication, of a value that is raised or waited. Each tells the octets that the value has when the event ends, as many as fit, and
+-- is one that the connection may then hear of: by an indication where its row asks for that, and else by a notification. Of values
+-- wait then those alone that waited or were raised; and one that did not confirm in time is told nothing
 pub record TellsOnly (state : State) (ordinal : Ordinal) (raised waiting : List Handle) (told : List Response) : Type 0 where
   pub picks : List Bool
   pub indicated : Option Handle
@@ -86,12 +87,20 @@ pub record TellsOnly (state : State) (ordinal : Ordinal) (raised waiting : List 
   pub due : IfSome indicated (λ handle. (is_waiting raised handle || is_waiting waiting handle) ≡ true)
   pub may : Each (λ handle. may_hear_at state.room.table.attributes (row_in state ordinal) (standing_of state.room (state.parts ordinal)) handle ≡ true)
       (picked picks raised ++ option_to_list indicated)
+  pub notified : Each (λ handle. wants_indications (row_in state ordinal) handle ≡ false) (picked picks raised)
+  pub asked : Each (λ handle. wants_indications (row_in state ordinal) handle ≡ true) (option_to_list indicated)
+  pub waits : (handle : Handle) → is_waiting (state.parts ordinal).pending.waiting handle ≡ true
+      → (is_waiting raised handle || is_waiting waiting handle) ≡ true
+  pub in_time : (state.parts ordinal).pending.timed_out ≡ true → told ≡ []
 
 -- so from a state to the one in which the event ends
 pub record Gains (state : State) (event : Event) (new : State) (ordinal : Ordinal) : Type 0 where
   pub told : List Response
   pub queue : (new.parts ordinal).pdus ≡ kept_queue state ordinal event ++ (answers state ordinal event ++ map att_pdu told)
   pub only : TellsOnly new ordinal (raised_for state ordinal event) (state.parts ordinal).pending.waiting told
+  -- nothing is indicated while another indication is unconfirmed, as the event leaves it before its end: a confirmation that comes
+  -- is one of what it leaves
+  pub single : IfSome only.indicated (λ handle. ((change_of state event).state.parts ordinal).pending.unconfirmed ≡ None)
 
 -- in every state, and so however connections interleave
 abbrev pub GainsOnlyWhatIsDue : Type 0

@@ -1,7 +1,9 @@
--- What the host promises. Of each call the contract says what it takes in and what goes out then: an input leads to a course, and
--- what goes out are its packets. What a course is, is defined by gatt_laws in specs/machine: Event, Part, Room, State and Turn, and
--- Input. These records say what holds of each course, for every start and every input, however connections interleave: first what
--- each connection is sent and may change, then what it may not learn, then what the application is told. Each field is proved.
+-- What the host promises. A start (a table, keys, rows and a configuration) and an input (octets, packets, calls and tables) lead to a
+-- course: a state, and all packets that go out on the way. gatt_laws defines it, in specs/machine; a connection is a Part there, and
+-- what all connections share is the Room. Of each call of the host its contract says what it takes in, and that what goes out are the
+-- packets of the course. These records say what holds of each course, for every start and every input, however connections
+-- interleave: that the order of octets alone decides it, what each connection is sent and what it may change, what it may not learn,
+-- and what the application is told. Each field is proved.
 use Rattle.gatt_laws.specs.laws.Given.{IsGivenTheFront}
 use Rattle.gatt_laws.specs.laws.Headline.{RefusalsChangeNothing, SendsWhatMayBeRead, WritesWhatMayBeWritten}
 use Rattle.gatt_laws.specs.laws.Laws.{ContinuesItsCourse, KeepsWhatIsGone, LeavesLessThanAPacket, TakesTheDivision}
@@ -15,76 +17,108 @@ use Rattle.gatt_laws.specs.laws.Refusals.{RefusesByTheFirstBrokenRule, RefusesTh
 use Rattle.gatt_laws.specs.laws.RowsOfTheTable.{AlwaysHasRowsOfItsTable}
 use Rattle.gatt_laws.specs.laws.Runs.{IsWhereEventsLead}
 use Rattle.gatt_laws.specs.laws.SameView.{DoesTheSameToWhoSeesTheSame, LeavesWhoSeesNothing, SameViewSamePackets}
-use Rattle.gatt_laws.specs.laws.Silence.{GivesAllThatItMay}
+use Rattle.gatt_laws.specs.laws.Silence.{GivesAllThatItMay, OnlyServesTheLive, OnlyTheLiveAct}
 use Rattle.gatt_laws.specs.laws.Telling.{TellsTheApplication}
 use Rattle.gatt_laws.specs.laws.TwoWorlds.{GivesNothingToTheAbsent, GivesTheSame, KeepsAlike}
 use Rattle.gatt_laws.specs.laws.ValuesOfTheTable.{AlwaysHasATable}
 use Rattle.gatt_promise.specs.Alone.{GivesTheSameToOne, KeepsAlikeToOne, NothingCrossesToOneInCourses}
 use Rattle.gatt_promise.specs.Changed.{ChangesBondsByRight, ChangesOwnRowsByRight, ChangesValuesByRight}
 use Rattle.gatt_promise.specs.Crossing.{NothingCrossesOfAny}
-use Rattle.gatt_promise.specs.FirstCase.{IgnoredChangesNothing, RefusedChangesNothing, RefusesByTheFirstCase}
+use Rattle.gatt_promise.specs.FirstCase.{AnswersWhereDue, IgnoredChangesNothing, RefusedChangesNothing, RefusesByTheFirstCase}
 use Rattle.gatt_promise.specs.Front.{IsAlwaysGivenTheFront}
 use Rattle.gatt_promise.specs.Gained.{GainsOnlyWhatIsDue}
+use Rattle.gatt_promise.specs.Standing.{AuthorizesByTheApplication, EncryptsByTheController, KeepsTheGuards, KeepsTheKeys, TellsTheTimeAlone}
+use Rattle.gatt_promise.specs.Stopping.{TakesAllData}
 use Rattle.gatt_promise.specs.Waiting.{WaitsOnlyBehindABacklog}
 
--- Each connection is sent the front of the answers of the written policy.
+-- Each connection is sent the front of the answers of the written policy, and changes what it may change.
 pub record KeepsThePolicy : Type 0 where
-  -- at each event a queue gains the answer to what the connection did itself, and of values that it may then hear of the octets
-  -- that they then have; and nothing else
+  -- at an event the queue of a connection gains the answer to its own PDU, by what held before the event, unless 16 PDUs wait; and
+  -- behind it at most notifications of values that the event raised for it and one indication, of a value that was raised or waited,
+  -- while none is unconfirmed: with the octets that stand when the event ends, where the connection may hear of them then, in the way
+  -- that its row asks for, and nothing once it did not confirm in time. That a value is told at all is what heard_in_turn says
   pub gains : GainsOnlyWhatIsDue
-  -- each value in an answer is one that the connection may then read
+  -- an answer is there exactly where one is due, and each value in it is one that the connection may then read
+  pub answers : AnswersWhereDue
   pub sends : SendsWhatMayBeRead
-  -- a value that an event changes is one that the acting connection may then write, and asks to, or the application's; and so
-  -- for the rows of configurations: its own, or that of its peer's bond
-  pub values : ChangesValuesByRight
-  pub own_rows : ChangesOwnRowsByRight
-  pub bonds : ChangesBondsByRight
-  -- a refusal is the first case of the list, and the first case is refused so
+  -- it is an Error Response exactly where a case of the list of refusals applies, and by the first
   pub refuses : RefusesByTheFirstCase
-  -- what is refused or ignored, a command too, changes no value, no configuration, no ATT_MTU and nothing that is prepared,
-  -- but that an execution leaves nothing prepared
+  -- what is refused, a command too, changes no value, no configuration, no ATT_MTU and nothing that is prepared, but that an execution
+  -- leaves nothing prepared, and nobody hears of it; and so what is ignored
   pub refused_unchanged : RefusedChangesNothing
   pub ignored_unchanged : IgnoredChangesNothing
-  -- the packets that were given to a connection, also to one that has gone since, are the front of what was queued for it; of one
-  -- that is there they are as many as the controller may have of it
+  -- a value that differs after an event is one that the acting connection asked to write and then may write, or that the application
+  -- wrote; or the table was replaced
+  pub values : ChangesValuesByRight
+  -- a configuration that differs was written so too: in the connection's own row while its link has no key, in that of its peer's bond
+  -- while it has one; or the connection came or went, and has none; or the table was replaced
+  pub own_rows : ChangesOwnRowsByRight
+  pub bonds : ChangesBondsByRight
+  -- what decides all this is nothing that a phone can change by asking: attributes with their guards change where the table is
+  -- replaced, keys of peers never, an authorization by the application, the key of a link by what the controller tells of it, and the
+  -- time by the application
+  pub guards : KeepsTheGuards
+  pub keys : KeepsTheKeys
+  pub authorizations : AuthorizesByTheApplication
+  pub links : EncryptsByTheController
+  pub time : TellsTheTimeAlone
+  -- the packets that were given to a connection, also to one that has gone since, are the front of what was queued for it; of one that
+  -- is there, as many as count as given; one that serves is given all that the controller may have of it, no more than a share beyond
+  -- what is completed, with at most 16 PDUs that wait; and to one that is ending or not there nothing is queued and nothing given
   pub gives : IsAlwaysGivenTheFront
   pub gives_by_now : IsGivenTheFront
   pub gives_all : GivesAllThatItMay
-  -- and an indication waits behind one that is unconfirmed, or behind 8 PDUs
-  pub waits : WaitsOnlyBehindABacklog
-  -- at most 16 PDUs wait, and no more is given than a share beyond what is completed
   pub bounded : AlwaysHasBoundedQueues
-  -- and of each answer by itself, at any table and any row
+  pub silent : OnlyServesTheLive
+  -- and but for coming and going nothing that happens to such a connection changes anything
+  pub inert : OnlyTheLiveAct
+  -- no indication waits without a cause: while one waits for a connection that serves and was never late, another is unconfirmed, or 8
+  -- PDUs are before it
+  pub waits : WaitsOnlyBehindABacklog
+  -- no data of a phone stops the host
+  pub takes_all : TakesAllData
+  -- The same in smaller pieces, of any table and any row. What is told unasked may be heard of; what an answer writes may be written.
   pub tells : TellsWhatMayBeHeard
   pub writes : WritesWhatMayBeWritten
+  -- a request that names one attribute is refused with its handle, by the first broken rule; a list by type with its first attribute;
+  -- several values with the first handle that is refused; prepared writes with the first entry that is
   pub refuses_named : RefusesByTheFirstBrokenRule
   pub refuses_listed : RefusesTheFirstListed
   pub refuses_handles : RefusesTheFirstHandle
   pub refuses_entries : RefusesTheFirstEntry
+  -- where the answer is an Error Response, nothing is changed
   pub answers_unchanged : RefusalsChangeNothing
 
 -- Nothing crosses from one connection to another.
 pub record KeepsConnectionsApart : Type 0 where
-  -- an accepted execution writes what the connection itself has prepared, and nothing else; what it has prepared follows from
-  -- what concerns it, and no event of another connection changes it
+  -- an accepted execution writes what the connection itself has prepared, and nothing else
   pub executes : ExecutesItsOwn
+  -- until it is ended, a connection has prepared the same in all runs in which the same happens to it, to the time and to the tables;
+  -- event by event; and what happens to one connection leaves what all others have prepared, and their ATT_MTUs
   pub prepares : PreparesTheSame
   pub prepares_by_itself : PreparesByItself
   pub leaves_prepared : LeavesOthersPrepared
-  -- values that no connection of a peer may know change nothing of what its connections are given, nor of what they are: in whole
-  -- courses, and at each event
+  -- two inputs that differ only in octets, not lengths, of values that no connection of a peer may read or hear of while the table
+  -- stands that has them give its connections the same packets, where no connection of another peer is ended for want of room; and
+  -- the same of tables of which nothing is asked but that their handles count from 1
   pub crosses : NothingCrosses
   pub crosses_of_any : NothingCrossesOfAny
+  -- and leave its connections the same, with all that is queued for them
   pub leaves : LeavesConnectionsTheSame
+  -- event by event: states that are alike to a peer stay so, and its connections are given the same packets
   pub keeps_alike : KeepsAlike
   pub gives_the_same : GivesTheSame
-  -- the same for one connection alone, whoever else is connected in the name of its peer, where no table is replaced and the
-  -- peer is not owed: of what it may not know itself
+  -- one connection alone, also against other connections of its own peer: two runs with the same events, and the same bonds at the
+  -- start, that differ there in values which it may not know throughout, and in what others were sent, have read or wait for, give it
+  -- the same packets: where no table is replaced, its peer is not owed an indication of one, and no other connection is ended for want
+  -- of room
   pub crosses_to_one : NothingCrossesToOneInCourses
   pub keeps_alike_to_one : KeepsAlikeToOne
   pub gives_the_same_to_one : GivesTheSameToOne
-  -- connections with equal views are given equal packets: in whole courses, and at each event, seen or not
+  -- connections with equal views, which are what happens to them, to the time and to the table, and what others write of values and of
+  -- the rows of their own peer, are given equal packets, where no indication waits that nothing holds back
   pub views : SameViewSamePackets
+  -- event by event: one that a connection does not see leaves it as it is, and one that two see alike does the same to both
   pub sees_nothing : LeavesWhoSeesNothing
   pub sees_the_same : DoesTheSameToWhoSeesTheSame
   -- and nothing is given to a connection that is not there
@@ -108,4 +142,6 @@ pub record Promise : Type 0 where
   pub order : RunsInOrder
   pub policy : KeepsThePolicy
   pub apart : KeepsConnectionsApart
+  -- who listens to the notices (specs/machine/Notice.antt) knows each value, what is configured, what keys are worth and who is there;
+  -- what is told is so when the event ends and was allowed when it came; and nothing is told of what is refused or ignored
   pub application : TellsTheApplication

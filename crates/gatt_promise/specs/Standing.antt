@@ -1,0 +1,54 @@
+-- What decides what a connection may: the guards of the table, the keys of peers, its authorization, the key of its link, and the
+-- time. No phone changes them by what it asks.
+use Rattle.std.specs.Prelude.{◌≡◌, false}
+use Rattle.gatt_laws.specs.laws.RowNotices.{is_replacement}
+use Rattle.gatt_laws.specs.machine.Event.{Ordinal, Own, Event, Connected, Gone, Encrypted, Refreshed, Authorized, Of, Tick}
+use Rattle.gatt_laws.specs.machine.Part.{key_of}
+use Rattle.gatt_laws.specs.machine.State.{State, step}
+
+-- the attributes of the table, with their guards, change only where it is replaced, and the keys of peers never
+abbrev pub KeepsTheGuards : Type 0
+KeepsTheGuards = (state : State) (event : Event) → is_replacement event ≡ false
+    → (step state event).room.table.attributes ≡ state.room.table.attributes
+
+abbrev pub KeepsTheKeys : Type 0
+KeepsTheKeys = (state : State) (event : Event) → (step state event).room.keys ≡ state.room.keys
+
+-- the time is told by the application
+abbrev pub IsTick : Event → Type 0
+IsTick (Tick time) = Unit
+IsTick event = ⊥
+
+abbrev pub TellsTheTimeAlone : Type 0
+TellsTheTimeAlone = (state : State) (event : Event) → ((step state event).room.time ≡ state.room.time → ⊥) → IsTick event
+
+-- a connection is authorized by the application, and begins and ends without it
+abbrev pub Authorizes : Own → Type 0
+Authorizes (Authorized until) = Unit
+Authorizes (Connected handle peer) = Unit
+Authorizes Gone = Unit
+Authorizes own = ⊥
+
+abbrev pub AuthorizesOne : Ordinal → Event → Type 0
+AuthorizesOne ordinal (Of at own) = (ordinal ≡ at) × Authorizes own
+AuthorizesOne ordinal event = ⊥
+
+abbrev pub AuthorizesByTheApplication : Type 0
+AuthorizesByTheApplication = (state : State) (event : Event) (ordinal : Ordinal)
+    → (((step state event).parts ordinal).until ≡ (state.parts ordinal).until → ⊥) → AuthorizesOne ordinal event
+
+-- the key of its link changes by what the controller tells of that link
+abbrev pub Encrypts : Own → Type 0
+Encrypts (Encrypted status enabled) = Unit
+Encrypts (Refreshed status) = Unit
+Encrypts (Connected handle peer) = Unit
+Encrypts Gone = Unit
+Encrypts own = ⊥
+
+abbrev pub EncryptsOne : Ordinal → Event → Type 0
+EncryptsOne ordinal (Of at own) = (ordinal ≡ at) × Encrypts own
+EncryptsOne ordinal event = ⊥
+
+abbrev pub EncryptsByTheController : Type 0
+EncryptsByTheController = (state : State) (event : Event) (ordinal : Ordinal)
+    → (key_of ((step state event).parts ordinal) ≡ key_of (state.parts ordinal) → ⊥) → EncryptsOne ordinal event
