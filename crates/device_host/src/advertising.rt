@@ -1,0 +1,80 @@
+//! What a scanner sees: Core 5.0, Vol 3 Part C, 11, and the Supplement to the Core Specification,
+//! Part A.
+
+use arrayvec::ArrayVec;
+use uuid::Uuid;
+
+/// The data that are advertised.
+pub(crate) type Data = ArrayVec<u8, 31>;
+
+/// Flags for general discovery, without BR/EDR.
+const FLAGS: [u8; 3] = [0x02, 0x01, 0x06];
+
+/// The types of data.
+const SERVICES_OF_16_BITS: u8 = 0x03;
+
+const SERVICES_OF_128_BITS: u8 = 0x07;
+
+const SHORTENED_NAME: u8 = 0x08;
+
+const COMPLETE_NAME: u8 = 0x09;
+
+/// The data: flags, the services of these UUIDs, and the name, which is shortened to what fits.
+/// None where the services do not fit, or where one of them is no UUID.
+pub(crate) fn data(services: &str, name: &str) -> Option<Data> {
+    let mut data = ArrayVec::new();
+    data.try_extend_from_slice(&FLAGS).ok()?;
+    let mut short: ArrayVec<u8, 31> = ArrayVec::new();
+    let mut long: ArrayVec<u8, 31> = ArrayVec::new();
+    for word in services.split(',') {
+        if !word.is_empty() {
+            add_service(word, &mut short, &mut long)?;
+        }
+    }
+    add_part(&mut data, SERVICES_OF_16_BITS, short.as_slice())?;
+    add_part(&mut data, SERVICES_OF_128_BITS, long.as_slice())?;
+    add_name(&mut data, name)?;
+    Some(data)
+}
+
+/// Adds a UUID to those of its length, the least significant octet first.
+fn add_service(
+    word: &str,
+    short: &mut ArrayVec<u8, 31>,
+    long: &mut ArrayVec<u8, 31>,
+) -> Option<()> {
+    let mut octets = [0; 2];
+    if hex::decode_to_slice(word, &mut octets).is_ok() {
+        let [high, low] = octets;
+        return short.try_extend_from_slice(&[low, high]).ok();
+    }
+    let uuid = Uuid::parse_str(word).ok()?;
+    long.try_extend_from_slice(&uuid.as_u128().to_le_bytes())
+        .ok()
+}
+
+/// Adds a part with its length and its type, unless it is empty.
+fn add_part(data: &mut Data, kind: u8, octets: &[u8]) -> Option<()> {
+    if octets.is_empty() {
+        return Some(());
+    }
+    let length = u8::try_from(octets.len()).ok()?.checked_add(1)?;
+    data.try_extend_from_slice(&[length, kind]).ok()?;
+    data.try_extend_from_slice(octets).ok()
+}
+
+/// Adds a name, or the front of it that fits, cut between two characters.
+fn add_name(data: &mut Data, name: &str) -> Option<()> {
+    let room = data.remaining_capacity().saturating_sub(2);
+    if name.len() <= room {
+        return add_part(data, COMPLETE_NAME, name.as_bytes());
+    }
+    let mut front = room.min(name.len());
+    for _octet in 0..4 {
+        if let Some(text) = name.get(..front) {
+            return add_part(data, SHORTENED_NAME, text.as_bytes());
+        }
+        front = front.saturating_sub(1);
+    }
+    None
+}

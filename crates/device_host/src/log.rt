@@ -1,0 +1,48 @@
+//! The log on standard error: a line an event, with the time since the start.
+
+use std::alloc::Global;
+use std::io;
+use std::time::{Clock, Instant};
+
+/// The clock of the program, and its log.
+#[derive(Drop)]
+pub(crate) struct Log<'a, R> {
+    pub(crate) rt: &'a R,
+    alloc: Global,
+    begun: Instant,
+}
+
+impl<'a, R: Clock + Eprint> Log<'a, R> {
+    /// The time begins now.
+    pub(crate) fn new(rt: &'a R, alloc: Global) -> io::Result<Log<'a, R>> {
+        Ok(Log {
+            rt,
+            alloc,
+            begun: Instant::now(rt)?,
+        })
+    }
+
+    /// The time since the start, in milliseconds.
+    pub(crate) fn now(&self) -> u64 {
+        match self.begun.elapsed(self.rt) {
+            Ok(since) => since.as_millis().min(0xFFFF_FFFF_FFFF_FFFF) as u64,
+            Err(_) => 0,
+        }
+    }
+
+    /// Writes a line. Where that cannot be done, nobody can be told.
+    pub(crate) fn say(&self, words: &str) {
+        let now = self.now();
+        let (seconds, rest) = (now / 1_000, now % 1_000);
+        if let Ok(line) = format!(in self.alloc; "{seconds}.{rest:03} {words}") {
+            let _ = self.rt.eprintln(line.as_str());
+        }
+    }
+
+    /// Writes a line of two parts.
+    pub(crate) fn say_of(&self, words: &str, what: &str) {
+        if let Ok(line) = format!(in self.alloc; "{words} {what}") {
+            self.say(line.as_str());
+        }
+    }
+}

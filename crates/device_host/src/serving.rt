@@ -1,0 +1,221 @@
+//! One controller after another is served.
+
+use crate::application::Application;
+use crate::device::{Device, Question};
+use crate::heard::Heard;
+use crate::log::Log;
+use crate::rows::RowsFile;
+use crate::settings::{Door, Reached, Settings};
+use crate::strangers::Strangers;
+use crate::telling::{settle, tell};
+use crate::waiting::{Source, Waiting};
+use crate::way::Way;
+use crate::words::HostWords;
+use device_lines::{Outbox, Told};
+use gatt_commands::{LazyFile, RowsPath, RowsReader, ShellFault};
+use gatt_device::{End, serve_happenings};
+use gatt_host::{Host, HostFault, Keys, Rows, Table};
+use std::alloc::Global;
+use std::fs::{File, Files};
+use std::io;
+use std::net::{Net, TcpListener, TcpStream};
+use std::time::Clock;
+
+/// As many octets may wait for a controller.
+const LIMIT: usize = 1_048_576;
+
+/// Why a device serves no longer.
+#[derive(Clone, Copy, Debug, PartialEq, Eq)]
+pub enum Stop {
+    /// The words of the command line say nothing that can be done: what is wrong.
+    Words(&'static str),
+    /// For the same reasons as other commands.
+    Fault(ShellFault),
+}
+
+/// Why a controller is served no longer.
+#[derive(Clone, Copy)]
+enum Over {
+    /// Its stream has ended, or it could not be read or written.
+    Gone(&'static str),
+    /// The host has stopped.
+    Stopped(HostFault),
+}
+
+/// Serves one controller after another, as the words say: for ever, or until the first is gone.
+pub fn serve_devices<
+    R: Files<File = File>
+        + Net<Listener = TcpListener, Stream = TcpStream>
+        + Clock
+        + Eprint
+        + AllocGlobal,
+>(rt: &R, words: &HostWords<'_>) -> Result<(), Stop> {
+    let settings = match Settings::read(words) {
+        Ok(settings) => settings,
+        Err(wrong) => return Err(Stop::Words(wrong)),
+    };
+    match prepare_and_serve(rt, rt.alloc(), words, &settings) {
+        Ok(()) => Ok(()),
+        Err(fault) => Err(Stop::Fault(fault)),
+    }
+}
+
+/// Reads the files, listens, and serves.
+fn prepare_and_serve<
+    R: Files<File = File> + Net<Listener = TcpListener, Stream = TcpStream> + Clock + Eprint,
+>(rt: &R, alloc: Global, words: &HostWords<'_>, settings: &Settings<'_>) -> Result<(), ShellFault> {
+    let table = gatt_commands::read_table(alloc, &mut LazyFile::new(rt, words.table))?;
+    let keys = gatt_commands::read_keys(alloc, &mut LazyFile::new(rt, words.keys))?;
+    let mut reader = RowsReader::new(rt, RowsPath(words.rows));
+    let rows = gatt_commands::read_rows(alloc, &mut reader)?;
+    let host = open(alloc, table, keys, rows, settings)?;
+    let mut file = RowsFile::new(alloc, words.rows);
+    if file.save_first(rt, host.rows()).is_err() {
+        return Err(ShellFault::Unwritten);
+    }
+    let Ok(mut device) = listening(rt, alloc, settings) else {
+        return Err(ShellFault::Listen);
+    };
+    device.log.say("ready");
+    serve_each(alloc, &mut device, host, settings, &mut file, words.once)
+}
+
+/// A host with these, as the words say.
+fn open(
+    alloc: Global,
+    table: Table,
+    keys: Keys,
+    rows: Rows,
+    settings: &Settings<'_>,
+) -> Result<Host, ShellFault> {
+    match Host::open(alloc, table, keys, rows, settings.config()) {
+        Ok(host) => Ok(host),
+        Err(_) => Err(ShellFault::Memory),
+    }
+}
+
+/// A device that waits for its controller and its application.
+fn listening<
+    'a,
+    R: Files<File = File> + Net<Listener = TcpListener, Stream = TcpStream> + Clock + Eprint,
+>(rt: &'a R, alloc: Global, settings: &Settings<'a>) -> io::Result<Device<'a, R>> {
+    let log = Log::new(rt, alloc)?;
+    let waiting = Waiting::new(alloc, rt)?;
+    let way = match settings.reached {
+        Reached::Listen(address) => {
+            let listener = TcpListener::bind(rt, address)?;
+            listener.set_nonblocking(true)?;
+            waiting.watch(&listener, Source::Controllers)?;
+            let bound = format!(in alloc; "{}", listener.local_addr()?)?;
+            log.say_of("listening for a controller:", bound.as_str());
+            Way::Listen(listener)
+        }
+        Reached::Connect(address) => Way::Connect(address),
+        Reached::Serial(path) => Way::Serial(path),
+    };
+    let mut application = Application::none(alloc);
+    match settings.door {
+        Door::None => {}
+        Door::Path(path) => {
+            application.listen_at_path(rt, &waiting, path)?;
+            log.say_of("listening for an application:", path);
+        }
+        Door::Port(address) => {
+            let bound = application.listen_at_port(rt, &waiting, address)?;
+            let bound = format!(in alloc; "{bound}")?;
+            log.say_of("listening for an application:", bound.as_str());
+        }
+    }
+    Ok(Device {
+        log,
+        way,
+        stream: None,
+        application,
+        strangers: Strangers::new(settings.idle),
+        waiting,
+        is_reached: false,
+        question: Question::Nothing,
+        answer: Ok(()),
+        is_readable: false,
+        retry: 0,
+        time: 0,
+        is_told: false,
+    })
+}
+
+/// Serves each controller with what the one before has left.
+fn serve_each<
+    R: Files<File = File> + Net<Listener = TcpListener, Stream = TcpStream> + Clock + Eprint,
+>(
+    alloc: Global,
+    device: &mut Device<'_, R>,
+    host: Host,
+    settings: &Settings<'_>,
+    file: &mut RowsFile<'_>,
+    once: bool,
+) -> Result<(), ShellFault> {
+    let mut host = host;
+    for _controller in 0..u64::MAX {
+        let over = serve_one(alloc, device, &mut host, file);
+        tell_over(alloc, device, over);
+        if once {
+            return match over {
+                Over::Gone(_) => Ok(()),
+                Over::Stopped(fault) => Err(ShellFault::Host(fault.number())),
+            };
+        }
+        let (table, keys, rows) = host.into_parts();
+        host = open(alloc, table, keys, rows, settings)?;
+        device.lose();
+    }
+    Ok(())
+}
+
+/// Tells the log and the application why a controller is served no longer.
+fn tell_over<R: Clock + Eprint>(alloc: Global, device: &mut Device<'_, R>, over: Over) {
+    match over {
+        Over::Gone(how) => device.log.say_of("controller", how),
+        Over::Stopped(fault) => {
+            if let Ok(words) = format!(in alloc; "{fault}") {
+                device.log.say_of("stopped:", words.as_str());
+                tell(alloc, device, &Told::Stopped(words.as_str()));
+            }
+        }
+    }
+    tell(alloc, device, &Told::Waiting);
+    device.application.flush();
+}
+
+/// Serves a controller, once it is reached, until it is gone or the host has stopped.
+fn serve_one<
+    R: Files<File = File> + Net<Listener = TcpListener, Stream = TcpStream> + Clock + Eprint,
+>(alloc: Global, device: &mut Device<'_, R>, host: &mut Host, file: &mut RowsFile<'_>) -> Over {
+    let mut queue = Outbox::new(alloc, LIMIT);
+    let mut heard = Heard::new(alloc);
+    for _turn in 0..u64::MAX {
+        let turn = serve_happenings(host, device, &mut queue, &mut heard, 1);
+        settle(alloc, device, host, &mut heard, file);
+        if write_out(device, &mut queue).is_err() {
+            return Over::Gone("gone: it cannot be written");
+        }
+        match turn {
+            Ok(End::Turns) => {}
+            Ok(End::Ended) => return Over::Gone("gone"),
+            Ok(End::Failed) => return Over::Gone("gone: it cannot be read"),
+            Err(fault) => return Over::Stopped(fault),
+        }
+    }
+    Over::Gone("gone")
+}
+
+/// Writes to the controller what waits for it, if it is there.
+fn write_out<R>(device: &mut Device<'_, R>, queue: &mut Outbox) -> io::Result<()> {
+    if queue.waiting().is_empty() {
+        return Ok(());
+    }
+    if let Some(stream) = &mut device.stream {
+        stream.write(queue.waiting())?;
+        queue.clear();
+    }
+    Ok(())
+}

@@ -1,0 +1,126 @@
+//! Phones without a key, and since when each is silent.
+
+use arrayvec::ArrayVec;
+use gatt_host::{Host, PacketRef};
+use le_h4::Deframer;
+
+/// A phone without a key.
+#[derive(Clone, Copy, Default)]
+struct Stranger {
+    handle: u16,
+    /// When it said something last, in milliseconds.
+    since: u64,
+}
+
+/// The phones without a key.
+#[derive(Drop)]
+pub(crate) struct Strangers {
+    /// How long one may be silent, in milliseconds.
+    limit: Option<u64>,
+    known: ArrayVec<Stranger, 8>,
+    deframer: Deframer,
+}
+
+impl Strangers {
+    /// None is known. One may be silent so long, in milliseconds, or for ever.
+    pub(crate) fn new(limit: Option<u64>) -> Strangers {
+        Strangers {
+            limit,
+            known: ArrayVec::new(),
+            deframer: Deframer::new(),
+        }
+    }
+
+    /// Another controller is served: none is known any more.
+    pub(crate) fn forget(&mut self) {
+        self.known.clear();
+        self.deframer = Deframer::new();
+    }
+
+    /// Octets of the controller come: who of them says something.
+    pub(crate) fn hear(&mut self, octets: &[u8], now: u64) {
+        if self.limit.is_none() {
+            return;
+        }
+        let mut rest = octets;
+        for _octet in 0..octets.len() {
+            if rest.is_empty() {
+                return;
+            }
+            let Ok(fed) = self.deframer.feed(rest) else {
+                return;
+            };
+            rest = rest.split_at(fed.used).1;
+            if fed.packet {
+                if let PacketRef::Acl { handle, .. } = self.deframer.packet() {
+                    said(&mut self.known, handle, now);
+                }
+            }
+        }
+    }
+
+    /// Who of the phones of a host has no key.
+    pub(crate) fn look(&mut self, host: &Host, now: u64) {
+        if self.limit.is_none() {
+            return;
+        }
+        let mut known = ArrayVec::new();
+        for connection in host.connections() {
+            if connection.key.is_none() && !connection.ending {
+                let handle = connection.handle;
+                let since = since(self.known.as_slice(), handle).unwrap_or(now);
+                let _ = known.try_push(Stranger { handle, since });
+            }
+        }
+        self.known = known;
+    }
+
+    /// When the first of them has been silent for too long, in milliseconds.
+    pub(crate) fn due(&self) -> Option<u64> {
+        let limit = self.limit?;
+        let mut due = None;
+        for stranger in self.known.as_slice() {
+            let at = stranger.since.saturating_add(limit);
+            due = Some(match due {
+                Some(first) if first <= at => first,
+                _ => at,
+            });
+        }
+        due
+    }
+
+    /// One that has been silent for too long, which is known no more.
+    pub(crate) fn next_silent(&mut self, now: u64) -> Option<u16> {
+        let limit = self.limit?;
+        let mut found = None;
+        let mut left = ArrayVec::new();
+        for stranger in self.known.as_slice() {
+            if found.is_none() && stranger.since.saturating_add(limit) <= now {
+                found = Some(stranger.handle);
+            } else {
+                let _ = left.try_push(*stranger);
+            }
+        }
+        self.known = left;
+        found
+    }
+}
+
+/// One of them has said something.
+fn said(known: &mut ArrayVec<Stranger, 8>, handle: u16, now: u64) {
+    for stranger in known.as_mut_slice() {
+        if stranger.handle == handle {
+            stranger.since = now;
+        }
+    }
+}
+
+/// Since when one of them is silent.
+fn since(known: &[Stranger], handle: u16) -> Option<u64> {
+    for stranger in known {
+        if stranger.handle == handle {
+            return Some(stranger.since);
+        }
+    }
+    None
+}

@@ -1,0 +1,103 @@
+//! Waiting until something is ready.
+
+use mio::unix::SourceFd;
+use mio::{Events, Interest, Poll, Token};
+use std::alloc::Global;
+use std::io;
+use std::net::Net;
+use std::os::fd::{AsRawFd, RawFd};
+use std::time::Duration;
+
+/// What may be ready.
+#[derive(Clone, Copy, Debug, PartialEq, Eq)]
+pub(crate) enum Source {
+    /// The stream of the controller.
+    Controller,
+    /// Where controllers connect.
+    Controllers,
+    /// The stream of the application.
+    Application,
+    /// Where applications connect.
+    Applications,
+}
+
+impl Source {
+    fn token(self) -> Token {
+        Token(match self {
+            Source::Controller => 0,
+            Source::Controllers => 1,
+            Source::Application => 2,
+            Source::Applications => 3,
+        })
+    }
+}
+
+/// What is ready.
+#[derive(Clone, Copy)]
+pub(crate) struct Ready {
+    pub(crate) controller: bool,
+    pub(crate) controllers: bool,
+    pub(crate) application: bool,
+    pub(crate) applications: bool,
+}
+
+/// Waits for sockets.
+#[derive(Drop)]
+pub(crate) struct Waiting {
+    poll: Poll,
+    events: Events,
+}
+
+impl Waiting {
+    /// Waits for nothing yet.
+    pub(crate) fn new(alloc: Global, net: &impl Net) -> io::Result<Waiting> {
+        Ok(Waiting {
+            poll: Poll::new(net)?,
+            events: Events::with_capacity(alloc, 8)?,
+        })
+    }
+
+    /// Watches a socket from now on.
+    pub(crate) fn watch(&self, socket: &impl AsRawFd, source: Source) -> io::Result<()> {
+        let fd: RawFd = socket.as_raw_fd();
+        self.poll
+            .registry()
+            .register(&mut SourceFd(&fd), source.token(), interest(source))
+    }
+
+    /// Has a socket that is still ready told again.
+    pub(crate) fn again(&self, socket: &impl AsRawFd, source: Source) -> io::Result<()> {
+        let fd: RawFd = socket.as_raw_fd();
+        self.poll
+            .registry()
+            .reregister(&mut SourceFd(&fd), source.token(), interest(source))
+    }
+
+    /// Waits until something is ready, or the time is up, if there is one.
+    pub(crate) fn wait(&mut self, timeout: Option<Duration>) -> io::Result<Ready> {
+        self.poll.poll(&mut self.events, timeout)?;
+        let mut ready = Ready {
+            controller: false,
+            controllers: false,
+            application: false,
+            applications: false,
+        };
+        for event in self.events.iter() {
+            match event.token().0 {
+                0 => ready.controller = true,
+                1 => ready.controllers = true,
+                2 => ready.application = true,
+                _ => ready.applications = true,
+            }
+        }
+        Ok(ready)
+    }
+}
+
+/// What is wanted of a socket: of that of the application also to hear that it takes more.
+fn interest(source: Source) -> Interest {
+    match source {
+        Source::Application => Interest::READABLE | Interest::WRITABLE,
+        _ => Interest::READABLE,
+    }
+}

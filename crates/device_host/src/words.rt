@@ -1,0 +1,34 @@
+//! What the words of the command line give.
+
+/// The words of the command `host`, as they are given.
+#[derive(Clone, Copy)]
+pub struct HostWords<'a> {
+    /// The path of the table file.
+    pub table: &'a str,
+    /// The path of the key file.
+    pub keys: &'a str,
+    /// The path of the rows file.
+    pub rows: Option<&'a str>,
+    /// The address at which a controller connects.
+    pub listen: Option<&'a str>,
+    /// The address at which a controller listens.
+    pub connect: Option<&'a str>,
+    /// The path of a serial line to a controller.
+    pub serial: Option<&'a str>,
+    /// The path of the socket at which an application connects.
+    pub application: Option<&'a str>,
+    /// The address at which an application connects.
+    pub application_port: Option<&'a str>,
+    /// The name that is advertised.
+    pub name: Option<&'a str>,
+    /// The UUIDs of the services that are advertised, between commas.
+    pub advertise: Option<&'a str>,
+    /// The static random address.
+    pub address: Option<&'a str>,
+    /// How many phones there may be at once.
+    pub slots: Option<&'a str>,
+    /// After how many silent seconds a stranger is sent away.
+    pub idle: Option<&'a str>,
+    /// Whether it ends once the first controller is gone.
+    pub once: bool,
+}
