@@ -8,15 +8,17 @@ ghost use Rattle.gatt_commands.specs.Check.{IsCheckFault};
 ghost use Rattle.gatt_commands.specs.Fault.{status_of};
 
 use arrayvec::ArrayVec;
+use device_host::{HostWords, Stop};
 use gatt_commands::{
     Address, KeysPath, NextPath, RowsPath, RunPaths, ScriptPath, ServePaths, ShellFault, TablePath,
 };
-use gatt_words::{Choice, Refusal};
-use std::fs::Files;
+use gatt_words::{Choice, HostChoice, Refusal};
+use std::fs::{File, Files};
 use std::io::{LineWriter, Write};
 use std::net::{Net, TcpListener, TcpStream};
 use std::process::ExitCode;
 use std::rt::Env;
+use std::time::Clock;
 use std::{io, str};
 
 /// Prints the text of a fault on standard error. Where that cannot be written, nobody can be told.
@@ -94,8 +96,8 @@ fn run_check(
     gatt_commands::check_paths(rt.alloc(), rt, table, keys, &mut io::writer(rt))
 }
 
-/// Runs a script, and prints what its lines bring, which is written out at each line feed and at the
-/// end. None of the files is opened before its turn.
+/// Runs a script, and prints what its lines bring, which is written out at each line feed and at
+/// the end. None of the files is opened before its turn.
 fn run_script(
     rt: &(impl Files + Print + AllocGlobal),
     paths: RunPaths<'_>,
@@ -107,18 +109,59 @@ fn run_script(
     outcome_of(ran, writer.flush().is_ok())
 }
 
-/// Carries out the command that the words have chosen.
+/// Serves one controller after another, as the words say, and returns the status of the program.
+/// Words that say nothing that can be done are told.
+fn run_host(
+    rt: &(impl Files<File = File>
+        + Net<Listener = TcpListener, Stream = TcpStream>
+        + Clock
+        + Eprint
+        + AllocGlobal),
+    choice: HostChoice<'_>,
+) -> u8 {
+    let words = HostWords {
+        table: choice.table,
+        keys: choice.keys,
+        rows: choice.rows,
+        listen: choice.listen,
+        connect: choice.connect,
+        serial: choice.serial,
+        application: choice.application,
+        application_port: choice.application_port,
+        name: choice.name,
+        advertise: choice.advertise,
+        address: choice.address,
+        slots: choice.slots,
+        idle: choice.idle,
+        once: choice.once,
+    };
+    match device_host::serve_devices(rt, &words) {
+        Ok(()) => exit_status(rt, Ok(())),
+        Err(Stop::Fault(fault)) => exit_status(rt, Err(fault)),
+        Err(Stop::Words(wrong)) => {
+            let _ = rt.eprintln(wrong);
+            Refusal::Misunderstood.status()
+        }
+    }
+}
+
+/// Carries out the command that the words have chosen, and returns the status of the program.
 fn carry_out(
-    rt: &(impl Files
+    rt: &(impl Files<File = File>
         + Net<Listener = TcpListener, Stream = TcpStream>
         + Input
         + Print
+        + Eprint
+        + Clock
         + AllocGlobal),
     choice: Choice<'_>,
-) -> Result<(), ShellFault> {
+) -> u8 {
     match choice {
-        Choice::Att => run_att(rt),
-        Choice::Check { table, keys } => run_check(rt, TablePath(table), KeysPath(keys)),
+        Choice::Host(choice) => run_host(rt, choice),
+        Choice::Att => exit_status(rt, run_att(rt)),
+        Choice::Check { table, keys } => {
+            exit_status(rt, run_check(rt, TablePath(table), KeysPath(keys)))
+        }
         Choice::Run {
             table,
             next,
@@ -135,7 +178,7 @@ fn carry_out(
                 script: ScriptPath(script),
                 shows: notices,
             };
-            run_script(rt, paths)
+            exit_status(rt, run_script(rt, paths))
         }
         Choice::Serve {
             table,
@@ -148,23 +191,25 @@ fn carry_out(
                 keys: KeysPath(keys),
                 rows: RowsPath(rows),
             };
-            gatt_commands::serve_paths(rt.alloc(), rt, paths, Address(address))
+            let served = gatt_commands::serve_paths(rt.alloc(), rt, paths, Address(address));
+            exit_status(rt, served)
         }
     }
 }
 
 /// Does what the words of the command line ask for, and returns the status of the program.
 fn run_words(
-    rt: &(impl Files
+    rt: &(impl Files<File = File>
         + Net<Listener = TcpListener, Stream = TcpStream>
         + Input
         + Print
         + Eprint
+        + Clock
         + AllocGlobal),
     words: &[String],
 ) -> u8 {
     match gatt_words::chosen(rt.alloc(), words) {
-        Ok(choice) => exit_status(rt, carry_out(rt, choice)),
+        Ok(choice) => carry_out(rt, choice),
         Err(refusal) => refusal_status(rt, &refusal),
     }
 }
@@ -172,11 +217,12 @@ fn run_words(
 /// Does what the command line asks for, and returns the status of the program.
 fn run(
     rt: &(impl Env
-        + Files
+        + Files<File = File>
         + Net<Listener = TcpListener, Stream = TcpStream>
         + Input
         + Print
         + Eprint
+        + Clock
         + AllocGlobal),
 ) -> u8 {
     match gatt_words::words_of(rt) {

@@ -3,7 +3,7 @@ use Rattle.std.specs.Prelude.{◌≡◌, ℕ, List, [], codes, Bool, true, false
 use Rattle.clap.specs.Words.{App, Row, Rule, Shape, Text, first_of, new_app, new_rule, one_of, with_rule, with_subcommand}
 use Rattle.clap.specs.declared.builder.action.ArgAction.TheVariants.{Set, SetTrue}
 use Rattle.gatt_words.specs.declared.words.Choice.{Choice}
-use Rattle.gatt_words.specs.declared.words.Choice.TheVariants.{Att, Check, Run, Serve}
+use Rattle.gatt_words.specs.declared.words.Choice.TheVariants.{Att, Check, Run, Serve, Host}
 
 -- the command `att`, which has no argument
 abbrev pub att_shape : Shape
@@ -40,6 +40,25 @@ serve_shape = (with_rule (with_rule (with_rule (with_rule (new_app (codes "serve
     (file_rule (codes "TABLE"))) (file_rule (codes "KEYS"))) (file_rule (codes "ADDRESS")))
     (option_rule (codes "rows"))).top
 
+-- the command `host`, of a table file and a key file; with where its controller and its application are; with what a scanner sees;
+-- and with all its options and its flag
+abbrev pub host_files : App
+host_files = with_rule (with_rule (with_rule (new_app (codes "host"))
+    (file_rule (codes "TABLE"))) (file_rule (codes "KEYS"))) (option_rule (codes "rows"))
+
+abbrev pub host_ways : App
+host_ways = with_rule (with_rule (with_rule (with_rule (with_rule host_files
+    (option_rule (codes "listen"))) (option_rule (codes "connect"))) (option_rule (codes "serial")))
+    (option_rule (codes "application"))) (option_rule (codes "application-port"))
+
+abbrev pub host_radio : App
+host_radio = with_rule (with_rule (with_rule host_ways
+    (option_rule (codes "name"))) (option_rule (codes "advertise"))) (option_rule (codes "address"))
+
+abbrev pub host_shape : Shape
+host_shape = (with_rule (with_rule (with_rule host_radio
+    (option_rule (codes "slots"))) (option_rule (codes "idle"))) (flag_rule (codes "once"))).top
+
 -- the program, which has a version
 abbrev pub program_shape : Shape
 program_shape = record (new_app (codes "gatt_shell")).top {
@@ -47,11 +66,14 @@ program_shape = record (new_app (codes "gatt_shell")).top {
   subcommand_required = true;
 }
 
--- the program, of which a command has to be named
+-- the program, of which a command has to be named: without its commands, and with them
+abbrev pub program_line : App
+program_line = record { top = program_shape; subs = [] }
+
 abbrev pub command_line : App
 command_line =
-    with_subcommand (with_subcommand (with_subcommand (with_subcommand (record { top = program_shape; subs = [] })
-    att_shape) check_shape) run_shape) serve_shape
+    with_subcommand (with_subcommand (with_subcommand (with_subcommand (with_subcommand program_line
+    att_shape) check_shape) run_shape) serve_shape) host_shape
 
 -- the name that chooses a command
 abbrev pub name_of : Choice → List ℕ
@@ -59,6 +81,7 @@ name_of Att = codes "att"
 name_of (Check table keys) = codes "check"
 name_of (Run table next keys rows script notices) = codes "run"
 name_of (Serve table keys rows address) = codes "serve"
+name_of (Host words) = codes "host"
 
 -- an argument is a path, and an option is one or is left out
 abbrev pub IsGiven : List ℕ → List Row → List ℕ → Type 0
@@ -87,6 +110,20 @@ HasFilesOf arguments (Serve table keys rows address) =
     IsGiven (codes "TABLE") arguments table.now × IsGiven (codes "KEYS") arguments keys.now
     × IsGiven (codes "ADDRESS") arguments address.now
     × IsGivenIfAny (codes "rows") arguments (option_map (λ path. path.now) rows)
+HasFilesOf arguments (Host words) =
+    IsGiven (codes "TABLE") arguments words.table.now × IsGiven (codes "KEYS") arguments words.keys.now
+    × IsGivenIfAny (codes "rows") arguments (option_map (λ path. path.now) words.rows)
+    × IsGivenIfAny (codes "listen") arguments (option_map (λ word. word.now) words.listen)
+    × IsGivenIfAny (codes "connect") arguments (option_map (λ word. word.now) words.connect)
+    × IsGivenIfAny (codes "serial") arguments (option_map (λ word. word.now) words.serial)
+    × IsGivenIfAny (codes "application") arguments (option_map (λ word. word.now) words.application)
+    × IsGivenIfAny (codes "application-port") arguments (option_map (λ word. word.now) words.application_port)
+    × IsGivenIfAny (codes "name") arguments (option_map (λ word. word.now) words.name)
+    × IsGivenIfAny (codes "advertise") arguments (option_map (λ word. word.now) words.advertise)
+    × IsGivenIfAny (codes "address") arguments (option_map (λ word. word.now) words.address)
+    × IsGivenIfAny (codes "slots") arguments (option_map (λ word. word.now) words.slots)
+    × IsGivenIfAny (codes "idle") arguments (option_map (λ word. word.now) words.idle)
+    × IsSetIfGiven (codes "once") arguments words.once
 
 -- the same of a command that is named with its arguments
 abbrev pub HasFiles : Option (Text × List Row) → Choice → Type 0

@@ -135,3 +135,89 @@ pub const NOTICES_ABOUT: &str = "Print what the application is told too, one lin
 
 /// What stands for the value of an option that names a file.
 pub const FILE: &str = "FILE";
+
+/// The name of the command `host`.
+pub const HOST: &str = "host";
+
+/// What `host` does, in a line.
+pub const HOST_ABOUT: &str = "Serve one controller after another, with an application";
+
+/// What `host` reads and says.
+pub const HOST_DETAILS: &str = "\
+Serve one controller after another, with an application.
+
+The octets of a controller are H4. Where it goes, or the host stops by a fault, the next one is
+served with the values and the rows that stand. An application connects by a socket, asks by lines
+and is told by lines: docs/DEVICE.md has them. The rows file keeps what the phones have configured,
+and is written before they are told so. A log stands on standard error, whose line `ready` a script
+can wait for.
+
+  gatt_shell host examples/door.toml examples/keys.toml --listen 127.0.0.1:5000 \\
+      --application door.socket --rows door.rows";
+
+/// The option that says where a controller connects.
+pub const LISTEN: &str = "listen";
+
+/// What it is.
+pub const LISTEN_ABOUT: &str = "Where a controller connects: an IP address and a port";
+
+/// The option that says where a controller listens.
+pub const CONNECT: &str = "connect";
+
+/// What it is.
+pub const CONNECT_ABOUT: &str = "Where a controller listens: it is tried until it is there";
+
+/// The option that names a serial line.
+pub const SERIAL: &str = "serial";
+
+/// What it is.
+pub const SERIAL_ABOUT: &str = "The serial line of a controller, which is set up already";
+
+/// The option that says where an application connects.
+pub const APPLICATION: &str = "application";
+
+/// What it is.
+pub const APPLICATION_ABOUT: &str = "The socket where an application connects, for its owner alone";
+
+/// The option that says at which port an application connects.
+pub const APPLICATION_PORT: &str = "application-port";
+
+/// What it is.
+pub const APPLICATION_PORT_ABOUT: &str =
+    "Where an application connects by TCP: whoever reaches it may speak for the device";
+
+/// The option that has a name advertised.
+pub const NAME: &str = "name";
+
+/// What it is.
+pub const NAME_ABOUT: &str = "The name that is advertised, shortened to what fits";
+
+/// The option that has services advertised.
+pub const ADVERTISE: &str = "advertise";
+
+/// What it is.
+pub const ADVERTISE_ABOUT: &str = "The UUIDs of services that are advertised, between commas";
+
+/// The option that gives an address.
+pub const RANDOM_ADDRESS: &str = "address";
+
+/// What it is.
+pub const RANDOM_ADDRESS_ABOUT: &str = "A static random address, in place of the controller's own";
+
+/// The option that says how many phones there may be.
+pub const SLOTS: &str = "slots";
+
+/// What it is.
+pub const SLOTS_ABOUT: &str = "How many phones there may be at once, 1 to 8 (4)";
+
+/// The option that has silent strangers sent away.
+pub const IDLE: &str = "idle";
+
+/// What it is.
+pub const IDLE_ABOUT: &str = "After how many silent seconds a phone without a key is sent away";
+
+/// The flag that has the first controller be the last.
+pub const ONCE: &str = "once";
+
+/// What it does.
+pub const ONCE_ABOUT: &str = "End once the first controller is gone";

@@ -4,7 +4,9 @@
 
 mod given;
 mod help;
+mod host;
 mod words;
 
 pub use given::words_of;
+pub use host::HostChoice;
 pub use words::{Choice, Refusal, chosen};

@@ -5,11 +5,12 @@ ghost use Rattle.clap.specs.Words.{IsAmong, app_of, fault_of, kind_of, shape_of,
 ghost use Rattle.clap.specs.declared.builder.Command.TheViews.{out-Command};
 ghost use Rattle.clap.specs.Words.{found_of, rows_of, subcommand_name_of, subcommand_of, subcommand_rows_of};
 ghost use Rattle.clap.specs.Words.{rule_of, IsPlainArg};
-ghost use Rattle.gatt_words.specs.CommandLine.{att_shape, file_rule, flag_rule, option_rule, check_shape, run_files, run_shape, serve_shape, command_line, name_of};
+ghost use Rattle.gatt_words.specs.CommandLine.{att_shape, file_rule, flag_rule, option_rule, check_shape, run_files, run_shape, serve_shape, program_line, command_line, name_of};
 ghost use Rattle.gatt_words.specs.CommandLine.{HasFiles, HasFilesOf};
 ghost use Rattle.gatt_words.specs.Refusal.{ShowsUnlessMemory, refusal_for};
 
 use crate::help;
+use crate::host::{HostChoice, host_command, hosting};
 use clap::error::ErrorKind;
 use clap::{Arg, ArgAction, ArgMatches, Command, Error};
 use std::alloc::{AllocError, Global};
@@ -52,6 +53,8 @@ pub enum Choice<'a> {
         /// Where the connection is accepted.
         address: &'a str,
     },
+    /// Serves one controller after another.
+    Host(HostChoice<'a>),
 }
 
 /// Why the words choose no command.
@@ -95,6 +98,7 @@ fn choice_in<'a>(matches: &ArgMatches<'a>) -> Result<Choice<'a>, Refusal>
         help::CHECK => checking(arguments).ok_or(Refusal::Misunderstood),
         help::RUN => running(arguments).ok_or(Refusal::Misunderstood),
         help::SERVE => serving(arguments).ok_or(Refusal::Misunderstood),
+        help::HOST => hosting(arguments).ok_or(Refusal::Misunderstood),
         _ => Err(Refusal::Misunderstood),
     }
 }
@@ -177,7 +181,7 @@ fn file_argument<'a>(alloc: Global, name: &'a str, about: &'a str) -> Arg<'a>
 }
 
 /// The command with one more argument, a path that has to be there.
-fn with_file<'a>(
+pub(crate) fn with_file<'a>(
     alloc: Global,
     command: Command<'a>,
     name: &'a str,
@@ -218,7 +222,7 @@ fn file_option<'a>(alloc: Global, name: &'a str, about: &'a str) -> Arg<'a>
 }
 
 /// The command with one more option, which names a file.
-fn with_option<'a>(
+pub(crate) fn with_option<'a>(
     alloc: Global,
     command: Command<'a>,
     name: &'a str,
@@ -245,7 +249,7 @@ fn flag_argument<'a>(alloc: Global, name: &'a str, about: &'a str) -> Arg<'a>
 }
 
 /// The command with one more flag.
-fn with_flag<'a>(
+pub(crate) fn with_flag<'a>(
     alloc: Global,
     command: Command<'a>,
     name: &'a str,
@@ -299,20 +303,29 @@ fn serve_command<'a>(alloc: Global) -> Result<Command<'a>, AllocError>
     with_option(alloc, command, help::ROWS, help::ROWS_ABOUT)
 }
 
-/// The command line that the program takes.
-fn command<'a>(alloc: Global) -> Result<Command<'a>, AllocError>
-    ensures { IfOk result (λ command. app_of command ≡ command_line) }
+/// The program without its commands, of which one has to be named.
+fn program<'a>(alloc: Global) -> Result<Command<'a>, AllocError>
+    ensures { IfOk result (λ command. app_of command ≡ program_line) }
 {
-    Command::new(alloc, help::PROGRAM)
+    let command = Command::new(alloc, help::PROGRAM)
         .bin_name(help::PROGRAM)?
         .version(help::VERSION)
         .about(help::ABOUT)
         .after_help(help::STATUSES)
-        .subcommand_required(true)
+        .subcommand_required(true);
+    Ok(command)
+}
+
+/// The command line that the program takes.
+fn command<'a>(alloc: Global) -> Result<Command<'a>, AllocError>
+    ensures { IfOk result (λ command. app_of command ≡ command_line) }
+{
+    program(alloc)?
         .subcommand(att_command(alloc))?
         .subcommand(check_command(alloc)?)?
         .subcommand(run_command(alloc)?)?
-        .subcommand(serve_command(alloc)?)
+        .subcommand(serve_command(alloc)?)?
+        .subcommand(host_command(alloc)?)
 }
 
 /// The command that the words of the command line choose, of which the first is the program's

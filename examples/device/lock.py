@@ -1,0 +1,56 @@
+#!/usr/bin/env python3
+"""The application of the door lock of examples/door.toml: its motor, its button and its battery.
+
+usage: lock.py SOCKET      where `gatt_shell host .. --application SOCKET` listens
+
+It prints what the motor does. Each line that it reads is a press of the button beside the door,
+which opens or closes it by hand.
+"""
+
+import select
+import socket
+import sys
+
+# The handles of the values: the state of the lock, and the level of its battery.
+STATE, BATTERY = "10", "6"
+
+
+def turned(state):
+    """Turns the motor."""
+    print("the motor opens the door" if state == "01" else "the motor closes the door", flush=True)
+    return state
+
+
+def heard(words, state):
+    """What the door is after a line of the device."""
+    if words[:2] == ["value", STATE]:
+        print("the door is open" if words[2] == "01" else "the door is closed", flush=True)
+        return words[2]
+    if words[:2] == ["+", "written"] and words[3] == STATE:
+        return turned(words[4])
+    return state
+
+
+def main():
+    link = socket.socket(socket.AF_UNIX)
+    link.connect(sys.argv[1])
+    link.sendall(f"value {STATE}\nupdate {BATTERY} 5a\n".encode())
+    state, rest, sources = None, "", [link, sys.stdin]
+    while True:
+        ready = select.select(sources, [], [])[0]
+        if sys.stdin in ready and not sys.stdin.readline():
+            sources.remove(sys.stdin)
+        elif sys.stdin in ready:
+            state = turned("00" if state == "01" else "01")
+            link.sendall(f"update {STATE} {state}\n".encode())
+        if link in ready:
+            octets = link.recv(4096)
+            if not octets:
+                return "the device is gone"
+            *lines, rest = (rest + octets.decode()).split("\n")
+            for line in lines:
+                state = heard(line.split(), state)
+
+
+if __name__ == "__main__":
+    sys.exit(main())
