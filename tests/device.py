@@ -1,0 +1,356 @@
+#!/usr/bin/env python3
+"""Plays a day of a device: controllers with phones, and applications, against `gatt_shell host`.
+
+usage: tests/device.py [PROGRAM]      PROGRAM in place of ./gatt_shell
+
+The last line is 'N passed, M failed'.
+"""
+
+import os
+import random
+import signal
+import socket
+import subprocess
+import sys
+import tempfile
+import threading
+import time
+
+sys.dont_write_bytecode = True
+from parties import (
+    ADVERTISING_DATA, DISCONNECT, OWNER, PATIENCE, RANDOM_ADDRESS, ROOT, STRANGER,
+    Application, Controller, Device, SerialLine, controller_at,
+)
+
+DOOR = [f"{ROOT}/examples/door.toml", f"{ROOT}/examples/keys.toml"]
+BELL = [f"{ROOT}/examples/bell.toml", f"{ROOT}/examples/keys.toml"]
+
+passed = failed = 0
+
+
+def check(what, wanted, found):
+    """Counts whether something is as it is to be."""
+    global passed, failed
+    if wanted == found:
+        passed += 1
+    else:
+        failed += 1
+        print(f"FAILED: {what}\n  wanted {wanted!r}\n  found  {found!r}", flush=True)
+
+
+def text_of(path):
+    with open(path) as file:
+        return file.read()
+
+
+def a_day(folder):
+    """Phones, an application, and both of them gone and back."""
+    path, rows = f"{folder}/day.socket", f"{folder}/day.rows"
+    device = Device(*DOOR, "--listen", "127.0.0.1:0", "--application", path, "--rows", rows)
+    address = device.port()
+    check("the socket is its owner's", 0o600, os.stat(path).st_mode & 0o777)
+    one = Application(path)
+    check("no controller", "+ waiting", one.line())
+    check("a value", "value 10 00", one.ask("value 10"))
+    check("an update", "ok", one.ask("update 10 00"))
+    check("no handle", "fault 1: there is no attribute with the handle", one.ask("update 99 00"))
+    check("no value", "fault 1: there is no attribute with the handle", one.ask("value 99"))
+    check("nobody", "fault 4: no connection with the handle serves", one.ask("allow 64 1000"))
+    check("nobody is connected", "ok", one.ask("connections"))
+    check("no words", "bad: not understood", one.ask("open the door"))
+    probe = socket.create_connection(address, PATIENCE)
+    check("a probe", "+ serving", one.line())
+    probe.close()
+    check("it closes", "+ waiting", one.line())
+
+    controller = controller_at(device)
+    check("a controller", "+ serving", one.line())
+    check("it is initialised", True, controller.is_advertised())
+    controller.connect(64, STRANGER)
+    check("a stranger", "+ connected 64 1 c0:00:00:00:00:0a", one.line())
+    controller.connect(65, OWNER)
+    check("the owner", "+ connected 65 0 00:11:22:33:44:55", one.line())
+    check("the owner's key", True, controller.encrypt(65))
+    check("is told", "+ secured 65 16 1 0", one.line())
+    check("the stranger may not open", "01120a0005", controller.ask(64, "120a0001"))
+    check("the owner opens", "13", controller.ask(65, "120a0001"))
+    check("the motor hears", "+ written 65 10 01", one.line())
+    check("no rows yet", "", text_of(rows))
+    check("the owner subscribes", "13", controller.ask(65, "1207000100"))
+    check("it is on the disk", "0 00:11:22:33:44:55 7 1\n", text_of(rows))
+    check("and told", "+ configured 65 7 1", one.line())
+    check("the battery", "ok", one.ask("update 6 32"))
+    check("the owner hears", "1b060032", controller.hears(65))
+    check("the code is kept", "010a0d0008", controller.ask(65, "0a0d00"))
+    check("for a while", "ok", one.ask("allow 65 3000"))
+    check("the code", "0b31323334", controller.ask(65, "0a0d00"))
+    time.sleep(3.2)
+    check("the while is over", "010a0d0008", controller.ask(65, "0a0d00"))
+    check("for good", "ok", one.ask("allow 65"))
+    check("the code again", "0b31323334", controller.ask(65, "0a0d00"))
+    check("no more", "ok", one.ask("deny 65"))
+    check("denied", "010a0d0008", controller.ask(65, "0a0d00"))
+    check("the stranger goes", "ok", one.ask("disconnect 64"))
+    check("ended", "+ ending 64 13", one.line())
+    controller.command(DISCONNECT)
+    check("gone", "+ disconnected 64", one.line())
+
+    two = Application(path)
+    stands = ["+ serving", "+ connected 65 0 00:11:22:33:44:55", "+ secured 65 16 1 0"]
+    check("another application", stands, two.lines(3))
+    check("in place of the first", "END", one.line())
+    check("who is connected", stands[1:] + ["ok"], [two.ask("connections")] + two.lines(2))
+    two.close()
+    check("none is needed", "0b01", controller.ask(65, "0a0a00"))
+
+    controller.close()
+    device.said("controller gone", 2)
+    three = Application(path)
+    check("no controller again", "+ waiting", three.line())
+    check("the value is kept", "value 10 01", three.ask("value 10"))
+    controller = controller_at(device)
+    check("another controller", "+ serving", three.line())
+    check("it is initialised too", True, controller.is_advertised())
+    controller.connect(70, OWNER)
+    check("the owner is back", "+ connected 70 0 00:11:22:33:44:55", three.line())
+    check("with the key", True, controller.encrypt(70))
+    check("as before", "+ secured 70 16 1 0", three.line())
+    check("what was subscribed", "ok", three.ask("update 6 31"))
+    check("is heard", "1b060031", controller.hears(70))
+
+    controller.send(b"\7")
+    stopped = "+ stopped: the octet 07 stands where a packet begins, and begins none"
+    check("garbage", [stopped, "+ waiting"], three.lines(2))
+    check("the stream is closed", True, controller.until(lambda: controller.is_gone))
+    controller.close()
+    controller = controller_at(device)
+    check("it serves on", "+ serving", three.line())
+    check("and advertises", True, controller.is_advertised())
+    other = controller_at(device)
+    controller.close()
+    check("one that waited already", ["+ waiting", "+ serving"], three.lines(2))
+    controller = other
+    check("is initialised", True, controller.is_advertised())
+    three.say("x" * 1_101)
+    check("too long", ["bad: the line is too long", "END"], three.lines(2))
+    three.close()
+
+    four = Application(path)
+    check("one that never reads", "+ serving", four.line())
+    flood = b"value 21\n" * 100
+    four.stream.settimeout(PATIENCE)
+    try:
+        for _ in range(20_000):
+            four.stream.sendall(flood)
+        check("is cut off", "cut off", "")
+    except OSError:
+        device.said("application cut off")
+        check("is cut off", "", "")
+    controller.connect(71, STRANGER)
+    check("phones are served", "0b4c6f636b", controller.ask(71, "0a0300"))
+    four.close()
+    check("SIGTERM", -signal.SIGTERM, device.end(signal.SIGTERM))
+    check("the rows are whole", "0 00:11:22:33:44:55 7 1\n", text_of(rows))
+    controller.close()
+
+
+def a_bell(folder):
+    """An indication that is never confirmed; its answers are looked at later."""
+    path = f"{folder}/bell.socket"
+    device = Device(*BELL, "--listen", "127.0.0.1:0", "--application", path)
+    controller = controller_at(device)
+    controller.is_advertised()
+    bell = Application(path)
+    bell.line()
+    controller.connect(64, STRANGER)
+    bell.line()
+    check("indications", "13", controller.ask(64, "1204000200"))
+    check("are configured", "+ configured 64 4 2", bell.line())
+    check("the bell", "ok", bell.ask("update 3 01"))
+    check("is indicated", "1d030001", controller.hears(64))
+    begun = time.monotonic()
+    heard = []
+    thread = threading.Thread(target=lambda: heard.extend([bell.line(40), time.monotonic() - begun]))
+    thread.start()
+
+    def later():
+        thread.join()
+        check("it is late", "+ timed-out 64", heard[0])
+        check("after 30 seconds", True, 29 < heard[1])
+        check("nothing more", "ok", bell.ask("update 3 02"))
+        check("is told", None, controller.hears(64, 0.5))
+        device.end()
+        controller.close()
+
+    return later
+
+
+def a_stranger(folder):
+    """Silent strangers are sent away; phones with a key are not."""
+    path = f"{folder}/stranger.socket"
+    device = Device(*DOOR, "--listen", "127.0.0.1:0", "--application", path, "--idle", "3")
+    controller = controller_at(device)
+    controller.is_advertised()
+    application = Application(path)
+    application.line()
+    controller.connect(64, STRANGER)
+    controller.connect(65, OWNER)
+    application.lines(2)
+    controller.encrypt(65)
+    application.line()
+    begun = time.monotonic()
+    for _ in range(3):
+        time.sleep(1)
+        controller.ask(64, "0a0300")
+    check("silent", "+ ending 64 13", application.line())
+    check("for three seconds", True, time.monotonic() - begun > 5.8)
+    controller.command(DISCONNECT)
+    check("gone", "+ disconnected 64", application.line())
+    check("the owner stays", None, application.line(3.5))
+    device.end()
+    controller.close()
+
+
+def a_listener(folder):
+    """The program connects, and connects again; it says what it is."""
+    server = socket.create_server(("127.0.0.1", 0))
+    server.settimeout(PATIENCE)
+    address = "127.0.0.1:%d" % server.getsockname()[1]
+    device = Device(
+        *DOOR, "--connect", address, "--name", "Front door of the house", "--advertise", "180f,fff0",
+        "--address", "c0:11:22:33:44:55", "--application", f"{folder}/listener.socket",
+    )
+    for _ in range(2):
+        controller = Controller(server.accept()[0])
+        check("it connects", True, controller.is_advertised())
+        found = controller.command(ADVERTISING_DATA)
+        length, shown = int(found[:2], 16), bytes.fromhex(found[2:])[: int(found[:2], 16)]
+        check("what a scanner sees", 31, length)
+        check("flags and services", "02010605030f18f0ff", shown[:9].hex())
+        check("a name", bytes([21, 8]) + b"Front door of the ho", shown[9:])
+        check("an address", "5544332211c0", controller.command(RANDOM_ADDRESS))
+        controller.close()
+    device.end()
+    server.close()
+
+
+def a_serial_line(folder):
+    """A controller at the end of a serial line, which is taken off and put on again."""
+    path, socket_path = f"{folder}/line", f"{folder}/line.socket"
+    device = Device(*DOOR, "--serial", path, "--application", socket_path)
+    device.said("ready")
+    application = Application(socket_path)
+    check("no line yet", "+ waiting", application.line())
+    for _ in range(2):
+        line = SerialLine(path)
+        controller = Controller(line)
+        check("a line", "+ serving", application.line())
+        check("has a controller", True, controller.is_advertised())
+        controller.connect(64, STRANGER)
+        check("and a phone", "+ connected 64 1 c0:00:00:00:00:0a", application.line())
+        check("which reads", "0b4c6f636b", controller.ask(64, "0a0300"))
+        line.close()
+        check("no line any more", "+ waiting", application.line())
+    device.end()
+
+
+def a_lock(folder):
+    """The example of an application turns its motor."""
+    path = f"{folder}/lock.socket"
+    device = Device(*DOOR, "--listen", "127.0.0.1:0", "--application", path)
+    controller = controller_at(device)
+    controller.is_advertised()
+    lock = subprocess.Popen(
+        [f"{ROOT}/examples/device/lock.py", path],
+        stdin=subprocess.PIPE, stdout=subprocess.PIPE, stderr=subprocess.DEVNULL, text=True,
+    )
+    check("the door", "the door is closed\n", lock.stdout.readline())
+    controller.connect(65, OWNER)
+    controller.encrypt(65)
+    check("it is opened", "13", controller.ask(65, "120a0001"))
+    check("by the motor", "the motor opens the door\n", lock.stdout.readline())
+    check("the owner subscribes", "13", controller.ask(65, "120b000100"))
+    lock.stdin.write("\n")
+    lock.stdin.flush()
+    check("the button", "the motor closes the door\n", lock.stdout.readline())
+    check("is told", "1b0a0000", controller.hears(65))
+    device.end()
+    check("the device is gone", 1, lock.wait(PATIENCE))
+    controller.close()
+
+
+def once(folder):
+    """It ends with its first controller."""
+    device = Device(*DOOR, "--listen", "127.0.0.1:0", "--once")
+    controller = controller_at(device)
+    controller.is_advertised()
+    controller.close()
+    check("once", 0, device.process.wait(PATIENCE))
+    device = Device(*DOOR, "--listen", "127.0.0.1:0", "--once")
+    controller = controller_at(device)
+    controller.send(b"\7")
+    check("once, with a fault", 2, device.process.wait(PATIENCE))
+    controller.close()
+
+
+def words(folder):
+    """What is no command."""
+    for given, status in [
+        ([], 64), (["--listen", "x"], 64), (["--listen", "127.0.0.1:0", "--slots", "9"], 64),
+        (["--listen", "127.0.0.1:0", "--advertise", "0"], 64),
+        (["--listen", "127.0.0.1:0", "--advertise", "180f," * 40], 64),
+        (["--listen", "127.0.0.1:0", "--address", "00:11:22:33:44:55"], 64),
+        (["--listen", "127.0.0.1:0", "--rows", f"{folder}/none/rows"], 1),
+        (["--listen", "127.0.0.1:0", "--application", f"{folder}/none/socket"], 2),
+    ]:
+        device = Device(*DOOR, *given)
+        check(f"{given}", status, device.process.wait(PATIENCE))
+
+
+def killed(folder, times):
+    """Killed at any moment, it leaves a rows file that is whole."""
+    rows = f"{folder}/killed.rows"
+    seen = set()
+    for _ in range(times):
+        device = Device(*DOOR, "--listen", "127.0.0.1:0", "--rows", rows)
+        controller = controller_at(device)
+        controller.is_advertised()
+        controller.connect(65, OWNER)
+        controller.encrypt(65)
+        killer = threading.Timer(random.uniform(0, 0.02), device.end)
+        killer.start()
+        told = None
+        try:
+            for turn in range(10_000):
+                bits = turn % 2
+                if controller.ask(65, f"120700{1 - bits:02x}00") != "13":
+                    break
+                told = 1 - bits
+        except OSError:
+            pass
+        killer.join()
+        text = text_of(rows)
+        seen.add(text)
+        line = "0 00:11:22:33:44:55 7 1\n"
+        if text not in ("", line):
+            check("rows of one that was killed", "whole", text)
+        controller.close()
+    check("rows of those that were killed", True, seen <= {"", "0 00:11:22:33:44:55 7 1\n"})
+
+
+def main():
+    with tempfile.TemporaryDirectory() as folder:
+        later = a_bell(folder)
+        for play in (a_day, a_stranger, a_listener, a_serial_line, a_lock, once, words):
+            try:
+                play(folder)
+            except Exception as error:
+                check(play.__name__, "no error", repr(error))
+        killed(folder, 100)
+        later()
+    print(f"{passed} passed, {failed} failed")
+    return failed != 0
+
+
+if __name__ == "__main__":
+    sys.exit(main())

@@ -1,0 +1,235 @@
+"""The program as it runs, a controller with its phones, and an application."""
+
+import os
+import pty
+import select
+import signal
+import socket
+import subprocess
+import sys
+import threading
+import time
+import tty
+
+ROOT = os.path.dirname(os.path.dirname(os.path.realpath(__file__)))
+PROGRAM = os.path.realpath(sys.argv[1]) if len(sys.argv) > 1 else f"{ROOT}/gatt_shell"
+# How long is waited for what has to come, in seconds.
+PATIENCE = 20
+# The peers of phones: one without a key, and one with an authenticated key, of which these are the
+# random number, the diversifier and the value.
+STRANGER = bytes.fromhex("010a00000000c0")
+OWNER = bytes.fromhex("00554433221100")
+KEY = (bytes.fromhex("0202020202020202"), 514, bytes.fromhex("ffeeddccbbaa99887766554433221100"))
+# What a controller returns beside the status, by the command.
+RETURNED = {0x1005: bytes.fromhex("fb000008000000"), 0x2002: bytes.fromhex("fb0008")}
+DISCONNECT, KEY_REPLY, KEY_REFUSAL = 0x0406, 0x201A, 0x201B
+ADVERTISING_DATA, RANDOM_ADDRESS, ADVERTISE_ENABLE = 0x2008, 0x2005, 0x200A
+
+
+class Device:
+    """The program as it runs, with its log."""
+
+    def __init__(self, *words):
+        self.process = subprocess.Popen([PROGRAM, "host", *words], stderr=subprocess.PIPE, text=True)
+        self.log = []
+        self.changed = threading.Condition()
+        threading.Thread(target=self.read, daemon=True).start()
+
+    def read(self):
+        for line in self.process.stderr:
+            with self.changed:
+                self.log.append(line.rstrip("\n").split(" ", 1)[-1])
+                self.changed.notify_all()
+
+    def said(self, begin, count=1):
+        """What the line of the log says that begins so, once there are as many."""
+        end = time.monotonic() + PATIENCE
+        with self.changed:
+            while time.monotonic() < end:
+                found = [it for it in self.log if it.startswith(begin)]
+                if len(found) >= count:
+                    return found[count - 1][len(begin):]
+                self.changed.wait(0.1)
+        raise TimeoutError(f"the log has no {begin!r}: {self.log}")
+
+    def port(self):
+        self.said("ready")
+        host, port = self.said("listening for a controller: ").rsplit(":", 1)
+        return host, int(port)
+
+    def end(self, how=signal.SIGKILL):
+        self.process.send_signal(how)
+        return self.process.wait(PATIENCE)
+
+
+class Controller:
+    """A controller, which answers each command, and its phones by their handles."""
+
+    def __init__(self, stream):
+        self.stream = stream
+        self.octets = b""
+        self.commands = []
+        self.heard = []
+        self.is_gone = False
+
+    def send(self, octets):
+        self.stream.sendall(octets)
+
+    def event(self, code, parameters):
+        self.send(bytes([4, code, len(parameters)]) + parameters)
+
+    def take(self, packet):
+        """Answers a command, or takes in what a phone hears."""
+        if packet[0] == 2:
+            handle = int.from_bytes(packet[1:3], "little") & 0xFFF
+            self.event(0x13, b"\1" + handle.to_bytes(2, "little") + b"\1\0")
+            self.heard.append((handle, packet[9:].hex()))
+            return
+        opcode = int.from_bytes(packet[1:3], "little")
+        self.commands.append((opcode, packet[4:]))
+        if opcode == DISCONNECT:
+            self.event(0x0F, b"\0\1" + packet[1:3])
+            self.event(0x05, b"\0" + packet[4:6] + b"\x16")
+            return
+        handle = packet[4:6] if opcode in (KEY_REPLY, KEY_REFUSAL) else b""
+        returned = b"\0" + RETURNED.get(opcode, b"") + handle
+        self.event(0x0E, b"\1" + packet[1:3] + returned)
+
+    def next_packet(self):
+        if len(self.octets) < 4:
+            return None
+        size = 4 + self.octets[3] if self.octets[0] == 1 else 5 + int.from_bytes(self.octets[3:5], "little")
+        if len(self.octets) < size:
+            return None
+        packet, self.octets = self.octets[:size], self.octets[size:]
+        return packet
+
+    def until(self, is_so, seconds=PATIENCE):
+        """Takes in packets until something is so."""
+        end = time.monotonic() + seconds
+        while not is_so():
+            packet = self.next_packet()
+            if packet:
+                self.take(packet)
+                continue
+            left = end - time.monotonic()
+            if left <= 0 or not select.select([self.stream], [], [], left)[0]:
+                return False
+            octets = self.stream.recv(4096)
+            if not octets:
+                self.is_gone = True
+                return is_so()
+            self.octets += octets
+        return True
+
+    def command(self, opcode, count=1):
+        """The parameters of a command, once it has come so often."""
+        found = lambda: [it[1] for it in self.commands if it[0] == opcode]
+        self.until(lambda: len(found()) >= count)
+        return found()[count - 1].hex() if len(found()) >= count else None
+
+    def is_advertised(self):
+        return self.command(ADVERTISE_ENABLE) == "01"
+
+    def connect(self, handle, peer):
+        self.event(0x3E, b"\1\0" + handle.to_bytes(2, "little") + b"\1" + peer + b"\x18\0\0\0\x48\0\0")
+
+    def encrypt(self, handle):
+        random_number, diversifier, key = KEY
+        before = len([it for it in self.commands if it[0] == KEY_REPLY])
+        spelled = handle.to_bytes(2, "little")
+        self.event(0x3E, b"\5" + spelled + random_number + diversifier.to_bytes(2, "little"))
+        reply = self.command(KEY_REPLY, before + 1)
+        self.event(0x08, b"\0" + spelled + b"\1")
+        return reply == (spelled + key).hex()
+
+    def say(self, handle, pdu):
+        """A phone sends a PDU of the Attribute Protocol."""
+        pdu = bytes.fromhex(pdu)
+        frame = len(pdu).to_bytes(2, "little") + b"\4\0" + pdu
+        head = (0x2000 | handle).to_bytes(2, "little") + len(frame).to_bytes(2, "little")
+        self.send(b"\2" + head + frame)
+
+    def hears(self, handle, seconds=PATIENCE):
+        """What a phone hears next."""
+        mine = lambda: [it for it in self.heard if it[0] == handle]
+        self.until(mine, seconds)
+        if not mine():
+            return None
+        first = mine()[0]
+        self.heard.remove(first)
+        return first[1]
+
+    def ask(self, handle, pdu):
+        self.say(handle, pdu)
+        return self.hears(handle)
+
+    def close(self):
+        self.stream.close()
+
+
+class SerialLine:
+    """A pseudo-terminal at a path, as the stream of a controller."""
+
+    def __init__(self, path):
+        self.path = path
+        self.master, self.slave = pty.openpty()
+        tty.setraw(self.slave)
+        os.symlink(os.ttyname(self.slave), path)
+
+    def fileno(self):
+        return self.master
+
+    def sendall(self, octets):
+        os.write(self.master, octets)
+
+    def recv(self, count):
+        return os.read(self.master, count)
+
+    def close(self):
+        os.remove(self.path)
+        os.close(self.slave)
+        os.close(self.master)
+
+
+class Application:
+    """An application, and the lines that it hears."""
+
+    def __init__(self, path):
+        self.stream = socket.socket(socket.AF_UNIX)
+        self.stream.connect(path)
+        self.octets = b""
+
+    def line(self, seconds=PATIENCE):
+        """The next line; `END` at the end, and none where nothing comes."""
+        end = time.monotonic() + seconds
+        while b"\n" not in self.octets:
+            left = end - time.monotonic()
+            if left <= 0 or not select.select([self.stream], [], [], left)[0]:
+                return None
+            try:
+                octets = self.stream.recv(4096)
+            except ConnectionResetError:
+                return "END"
+            if not octets:
+                return "END"
+            self.octets += octets
+        line, self.octets = self.octets.split(b"\n", 1)
+        return line.decode()
+
+    def lines(self, count):
+        return [self.line() for _ in range(count)]
+
+    def say(self, line):
+        self.stream.sendall(line.encode() + b"\n")
+
+    def ask(self, line):
+        self.say(line)
+        return self.line()
+
+    def close(self):
+        self.stream.close()
+
+
+def controller_at(device):
+    return Controller(socket.create_connection(device.port(), PATIENCE))
