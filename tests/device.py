@@ -19,7 +19,7 @@ import time
 sys.dont_write_bytecode = True
 from parties import (
     ADVERTISING_DATA, DISCONNECT, OWNER, PATIENCE, RANDOM_ADDRESS, ROOT, STRANGER,
-    Application, Controller, Device, SerialLine, controller_at,
+    Application, Controller, Device, SerialLine, controller_at, end_all,
 )
 
 DOOR = [f"{ROOT}/examples/door.toml", f"{ROOT}/examples/keys.toml"]
@@ -348,6 +348,7 @@ def main():
                 check(play.__name__, "no error", repr(error))
         killed(folder, 100)
         later()
+        end_all()
     print(f"{passed} passed, {failed} failed")
     return failed != 0
 

@@ -29,8 +29,11 @@ ADVERTISING_DATA, RANDOM_ADDRESS, ADVERTISE_ENABLE = 0x2008, 0x2005, 0x200A
 class Device:
     """The program as it runs, with its log."""
 
+    started = []
+
     def __init__(self, *words):
         self.process = subprocess.Popen([PROGRAM, "host", *words], stderr=subprocess.PIPE, text=True)
+        Device.started.append(self.process)
         self.log = []
         self.changed = threading.Condition()
         threading.Thread(target=self.read, daemon=True).start()
@@ -60,6 +63,14 @@ class Device:
     def end(self, how=signal.SIGKILL):
         self.process.send_signal(how)
         return self.process.wait(PATIENCE)
+
+
+def end_all():
+    """Ends what a play has left running."""
+    for process in Device.started:
+        if process.poll() is None:
+            process.kill()
+            process.wait(PATIENCE)
 
 
 class Controller:
