@@ -6,8 +6,8 @@ use Rattle.att_attributes.specs.declared.attr.Attr.{Attr}
 use Rattle.gatt_laws.specs.machine.Heard.{heard_in_turn}
 use Rattle.gatt_subs.specs.Told.{Hearer}
 
--- one that waits at the end of an event for a connection that serves and confirms in time, while none is unconfirmed, has 8 PDUs
--- before it
+-- one that still waits once a connection that serves and confirms in time has heard what an event tells, while none is unconfirmed,
+-- has 8 PDUs before it at that moment: packets are given after it
 abbrev pub WaitsOnlyBehindABacklog : Type 0
 WaitsOnlyBehindABacklog = (attributes : List Attr) (values : Values) (hearer : Hearer) (now : ℕ) (handles : List Handle) →
     let heard = heard_in_turn attributes values hearer now handles in
