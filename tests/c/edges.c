@@ -148,8 +148,8 @@ static void output_that_is_owed(void)
     size_t count;
     CHECK(begin_host(&host, &table, &keys, NULL, 4) == GH_DONE);
     /* Reset is owed. */
-    CHECK(gh_next_out(&host, out, GH_LONGEST_PACKET - 1, &count) == GH_SHORT_BUFFER && count == 0);
-    CHECK(gh_next_out(&host, out, 0, &count) == GH_SHORT_BUFFER && count == 0);
+    CHECK(gh_next_out(&host, out, GH_LONGEST_PACKET - 1, &count) == GH_SHORT_BUFFER && count == GH_LONGEST_PACKET);
+    CHECK(gh_next_out(&host, out, 0, &count) == GH_SHORT_BUFFER && count == GH_LONGEST_PACKET);
     CHECK(gh_take(&host, reset_complete, sizeof reset_complete, &count) == GH_OUTPUT_OWED);
     CHECK(count == 0);
     CHECK(gh_update(&host, 10, none.octets, 1) == GH_OUTPUT_OWED);
