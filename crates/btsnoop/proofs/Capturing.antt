@@ -1,0 +1,112 @@
+-- Packets are recorded one after another.
+use Rattle.std.proofs.Common.{◌≡◌, ℕ, List, [], ◌∷◌, ◌++◌, take, drop, Option, refl, sym, ap, subst, ◌∙◌, append_assoc}
+use Rattle.std.proofs.KnownBytes.{Appends-nil, Appends-trans}
+use Rattle.std.proofs.lemmas.Grind.{flat_map-append}
+use Rattle.std.proofs.lemmas.List.{append-nil, take-append-drop}
+use Rattle.std.proofs.lemmas.List.Elements.{All-nil, All-cons, All-append}
+use Rattle.std.specs.Io.KnownBytes.{Appends}
+use Rattle.std.specs.List.{All}
+use Rattle.octets.specs.Number.{Octets}
+use Rattle.octets.specs.Stream.{WritesFront}
+use Rattle.btsnoop.specs.Capture.{CapturesAll, CapturesFront, CapturesUpTo}
+use Rattle.btsnoop.specs.Packet.{IsPacket, IsUnfinished, IsLost, joined}
+use Rattle.btsnoop.specs.Record.{record_of, records_of}
+use Rattle.btsnoop.specs.declared.record.Direction.{Direction}
+
+-- these packets are recorded, these octets are begun, and these follow
+pub record SoFar (direction : Direction) (time : ℕ) (first octets begun rest : Octets) (held holds : Option Octets) : Type 0 where
+  pub packets : List Octets
+  pub whole : All IsPacket packets
+  pub parts : first ++ octets ≡ joined packets ++ (begun ++ rest)
+  pub recorded : Appends held holds (records_of direction time packets)
+
+joined-more : (packets : List Octets) (packet : Octets) → joined (packets ++ packet ∷ []) ≡ joined packets ++ packet
+joined-more packets packet =
+    flat_map-append (λ (packet : Octets). packet) packets (packet ∷ [])
+    ∙ ap (λ (octets : Octets). joined packets ++ octets) (append-nil packet)
+
+whole-more : (packets : List Octets) (packet : Octets) → All IsPacket packets → IsPacket packet → All IsPacket (packets ++ packet ∷ [])
+whole-more packets packet whole is = All-append IsPacket packets (packet ∷ []) whole (All-cons IsPacket packet [] is (All-nil IsPacket))
+
+parts-more : (all : Octets) (packets : List Octets) (packet rest : Octets) → all ≡ joined packets ++ (packet ++ rest)
+    → all ≡ joined (packets ++ packet ∷ []) ++ rest
+parts-more all packets packet rest parts =
+    parts ∙ sym (append_assoc (joined packets) packet rest) ∙ ap (λ (octets : Octets). octets ++ rest) (sym (joined-more packets packet))
+
+module _ (direction : Direction) (time : ℕ) where
+  records-more : (packets : List Octets) (packet : Octets)
+      → records_of direction time (packets ++ packet ∷ []) ≡ records_of direction time packets ++ record_of direction time packet
+  records-more packets packet =
+      flat_map-append (record_of direction time) packets (packet ∷ [])
+      ∙ ap (λ (octets : Octets). records_of direction time packets ++ octets) (append-nil (record_of direction time packet))
+
+  pub so_far-start : (first octets : Octets) (held : Option Octets) → SoFar direction time first octets first octets held held
+  so_far-start first octets held = record { packets = []; whole = All-nil IsPacket; parts = refl; recorded = Appends-nil held }
+
+  pub so_far-filled : (first octets begun rest : Octets) (held holds : Option Octets) (count : ℕ)
+      → SoFar direction time first octets begun rest held holds
+      → SoFar direction time first octets (begun ++ take count rest) (drop count rest) held holds
+  so_far-filled first octets begun rest held holds count so_far = record {
+    packets = so_far.packets;
+    whole = so_far.whole;
+    parts =
+        so_far.parts
+        ∙ ap (λ (rest : Octets). joined so_far.packets ++ (begun ++ rest)) (sym (take-append-drop count rest))
+        ∙ ap (λ (octets : Octets). joined so_far.packets ++ octets) (sym (append_assoc begun (take count rest) (drop count rest)));
+    recorded = so_far.recorded;
+  }
+
+  pub so_far-recorded : (first octets packet rest : Octets) (held mid holds : Option Octets)
+      → SoFar direction time first octets packet rest held mid → IsPacket packet → Appends mid holds (record_of direction time packet)
+      → SoFar direction time first octets [] rest held holds
+  so_far-recorded first octets packet rest held mid holds so_far is appended = record {
+    packets = so_far.packets ++ packet ∷ [];
+    whole = whole-more so_far.packets packet so_far.whole is;
+    parts = parts-more (first ++ octets) so_far.packets packet rest so_far.parts;
+    recorded =
+        subst (Appends held holds) (sym (records-more so_far.packets packet))
+        (Appends-trans held mid holds (records_of direction time so_far.packets) (record_of direction time packet) so_far.recorded appended);
+  }
+
+  pub captures_all : (first octets begins : Octets) (held holds : Option Octets)
+      → SoFar direction time first octets begins [] held holds → IsUnfinished begins
+      → CapturesAll direction time first octets begins held holds
+  captures_all first octets begins held holds so_far unfinished = record {
+    packets = so_far.packets;
+    whole = so_far.whole;
+    parts = so_far.parts ∙ ap (λ (octets : Octets). joined so_far.packets ++ octets) (append-nil begins);
+    unfinished = unfinished;
+    recorded = so_far.recorded;
+  }
+
+  pub captures_front : (first octets packet rest : Octets) (held mid holds : Option Octets)
+      → SoFar direction time first octets packet rest held mid → IsPacket packet → WritesFront (record_of direction time packet) mid holds
+      → CapturesFront direction time first octets held holds
+  captures_front first octets packet rest held mid holds so_far is front = record {
+    packets = so_far.packets ++ packet ∷ [];
+    whole = whole-more so_far.packets packet so_far.whole is;
+    left = rest;
+    parts = parts-more (first ++ octets) so_far.packets packet rest so_far.parts;
+    recorded = record {
+      written = records_of direction time so_far.packets ++ front.written;
+      appended = Appends-trans held mid holds (records_of direction time so_far.packets) front.written so_far.recorded front.appended;
+      left = front.left;
+      parts =
+          records-more so_far.packets packet
+          ∙ ap (λ (octets : Octets). records_of direction time so_far.packets ++ octets) front.parts
+          ∙ sym (append_assoc (records_of direction time so_far.packets) front.written front.left);
+    };
+  }
+
+  pub captures_up_to : (first octets lost rest : Octets) (held holds : Option Octets)
+      → SoFar direction time first octets lost rest held holds → IsLost lost
+      → CapturesUpTo direction time first octets held holds
+  captures_up_to first octets lost rest held holds so_far is_lost = record {
+    packets = so_far.packets;
+    whole = so_far.whole;
+    lost = lost;
+    is_lost = is_lost;
+    left = rest;
+    parts = so_far.parts;
+    recorded = so_far.recorded;
+  }

@@ -1,0 +1,3 @@
+pub mod Beginning
+pub mod Capturing
+pub mod Example

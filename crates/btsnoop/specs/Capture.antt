@@ -1,0 +1,69 @@
+-- What a capture holds, and what it records.
+use Rattle.std.specs.Prelude.{◌≡◌, ℕ, Bool, true, false, List, ◌++◌, Option, Some, None}
+use Rattle.std.specs.Io.KnownBytes.{Appends}
+use Rattle.std.specs.List.{All}
+use Rattle.octets.specs.Number.{Octets}
+use Rattle.octets.specs.Stream.{WritesFront}
+use Rattle.btsnoop.specs.Packet.{IsPacket, IsUnfinished, IsLost, joined}
+use Rattle.btsnoop.specs.Record.{file_header, records_of}
+use Rattle.btsnoop.specs.declared.record.Direction.{Direction}
+use Rattle.btsnoop.specs.declared.capture.Capture.{Capture}
+use Rattle.btsnoop.specs.declared.capture.CaptureFault.{CaptureFault}
+use Rattle.btsnoop.specs.declared.capture.CaptureFault.TheVariants.{Write, Packet}
+
+-- where the records go, why no more of them are written, and the octets so far of a packet that is unfinished, either way
+abbrev pub sink_of : {C : Type 0} → Capture C → C
+sink_of capture = capture.sink
+
+abbrev pub fault_of : {C : Type 0} → Capture C → Option CaptureFault
+fault_of capture = capture.fault
+
+abbrev pub sent_of : {C : Type 0} → Capture C → Octets
+sent_of capture = capture.sent
+
+abbrev pub received_of : {C : Type 0} → Capture C → Octets
+received_of capture = capture.received
+
+-- what stands before all records is written, or the front of it
+abbrev pub Begins : Option CaptureFault → Option Octets → Option Octets → Type 0
+Begins None held holds = Appends held holds file_header
+Begins (Some Write) held holds = WritesFront file_header held holds
+Begins (Some Packet) held holds = ⊥
+
+-- what was begun and the octets behind it are these packets, all recorded, and then less than one packet
+pub record CapturesAll (direction : Direction) (time : ℕ) (begun octets begins : Octets) (held holds : Option Octets) : Type 0 where
+  pub packets : List Octets
+  pub whole : All IsPacket packets
+  pub parts : begun ++ octets ≡ joined packets ++ begins
+  pub unfinished : IsUnfinished begins
+  pub recorded : Appends held holds (records_of direction time packets)
+
+-- they begin with these packets, and the front of their records was written
+pub record CapturesFront (direction : Direction) (time : ℕ) (begun octets : Octets) (held holds : Option Octets) : Type 0 where
+  pub packets : List Octets
+  pub whole : All IsPacket packets
+  pub left : Octets
+  pub parts : begun ++ octets ≡ joined packets ++ left
+  pub recorded : WritesFront (records_of direction time packets) held holds
+
+-- they begin with these packets, all recorded, and then with octets with which no packet begins
+pub record CapturesUpTo (direction : Direction) (time : ℕ) (begun octets : Octets) (held holds : Option Octets) : Type 0 where
+  pub packets : List Octets
+  pub whole : All IsPacket packets
+  pub lost : Octets
+  pub is_lost : IsLost lost
+  pub left : Octets
+  pub parts : begun ++ octets ≡ joined packets ++ (lost ++ left)
+  pub recorded : Appends held holds (records_of direction time packets)
+
+-- octets are captured behind those that were begun, at a time, which ends so
+abbrev pub Captures : Direction → ℕ → Octets → Octets → Option CaptureFault → Octets → Option Octets → Option Octets → Type 0
+Captures direction time begun octets None begins held holds = CapturesAll direction time begun octets begins held holds
+Captures direction time begun octets (Some Write) begins held holds = CapturesFront direction time begun octets held holds
+Captures direction time begun octets (Some Packet) begins held holds = CapturesUpTo direction time begun octets held holds
+
+-- a record could not be written
+abbrev pub is_write : Option CaptureFault → Bool
+is_write (Some Write) = true
+is_write (Some Packet) = false
+is_write None = false

@@ -1,0 +1,68 @@
+-- The packets of the UART transport (H4), either way: Core 5.0, Vol 4 Part A, 2, and Vol 2 Part E, 5.4.
+use Rattle.std.specs.Prelude.{◌≡◌, ℕ, ◌+◌, ◌<◌, ◌≤◌, ◌==◌, if◌then◌else◌, ⊤, List, [], ◌∷◌, length, Option, Some, None}
+use Rattle.std.specs.List.{flat_map}
+use Rattle.octets.specs.Number.{Octets, from_two}
+use Rattle.le_h4.specs.declared.indicator.TheConstants.{COMMAND, ACL, SCO, EVENT}
+use Rattle.btsnoop.specs.declared.packet.Progress.{Progress}
+use Rattle.btsnoop.specs.declared.packet.Progress.TheVariants.{Lacks, Whole, Lost}
+
+-- how many octets a packet has, its indicator among them, by the octets behind that: as many as its header, until that is there
+abbrev pub needed_behind_two : Octets → ℕ
+needed_behind_two (low ∷ high ∷ size ∷ octets) = 4 + size
+needed_behind_two _ = 4
+
+abbrev pub acl_needed : Octets → ℕ
+acl_needed (low ∷ high ∷ size_low ∷ size_high ∷ octets) = 5 + from_two size_low size_high
+acl_needed _ = 5
+
+abbrev pub event_needed : Octets → ℕ
+event_needed (code ∷ size ∷ octets) = 3 + size
+event_needed _ = 3
+
+-- the same by its indicator: none where no packet has that
+abbrev pub needed_of : Octets → Option ℕ
+needed_of [] = Some 1
+needed_of (indicator ∷ octets) =
+    if indicator == COMMAND then Some (needed_behind_two octets)
+    else if indicator == ACL then Some (acl_needed octets)
+    else if indicator == SCO then Some (needed_behind_two octets)
+    else if indicator == EVENT then Some (event_needed octets)
+    else None
+
+-- these octets are one packet, all of it
+abbrev pub IsPacket : Octets → Type 0
+IsPacket octets = needed_of octets ≡ Some (length octets)
+
+-- these octets begin a packet of at most 1,029 octets, which lacks some
+pub record IsUnfinished (octets : Octets) : Type 0 where
+  pub needed : ℕ
+  pub is : needed_of octets ≡ Some needed
+  pub lacks : length octets < needed
+  pub few : needed ≤ 1029
+
+-- no packet of at most 1,029 octets begins so: none has this indicator, or the header tells of more
+abbrev pub none_needed : Option ℕ → Type 0
+none_needed None = ⊤
+none_needed (Some needed) = 1029 < needed
+
+abbrev pub IsLost : Octets → Type 0
+IsLost octets = none_needed (needed_of octets)
+
+-- the octets of packets, one behind the other
+abbrev pub joined : List Octets → Octets
+joined packets = flat_map (λ packet. packet) packets
+
+-- these octets go no further than one packet
+abbrev pub within_needed : ℕ → Option ℕ → Type 0
+within_needed count None = ⊤
+within_needed count (Some needed) = count ≤ needed
+
+abbrev pub IsBegun : Octets → Type 0
+IsBegun octets = within_needed (length octets) (needed_of octets)
+
+-- how far they have come
+abbrev pub Progresses : Octets → Progress → Type 0
+Progresses octets (Lacks missing) =
+    (needed_of octets ≡ Some (length octets + missing)) × (0 < missing) × (length octets + missing ≤ 1029)
+Progresses octets Whole = IsPacket octets
+Progresses octets Lost = IsLost octets

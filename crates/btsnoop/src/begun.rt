@@ -1,0 +1,71 @@
+//! The octets so far of one packet.
+
+ghost use Rattle.std.specs.Prelude.{◌≡◌, ◌≤◌, ◌++◌, [], length, take, drop};
+ghost use Rattle.btsnoop.specs.Packet.{Progresses};
+
+use crate::packet::{LARGEST, Progress, progress_at};
+use arrayvec::ArrayVec;
+use std::marker::Model;
+
+/// The octets so far of one packet, and none behind it.
+#[derive(Drop)]
+pub(crate) struct Begun {
+    octets: ArrayVec<u8, LARGEST>,
+}
+
+impl Model for Begun {
+    ghost use Rattle.octets.specs.Number.{Octets};
+
+    ghost Value = { Octets };
+
+    ghost use Rattle.btsnoop.specs.Packet.{IsBegun};
+
+    ghost view = { λ begun. begun.octets.items };
+
+    ghost invariant = { λ begun. IsBegun begun.octets.items };
+}
+
+impl Begun {
+    /// No octets.
+    pub(crate) fn new() -> Self
+        ensures { result ≡ [] }
+    {
+        Begun {
+            octets: ArrayVec::new(),
+        }
+    }
+
+    /// The octets.
+    pub(crate) fn as_slice(&self) -> &[u8]
+        ensures octets { result.now ≡ self.now }
+        ensures few { length result.now ≤ 1029 }
+    {
+        self.octets.as_slice()
+    }
+
+    /// How far the packet has come.
+    pub(crate) fn progress(&self) -> Progress
+        ensures { Progresses self.now result }
+    {
+        progress_at(self.octets.as_slice())
+    }
+
+    /// Appends octets, as many as there are of those that are missing, and answers what follows.
+    #[tactic(auto, using(crate::proofs::Beginning::goes_on))]
+    pub(crate) fn fill<'a>(&mut self, missing: usize, octets: &'a [u8]) -> &'a [u8]
+        requires { Progresses self.old (Progress.Lacks missing) }
+        ensures begun { self.new ≡ self.old ++ take missing octets.now }
+        ensures rest { result.now ≡ drop missing octets.now }
+    {
+        let (now, later) = octets.split_at(missing.min(octets.len()));
+        self.octets.try_extend_from_slice(now).unwrap();
+        later
+    }
+
+    /// Forgets the octets.
+    pub(crate) fn clear(&mut self)
+        ensures { self.new ≡ [] }
+    {
+        self.octets.clear();
+    }
+}

@@ -1,0 +1,153 @@
+//! A capture that is written as its packets go by.
+
+ghost use Rattle.std.specs.Prelude.{◌≡◌, [], None, IsSome};
+ghost use Rattle.std.specs.Result.{result_err};
+ghost use Rattle.octets.specs.Stream.{CountsIf};
+ghost use Rattle.btsnoop.specs.Record.{SpellsTheExample};
+ghost use Rattle.btsnoop.specs.Capture.{fault_of, is_write, received_of, sent_of, sink_of, Begins, Captures};
+
+use crate::begun::Begun;
+use crate::packet::Progress;
+use crate::record::{Direction, write_file_header, write_record};
+use octets::Sink;
+
+/// Why no more packets are recorded.
+#[derive(Clone, Copy, Debug, PartialEq, Eq)]
+pub enum CaptureFault {
+    /// A record, or what stands before all of them, could not be written.
+    Write,
+    /// Octets went by with which no packet of at most 1,029 octets begins.
+    Packet,
+}
+
+/// A capture: packets of both directions are recorded in a sink, in the order in which they end.
+#[derive(Drop)]
+pub struct Capture<C> {
+    /// Where the records go.
+    sink: C,
+    /// The octets so far of a packet to the controller.
+    sent: Begun,
+    /// The octets so far of a packet from it.
+    received: Begun,
+    /// Why no more packets are recorded.
+    fault: Option<CaptureFault>,
+}
+
+impl<C: Sink> Capture<C> {
+    /// Begins a capture: writes what stands before all records.
+    #[tactic(auto, using(crate::proofs::Example::spells))]
+    pub fn begin(sink: C) -> Self
+        ensures sent { sent_of result ≡ [] }
+        ensures received { received_of result ≡ [] }
+        ensures header { Begins (fault_of result) (C.contents sink) (C.contents (sink_of result)) }
+        ensures failures { CountsIf (is_write (fault_of result)) (C.failures sink)
+            (C.failures (sink_of result)) }
+        // What a capture is, by an example.
+        ensures example { SpellsTheExample }
+    {
+        let mut sink = sink;
+        let fault = match write_file_header(&mut sink) {
+            Ok(()) => None,
+            Err(_) => Some(CaptureFault::Write),
+        };
+        Capture {
+            sink,
+            sent: Begun::new(),
+            received: Begun::new(),
+            fault,
+        }
+    }
+
+    /// Takes in octets that have gone to the controller, which may begin and end anywhere in its
+    /// packets, and records each packet that they end, at a time in microseconds since the start of
+    /// 1970. After a fault nothing changes.
+    pub fn went(&mut self, octets: &[u8], time: u64)
+        ensures captured { fault_of self.old ≡ None
+            → Captures Direction.Sent time (sent_of self.old) octets.now (fault_of self.new)
+            (sent_of self.new) (C.contents (sink_of self.old)) (C.contents (sink_of self.new)) }
+        ensures received { received_of self.new ≡ received_of self.old }
+        ensures failures { fault_of self.old ≡ None
+            → CountsIf (is_write (fault_of self.new)) (C.failures (sink_of self.old))
+            (C.failures (sink_of self.new)) }
+        ensures stopped { IsSome (fault_of self.old) → self.new ≡ self.old }
+    {
+        if self.fault.is_none() {
+            let captured = record_each(
+                Direction::Sent,
+                time,
+                &mut self.sent,
+                octets,
+                &mut self.sink,
+            );
+            self.fault = captured.err();
+        }
+    }
+
+    /// The same of octets that have come from the controller.
+    pub fn came(&mut self, octets: &[u8], time: u64)
+        ensures captured { fault_of self.old ≡ None
+            → Captures Direction.Received time (received_of self.old) octets.now
+            (fault_of self.new) (received_of self.new) (C.contents (sink_of self.old))
+            (C.contents (sink_of self.new)) }
+        ensures sent { sent_of self.new ≡ sent_of self.old }
+        ensures failures { fault_of self.old ≡ None
+            → CountsIf (is_write (fault_of self.new)) (C.failures (sink_of self.old))
+            (C.failures (sink_of self.new)) }
+        ensures stopped { IsSome (fault_of self.old) → self.new ≡ self.old }
+    {
+        if self.fault.is_none() {
+            let captured = record_each(
+                Direction::Received,
+                time,
+                &mut self.received,
+                octets,
+                &mut self.sink,
+            );
+            self.fault = captured.err();
+        }
+    }
+}
+
+impl<C> Capture<C> {
+    /// Why no more packets are recorded, if that is so.
+    pub fn fault(&self) -> Option<CaptureFault>
+        ensures { result ≡ fault_of self.now }
+    {
+        self.fault
+    }
+
+    /// Where the records go.
+    pub fn sink(&self) -> &C
+        ensures { result.now ≡ sink_of self.now }
+    {
+        &self.sink
+    }
+}
+
+/// Takes in octets of one direction behind those of an unfinished packet, and records each packet that
+/// they end.
+fn record_each<C: Sink>(
+    direction: Direction,
+    time: u64,
+    begun: &mut Begun,
+    octets: &[u8],
+    sink: &mut C,
+) -> Result<(), CaptureFault>
+    ensures captured { Captures direction time begun.old octets.now (result_err result)
+        begun.new (C.contents sink.old) (C.contents sink.new) }
+    ensures failures { CountsIf (is_write (result_err result)) (C.failures sink.old)
+        (C.failures sink.new) }
+{
+    let mut rest = octets;
+    'packets: loop {
+        match begun.progress() {
+            Progress::Whole => match write_record(direction, time, begun.as_slice(), sink) {
+                Ok(()) => begun.clear(),
+                Err(_) => return Err(CaptureFault::Write),
+            },
+            Progress::Lost => return Err(CaptureFault::Packet),
+            Progress::Lacks(_) if rest.is_empty() => return Ok(()),
+            Progress::Lacks(missing) => rest = begun.fill(missing, rest),
+        }
+    }
+}

@@ -1,0 +1,70 @@
+//! How far the octets of one packet have come, whichever way it goes.
+
+ghost use Rattle.std.specs.Prelude.{◌≡◌};
+ghost use Rattle.btsnoop.specs.Packet.{needed_behind_two, needed_of, IsBegun, Progresses};
+
+use le_h4::indicator;
+
+/// The most octets of a packet that is captured, its indicator among them: an ACL packet with 1,024
+/// octets of data.
+pub const LARGEST: usize = 1_029;
+
+/// How far the octets of a packet have come.
+#[derive(Clone, Copy, PartialEq, Eq)]
+pub(crate) enum Progress {
+    /// At least so many more belong to it.
+    Lacks(usize),
+    /// They are all there.
+    Whole,
+    /// No packet that is captured begins so.
+    Lost,
+}
+
+/// How far a packet has come of which these octets are there, from its indicator on.
+pub(crate) fn progress_at(octets: &[u8]) -> Progress
+    requires { IsBegun octets.now }
+    ensures { Progresses octets.now result }
+{
+    let Some(needed) = needed(octets) else {
+        return Progress::Lost;
+    };
+    if needed > LARGEST {
+        Progress::Lost
+    } else if needed > octets.len() {
+        Progress::Lacks(needed - octets.len())
+    } else {
+        Progress::Whole
+    }
+}
+
+/// How many octets the packet has that these begin, as far as they tell.
+fn needed(octets: &[u8]) -> Option<usize>
+    ensures { result ≡ needed_of octets.now }
+{
+    let [indicator, rest @ ..] = octets else {
+        return Some(1);
+    };
+    match *indicator {
+        indicator::COMMAND => Some(needed_behind_two(rest)),
+        indicator::ACL => match rest {
+            [_, _, low, high, ..] => Some(5 + usize::from(u16::from_le_bytes([*low, *high]))),
+            _ => Some(5),
+        },
+        indicator::SCO => Some(needed_behind_two(rest)),
+        indicator::EVENT => match rest {
+            [_, size, ..] => Some(3 + usize::from(*size)),
+            _ => Some(3),
+        },
+        _ => None,
+    }
+}
+
+/// The same of a command and of synchronous data, whose size stands behind two octets.
+fn needed_behind_two(rest: &[u8]) -> usize
+    ensures { result ≡ needed_behind_two rest.now }
+{
+    match rest {
+        [_, _, size, ..] => 4 + usize::from(*size),
+        _ => 4,
+    }
+}
