@@ -45,7 +45,7 @@ more_event (a ∷ []) more count few = omega (arith, few, event_header (a ∷ mo
 more_event (a ∷ size ∷ octets) more count few = few
 
 -- one of four numbers, by the first test that holds
-abbrev pick : Bool → Bool → Bool → Bool → ℕ → ℕ → ℕ → ℕ → Option ℕ
+abbrev pub pick : Bool → Bool → Bool → Bool → ℕ → ℕ → ℕ → ℕ → Option ℕ
 pick a b c d p q r s = if a then Some p else if b then Some q else if c then Some r else if d then Some s else None
 
 picked : (a b c d : Bool) (p q r s count : ℕ) → count ≤ p → count ≤ q → count ≤ r → count ≤ s → within_needed count (pick a b c d p q r s)

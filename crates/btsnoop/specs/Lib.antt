@@ -1,3 +1,4 @@
 pub mod Capture
+pub mod Course
 pub mod Packet
 pub mod Record

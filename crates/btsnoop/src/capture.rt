@@ -4,7 +4,9 @@ ghost use Rattle.std.specs.Prelude.{◌≡◌, [], None, IsSome};
 ghost use Rattle.std.specs.Result.{result_err};
 ghost use Rattle.octets.specs.Stream.{CountsIf};
 ghost use Rattle.btsnoop.specs.Record.{SpellsTheExample};
-ghost use Rattle.btsnoop.specs.Capture.{fault_of, is_write, received_of, sent_of, sink_of, Begins, Captures};
+ghost use Rattle.btsnoop.specs.Capture.{fault_of, is_write, received_of, sent_of, sink_of};
+ghost use Rattle.btsnoop.specs.Capture.{Begins, Captures};
+ghost use Rattle.btsnoop.specs.Course.{RecordsThePackets};
 
 use crate::begun::Begun;
 use crate::packet::Progress;
@@ -35,7 +37,7 @@ pub struct Capture<C> {
 
 impl<C: Sink> Capture<C> {
     /// Begins a capture: writes what stands before all records.
-    #[tactic(auto, using(crate::proofs::Example::spells))]
+    #[tactic(auto, using(crate::proofs::Example::spells, crate::proofs::Course::records_the_packets))]
     pub fn begin(sink: C) -> Self
         ensures sent { sent_of result ≡ [] }
         ensures received { received_of result ≡ [] }
@@ -44,6 +46,9 @@ impl<C: Sink> Capture<C> {
             (C.failures (sink_of result)) }
         // What a capture is, by an example.
         ensures example { SpellsTheExample }
+        // However what goes by is cut into calls, the packets that are recorded are those of which it
+        // consists.
+        ensures packets { RecordsThePackets }
     {
         let mut sink = sink;
         let fault = match write_file_header(&mut sink) {
@@ -124,8 +129,8 @@ impl<C> Capture<C> {
     }
 }
 
-/// Takes in octets of one direction behind those of an unfinished packet, and records each packet that
-/// they end.
+/// Takes in octets of one direction behind those of an unfinished packet, and records each packet
+/// that they end.
 fn record_each<C: Sink>(
     direction: Direction,
     time: u64,

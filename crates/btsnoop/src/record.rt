@@ -42,8 +42,8 @@ pub(crate) fn write_file_header<C: Sink>(sink: &mut C) -> Result<(), Failed>
     write_all(&FILE_HEADER, sink)
 }
 
-/// Writes the record of a packet at a time, in microseconds since the start of 1970, or the front of it
-/// where the sink fails.
+/// Writes the record of a packet at a time, in microseconds since the start of 1970, or the front
+/// of it where the sink fails.
 pub(crate) fn write_record<C: Sink>(
     direction: Direction,
     time: u64,
@@ -52,9 +52,11 @@ pub(crate) fn write_record<C: Sink>(
 ) -> Result<(), Failed>
     requires { length packet.now ≤ 1029 }
     ensures ok { OnOk result
-        (Appends (C.contents sink.old) (C.contents sink.new) (record_of direction time packet.now)) }
+        (Appends (C.contents sink.old) (C.contents sink.new)
+        (record_of direction time packet.now)) }
     ensures front { OnErr result
-        (WritesFront (record_of direction time packet.now) (C.contents sink.old) (C.contents sink.new)) }
+        (WritesFront (record_of direction time packet.now) (C.contents sink.old)
+        (C.contents sink.new)) }
     ensures failures { CountsFailure (C.failures sink.old) (C.failures sink.new) result }
 {
     let header = header(direction, time, packet);

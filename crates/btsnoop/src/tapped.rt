@@ -22,8 +22,8 @@ pub struct Tapped<W, C> {
 }
 
 impl<W, C: Sink> Tapped<W, C> {
-    /// Captures octets that have come from the controller, as `Capture::came` does. What goes to it next
-    /// has the same time.
+    /// Captures octets that have come from the controller, as `Capture::came` does. What goes to it
+    /// next has the same time.
     pub fn came(&mut self, octets: &[u8], time: u64)
         ensures captured { fault_of self.old.capture ≡ None
             → Captures Direction.Received time (received_of self.old.capture) octets.now

@@ -1,0 +1,76 @@
+-- A course of calls: in whatever pieces it goes by, the packets that are recorded are those of which it consists.
+use Rattle.std.specs.Prelude.{◌≡◌, ℕ, List, [], ◌∷◌, ◌++◌, Option}
+use Rattle.std.specs.Io.KnownBytes.{Appends}
+use Rattle.std.specs.List.{All, flat_map}
+use Rattle.octets.specs.Number.{Octets}
+use Rattle.btsnoop.specs.Capture.{CapturesAll}
+use Rattle.btsnoop.specs.Packet.{IsPacket, IsUnfinished, joined}
+use Rattle.btsnoop.specs.Record.{records_of}
+use Rattle.btsnoop.specs.declared.record.Direction.{Direction}
+use Rattle.btsnoop.specs.declared.record.Direction.TheVariants.{Sent, Received}
+
+-- a call: octets that went by one way, at a time, and the packets that they ended
+pub record Call : Type 0 where
+  pub direction : Direction
+  pub time : ℕ
+  pub octets : Octets
+  pub packets : List Octets
+
+-- the octets so far of a packet that is unfinished, either way
+pub record Unfinished : Type 0 where
+  pub sent : Octets
+  pub received : Octets
+
+abbrev pub nothing_begun : Unfinished
+nothing_begun = record { sent = []; received = [] }
+
+abbrev pub begun_in : Direction → Unfinished → Octets
+begun_in Sent unfinished = unfinished.sent
+begun_in Received unfinished = unfinished.received
+
+abbrev pub with_begun : Direction → Octets → Unfinished → Unfinished
+with_begun Sent begun unfinished = record unfinished { sent = begun }
+with_begun Received begun unfinished = record unfinished { received = begun }
+
+-- these calls, one after another and without a fault, lead from what is begun, and from what the sink holds, to these
+abbrev pub Leads : List Call → Unfinished → Option Octets → Unfinished → Option Octets → Type 0
+Leads [] old held new holds = (new ≡ old) × (holds ≡ held)
+Leads (call ∷ calls) old held new holds =
+    (begins : Octets) × (mid : Option Octets)
+    × (captured : CapturesAll call.direction call.time (begun_in call.direction old) call.octets begins held mid)
+    × (call.packets ≡ captured.packets) × Leads calls (with_begun call.direction begins old) mid new holds
+
+-- what goes one way
+abbrev pub one_way : {A : Type 0} → Direction → Direction → List A → List A
+one_way Sent Sent xs = xs
+one_way Received Received xs = xs
+one_way Sent Received xs = []
+one_way Received Sent xs = []
+
+abbrev pub octets_of : Direction → List Call → Octets
+octets_of direction calls = flat_map (λ call. one_way direction call.direction call.octets) calls
+
+abbrev pub packets_of : Direction → List Call → List Octets
+packets_of direction calls = flat_map (λ call. one_way direction call.direction call.packets) calls
+
+-- the records of all that calls ended
+abbrev pub records_in : List Call → Octets
+records_in calls = flat_map (λ call. records_of call.direction call.time call.packets) calls
+
+-- what goes one way consists of these packets, and of one that is unfinished, and of no others
+pub record ConsistsOf (octets : Octets) (packets : List Octets) : Type 0 where
+  pub left : Octets
+  pub whole : All IsPacket packets
+  pub unfinished : IsUnfinished left
+  pub parts : octets ≡ joined packets ++ left
+  pub alone : (others : List Octets) (rest : Octets) → All IsPacket others → IsUnfinished rest
+      → octets ≡ joined others ++ rest → others ≡ packets
+
+-- the sink holds the records of the packets that the calls ended, in their order, and these are those of both ways
+pub record Records (calls : List Call) (held holds : Option Octets) : Type 0 where
+  pub recorded : Appends held holds (records_in calls)
+  pub each_way : (direction : Direction) → ConsistsOf (octets_of direction calls) (packets_of direction calls)
+
+abbrev pub RecordsThePackets : Type 0
+RecordsThePackets = (calls : List Call) (new : Unfinished) (held holds : Option Octets) → Leads calls nothing_begun held new holds
+    → Records calls held holds
