@@ -46,8 +46,7 @@ impl<C: Sink> Capture<C> {
             (C.failures (sink_of result)) }
         // What a capture is, by an example.
         ensures example { SpellsTheExample }
-        // However what goes by is cut into calls, the packets that are recorded are those of which it
-        // consists.
+        // However what goes by is cut into calls, the packets recorded are those of which it consists.
         ensures packets { RecordsThePackets }
     {
         let mut sink = sink;

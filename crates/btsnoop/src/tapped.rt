@@ -1,9 +1,10 @@
 //! A sink whose octets are captured.
 
-ghost use Rattle.std.specs.Prelude.{◌≡◌, ◌<◌, ◌≤◌, length, take, None, IfOk, OnErr};
+ghost use Rattle.std.specs.Prelude.{◌≡◌, ◌<◌, ◌≤◌, length, take, None, IfOk, IsSome, OnErr};
 ghost use Rattle.std.specs.Io.KnownBytes.{WriteAppends};
-ghost use Rattle.octets.specs.Stream.{CountsFailure};
-ghost use Rattle.btsnoop.specs.Capture.{fault_of, received_of, sent_of, sink_of, Captures};
+ghost use Rattle.octets.specs.Stream.{CountsFailure, CountsIf};
+ghost use Rattle.btsnoop.specs.Capture.{fault_of, is_write, received_of, sent_of, sink_of};
+ghost use Rattle.btsnoop.specs.Capture.{Captures};
 
 use crate::capture::{Capture, CaptureFault};
 use crate::record::Direction;
@@ -30,6 +31,11 @@ impl<W, C: Sink> Tapped<W, C> {
             (fault_of self.new.capture) (received_of self.new.capture)
             (C.contents (sink_of self.old.capture)) (C.contents (sink_of self.new.capture)) }
         ensures sent { sent_of self.new.capture ≡ sent_of self.old.capture }
+        ensures capture_failures { fault_of self.old.capture ≡ None
+            → CountsIf (is_write (fault_of self.new.capture))
+            (C.failures (sink_of self.old.capture)) (C.failures (sink_of self.new.capture)) }
+        ensures stopped { IsSome (fault_of self.old.capture)
+            → self.new.capture ≡ self.old.capture }
         ensures sink { self.new.sink ≡ self.old.sink }
         ensures time { self.new.time ≡ time }
     {
@@ -63,6 +69,11 @@ impl<W: Sink, C: Sink> Sink for Tapped<W, C> {
             (sent_of self.old.capture) (take count buf.now) (fault_of self.new.capture)
             (sent_of self.new.capture) (C.contents (sink_of self.old.capture))
             (C.contents (sink_of self.new.capture))) }
+        ensures capture_failures { fault_of self.old.capture ≡ None
+            → IfOk result (λ _. CountsIf (is_write (fault_of self.new.capture))
+            (C.failures (sink_of self.old.capture)) (C.failures (sink_of self.new.capture))) }
+        ensures stopped { IsSome (fault_of self.old.capture)
+            → self.new.capture ≡ self.old.capture }
         ensures refused { OnErr result (self.new.capture ≡ self.old.capture) }
         ensures received { received_of self.new.capture ≡ received_of self.old.capture }
         ensures time { self.new.time ≡ self.old.time }
