@@ -62,6 +62,12 @@ Captures direction time begun octets None begins held holds = CapturesAll direct
 Captures direction time begun octets (Some Write) begins held holds = CapturesFront direction time begun octets held holds
 Captures direction time begun octets (Some Packet) begins held holds = CapturesUpTo direction time begun octets held holds
 
+-- why no more packets are recorded where a new stream begins
+abbrev pub fault_of_next : Option CaptureFault → Option CaptureFault
+fault_of_next None = None
+fault_of_next (Some Write) = Some Write
+fault_of_next (Some Packet) = None
+
 -- a record could not be written
 abbrev pub is_write : Option CaptureFault → Bool
 is_write (Some Write) = true

@@ -5,7 +5,7 @@ ghost use Rattle.std.specs.Result.{result_err};
 ghost use Rattle.octets.specs.Stream.{CountsIf};
 ghost use Rattle.btsnoop.specs.Record.{SpellsTheExample};
 ghost use Rattle.btsnoop.specs.Capture.{fault_of, is_write, received_of, sent_of, sink_of};
-ghost use Rattle.btsnoop.specs.Capture.{Begins, Captures};
+ghost use Rattle.btsnoop.specs.Capture.{fault_of_next, Begins, Captures};
 ghost use Rattle.btsnoop.specs.Course.{RecordsThePackets};
 
 use crate::begun::Begun;
@@ -113,6 +113,21 @@ impl<C: Sink> Capture<C> {
 }
 
 impl<C> Capture<C> {
+    /// A new stream begins, both ways: what is unfinished of the one before is dropped. A capture that
+    /// could not divide that one goes on; one that could not be written does not.
+    pub fn next_stream(&mut self)
+        ensures sent { sent_of self.new ≡ [] }
+        ensures received { received_of self.new ≡ [] }
+        ensures fault { fault_of self.new ≡ fault_of_next (fault_of self.old) }
+        ensures sink { sink_of self.new ≡ sink_of self.old }
+    {
+        self.sent.clear();
+        self.received.clear();
+        if self.fault == Some(CaptureFault::Packet) {
+            self.fault = None;
+        }
+    }
+
     /// Why no more packets are recorded, if that is so.
     pub fn fault(&self) -> Option<CaptureFault>
         ensures { result ≡ fault_of self.now }
