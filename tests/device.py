@@ -18,7 +18,7 @@ import time
 
 sys.dont_write_bytecode = True
 from parties import (
-    ADVERTISING_DATA, DISCONNECT, OWNER, PATIENCE, RANDOM_ADDRESS, ROOT, STRANGER,
+    ADVERTISE_ENABLE, ADVERTISING_DATA, DISCONNECT, OWNER, PATIENCE, RANDOM_ADDRESS, ROOT, STRANGER,
     Application, Controller, Device, SerialLine, controller_at, end_all,
 )
 
@@ -307,6 +307,69 @@ def words(folder):
         check(f"{given}", status, device.process.wait(PATIENCE))
 
 
+def floods(folder):
+    """A controller and an application say all that they can at once: each is answered all of it, and neither
+    waits for the end of the other's."""
+    path, count = f"{folder}/floods.socket", 10_000
+    device = Device(*DOOR, "--listen", "127.0.0.1:0", "--application", path)
+    controller = controller_at(device)
+    controller.is_advertised()
+    controller.connect(64, STRANGER)
+    controller.command(ADVERTISE_ENABLE, 2)
+    application = Application(path)
+    application.lines(2)
+    frame = bytes.fromhex("024020 0700 0300 0400 0a0300 0413050140000100")
+    answer = bytes.fromhex("024000 0900 0500 0400 0b4c6f636b")
+    heard = {}
+
+    def hear(name, stream, wanted):
+        octets = b""
+        stream.settimeout(PATIENCE)
+        try:
+            while len(octets) < wanted:
+                octets += stream.recv(65_536)
+                heard.setdefault("first " + name, time.monotonic())
+        except OSError:
+            pass
+        heard[name], heard["last " + name] = octets, time.monotonic()
+
+    sides = [
+        ("controller", controller.stream, frame * count, answer * count),
+        ("application", application.stream, b"value 3\n" * count, b"value 3 4c6f636b\n" * count),
+    ]
+    threads = [threading.Thread(target=hear, args=(name, stream, len(wanted))) for name, stream, _, wanted in sides]
+    threads += [threading.Thread(target=stream.sendall, args=(said,)) for _, stream, said, _ in sides]
+    for it in threads:
+        it.start()
+    for it in threads:
+        it.join()
+    for name, _, _, wanted in sides:
+        check(f"{name}: all is answered", True, heard[name] == wanted)
+    check("the application meanwhile", True, heard["first application"] < heard["last controller"])
+    check("the controller meanwhile", True, heard["first controller"] < heard["last application"])
+    device.end()
+    controller.close()
+    application.close()
+
+
+def idle(folder):
+    """With no phone nothing wakes the program."""
+    device = Device(*DOOR, "--listen", "127.0.0.1:0", "--application", f"{folder}/idle.socket", "--idle", "30")
+    controller = controller_at(device)
+    controller.is_advertised()
+
+    def wakes():
+        lines = text_of(f"/proc/{device.process.pid}/status").splitlines()
+        return [line for line in lines if line.startswith("voluntary_ctxt_switches")]
+
+    time.sleep(0.5)
+    before = wakes()
+    time.sleep(10)
+    check("no wake-up in 10 seconds", before, wakes())
+    device.end()
+    controller.close()
+
+
 def killed(folder, times):
     """Killed at any moment, it leaves a rows file that is whole."""
     rows = f"{folder}/killed.rows"
@@ -341,7 +404,7 @@ def killed(folder, times):
 def main():
     with tempfile.TemporaryDirectory() as folder:
         later = a_bell(folder)
-        for play in (a_day, a_stranger, a_listener, a_serial_line, a_lock, once, words):
+        for play in (a_day, a_stranger, a_listener, a_serial_line, a_lock, once, words, floods, idle):
             try:
                 play(folder)
             except Exception as error:

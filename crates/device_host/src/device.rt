@@ -49,6 +49,10 @@ pub(crate) struct Device<'a, R> {
     pub(crate) answer: Result<(), AppFault>,
     /// Whether the controller may be read.
     pub(crate) is_readable: bool,
+    /// Whether it sends no more, once what is there is read.
+    pub(crate) is_ending: bool,
+    /// Whether it was read in the turn before.
+    pub(crate) was_read: bool,
     /// When a controller is tried again, in milliseconds.
     pub(crate) retry: u64,
     /// The time that the host was told last, in milliseconds.
@@ -64,7 +68,7 @@ impl<
     /// silent for too long, or until a controller is tried again; and not at all where something is
     /// there.
     fn timeout(&self, deadline: Option<u64>) -> Option<Duration> {
-        if self.application.has_something() {
+        if self.is_readable || self.application.has_something() {
             return Some(Duration::from_millis(0));
         }
         let retry = if self.stream.is_none() && self.way.is_tried() {
@@ -90,6 +94,7 @@ impl<
     fn take_in(&mut self, ready: Ready) {
         if ready.controller {
             self.is_readable = true;
+            self.is_ending = self.is_ending || ready.is_ending;
         }
         if ready.application {
             self.application.is_ready();
@@ -126,6 +131,7 @@ impl<
                 self.stream = Some(stream);
                 self.is_reached = true;
                 self.is_readable = false;
+                self.is_ending = false;
             }
             Ok(None) => {}
             Err(_) => self.log.say("controller: not accepted"),
@@ -142,24 +148,45 @@ impl<
         }
     }
 
-    /// Octets of the controller.
+    /// Octets of the controller. What is left is told of as ready where it comes; where it may be
+    /// there already, it is read in a later turn, or has to be told of again.
     fn octets<'b>(&mut self, buffer: &'b mut [u8]) -> Next<'b> {
-        self.is_readable = false;
         let Some(stream) = &mut self.stream else {
+            self.is_readable = false;
             return Next::Octets(&[]);
         };
-        let read = stream.read(buffer);
-        let again = self.waiting.again(stream, Source::Controller);
+        let Ok(read) = stream.read(buffer) else {
+            return Next::Failed;
+        };
+        let is_short = match read {
+            Some(count) => count < buffer.len() && !self.is_ending,
+            None => true,
+        };
+        if is_short {
+            self.is_readable = false;
+        }
+        let is_emptied = read.is_some() && stream.is_emptied();
+        if is_short && !is_emptied && self.waiting.again(stream, Source::Controller).is_err() {
+            return Next::Failed;
+        }
         match read {
-            Ok(Some(0)) => Next::Ended,
-            Ok(Some(count)) if again.is_ok() => {
+            Some(0) => Next::Ended,
+            Some(count) => {
                 let octets = buffer.split_at(count.min(buffer.len())).0;
                 self.strangers.hear(octets, self.time);
                 Next::Octets(octets)
             }
-            Ok(None) if again.is_ok() => Next::Octets(&[]),
-            _ => Next::Failed,
+            None => Next::Octets(&[]),
         }
+    }
+
+    /// Whether something is to be done beside reading the controller.
+    fn has_other(&self) -> bool {
+        let is_silent = match self.strangers.due() {
+            Some(due) => due <= self.time,
+            None => false,
+        };
+        is_silent || self.application.has_something()
     }
 
     /// The next line of the application, if there is one.
@@ -214,7 +241,9 @@ impl<
             }
         }
         self.is_told = false;
-        if self.is_readable {
+        // Where both have something, they take turns.
+        self.was_read = self.is_readable && !(self.was_read && self.has_other());
+        if self.was_read {
             return self.octets(buffer);
         }
         if let Some(handle) = self.strangers.next_silent(self.time) {

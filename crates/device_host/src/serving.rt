@@ -137,6 +137,8 @@ fn listening<
         question: Question::Nothing,
         answer: Ok(()),
         is_readable: false,
+        is_ending: false,
+        was_read: false,
         retry: 0,
         time: 0,
         is_told: false,
@@ -209,12 +211,15 @@ fn serve_one<
 }
 
 /// Writes to the controller what waits for it, if it is there.
-fn write_out<R>(device: &mut Device<'_, R>, queue: &mut Outbox) -> io::Result<()> {
+fn write_out<R: Clock + Eprint>(
+    device: &mut Device<'_, R>,
+    queue: &mut Outbox,
+) -> io::Result<()> {
     if queue.waiting().is_empty() {
         return Ok(());
     }
     if let Some(stream) = &mut device.stream {
-        stream.write(queue.waiting())?;
+        stream.write(queue.waiting(), &device.log)?;
         queue.clear();
     }
     Ok(())

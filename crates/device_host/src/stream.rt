@@ -1,16 +1,18 @@
 //! The stream of a controller.
 
+use crate::log::Log;
 use std::fs::File;
 use std::io;
 use std::io::{ErrorKind, Read, Write};
 use std::net::TcpStream;
 use std::os::fd::{AsRawFd, RawFd};
-use std::time::Duration;
+use std::time::{Clock, Duration};
 
 /// How long a read may take that was said to be ready, in milliseconds.
 const READ_TIME: u64 = 1;
 
-/// How long a controller may take nothing, in milliseconds, before it is given up.
+/// How long a controller may take nothing, or less than all that there is for it, in milliseconds,
+/// before it is given up.
 const WRITE_TIME: u64 = 5_000;
 
 /// The way to a controller and back.
@@ -32,6 +34,11 @@ impl Stream {
         Ok(Stream::Socket(socket))
     }
 
+    /// Whether a read that does not fill its buffer has taken all that was there.
+    pub(crate) fn is_emptied(&self) -> bool {
+        matches!(self, Stream::Socket(_))
+    }
+
     /// Reads once. None where nothing is there as yet; no octets at the end.
     pub(crate) fn read(&mut self, buffer: &mut [u8]) -> io::Result<Option<usize>> {
         let read = match self {
@@ -47,11 +54,40 @@ impl Stream {
         }
     }
 
-    /// Writes all of these octets.
-    pub(crate) fn write(&mut self, octets: &[u8]) -> io::Result<()> {
-        match self {
-            Stream::Socket(socket) => socket.write_all(octets),
-            Stream::Serial(line) => line.write_all(octets),
+    /// Writes all of these octets, or fails where they are taken too slowly.
+    pub(crate) fn write<R: Clock + Eprint>(
+        &mut self,
+        octets: &[u8],
+        log: &Log<'_, R>,
+    ) -> io::Result<()> {
+        let mut rest = octets;
+        let mut begun = None;
+        for _write in 0..u64::MAX {
+            let count = self.write_once(rest)?;
+            rest = rest.split_at(count.min(rest.len())).1;
+            if rest.is_empty() {
+                return Ok(());
+            }
+            let now = log.now();
+            match begun {
+                None => begun = Some(now),
+                Some(begun) if now.saturating_sub(begun) < WRITE_TIME => {}
+                Some(_) => return Err(io::Error::from(ErrorKind::TimedOut)),
+            }
+        }
+        Ok(())
+    }
+
+    /// Writes the front of some octets: how many, which are none where it was interrupted.
+    fn write_once(&mut self, octets: &[u8]) -> io::Result<usize> {
+        let written = match self {
+            Stream::Socket(socket) => socket.write(octets),
+            Stream::Serial(line) => line.write(octets),
+        };
+        match written {
+            Ok(0) => Err(io::Error::from(ErrorKind::WriteZero)),
+            Err(error) if error.kind() == ErrorKind::Interrupted => Ok(0),
+            _ => written,
         }
     }
 }

@@ -36,6 +36,8 @@ impl Source {
 #[derive(Clone, Copy)]
 pub(crate) struct Ready {
     pub(crate) controller: bool,
+    /// Whether the controller sends no more, once what is there is read.
+    pub(crate) is_ending: bool,
     pub(crate) controllers: bool,
     pub(crate) application: bool,
     pub(crate) applications: bool,
@@ -78,13 +80,17 @@ impl Waiting {
         self.poll.poll(&mut self.events, timeout)?;
         let mut ready = Ready {
             controller: false,
+            is_ending: false,
             controllers: false,
             application: false,
             applications: false,
         };
         for event in self.events.iter() {
             match event.token().0 {
-                0 => ready.controller = true,
+                0 => {
+                    ready.controller = true;
+                    ready.is_ending = event.is_read_closed();
+                }
                 1 => ready.controllers = true,
                 2 => ready.application = true,
                 _ => ready.applications = true,
