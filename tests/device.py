@@ -8,6 +8,7 @@ The last line is 'N passed, M failed'.
 
 import os
 import random
+import shutil
 import signal
 import socket
 import subprocess
@@ -19,7 +20,7 @@ import time
 sys.dont_write_bytecode = True
 from parties import (
     ADVERTISE_ENABLE, ADVERTISING_DATA, DISCONNECT, OWNER, PATIENCE, RANDOM_ADDRESS, ROOT, STRANGER,
-    Application, Controller, Device, SerialLine, controller_at, end_all,
+    Application, Controller, Device, SerialLine, captured, controller_at, end_all, is_one_packet,
 )
 
 DOOR = [f"{ROOT}/examples/door.toml", f"{ROOT}/examples/keys.toml"]
@@ -43,10 +44,48 @@ def text_of(path):
         return file.read()
 
 
+def soon(look):
+    """What is so at last, once it is so: None where it never is."""
+    end = time.monotonic() + PATIENCE
+    while time.monotonic() < end:
+        found = look()
+        if found:
+            return found
+        time.sleep(0.02)
+    return None
+
+
+def is_captured(what, path, since, went, came):
+    """A capture has the packets that were exchanged, each way in their order, and tshark reads it."""
+
+    def joined(is_from_controller):
+        return b"".join(it[2] for it in captured(path) or [] if it[0] % 2 == is_from_controller)
+
+    soon(lambda: (joined(0), joined(1)) == (went, came))
+    records = captured(path)
+    check(f"{what}: to the controller", went.hex(), joined(0).hex())
+    check(f"{what}: from the controller", came.hex(), joined(1).hex())
+    check(f"{what}: one packet a record", [], [it[2].hex() for it in records if not is_one_packet(it[2])])
+    check(f"{what}: its kind", [], [it for it in records if it[0] // 2 != (it[2][0] in (1, 4))])
+    times = [since * 1e6, *(it[1] for it in records), time.time() * 1e6]
+    check(f"{what}: its time", sorted(times), times)
+    if shutil.which("tshark"):
+        words = ["tshark", "-r", path, "-T", "fields", "-e", "frame.len", "-e", "_ws.malformed"]
+        ran = subprocess.run(words, capture_output=True, text=True, timeout=300)
+        # What is told of its user is none of the capture's.
+        told = [it for it in ran.stderr.splitlines() if it and not it.startswith("Running as user")]
+        check(f"{what}: tshark complains of nothing", (0, []), (ran.returncode, told))
+        lengths = [line.split("\t") for line in ran.stdout.splitlines()]
+        check(f"{what}: tshark reads it", [[str(len(it[2])), ""] for it in records], lengths)
+
+
 def a_day(folder):
     """Phones, an application, and both of them gone and back."""
-    path, rows = f"{folder}/day.socket", f"{folder}/day.rows"
-    device = Device(*DOOR, "--listen", "127.0.0.1:0", "--application", path, "--rows", rows)
+    path, rows, capture = f"{folder}/day.socket", f"{folder}/day.rows", f"{folder}/day.btsnoop"
+    since, before = time.time(), len(Controller.made)
+    device = Device(
+        *DOOR, "--listen", "127.0.0.1:0", "--application", path, "--rows", rows, "--capture", capture
+    )
     address = device.port()
     check("the socket is its owner's", 0o600, os.stat(path).st_mode & 0o777)
     one = Application(path)
@@ -118,7 +157,8 @@ def a_day(folder):
     check("what was subscribed", "ok", three.ask("update 6 31"))
     check("is heard", "1b060031", controller.hears(70))
 
-    controller.send(b"\7")
+    garbage = b"\7" * 9
+    controller.send(garbage)
     stopped = "+ stopped: the octet 07 stands where a packet begins, and begins none"
     check("garbage", [stopped, "+ waiting"], three.lines(2))
     check("the stream is closed", True, controller.until(lambda: controller.is_gone))
@@ -149,6 +189,12 @@ def a_day(folder):
     controller.connect(71, STRANGER)
     check("phones are served", "0b4c6f636b", controller.ask(71, "0a0300"))
     four.close()
+    day = Controller.made[before:]
+    # The probe was sent a Reset; and what begins no packet is no packet.
+    went = bytes.fromhex("01030c00") + b"".join(it.received for it in day)
+    came = b"".join(it.sent for it in day).replace(garbage, b"")
+    is_captured("a day", capture, since, went, came)
+    device.said("capture: no packet")
     check("SIGTERM", -signal.SIGTERM, device.end(signal.SIGTERM))
     check("the rows are whole", "0 00:11:22:33:44:55 7 1\n", text_of(rows))
     controller.close()
@@ -301,10 +347,23 @@ def words(folder):
         (["--listen", "127.0.0.1:0", "--advertise", "180f," * 40], 64),
         (["--listen", "127.0.0.1:0", "--address", "00:11:22:33:44:55"], 64),
         (["--listen", "127.0.0.1:0", "--rows", f"{folder}/none/rows"], 1),
+        (["--listen", "127.0.0.1:0", "--capture", f"{folder}/none/capture"], 1),
         (["--listen", "127.0.0.1:0", "--application", f"{folder}/none/socket"], 2),
     ]:
         device = Device(*DOOR, *given)
         check(f"{given}", status, device.process.wait(PATIENCE))
+
+
+def a_full_disk(folder):
+    """A capture that cannot be written is told of, and phones are served."""
+    device = Device(*DOOR, "--listen", "127.0.0.1:0", "--capture", "/dev/full")
+    controller = controller_at(device)
+    check("it is initialised", True, controller.is_advertised())
+    device.said("capture: not written")
+    controller.connect(64, STRANGER)
+    check("phones are served", "0b4c6f636b", controller.ask(64, "0a0300"))
+    device.end()
+    controller.close()
 
 
 def floods(folder):
@@ -404,7 +463,11 @@ def killed(folder, times):
 def main():
     with tempfile.TemporaryDirectory() as folder:
         later = a_bell(folder)
-        for play in (a_day, a_stranger, a_listener, a_serial_line, a_lock, once, words, floods, idle):
+        plays = (
+            a_day, a_stranger, a_listener, a_serial_line, a_lock, once, words, a_full_disk,
+            floods, idle,
+        )
+        for play in plays:
             try:
                 play(folder)
             except Exception as error:

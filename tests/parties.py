@@ -5,6 +5,7 @@ import pty
 import select
 import signal
 import socket
+import struct
 import subprocess
 import sys
 import threading
@@ -76,14 +77,20 @@ def end_all():
 class Controller:
     """A controller, which answers each command, and its phones by their handles."""
 
+    made = []
+
     def __init__(self, stream):
+        Controller.made.append(self)
         self.stream = stream
         self.octets = b""
+        # All that it has sent, and all that it has received.
+        self.sent = self.received = b""
         self.commands = []
         self.heard = []
         self.is_gone = False
 
     def send(self, octets):
+        self.sent += octets
         self.stream.sendall(octets)
 
     def event(self, code, parameters):
@@ -130,6 +137,7 @@ class Controller:
             if not octets:
                 self.is_gone = True
                 return is_so()
+            self.received += octets
             self.octets += octets
         return True
 
@@ -240,6 +248,30 @@ class Application:
 
     def close(self):
         self.stream.close()
+
+
+def captured(path):
+    """The records of a capture in the form of btsnoop: of each its flags, its time in microseconds since
+    1970, and its packet. None where it is none."""
+    with open(path, "rb") as file:
+        octets = file.read()
+    if octets[:16] != b"btsnoop\0\0\0\0\1\0\0\3\xea":
+        return None
+    records, at = [], 16
+    while at < len(octets):
+        length, included, flags, drops, stamp = struct.unpack_from(">IIIIQ", octets, at)
+        packet = octets[at + 24 : at + 24 + included]
+        if length != included or len(packet) != included or drops:
+            return None
+        records.append((flags, stamp - 0x00DCDDB30F2F8000, packet))
+        at += 24 + included
+    return records
+
+
+def is_one_packet(packet):
+    """Whether octets are one packet of H4, all of it."""
+    at, size = {1: (3, 1), 2: (3, 2), 3: (3, 1), 4: (2, 1)}.get(packet[0], (0, 0))
+    return size > 0 and len(packet) == at + size + int.from_bytes(packet[at : at + size], "little")
 
 
 def controller_at(device):

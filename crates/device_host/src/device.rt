@@ -4,6 +4,7 @@ ghost use Rattle.std.specs.Prelude.{None};
 
 use crate::application::Application;
 use crate::log::Log;
+use crate::recording::Recording;
 use crate::strangers::Strangers;
 use crate::stream::Stream;
 use crate::waiting::{Ready, Source, Waiting};
@@ -42,6 +43,7 @@ pub(crate) struct Device<'a, R> {
     pub(crate) stream: Option<Stream>,
     pub(crate) application: Application,
     pub(crate) strangers: Strangers,
+    pub(crate) recording: Recording,
     pub(crate) waiting: Waiting,
     /// Whether a controller has come in this turn.
     pub(crate) is_reached: bool,
@@ -143,6 +145,7 @@ impl<
         self.stream = None;
         self.is_readable = false;
         self.strangers.forget();
+        self.recording.next_stream();
         if let Way::Listen(listener) = &self.way {
             let _ = self.waiting.again(listener, Source::Controllers);
         }
@@ -173,6 +176,7 @@ impl<
             Some(0) => Next::Ended,
             Some(count) => {
                 let octets = buffer.split_at(count.min(buffer.len())).0;
+                self.recording.came(octets, &self.log);
                 self.strangers.hear(octets, self.time);
                 Next::Octets(octets)
             }

@@ -8,6 +8,7 @@ mod application;
 mod device;
 mod heard;
 mod log;
+mod recording;
 mod rows;
 mod serving;
 mod settings;

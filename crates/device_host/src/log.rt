@@ -2,7 +2,7 @@
 
 use std::alloc::Global;
 use std::io;
-use std::time::{Clock, Instant};
+use std::time::{Clock, Instant, SystemTime, UNIX_EPOCH};
 
 /// The clock of the program, and its log.
 #[derive(Drop)]
@@ -26,6 +26,17 @@ impl<'a, R: Clock + Eprint> Log<'a, R> {
     pub(crate) fn now(&self) -> u64 {
         match self.begun.elapsed(self.rt) {
             Ok(since) => since.as_millis().min(0xFFFF_FFFF_FFFF_FFFF) as u64,
+            Err(_) => 0,
+        }
+    }
+
+    /// The time since the start of 1970, in microseconds.
+    pub(crate) fn micros(&self) -> u64 {
+        let Ok(now) = SystemTime::now(self.rt) else {
+            return 0;
+        };
+        match now.duration_since(UNIX_EPOCH) {
+            Ok(since) => since.as_micros().min(0xFFFF_FFFF_FFFF_FFFF) as u64,
             Err(_) => 0,
         }
     }

@@ -4,6 +4,7 @@ use crate::application::Application;
 use crate::device::{Device, Question};
 use crate::heard::Heard;
 use crate::log::Log;
+use crate::recording::Recording;
 use crate::rows::RowsFile;
 use crate::settings::{Door, Reached, Settings};
 use crate::strangers::Strangers;
@@ -29,8 +30,16 @@ const LIMIT: usize = 1_048_576;
 pub enum Stop {
     /// The words of the command line say nothing that can be done: what is wrong.
     Words(&'static str),
+    /// A file is refused, or cannot be written, for what was told on standard error.
+    File,
     /// For the same reasons as other commands.
     Fault(ShellFault),
+}
+
+impl From<ShellFault> for Stop {
+    fn from(fault: ShellFault) -> Stop {
+        Stop::Fault(fault)
+    }
 }
 
 /// Why a controller is served no longer.
@@ -54,16 +63,13 @@ pub fn serve_devices<
         Ok(settings) => settings,
         Err(wrong) => return Err(Stop::Words(wrong)),
     };
-    match prepare_and_serve(rt, rt.alloc(), words, &settings) {
-        Ok(()) => Ok(()),
-        Err(fault) => Err(Stop::Fault(fault)),
-    }
+    prepare_and_serve(rt, rt.alloc(), words, &settings)
 }
 
 /// Reads the files, listens, and serves.
 fn prepare_and_serve<
     R: Files<File = File> + Net<Listener = TcpListener, Stream = TcpStream> + Clock + Eprint,
->(rt: &R, alloc: Global, words: &HostWords<'_>, settings: &Settings<'_>) -> Result<(), ShellFault> {
+>(rt: &R, alloc: Global, words: &HostWords<'_>, settings: &Settings<'_>) -> Result<(), Stop> {
     let table = gatt_commands::read_table(alloc, &mut LazyFile::new(rt, words.table))?;
     let keys = gatt_commands::read_keys(alloc, &mut LazyFile::new(rt, words.keys))?;
     let mut reader = RowsReader::new(rt, RowsPath(words.rows));
@@ -71,13 +77,35 @@ fn prepare_and_serve<
     let host = open(alloc, table, keys, rows, settings)?;
     let mut file = RowsFile::new(alloc, words.rows);
     if file.save_first(rt, host.rows()).is_err() {
-        return Err(ShellFault::Unwritten);
+        return Err(Stop::Fault(ShellFault::Unwritten));
     }
     let Ok(mut device) = listening(rt, alloc, settings) else {
-        return Err(ShellFault::Listen);
+        return Err(Stop::Fault(ShellFault::Listen));
     };
+    // Not before: where another one serves already, its capture is not emptied.
+    if let Some(path) = words.capture {
+        device.recording = record_to(rt, alloc, path)?;
+    }
     device.log.say("ready");
-    serve_each(alloc, &mut device, host, settings, &mut file, words.once)
+    serve_each(alloc, &mut device, host, settings, &mut file, words)?;
+    Ok(())
+}
+
+/// Begins a capture in a file at a path, or tells that this cannot be created.
+fn record_to<R: Files<File = File> + Eprint>(
+    rt: &R,
+    alloc: Global,
+    path: &str,
+) -> Result<Recording, Stop> {
+    match Recording::begin(rt, path) {
+        Ok(recording) => Ok(recording),
+        Err(_) => {
+            if let Ok(line) = format!(in alloc; "capture: cannot be created: {path}") {
+                let _ = rt.eprintln(line.as_str());
+            }
+            Err(Stop::File)
+        }
+    }
 }
 
 /// A host with these, as the words say.
@@ -132,6 +160,7 @@ fn listening<
         stream: None,
         application,
         strangers: Strangers::new(settings.idle),
+        recording: Recording::none(),
         waiting,
         is_reached: false,
         question: Question::Nothing,
@@ -154,13 +183,14 @@ fn serve_each<
     host: Host,
     settings: &Settings<'_>,
     file: &mut RowsFile<'_>,
-    once: bool,
+    words: &HostWords<'_>,
 ) -> Result<(), ShellFault> {
     let mut host = host;
     for _controller in 0..u64::MAX {
-        let over = serve_one(alloc, device, &mut host, file);
+        let mut heard = Heard::new(alloc);
+        let over = serve_one(alloc, device, &mut host, &mut heard, file);
         tell_over(alloc, device, over);
-        if once {
+        if words.once {
             return match over {
                 Over::Gone(_) => Ok(()),
                 Over::Stopped(fault) => Err(ShellFault::Host(fault.number())),
@@ -191,12 +221,17 @@ fn tell_over<R: Clock + Eprint>(alloc: Global, device: &mut Device<'_, R>, over:
 /// Serves a controller, once it is reached, until it is gone or the host has stopped.
 fn serve_one<
     R: Files<File = File> + Net<Listener = TcpListener, Stream = TcpStream> + Clock + Eprint,
->(alloc: Global, device: &mut Device<'_, R>, host: &mut Host, file: &mut RowsFile<'_>) -> Over {
+>(
+    alloc: Global,
+    device: &mut Device<'_, R>,
+    host: &mut Host,
+    heard: &mut Heard,
+    file: &mut RowsFile<'_>,
+) -> Over {
     let mut queue = Outbox::new(alloc, LIMIT);
-    let mut heard = Heard::new(alloc);
     for _turn in 0..u64::MAX {
-        let turn = serve_happenings(host, device, &mut queue, &mut heard, 1);
-        settle(alloc, device, host, &mut heard, file);
+        let turn = serve_happenings(host, device, &mut queue, heard, 1);
+        settle(alloc, device, host, heard, file);
         if write_out(device, &mut queue).is_err() {
             return Over::Gone("gone: it cannot be written");
         }
@@ -211,15 +246,13 @@ fn serve_one<
 }
 
 /// Writes to the controller what waits for it, if it is there.
-fn write_out<R: Clock + Eprint>(
-    device: &mut Device<'_, R>,
-    queue: &mut Outbox,
-) -> io::Result<()> {
+fn write_out<R: Clock + Eprint>(device: &mut Device<'_, R>, queue: &mut Outbox) -> io::Result<()> {
     if queue.waiting().is_empty() {
         return Ok(());
     }
     if let Some(stream) = &mut device.stream {
         stream.write(queue.waiting(), &device.log)?;
+        device.recording.went(queue.waiting(), &device.log);
         queue.clear();
     }
     Ok(())

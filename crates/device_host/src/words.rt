@@ -25,6 +25,8 @@ pub struct HostWords<'a> {
     pub advertise: Option<&'a str>,
     /// The static random address.
     pub address: Option<&'a str>,
+    /// The path of a capture.
+    pub capture: Option<&'a str>,
     /// How many phones there may be at once.
     pub slots: Option<&'a str>,
     /// After how many silent seconds a stranger is sent away.

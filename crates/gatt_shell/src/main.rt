@@ -131,6 +131,7 @@ fn run_host(
         name: choice.name,
         advertise: choice.advertise,
         address: choice.address,
+        capture: choice.capture,
         slots: choice.slots,
         idle: choice.idle,
         once: choice.once,
@@ -138,6 +139,7 @@ fn run_host(
     match device_host::serve_devices(rt, &words) {
         Ok(()) => exit_status(rt, Ok(())),
         Err(Stop::Fault(fault)) => exit_status(rt, Err(fault)),
+        Err(Stop::File) => gatt_commands::status(&ShellFault::Unwritten),
         Err(Stop::Words(wrong)) => {
             let _ = rt.eprintln(wrong);
             Refusal::Misunderstood.status()

@@ -41,7 +41,7 @@ serve_shape = (with_rule (with_rule (with_rule (with_rule (new_app (codes "serve
     (option_rule (codes "rows"))).top
 
 -- the command `host`, of a table file and a key file; with where its controller and its application are; with what a scanner sees;
--- and with all its options and its flag
+-- with what is recorded of what goes on; and with all its options and its flag
 abbrev pub host_files : App
 host_files = with_rule (with_rule (with_rule (new_app (codes "host"))
     (file_rule (codes "TABLE"))) (file_rule (codes "KEYS"))) (option_rule (codes "rows"))
@@ -55,8 +55,11 @@ abbrev pub host_radio : App
 host_radio = with_rule (with_rule (with_rule host_ways
     (option_rule (codes "name"))) (option_rule (codes "advertise"))) (option_rule (codes "address"))
 
+abbrev pub host_records : App
+host_records = with_rule host_radio (option_rule (codes "capture"))
+
 abbrev pub host_shape : Shape
-host_shape = (with_rule (with_rule (with_rule host_radio
+host_shape = (with_rule (with_rule (with_rule host_records
     (option_rule (codes "slots"))) (option_rule (codes "idle"))) (flag_rule (codes "once"))).top
 
 -- the program, which has a version
@@ -121,6 +124,7 @@ HasFilesOf arguments (Host words) =
     × IsGivenIfAny (codes "name") arguments (option_map (λ word. word.now) words.name)
     × IsGivenIfAny (codes "advertise") arguments (option_map (λ word. word.now) words.advertise)
     × IsGivenIfAny (codes "address") arguments (option_map (λ word. word.now) words.address)
+    × IsGivenIfAny (codes "capture") arguments (option_map (λ path. path.now) words.capture)
     × IsGivenIfAny (codes "slots") arguments (option_map (λ word. word.now) words.slots)
     × IsGivenIfAny (codes "idle") arguments (option_map (λ word. word.now) words.idle)
     × IsSetIfGiven (codes "once") arguments words.once

@@ -204,6 +204,13 @@ pub const RANDOM_ADDRESS: &str = "address";
 /// What it is.
 pub const RANDOM_ADDRESS_ABOUT: &str = "A static random address, in place of the controller's own";
 
+/// The option that has a capture written.
+pub const CAPTURE: &str = "capture";
+
+/// What it is.
+pub const CAPTURE_ABOUT: &str =
+    "A capture (btsnoop) of what goes to the controller and comes from it";
+
 /// The option that says how many phones there may be.
 pub const SLOTS: &str = "slots";
 

@@ -3,7 +3,7 @@
 ghost use Rattle.std.specs.Prelude.{◌≡◌, codes, IfSome, IfOk, false};
 ghost use Rattle.clap.specs.Words.{app_of, shape_of, found_of, rows_of};
 ghost use Rattle.clap.specs.declared.builder.Command.TheViews.{out-Command};
-ghost use Rattle.gatt_words.specs.CommandLine.{host_files, host_ways, host_radio, host_shape, name_of};
+ghost use Rattle.gatt_words.specs.CommandLine.{host_files, host_ways, host_radio, host_records, host_shape, name_of};
 ghost use Rattle.gatt_words.specs.CommandLine.{HasFilesOf};
 
 use crate::help;
@@ -36,6 +36,8 @@ pub struct HostChoice<'a> {
     pub advertise: Option<&'a str>,
     /// The static random address.
     pub address: Option<&'a str>,
+    /// The file of a capture.
+    pub capture: Option<&'a str>,
     /// How many phones there may be.
     pub slots: Option<&'a str>,
     /// How long a stranger may be silent.
@@ -62,6 +64,7 @@ pub(crate) fn hosting<'a>(arguments: &ArgMatches<'a>) -> Option<Choice<'a>>
         name: arguments.get_str(help::NAME),
         advertise: arguments.get_str(help::ADVERTISE),
         address: arguments.get_str(help::RANDOM_ADDRESS),
+        capture: arguments.get_str(help::CAPTURE),
         slots: arguments.get_str(help::SLOTS),
         idle: arguments.get_str(help::IDLE),
         once: arguments.get_flag(help::ONCE),
@@ -116,12 +119,21 @@ fn host_radio_command<'a>(alloc: Global) -> Result<Command<'a>, AllocError>
     )
 }
 
+/// The same with what is recorded of what goes on.
+fn host_records_command<'a>(alloc: Global) -> Result<Command<'a>, AllocError>
+    ensures app { IfOk result (λ command. app_of command ≡ host_records) }
+    ensures local { IfOk result (λ command. (out-Command command).has_globals ≡ false) }
+{
+    let command = host_radio_command(alloc)?;
+    with_option(alloc, command, help::CAPTURE, help::CAPTURE_ABOUT)
+}
+
 /// The command `host`.
 pub(crate) fn host_command<'a>(alloc: Global) -> Result<Command<'a>, AllocError>
     ensures shape { IfOk result (λ command. shape_of command ≡ host_shape) }
     ensures local { IfOk result (λ command. (out-Command command).has_globals ≡ false) }
 {
-    let command = host_radio_command(alloc)?;
+    let command = host_records_command(alloc)?;
     let command = with_option(alloc, command, help::SLOTS, help::SLOTS_ABOUT)?;
     let command = with_option(alloc, command, help::IDLE, help::IDLE_ABOUT)?;
     with_flag(alloc, command, help::ONCE, help::ONCE_ABOUT)

@@ -1,0 +1,75 @@
+//! The capture of what goes to the controller and comes from it, where one is asked for.
+
+use crate::log::Log;
+use btsnoop::{Capture, CaptureFault};
+use octets::Writer;
+use std::fs::{File, Files};
+use std::io;
+use std::time::Clock;
+
+/// A capture, if one is written.
+#[derive(Drop)]
+pub(crate) struct Recording {
+    capture: Option<Capture<Writer<File>>>,
+    /// Whether it was told that no more packets are recorded.
+    is_told: bool,
+}
+
+impl Recording {
+    /// No capture.
+    pub(crate) fn none() -> Recording {
+        Recording {
+            capture: None,
+            is_told: false,
+        }
+    }
+
+    /// Begins a capture in a file at a path, in place of what that had.
+    pub(crate) fn begin<R: Files<File = File>>(rt: &R, path: &str) -> io::Result<Recording> {
+        let file = File::create(rt, path)?;
+        Ok(Recording {
+            capture: Some(Capture::begin(Writer::new(file))),
+            is_told: false,
+        })
+    }
+
+    /// Octets have gone to the controller.
+    pub(crate) fn went<R: Clock + Eprint>(&mut self, octets: &[u8], log: &Log<'_, R>) {
+        if let Some(capture) = &mut self.capture {
+            capture.went(octets, log.micros());
+            self.tell(log);
+        }
+    }
+
+    /// Octets have come from the controller.
+    pub(crate) fn came<R: Clock + Eprint>(&mut self, octets: &[u8], log: &Log<'_, R>) {
+        if let Some(capture) = &mut self.capture {
+            capture.came(octets, log.micros());
+            self.tell(log);
+        }
+    }
+
+    /// The stream of another controller begins.
+    pub(crate) fn next_stream(&mut self) {
+        if let Some(capture) = &mut self.capture {
+            capture.next_stream();
+            self.is_told = self.is_told && capture.fault().is_some();
+        }
+    }
+
+    /// Logs once that no more packets are recorded, and why.
+    fn tell<R: Clock + Eprint>(&mut self, log: &Log<'_, R>) {
+        let fault = match &self.capture {
+            Some(capture) => capture.fault(),
+            None => None,
+        };
+        if self.is_told || fault.is_none() {
+            return;
+        }
+        self.is_told = true;
+        log.say(match fault {
+            Some(CaptureFault::Packet) => "capture: no packet of at most 1029 octets begins so",
+            _ => "capture: not written any more",
+        });
+    }
+}
