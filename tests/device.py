@@ -354,6 +354,26 @@ def words(folder):
         check(f"{given}", status, device.process.wait(PATIENCE))
 
 
+def unknown(folder):
+    """Rows of a peer without a key are refused, and the file is as it was, unless they are to be dropped."""
+    rows = f"{folder}/unknown.rows"
+    for line, peer in [
+        ("1 c0:00:00:00:00:0a 7 1\n", "1 c0:00:00:00:00:0a"), ("! 0 00:11:22:33:44:56\n", "0 00:11:22:33:44:56"),
+        ("1 00:11:22:33:44:55 7 1\n", "1 00:11:22:33:44:55"),
+    ]:
+        text = "0 00:11:22:33:44:55 7 1\n" + line
+        with open(rows, "w") as file:
+            file.write(text)
+        device = Device(*DOOR, "--listen", "127.0.0.1:0", "--rows", rows)
+        check(f"{peer} is refused", 1, device.process.wait(PATIENCE))
+        check("and told of", True, peer in device.said("no key"))
+        check("the rows stay", text, text_of(rows))
+        device = Device(*DOOR, "--listen", "127.0.0.1:0", "--rows", rows, "--drop-unknown")
+        device.said("ready")
+        check(f"{peer} is dropped", "0 00:11:22:33:44:55 7 1\n", text_of(rows))
+        device.end()
+
+
 def a_full_disk(folder):
     """A capture that cannot be written is told of, and phones are served."""
     device = Device(*DOOR, "--listen", "127.0.0.1:0", "--capture", "/dev/full")
@@ -464,7 +484,7 @@ def main():
     with tempfile.TemporaryDirectory() as folder:
         later = a_bell(folder)
         plays = (
-            a_day, a_stranger, a_listener, a_serial_line, a_lock, once, words, a_full_disk,
+            a_day, a_stranger, a_listener, a_serial_line, a_lock, once, words, unknown, a_full_disk,
             floods, idle,
         )
         for play in plays:

@@ -15,6 +15,7 @@ mod settings;
 mod strangers;
 mod stream;
 mod telling;
+mod unknown;
 mod waiting;
 mod way;
 mod words;

@@ -9,6 +9,7 @@ use crate::rows::RowsFile;
 use crate::settings::{Door, Reached, Settings};
 use crate::strangers::Strangers;
 use crate::telling::{settle, tell};
+use crate::unknown::unknown_peer;
 use crate::waiting::{Source, Waiting};
 use crate::way::Way;
 use crate::words::HostWords;
@@ -74,6 +75,9 @@ fn prepare_and_serve<
     let keys = gatt_commands::read_keys(alloc, &mut LazyFile::new(rt, words.keys))?;
     let mut reader = RowsReader::new(rt, RowsPath(words.rows));
     let rows = gatt_commands::read_rows(alloc, &mut reader)?;
+    if !words.drop_unknown {
+        refuse_unknown(rt, alloc, &rows, &keys)?;
+    }
     let host = open(alloc, table, keys, rows, settings)?;
     let mut file = RowsFile::new(alloc, words.rows);
     if file.save_first(rt, host.rows()).is_err() {
@@ -106,6 +110,23 @@ fn record_to<R: Files<File = File> + Eprint>(
             Err(Stop::File)
         }
     }
+}
+
+/// Refuses rows of which a peer has no key, and tells which.
+fn refuse_unknown<R: Eprint>(rt: &R, alloc: Global, rows: &Rows, keys: &Keys) -> Result<(), Stop> {
+    let unknown = match unknown_peer(alloc, rows, keys) {
+        Ok(unknown) => unknown,
+        Err(_) => return Err(Stop::Fault(ShellFault::Memory)),
+    };
+    let Some(peer) = unknown else {
+        return Ok(());
+    };
+    if let Ok(line) = format!(in alloc;
+        "rows: no key of the peer {peer} (--drop-unknown drops it)"
+    ) {
+        let _ = rt.eprintln(line.as_str());
+    }
+    Err(Stop::File)
 }
 
 /// A host with these, as the words say.

@@ -9,6 +9,8 @@ pub struct HostWords<'a> {
     pub keys: &'a str,
     /// The path of the rows file.
     pub rows: Option<&'a str>,
+    /// Whether rows of peers without a key are dropped, in place of the file being refused.
+    pub drop_unknown: bool,
     /// The address at which a controller connects.
     pub listen: Option<&'a str>,
     /// The address at which a controller listens.

@@ -123,6 +123,7 @@ fn run_host(
         table: choice.table,
         keys: choice.keys,
         rows: choice.rows,
+        drop_unknown: choice.drop_unknown,
         listen: choice.listen,
         connect: choice.connect,
         serial: choice.serial,

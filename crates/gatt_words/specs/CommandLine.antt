@@ -41,10 +41,10 @@ serve_shape = (with_rule (with_rule (with_rule (with_rule (new_app (codes "serve
     (option_rule (codes "rows"))).top
 
 -- the command `host`, of a table file and a key file; with where its controller and its application are; with what a scanner sees;
--- with what is recorded of what goes on; and with all its options and its flag
+-- with what is recorded of what goes on; and with all its options and flags
 abbrev pub host_files : App
-host_files = with_rule (with_rule (with_rule (new_app (codes "host"))
-    (file_rule (codes "TABLE"))) (file_rule (codes "KEYS"))) (option_rule (codes "rows"))
+host_files = with_rule (with_rule (with_rule (with_rule (new_app (codes "host"))
+    (file_rule (codes "TABLE"))) (file_rule (codes "KEYS"))) (option_rule (codes "rows"))) (flag_rule (codes "drop-unknown"))
 
 abbrev pub host_ways : App
 host_ways = with_rule (with_rule (with_rule (with_rule (with_rule host_files
@@ -116,6 +116,7 @@ HasFilesOf arguments (Serve table keys rows address) =
 HasFilesOf arguments (Host words) =
     IsGiven (codes "TABLE") arguments words.table.now × IsGiven (codes "KEYS") arguments words.keys.now
     × IsGivenIfAny (codes "rows") arguments (option_map (λ path. path.now) words.rows)
+    × IsSetIfGiven (codes "drop-unknown") arguments words.drop_unknown
     × IsGivenIfAny (codes "listen") arguments (option_map (λ word. word.now) words.listen)
     × IsGivenIfAny (codes "connect") arguments (option_map (λ word. word.now) words.connect)
     × IsGivenIfAny (codes "serial") arguments (option_map (λ word. word.now) words.serial)

@@ -155,6 +155,13 @@ can wait for.
   gatt_shell host examples/door.toml examples/keys.toml --listen 127.0.0.1:5000 \\
       --application door.socket --rows door.rows";
 
+/// The flag that has rows of unknown peers dropped.
+pub const DROP_UNKNOWN: &str = "drop-unknown";
+
+/// What it does.
+pub const DROP_UNKNOWN_ABOUT: &str =
+    "Drop rows of peers without a key, in place of refusing the file";
+
 /// The option that says where a controller connects.
 pub const LISTEN: &str = "listen";
 

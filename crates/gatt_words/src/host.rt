@@ -20,6 +20,8 @@ pub struct HostChoice<'a> {
     pub keys: &'a str,
     /// The rows file.
     pub rows: Option<&'a str>,
+    /// Whether rows of peers without a key are dropped.
+    pub drop_unknown: bool,
     /// Where a controller connects.
     pub listen: Option<&'a str>,
     /// Where a controller listens.
@@ -56,6 +58,7 @@ pub(crate) fn hosting<'a>(arguments: &ArgMatches<'a>) -> Option<Choice<'a>>
         table: arguments.get_str(help::TABLE)?,
         keys: arguments.get_str(help::KEYS)?,
         rows: arguments.get_str(help::ROWS),
+        drop_unknown: arguments.get_flag(help::DROP_UNKNOWN),
         listen: arguments.get_str(help::LISTEN),
         connect: arguments.get_str(help::CONNECT),
         serial: arguments.get_str(help::SERIAL),
@@ -82,7 +85,8 @@ fn host_files_command<'a>(alloc: Global) -> Result<Command<'a>, AllocError>
         .after_help(help::STATUSES);
     let command = with_file(alloc, command, help::TABLE, help::TABLE_ABOUT)?;
     let command = with_file(alloc, command, help::KEYS, help::KEYS_ABOUT)?;
-    with_option(alloc, command, help::ROWS, help::ROWS_ABOUT)
+    let command = with_option(alloc, command, help::ROWS, help::ROWS_ABOUT)?;
+    with_flag(alloc, command, help::DROP_UNKNOWN, help::DROP_UNKNOWN_ABOUT)
 }
 
 /// The same with where its controller and its application are.

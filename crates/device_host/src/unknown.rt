@@ -1,0 +1,45 @@
+//! Peers of a rows file without a key.
+
+use gatt_host::{Keys, Peer, Rows, Writer};
+use std::alloc::{AllocError, Global};
+use std::str;
+
+/// Tells of the first peer of rows that keys do not know, in words, if there is one. The rows are not
+/// fitted to the keys yet.
+pub(crate) fn unknown_peer(
+    alloc: Global,
+    rows: &Rows,
+    keys: &Keys,
+) -> Result<Option<String>, AllocError> {
+    let mut text = Vec::new(alloc);
+    if rows.text(&mut Writer::new(&mut text)).is_err() {
+        return Err(AllocError);
+    }
+    for line in str::from_utf8(text.as_slice()).unwrap_or("").split('\n') {
+        if let Some((kind, address)) = unknown_in(line, keys) {
+            return match format!(in alloc; "{kind} {address}") {
+                Ok(words) => Ok(Some(words)),
+                Err(_) => Err(AllocError),
+            };
+        }
+    }
+    Ok(None)
+}
+
+/// The peer of a line, by the kind of its address and the address, where keys do not know it.
+fn unknown_in<'a>(line: &'a str, keys: &Keys) -> Option<(&'a str, &'a str)> {
+    let (kind, rest) = line.strip_prefix("! ").unwrap_or(line).split_once(' ')?;
+    let address = match rest.split_once(' ') {
+        Some((address, _)) => address,
+        None => rest,
+    };
+    let peer = Peer {
+        kind: kind.parse::<u8>().ok()?,
+        address: le_security::read_address(address.as_bytes())?,
+    };
+    if keys.known(&peer) {
+        None
+    } else {
+        Some((kind, address))
+    }
+}
