@@ -114,6 +114,9 @@ def a_day(folder):
     check("the stranger may not open", "01120a0005", controller.ask(64, "120a0001"))
     check("the owner opens", "13", controller.ask(65, "120a0001"))
     check("the motor hears", "+ written 65 10 01", one.line())
+    check("the log has no octets", " 65 10 octets: 1", device.said("+ written"))
+    check("the log has slots", [" 64 1 c0:00:00:00:00:0a slot 0", " 65 0 00:11:22:33:44:55 slot 1"],
+        [device.said("+ connected", count) for count in (1, 2)])
     check("no rows yet", "", text_of(rows))
     check("the owner subscribes", "13", controller.ask(65, "1207000100"))
     check("it is on the disk", "0 00:11:22:33:44:55 7 1\n", text_of(rows))
@@ -263,8 +266,8 @@ def a_listener(folder):
     server.settimeout(PATIENCE)
     address = "127.0.0.1:%d" % server.getsockname()[1]
     device = Device(
-        *DOOR, "--connect", address, "--name", "Front door of the house", "--advertise", "180f,fff0",
-        "--address", "c0:11:22:33:44:55", "--application", f"{folder}/listener.socket",
+        *DOOR, "--connect", address, "--name", "Front door of the house", "--advertise", "180f",
+        "--advertise", "fff0", "--address", "c0:11:22:33:44:55", "--application", f"{folder}/listener.socket",
     )
     for _ in range(2):
         controller = Controller(server.accept()[0])
@@ -344,7 +347,9 @@ def words(folder):
     for given, status in [
         ([], 64), (["--listen", "x"], 64), (["--listen", "127.0.0.1:0", "--slots", "9"], 64),
         (["--listen", "127.0.0.1:0", "--advertise", "0"], 64),
-        (["--listen", "127.0.0.1:0", "--advertise", "180f," * 40], 64),
+        (["--listen", "127.0.0.1:0", "--advertise", "180f,fff0"], 64),
+        (["--listen", "127.0.0.1:0", *["--advertise", "180f"] * 14], 64),
+        (["--listen", "127.0.0.1:0", *["--advertise", "180f"] * 40], 64),
         (["--listen", "127.0.0.1:0", "--address", "00:11:22:33:44:55"], 64),
         (["--listen", "127.0.0.1:0", "--rows", f"{folder}/none/rows"], 1),
         (["--listen", "127.0.0.1:0", "--capture", f"{folder}/none/capture"], 1),
@@ -372,6 +377,35 @@ def unknown(folder):
         device.said("ready")
         check(f"{peer} is dropped", "0 00:11:22:33:44:55 7 1\n", text_of(rows))
         device.end()
+
+
+def values(folder):
+    """Values are logged where that is asked for."""
+    device = Device(*DOOR, "--listen", "127.0.0.1:0", "--log-values")
+    controller = controller_at(device)
+    controller.is_advertised()
+    controller.connect(65, OWNER)
+    controller.encrypt(65)
+    check("a value is written", "13", controller.ask(65, "120a0001"))
+    check("and logged", " 65 10 01", device.said("+ written"))
+    device.end()
+    controller.close()
+
+
+def slots(folder):
+    """Who comes takes the first slot that is free."""
+    device = Device(*DOOR, "--listen", "127.0.0.1:0", "--slots", "3")
+    controller = controller_at(device)
+    controller.is_advertised()
+    for handle in (64, 65, 66):
+        controller.connect(handle, STRANGER)
+    controller.event(0x05, b"\0" + (65).to_bytes(2, "little") + b"\x13")
+    controller.connect(67, OWNER)
+    device.said("+ connected", 4)
+    found = [device.said("+ connected", count).split() for count in range(1, 5)]
+    check("slots", [("64", "0"), ("65", "1"), ("66", "2"), ("67", "1")], [(it[0], it[-1]) for it in found])
+    device.end()
+    controller.close()
 
 
 def a_full_disk(folder):
@@ -484,7 +518,7 @@ def main():
     with tempfile.TemporaryDirectory() as folder:
         later = a_bell(folder)
         plays = (
-            a_day, a_stranger, a_listener, a_serial_line, a_lock, once, words, unknown, a_full_disk,
+            a_day, a_stranger, a_listener, a_serial_line, a_lock, once, words, unknown, values, slots, a_full_disk,
             floods, idle,
         )
         for play in plays:

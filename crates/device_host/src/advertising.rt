@@ -21,15 +21,13 @@ const COMPLETE_NAME: u8 = 0x09;
 
 /// The data: flags, the services of these UUIDs, and the name, which is shortened to what fits.
 /// None where the services do not fit, or where one of them is no UUID.
-pub(crate) fn data(services: &str, name: &str) -> Option<Data> {
+pub(crate) fn data(services: &[&str], name: &str) -> Option<Data> {
     let mut data = ArrayVec::new();
     data.try_extend_from_slice(&FLAGS).ok()?;
     let mut short: ArrayVec<u8, 31> = ArrayVec::new();
     let mut long: ArrayVec<u8, 31> = ArrayVec::new();
-    for word in services.split(',') {
-        if !word.is_empty() {
-            add_service(word, &mut short, &mut long)?;
-        }
+    for word in services {
+        add_service(word, &mut short, &mut long)?;
     }
     add_part(&mut data, SERVICES_OF_16_BITS, short.as_slice())?;
     add_part(&mut data, SERVICES_OF_128_BITS, long.as_slice())?;

@@ -1,5 +1,6 @@
 //! What is heard of the host while a turn is taken.
 
+use crate::places::Places;
 use gatt_commands::{add_line, add_number};
 use gatt_host::{Listener, Notice};
 use std::alloc::{AllocError, Global};
@@ -9,8 +10,11 @@ use std::alloc::{AllocError, Global};
 pub(crate) struct Heard {
     /// Their lines.
     pub(crate) text: Vec<u8>,
-    /// The same for the log: of a value that was written only how many octets it has.
+    /// The same for the log: of a value that was written only how many octets it has, unless values
+    /// are logged.
     pub(crate) log: Vec<u8>,
+    logs_values: bool,
+    places: Places,
     /// Whether one of them may have changed the rows.
     pub(crate) may_change_rows: bool,
     /// Whether memory was refused for one of them.
@@ -18,11 +22,13 @@ pub(crate) struct Heard {
 }
 
 impl Heard {
-    /// Nothing is heard yet.
-    pub(crate) fn new(alloc: Global) -> Heard {
+    /// Nothing is heard yet, and nobody is connected.
+    pub(crate) fn new(alloc: Global, logs_values: bool) -> Heard {
         Heard {
             text: Vec::new(alloc),
             log: Vec::new(alloc),
+            logs_values,
+            places: Places::new(),
             may_change_rows: false,
             is_refused: false,
         }
@@ -47,28 +53,61 @@ impl Listener for Heard {
         if !matches!(notice, Notice::Written { .. }) {
             self.may_change_rows = true;
         }
-        if add_line(&mut self.text, &notice).is_err()
-            || add_logged(&mut self.log, &notice).is_err()
-        {
+        if add_line(&mut self.text, &notice).is_err() || self.add_logged(&notice).is_err() {
             self.is_refused = true;
         }
     }
 }
 
-/// Adds the line of a notice for the log.
-fn add_logged(log: &mut Vec<u8>, notice: &Notice<'_>) -> Result<(), AllocError> {
-    let Notice::Written {
-        handle,
-        attribute,
-        value,
-    } = notice
-    else {
-        return add_line(log, notice);
+impl Heard {
+    /// Adds the line of a notice for the log.
+    fn add_logged(&mut self, notice: &Notice<'_>) -> Result<(), AllocError> {
+        match notice {
+            Notice::Connected { handle, .. } => {
+                let place = self.places.take(*handle);
+                add_with_slot(&mut self.log, notice, place)
+            }
+            Notice::Disconnected { handle } => {
+                self.places.leave(*handle);
+                add_line(&mut self.log, notice)
+            }
+            Notice::Written {
+                handle,
+                attribute,
+                value,
+            } if !self.logs_values => add_written(&mut self.log, *handle, *attribute, value.len()),
+            _ => add_line(&mut self.log, notice),
+        }
+    }
+}
+
+/// Adds the line of a notice with a slot behind it, if there is one.
+fn add_with_slot(
+    log: &mut Vec<u8>,
+    notice: &Notice<'_>,
+    place: Option<usize>,
+) -> Result<(), AllocError> {
+    add_line(log, notice)?;
+    let Some(place) = place else {
+        return Ok(());
     };
+    let _ = log.pop();
+    log.extend_from_slice(b" slot")?;
+    add_number(log, place as u64)?;
+    log.extend_from_slice(b"\n")
+}
+
+/// Adds that a connection has written so many octets at a handle.
+fn add_written(
+    log: &mut Vec<u8>,
+    handle: u16,
+    attribute: u16,
+    count: usize,
+) -> Result<(), AllocError> {
     log.extend_from_slice(b"+ written")?;
-    add_number(log, u64::from(*handle))?;
-    add_number(log, u64::from(*attribute))?;
+    add_number(log, u64::from(handle))?;
+    add_number(log, u64::from(attribute))?;
     log.extend_from_slice(b" octets:")?;
-    add_number(log, value.len() as u64)?;
+    add_number(log, count as u64)?;
     log.extend_from_slice(b"\n")
 }

@@ -8,6 +8,7 @@ mod application;
 mod device;
 mod heard;
 mod log;
+mod places;
 mod recording;
 mod rows;
 mod serving;

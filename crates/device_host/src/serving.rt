@@ -208,7 +208,7 @@ fn serve_each<
 ) -> Result<(), ShellFault> {
     let mut host = host;
     for _controller in 0..u64::MAX {
-        let mut heard = Heard::new(alloc);
+        let mut heard = Heard::new(alloc, words.log_values);
         let over = serve_one(alloc, device, &mut host, &mut heard, file);
         tell_over(alloc, device, over);
         if words.once {

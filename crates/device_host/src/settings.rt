@@ -53,9 +53,9 @@ impl<'a> Settings<'a> {
         let slots = read_slots(words.slots)?;
         let address = read_address(words.address)?;
         let idle = read_idle(words.idle)?;
-        let services = words.advertise.unwrap_or("");
-        let Some(advertising) = advertising::data(services, words.name.unwrap_or("")) else {
-            return Err("--advertise: no UUID, or more than 31 octets have room for");
+        let name = words.name.unwrap_or("");
+        let Some(advertising) = advertising::data(words.advertise, name) else {
+            return Err("--advertise: no UUID, or more of them than 31 octets have room for");
         };
         Ok(Settings {
             reached,

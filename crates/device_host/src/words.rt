@@ -23,12 +23,14 @@ pub struct HostWords<'a> {
     pub application_port: Option<&'a str>,
     /// The name that is advertised.
     pub name: Option<&'a str>,
-    /// The UUIDs of the services that are advertised, between commas.
-    pub advertise: Option<&'a str>,
+    /// The UUIDs of the services that are advertised.
+    pub advertise: &'a [&'a str],
     /// The static random address.
     pub address: Option<&'a str>,
     /// The path of a capture.
     pub capture: Option<&'a str>,
+    /// Whether the log has the octets of values that phones write.
+    pub log_values: bool,
     /// How many phones there may be at once.
     pub slots: Option<&'a str>,
     /// After how many silent seconds a stranger is sent away.

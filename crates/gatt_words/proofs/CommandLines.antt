@@ -4,7 +4,7 @@ use Rattle.std.proofs.Math.Bool.{or-false}
 use Rattle.std.specs.Box.{box_value}
 use Rattle.std.specs.Prelude.{IfOk, Result, Ok, Err}
 use Rattle.clap.specs.Built.{AddsArg, AddsSubcommand}
-use Rattle.clap.specs.Words.{App, HasKind, IsAmong, Kinds, Shape, Text, app_of, shape_of, with_subcommand, fault_of, first_of, first_value, one_of, one_text, is_simple_and_free, kind_of, rows_of, subcommand_name_of, subcommand_of, subcommand_rows, subcommand_rows_of, takes}
+use Rattle.clap.specs.Words.{App, HasKind, IsAmong, Kinds, Shape, Text, all_of, app_of, shape_of, with_subcommand, fault_of, first_of, first_value, matched_of, one_of, one_text, is_simple_and_free, kind_of, raw_values, rows_of, subcommand_name_of, subcommand_of, subcommand_rows, subcommand_rows_of, takes}
 use Rattle.clap.specs.declared.builder.Arg.{Arg}
 use Rattle.clap.specs.declared.builder.Command.{Command}
 use Rattle.clap.specs.declared.builder.Command.TheViews.{out-Command}
@@ -15,7 +15,7 @@ use Rattle.clap.specs.declared.error.ErrorKind.{ErrorKind}
 use Rattle.clap.specs.declared.error.ErrorKind.TheVariants.{InvalidValue, UnknownArgument, InvalidSubcommand, NoEquals, ValueValidation, TooManyValues, TooFewValues, WrongNumberOfValues, ArgumentConflict, MissingRequiredArgument, MissingSubcommand, DisplayHelp, DisplayHelpOnMissingArgumentOrSubcommand, DisplayVersion, Io, Format, OutOfMemory}
 use Rattle.clap.specs.declared.Error.{Error}
 use Rattle.clap.proofs.OnLiterals.{clap_on_literals}
-use Rattle.clap.proofs.WalkLemmas.{first_value-rows, one_text-rows}
+use Rattle.clap.proofs.WalkLemmas.{first_value-rows, one_text-rows, raw_values-rows}
 use Rattle.gatt_words.specs.CommandLine.{command_line}
 use Rattle.gatt_words.specs.Refusal.{ShowsUnlessMemory, refusal_for}
 use Rattle.gatt_words.specs.declared.words.Refusal.TheVariants.{Shown, Misunderstood, Memory}
@@ -114,6 +114,9 @@ first_in_rows found name = first_value-rows found name
 
 pub flag_in_rows : (found : Found) (name : Text) → one_text found name ≡ one_of name (rows_of found)
 flag_in_rows found name = one_text-rows found name
+
+pub all_in_rows : (found : Found) (name : Text) → option_map raw_values (matched_of found name) ≡ all_of name (rows_of found)
+all_in_rows found name = raw_values-rows found name
 
 -- the kinds that an error may have, where the words behind the program's name are these
 pub kinds_at : (app : App) (words rest : List (List ℕ)) (error : Error) → app ≡ command_line → drop 1 words ≡ rest

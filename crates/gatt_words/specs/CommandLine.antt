@@ -1,7 +1,7 @@
 -- The command line that the program takes, as clap's specification reads one.
-use Rattle.std.specs.Prelude.{◌≡◌, ℕ, List, [], codes, Bool, true, false, Option, Some, IfSome, option_map}
-use Rattle.clap.specs.Words.{App, Row, Rule, Shape, Text, first_of, new_app, new_rule, one_of, with_rule, with_subcommand}
-use Rattle.clap.specs.declared.builder.action.ArgAction.TheVariants.{Set, SetTrue}
+use Rattle.std.specs.Prelude.{◌≡◌, ℕ, List, [], codes, map, take, unwrap_or, Bool, true, false, Option, Some, IfSome, option_map}
+use Rattle.clap.specs.Words.{App, Row, Rule, Shape, Text, all_of, first_of, new_app, new_rule, one_of, with_rule, with_subcommand}
+use Rattle.clap.specs.declared.builder.action.ArgAction.TheVariants.{Append, Set, SetTrue}
 use Rattle.gatt_words.specs.declared.words.Choice.{Choice}
 use Rattle.gatt_words.specs.declared.words.Choice.TheVariants.{Att, Check, Run, Serve, Host}
 
@@ -20,6 +20,10 @@ check_shape = (with_rule (with_rule (new_app (codes "check")) (file_rule (codes 
 -- an option that is a path and may be left out
 abbrev pub option_rule : Text → Rule
 option_rule name = record (new_rule name) { long = Some name; action = Some Set; value_names = 1 }
+
+-- an option that may be given again and again
+abbrev pub list_rule : Text → Rule
+list_rule name = record (new_rule name) { long = Some name; action = Some Append; value_names = 1 }
 
 -- a flag, which has no value and may be left out
 abbrev pub flag_rule : Text → Rule
@@ -53,10 +57,10 @@ host_ways = with_rule (with_rule (with_rule (with_rule (with_rule host_files
 
 abbrev pub host_radio : App
 host_radio = with_rule (with_rule (with_rule host_ways
-    (option_rule (codes "name"))) (option_rule (codes "advertise"))) (option_rule (codes "address"))
+    (option_rule (codes "name"))) (list_rule (codes "advertise"))) (option_rule (codes "address"))
 
 abbrev pub host_records : App
-host_records = with_rule host_radio (option_rule (codes "capture"))
+host_records = with_rule (with_rule host_radio (option_rule (codes "capture"))) (flag_rule (codes "log-values"))
 
 abbrev pub host_shape : Shape
 host_shape = (with_rule (with_rule (with_rule host_records
@@ -93,6 +97,10 @@ IsGiven name arguments path = first_of name arguments ≡ Some path
 abbrev pub IsGivenIfAny : List ℕ → List Row → Option (List ℕ) → Type 0
 IsGivenIfAny name arguments path = first_of name arguments ≡ path
 
+-- all that an option is given, one after another
+abbrev pub given : List ℕ → List Row → List (List ℕ)
+given name arguments = unwrap_or (all_of name arguments) []
+
 -- a flag is given or left out
 abbrev pub IsSetIfGiven : List ℕ → List Row → Bool → Type 0
 IsSetIfGiven name arguments flag =
@@ -123,9 +131,10 @@ HasFilesOf arguments (Host words) =
     × IsGivenIfAny (codes "application") arguments (option_map (λ word. word.now) words.application)
     × IsGivenIfAny (codes "application-port") arguments (option_map (λ word. word.now) words.application_port)
     × IsGivenIfAny (codes "name") arguments (option_map (λ word. word.now) words.name)
-    × IsGivenIfAny (codes "advertise") arguments (option_map (λ word. word.now) words.advertise)
+    × (map (λ word. word.now) words.advertise.items ≡ take 14 (given (codes "advertise") arguments))
     × IsGivenIfAny (codes "address") arguments (option_map (λ word. word.now) words.address)
     × IsGivenIfAny (codes "capture") arguments (option_map (λ path. path.now) words.capture)
+    × IsSetIfGiven (codes "log-values") arguments words.log_values
     × IsGivenIfAny (codes "slots") arguments (option_map (λ word. word.now) words.slots)
     × IsGivenIfAny (codes "idle") arguments (option_map (λ word. word.now) words.idle)
     × IsSetIfGiven (codes "once") arguments words.once

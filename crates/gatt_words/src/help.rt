@@ -133,6 +133,9 @@ pub const NOTICES: &str = "notices";
 /// What the flag does.
 pub const NOTICES_ABOUT: &str = "Print what the application is told too, one line a notice";
 
+/// What stands for the value of an option that gives a service.
+pub const UUID: &str = "UUID";
+
 /// What stands for the value of an option that names a file.
 pub const FILE: &str = "FILE";
 
@@ -203,7 +206,7 @@ pub const NAME_ABOUT: &str = "The name that is advertised, shortened to what fit
 pub const ADVERTISE: &str = "advertise";
 
 /// What it is.
-pub const ADVERTISE_ABOUT: &str = "The UUIDs of services that are advertised, between commas";
+pub const ADVERTISE_ABOUT: &str = "The UUID of a service that is advertised, for each its own";
 
 /// The option that gives an address.
 pub const RANDOM_ADDRESS: &str = "address";
@@ -217,6 +220,13 @@ pub const CAPTURE: &str = "capture";
 /// What it is.
 pub const CAPTURE_ABOUT: &str =
     "A capture (btsnoop) of what goes to the controller and comes from it";
+
+/// The flag that has values logged.
+pub const LOG_VALUES: &str = "log-values";
+
+/// What it does.
+pub const LOG_VALUES_ABOUT: &str =
+    "Log the octets too that phones write, which are secret elsewhere";
 
 /// The option that says how many phones there may be.
 pub const SLOTS: &str = "slots";

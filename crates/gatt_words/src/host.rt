@@ -1,18 +1,22 @@
 //! The command `host`: its words, and what they choose.
 
-ghost use Rattle.std.specs.Prelude.{◌≡◌, codes, IfSome, IfOk, false};
+ghost use Rattle.std.specs.Prelude.{◌≡◌, codes, map, take, IfSome, IfOk, false};
 ghost use Rattle.clap.specs.Words.{app_of, shape_of, found_of, rows_of};
 ghost use Rattle.clap.specs.declared.builder.Command.TheViews.{out-Command};
 ghost use Rattle.gatt_words.specs.CommandLine.{host_files, host_ways, host_radio, host_records, host_shape, name_of};
-ghost use Rattle.gatt_words.specs.CommandLine.{HasFilesOf};
+ghost use Rattle.gatt_words.specs.CommandLine.{given, HasFilesOf};
 
 use crate::help;
-use crate::words::{Choice, with_file, with_flag, with_option};
+use crate::words::{Choice, with_file, with_flag, with_list, with_option};
+use arrayvec::ArrayVec;
 use clap::{ArgMatches, Command};
 use std::alloc::{AllocError, Global};
 
+/// As many services as are taken in: one more than fit into advertising data.
+pub const MOST_SERVICES: usize = 14;
+
 /// The words of the command `host`.
-#[derive(Clone, Copy)]
+#[derive(Drop)]
 pub struct HostChoice<'a> {
     /// The table file.
     pub table: &'a str,
@@ -34,12 +38,14 @@ pub struct HostChoice<'a> {
     pub application_port: Option<&'a str>,
     /// The name that is advertised.
     pub name: Option<&'a str>,
-    /// The services that are advertised.
-    pub advertise: Option<&'a str>,
+    /// The services that are advertised: the first of them, where there are more than are taken in.
+    pub advertise: ArrayVec<&'a str, MOST_SERVICES>,
     /// The static random address.
     pub address: Option<&'a str>,
     /// The file of a capture.
     pub capture: Option<&'a str>,
+    /// Whether values that phones write are logged.
+    pub log_values: bool,
     /// How many phones there may be.
     pub slots: Option<&'a str>,
     /// How long a stranger may be silent.
@@ -65,13 +71,36 @@ pub(crate) fn hosting<'a>(arguments: &ArgMatches<'a>) -> Option<Choice<'a>>
         application: arguments.get_str(help::APPLICATION),
         application_port: arguments.get_str(help::APPLICATION_PORT),
         name: arguments.get_str(help::NAME),
-        advertise: arguments.get_str(help::ADVERTISE),
+        advertise: advertised(arguments),
         address: arguments.get_str(help::RANDOM_ADDRESS),
         capture: arguments.get_str(help::CAPTURE),
+        log_values: arguments.get_flag(help::LOG_VALUES),
         slots: arguments.get_str(help::SLOTS),
         idle: arguments.get_str(help::IDLE),
         once: arguments.get_flag(help::ONCE),
     }))
+}
+
+/// The services that are to be advertised: the first of them, where there are more than are taken in.
+#[tactic(auto, using(crate::proofs::CommandLines::all_in_rows))]
+fn advertised<'a>(arguments: &ArgMatches<'a>) -> ArrayVec<&'a str, MOST_SERVICES>
+    ensures { map (λ word. word.now) result.items
+        ≡ take 14 (given (codes "advertise") (rows_of (found_of arguments.now))) }
+{
+    match arguments.get_strs(help::ADVERTISE) {
+        Some(words) => first_words(words),
+        None => ArrayVec::new(),
+    }
+}
+
+/// The first of some words.
+fn first_words<'a>(words: &[&'a str]) -> ArrayVec<&'a str, MOST_SERVICES>
+    ensures { result.items ≡ take 14 words.now }
+{
+    let mut first = ArrayVec::new();
+    let (front, _) = words.split_at(words.len().min(MOST_SERVICES));
+    first.try_extend_from_slice(front).unwrap();
+    first
 }
 
 /// The command `host` with its files alone.
@@ -114,7 +143,7 @@ fn host_radio_command<'a>(alloc: Global) -> Result<Command<'a>, AllocError>
 {
     let command = host_ways_command(alloc)?;
     let command = with_option(alloc, command, help::NAME, help::NAME_ABOUT)?;
-    let command = with_option(alloc, command, help::ADVERTISE, help::ADVERTISE_ABOUT)?;
+    let command = with_list(alloc, command, help::ADVERTISE, help::ADVERTISE_ABOUT)?;
     with_option(
         alloc,
         command,
@@ -129,7 +158,8 @@ fn host_records_command<'a>(alloc: Global) -> Result<Command<'a>, AllocError>
     ensures local { IfOk result (λ command. (out-Command command).has_globals ≡ false) }
 {
     let command = host_radio_command(alloc)?;
-    with_option(alloc, command, help::CAPTURE, help::CAPTURE_ABOUT)
+    let command = with_option(alloc, command, help::CAPTURE, help::CAPTURE_ABOUT)?;
+    with_flag(alloc, command, help::LOG_VALUES, help::LOG_VALUES_ABOUT)
 }
 
 /// The command `host`.

@@ -8,5 +8,5 @@ mod host;
 mod words;
 
 pub use given::words_of;
-pub use host::HostChoice;
+pub use host::{HostChoice, MOST_SERVICES};
 pub use words::{Choice, Refusal, chosen};

@@ -5,7 +5,7 @@ ghost use Rattle.clap.specs.Words.{IsAmong, app_of, fault_of, kind_of, shape_of,
 ghost use Rattle.clap.specs.declared.builder.Command.TheViews.{out-Command};
 ghost use Rattle.clap.specs.Words.{found_of, rows_of, subcommand_name_of, subcommand_of, subcommand_rows_of};
 ghost use Rattle.clap.specs.Words.{rule_of, IsPlainArg};
-ghost use Rattle.gatt_words.specs.CommandLine.{att_shape, file_rule, flag_rule, option_rule, check_shape, run_files, run_shape, serve_shape, program_line, command_line, name_of};
+ghost use Rattle.gatt_words.specs.CommandLine.{att_shape, file_rule, flag_rule, list_rule, option_rule, check_shape, run_files, run_shape, serve_shape, program_line, command_line, name_of};
 ghost use Rattle.gatt_words.specs.CommandLine.{HasFiles, HasFilesOf};
 ghost use Rattle.gatt_words.specs.Refusal.{ShowsUnlessMemory, refusal_for};
 
@@ -16,7 +16,7 @@ use clap::{Arg, ArgAction, ArgMatches, Command, Error};
 use std::alloc::{AllocError, Global};
 
 /// The command that the words choose, with the paths of its files.
-#[derive(Clone, Copy)]
+#[derive(Drop)]
 pub enum Choice<'a> {
     /// Answers ATT PDUs from standard input.
     Att,
@@ -234,6 +234,34 @@ pub(crate) fn with_option<'a>(
         (λ added. (out-Command added).has_globals ≡ (out-Command command.entry).has_globals) }
 {
     command.arg(file_option(alloc, name, about))
+}
+
+/// An option that may be given again and again.
+fn list_option<'a>(alloc: Global, name: &'a str, about: &'a str) -> Arg<'a>
+    ensures rule { rule_of result ≡ list_rule name.entry.now }
+    ensures plain { IsPlainArg result }
+    ensures local { result.global ≡ false }
+{
+    Arg::new(alloc, name)
+        .long(name)
+        .value_name(help::UUID)
+        .help(about)
+        .action(ArgAction::Append)
+}
+
+/// The command with one more option, which may be given again and again.
+pub(crate) fn with_list<'a>(
+    alloc: Global,
+    command: Command<'a>,
+    name: &'a str,
+    about: &'a str,
+) -> Result<Command<'a>, AllocError>
+    ensures app { IfOk result
+        (λ added. app_of added ≡ with_rule (app_of command.entry) (list_rule name.entry.now)) }
+    ensures local { IfOk result
+        (λ added. (out-Command added).has_globals ≡ (out-Command command.entry).has_globals) }
+{
+    command.arg(list_option(alloc, name, about))
 }
 
 /// A flag, which has no value and may be left out.
