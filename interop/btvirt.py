@@ -24,7 +24,7 @@ from scapy.layers import bluetooth as scapy
 from scapy.packet import Raw
 
 from clients import compiled_socket
-from controller import ACL, ATT, COMMAND, EVENT, PAIRING_NOT_SUPPORTED, PAIRING_REQUEST, PATIENCE, SECURITY_MANAGER, Recording, free_port, joined
+from controller import ACL, ATT, COMMAND, EVENT, PAIRING_NOT_SUPPORTED, PAIRING_REQUEST, PATIENCE, SECURITY_MANAGER, Recording, free_port, joined, listening, told
 from part import Part
 from phones import OWNER, STRANGER
 from scapy_central import Central, discover, prepare, read, write
@@ -87,7 +87,7 @@ class Server:
 
     def __init__(self, program, table, recording):
         port = free_port()
-        words = [program, "serve", f"{ROOT}/{table}", f"{ROOT}/{KEYS}", f"127.0.0.1:{port}"]
+        words = listening(program, f"{ROOT}/{table}", f"{ROOT}/{KEYS}", port)
         self.serving = subprocess.Popen(words, stdin=subprocess.DEVNULL, stdout=subprocess.DEVNULL, stderr=subprocess.PIPE)
         self.recording = Recording(recording)
         self.lock = threading.Lock()
@@ -111,7 +111,7 @@ class Server:
         self.stream.shutdown(socket.SHUT_WR)
         errors = self.serving.communicate(timeout=PATIENCE)[1].decode()
         self.device.close()
-        return self.serving.returncode, errors
+        return self.serving.returncode, told(errors)
 
 
 class Host:

@@ -1,4 +1,4 @@
-"""What stands in for a kernel with an adapter, so that clients of BlueZ reach `gatt_shell serve`.
+"""What stands in for a kernel with an adapter, so that clients of BlueZ reach `gatt_shell serve` or `host`.
 
 Each phone has two Unix sockets of sequenced packets: NAME.att, where each packet is one PDU of the
 Attribute Protocol, and NAME.security, where a security level is asked for. bluetooth_socket.c joins

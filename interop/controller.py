@@ -1,4 +1,4 @@
-"""A controller for `gatt_shell serve`, with phones, and a recording of what passes.
+"""A controller for `gatt_shell serve` or `host`, with phones, and a recording of what passes.
 
 The host's side is the program; this side plays the HCI controller over H4 (Core Specification 5.0,
 Vol 2 Part E, 7, and Vol 4 Part A), and the radio behind it: each phone is a peer with an address,
@@ -6,9 +6,11 @@ and with a long-term key or none.
 """
 
 import queue
+import re
 import socket
 import struct
 import subprocess
+import sys
 import threading
 import time
 
@@ -145,12 +147,27 @@ def joined(port, serving):
     raise AssertionError("the program does not listen")
 
 
+def listening(program, table, keys, port, rows=None):
+    """Returns the words by which the command that a part tries listens for a controller."""
+    files, address = [table, keys], f"127.0.0.1:{port}"
+    more = ["--rows", rows] if rows else []
+    command = sys.argv[3] if len(sys.argv) > 3 else "serve"
+    if command == "host":
+        return [program, "host", *files, "--listen", address, "--once", *more]
+    return [program, "serve", *files, address, *more]
+
+
+def told(errors):
+    """Returns what a command tells of itself, without the log of `host`."""
+    return "".join(it for it in errors.splitlines(True) if not re.match(r"\d+\.\d{3} ", it))
+
+
 class Controller:
-    """Starts `gatt_shell serve`, and plays its controller."""
+    """Starts `gatt_shell serve` or `host`, and plays its controller."""
 
     def __init__(self, program, table, keys, recording=None, rows=None):
         port = free_port()
-        words = [program, "serve", table, keys, f"127.0.0.1:{port}"] + (["--rows", rows] if rows else [])
+        words = listening(program, table, keys, port, rows)
         self.serving = subprocess.Popen(words, stdin=subprocess.DEVNULL, stdout=subprocess.DEVNULL, stderr=subprocess.PIPE)
         self.play(joined(port, self.serving), recording)
 
@@ -173,7 +190,7 @@ class Controller:
         errors = self.serving.communicate(timeout=PATIENCE)[1].decode()
         self.reader.join(PATIENCE)
         self.stream.close()
-        return self.serving.returncode, errors
+        return self.serving.returncode, told(errors)
 
     # What goes to the host.
 

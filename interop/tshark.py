@@ -40,11 +40,11 @@ def decoded(path):
 def main():
     recordings = sys.argv[2]
     part = Part()
-    paths = sorted(glob.glob(f"{recordings}/*.btsnoop"))
+    paths = sorted(glob.glob(f"{recordings}/**/*.btsnoop", recursive=True))
     if not paths:
         part.skip("tshark", "there are no recordings: it judges those of the parts before")
     for path in paths:
-        name = os.path.basename(path)
+        name = os.path.relpath(path, recordings)
         frames = [(payload, is_from_phone) for _, is_from_phone, channel, payload in recorded_frames(path) if channel == ATT]
         rows = decoded(path)
         part.check(f"{name}: opcodes", [int(it[0], 16) for it in rows], [payload[0] for payload, _ in frames])

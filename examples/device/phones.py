@@ -1,0 +1,115 @@
+#!/usr/bin/env python3
+"""A controller with phones, for those who have neither: it plays a script against a device.
+
+usage: phones.py ADDRESS SCRIPT      where `gatt_shell host .. --listen ADDRESS` listens
+
+The script is one of `gatt_shell run`. Of its lines those of phones are played: `connect`, `drop`,
+`encrypt`, `clear`, and what a phone sends. What each phone hears is printed as `run` prints it. The
+other lines are an application's, and are passed over.
+"""
+
+import select
+import socket
+import sys
+
+# What a controller returns beside its status, by the command.
+RETURNED = {0x1005: bytes.fromhex("fb000008000000"), 0x2002: bytes.fromhex("fb0008")}
+DISCONNECT, KEY_REPLY, KEY_REFUSAL = 0x0406, 0x201A, 0x201B
+# Nothing more is waited for once nothing has come for so many seconds.
+QUIET = 0.3
+
+
+class Controller:
+    """Answers each command of the host, and prints what its phones hear."""
+
+    def __init__(self, address):
+        host, port = address.rsplit(":", 1)
+        self.stream = socket.create_connection((host.strip("[]"), int(port)))
+        self.octets, self.phones = b"", {}
+
+    def event(self, code, parameters):
+        self.stream.sendall(bytes([4, code, len(parameters)]) + parameters)
+
+    def take(self, packet):
+        spelled = packet[1:3]
+        if packet[0] == 2:
+            handle = int.from_bytes(spelled, "little") & 0xFFF
+            self.event(0x13, b"\1" + handle.to_bytes(2, "little") + b"\1\0")
+            print(f"{self.name(handle)} > {packet[9:].hex() or '-'}", flush=True)
+            return
+        opcode = int.from_bytes(spelled, "little")
+        if opcode == DISCONNECT:
+            self.event(0x0F, b"\0\1" + spelled)
+            self.event(0x05, b"\0" + packet[4:6] + b"\x16")
+            name = self.name(int.from_bytes(packet[4:6], "little"))
+            print(f"{name} ended {packet[6]:02x}", flush=True)
+            self.phones.pop(name, None)
+            return
+        handle = packet[4:6] if opcode in (KEY_REPLY, KEY_REFUSAL) else b""
+        self.event(0x0E, b"\1" + spelled + b"\0" + RETURNED.get(opcode, b"") + handle)
+        if opcode == KEY_REPLY:
+            self.event(0x08, b"\0" + handle + b"\1")
+
+    def until_quiet(self):
+        """Takes in what comes until nothing more does."""
+        while select.select([self.stream], [], [], QUIET)[0]:
+            more = self.stream.recv(4096)
+            if not more:
+                sys.exit("the device is gone")
+            self.octets += more
+            while packet := self.next_packet():
+                self.take(packet)
+
+    def next_packet(self):
+        is_data = self.octets[:1] == b"\2"
+        if len(self.octets) < (5 if is_data else 4):
+            return None
+        size = 5 + int.from_bytes(self.octets[3:5], "little") if is_data else 4 + self.octets[3]
+        if len(self.octets) < size:
+            return None
+        packet, self.octets = self.octets[:size], self.octets[size:]
+        return packet
+
+    def name(self, handle):
+        return next((name for name, it in self.phones.items() if it == handle), str(handle))
+
+    def play(self, words):
+        """Plays a line of a phone, and answers whether it is one."""
+        match words:
+            case ["connect", name, kind, address]:
+                handle = self.phones[name] = next(it for it in range(64, 128) if it not in self.phones.values())
+                peer = bytes([int(kind)]) + bytes.fromhex(address.replace(":", ""))[::-1]
+                self.event(0x3E, b"\1\0" + handle.to_bytes(2, "little") + b"\1" + peer + b"\x18\0\0\0\x48\0\0")
+            case ["drop", name]:
+                self.event(0x05, b"\0" + self.phones.pop(name).to_bytes(2, "little") + b"\x13")
+            case ["encrypt", name, random_number, diversifier]:
+                asked = bytes.fromhex(random_number) + int(diversifier).to_bytes(2, "little")
+                self.event(0x3E, b"\5" + self.phones[name].to_bytes(2, "little") + asked)
+            case ["clear", name]:
+                self.event(0x08, b"\0" + self.phones[name].to_bytes(2, "little") + b"\0")
+            case [name, "<", pdu]:
+                pdu = bytes.fromhex(pdu.strip("-"))
+                frame = len(pdu).to_bytes(2, "little") + b"\4\0" + pdu
+                head = (0x2000 | self.phones[name]).to_bytes(2, "little") + len(frame).to_bytes(2, "little")
+                self.stream.sendall(b"\2" + head + frame)
+            case _:
+                return False
+        return True
+
+
+def main():
+    controller = Controller(sys.argv[1])
+    controller.until_quiet()
+    with open(sys.argv[2], encoding="utf-8") as script:
+        for line in script:
+            words = line.split()
+            if not words or line.startswith("#"):
+                continue
+            print(f"  {line.rstrip()}", flush=True)
+            if not controller.play(words):
+                print("  (an application's line, passed over)", flush=True)
+            controller.until_quiet()
+
+
+if __name__ == "__main__":
+    main()
