@@ -328,6 +328,28 @@ def a_lock(folder):
     controller.close()
 
 
+def a_visit(folder):
+    """The example of a controller plays a phone's visit, by a script of `run`."""
+    path, script = f"{folder}/visit.socket", f"{ROOT}/examples/bonded.script"
+    device = Device(*DOOR, "--listen", "127.0.0.1:0", "--application", path)
+    address = "{}:{}".format(*device.port())
+    application = Application(path)
+    visit = subprocess.run(
+        [f"{ROOT}/examples/device/phones.py", address, script],
+        stdout=subprocess.PIPE, stdin=subprocess.DEVNULL, text=True, timeout=2 * PATIENCE,
+    )
+    # What `run` prints of it, but for the code: that wants the leave of an application, and none gives it.
+    heard = ["Q > 01120a000f", "Q > 13", "Q > 0b01", "Q > 010a0d0008", "Q > 010a0d0008", "Q ended 05"]
+    check("what the phone hears", heard, [it for it in visit.stdout.splitlines() if it.startswith("Q ")])
+    said = [it for it in text_of(script).splitlines() if not it.startswith("#")]
+    shown = [it.strip() for it in visit.stdout.splitlines() if it.startswith("  ") and "(" not in it]
+    check("what it does", said, shown)
+    lines = application.lines(6)
+    check("the application hears", ["+ waiting", "+ serving", "+ connected 64 0 00:11:22:33:44:55"], lines[:3])
+    check("of the phone", ["+ secured 64 16 1 0", "+ written 64 10 01", "+ unsecured 64"], lines[3:])
+    device.end()
+
+
 def once(folder):
     """It ends with its first controller."""
     device = Device(*DOOR, "--listen", "127.0.0.1:0", "--once")
@@ -518,7 +540,7 @@ def main():
     with tempfile.TemporaryDirectory() as folder:
         later = a_bell(folder)
         plays = (
-            a_day, a_stranger, a_listener, a_serial_line, a_lock, once, words, unknown, values, slots, a_full_disk,
+            a_day, a_stranger, a_listener, a_serial_line, a_lock, a_visit, once, words, unknown, values, slots, a_full_disk,
             floods, idle,
         )
         for play in plays:

@@ -250,7 +250,6 @@ class Application:
         self.stream.close()
 
 
-<<<<<<< HEAD
 def captured(path):
     """The records of a capture in the form of btsnoop: of each its flags, its time in microseconds since
     1970, and its packet. None where it is none."""
@@ -273,13 +272,13 @@ def is_one_packet(packet):
     """Whether octets are one packet of H4, all of it."""
     at, size = {1: (3, 1), 2: (3, 2), 3: (3, 1), 4: (2, 1)}.get(packet[0], (0, 0))
     return size > 0 and len(packet) == at + size + int.from_bytes(packet[at : at + size], "little")
-=======
+
+
 def stream_to(device):
     """A connection to a device, by which small packets go at once."""
     stream = socket.create_connection(device.port(), PATIENCE)
     stream.setsockopt(socket.IPPROTO_TCP, socket.TCP_NODELAY, 1)
     return stream
->>>>>>> 1184bb6 (Let other software talk with the command host, and give a device garbage and floods)
 
 
 def controller_at(device):
