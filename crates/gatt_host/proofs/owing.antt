@@ -3,3 +3,4 @@ pub mod Firsts
 pub mod Nexts
 pub mod Untold
 pub mod Answering
+pub mod Lacking

@@ -5,7 +5,7 @@ ghost use Rattle.std.specs.Prelude.{◌≡◌, ◌≢◌, ◌<◌, length, List,
 ghost use Rattle.std.specs.Bool.{OnTrue, OnFalse};
 ghost use Rattle.std.specs.List.{list_any, position};
 ghost use Rattle.std.specs.Option.{option_map};
-ghost use Rattle.gatt_laws.specs.machine.Controller.{controller_after};
+ghost use Rattle.gatt_laws.specs.machine.Controller.{controller_after, is_ready};
 ghost use Rattle.gatt_laws.specs.machine.State.{State, command_octets};
 ghost use Rattle.gatt_slots.specs.Commands.{command_due, gives, has_command, without_command, without_packet};
 ghost use Rattle.gatt_slots.specs.Slots.{kept_at, slots_at};
@@ -282,6 +282,19 @@ fn none_waits(controller: &Controller, slots: &Slots) -> bool
         return false;
     }
     !slots.gives()
+}
+
+/// Something may be to go out to a controller that is initialised: where it is not so, nothing is. It
+/// looks at no slot.
+#[inline(always)]
+pub(crate) fn may_owe(controller: &Controller, slots: &Slots) -> bool
+    requires { is_ready controller.now ≡ true }
+    ensures { OnFalse result (is_drained controller.now slots.now ≡ true) }
+{
+    if slots.may_have_command() || slots.may_give() {
+        return true;
+    }
+    controller.is_to_advertise(slots.may_have_room())
 }
 
 /// Writes what goes out before the controller is initialised, where no slot has a connection: the

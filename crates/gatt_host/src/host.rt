@@ -1,7 +1,7 @@
 //! The host as its caller has it: what it holds, the stream from the controller, and the fault that
 //! stands, if one does.
 
-ghost use Rattle.std.specs.Prelude.{◌≡◌, ◌<◌, ◌≤◌, ◌∷◌, [], length, not, false, true, is_some, slice_get, ◌||◌, List, Some, None, Ok, Err, IsSome, IfOk, IfErr, IfSome, OnErr};
+ghost use Rattle.std.specs.Prelude.{◌≡◌, ◌<◌, ◌≤◌, ◌∷◌, [], length, not, false, true, is_some, slice_get, ◌||◌, List, Some, None, Ok, Err, IsSome, IfOk, IfErr, IfSome, OnErr, take};
 ghost use Rattle.std.specs.Bool.{OnTrue, OnFalse};
 ghost use Rattle.std.specs.Option.{option_map};
 ghost use Rattle.std.specs.Result.{result_err};
@@ -82,6 +82,15 @@ impl Host {
         is_out(&self.state, self.fault)
     }
 
+    /// Whether something may be to go to the controller now: where it is not so, all is out. This looks
+    /// at no connection, and so may say so where nothing is.
+    #[inline(always)]
+    pub fn may_owe(&self) -> bool
+        ensures { OnFalse result (all_out self.now ≡ true) }
+    {
+        self.state.may_owe()
+    }
+
     /// Puts the next packet that is to go to the controller in place of what `out` holds, and takes in
     /// that it is out; or answers false where all is out.
     pub fn next_out(&mut self, out: &mut ArrayVec<u8, 260>) -> bool
@@ -97,6 +106,27 @@ impl Host {
             return false;
         }
         copy_next(&mut self.state, &mut self.packet, out)
+    }
+
+    /// Puts the next packet that is to go to the controller at the front of `out`, and takes in that it is
+    /// out: says how many octets it has. None where all is out.
+    #[inline(always)]
+    pub fn next_into(&mut self, out: &mut [u8]) -> Option<usize>
+        requires room { 260 ≤ length out.old }
+        ensures goes { is_some result ≡ not (all_out self.old) }
+        ensures leads { IfSome result
+            (λ count. Leads [] (take count out.new ∷ []) self.old self.new) }
+        ensures within { IfSome result (λ count. count ≤ length out.old) }
+        // Calls without anything else between them come to an end.
+        ensures fewer { IsSome result → most_out self.new.held < most_out self.old.held }
+        ensures no_fault { IsSome result → self.new.fault ≡ None }
+        ensures unchanged { result ≡ None → self.new ≡ self.old }
+        ensures out_unchanged { result ≡ None → out.new ≡ out.old }
+    {
+        if self.fault.is_some() {
+            return None;
+        }
+        next_into(&mut self.state, &mut self.packet, out)
     }
 
     /// Takes in one whole packet from the controller, once all is out. An ACL packet with more than
@@ -324,6 +354,35 @@ fn copy_next(state: &mut HostState, packet: &mut PacketBuf, out: &mut ArrayVec<u
     }
     overwrite(out, packet.as_slice(), &[], &[]);
     true
+}
+
+/// Puts the next packet that is to go out at the front of `out`, by way of `packet`, and takes in that it
+/// is out. Says how many octets it has.
+#[inline(always)]
+fn next_into(state: &mut HostState, packet: &mut PacketBuf, out: &mut [u8]) -> Option<usize>
+    requires room { 260 ≤ length out.old }
+    ensures goes { is_some result ≡ is_some (next_of state.old) }
+    ensures octets { IfSome result (λ count. next_of state.old ≡ Some (take count out.new)) }
+    ensures within { IfSome result (λ count. count ≤ length out.old) }
+    ensures after { state.new ≡ after_out state.old }
+    ensures unchanged { result ≡ None → state.new ≡ state.old }
+    ensures out_unchanged { result ≡ None → out.new ≡ out.old }
+{
+    if !state.next_out(packet) {
+        return None;
+    }
+    Some(copy(packet.as_slice(), out))
+}
+
+/// Copies octets to the front of `out`, and says how many they are.
+#[inline(always)]
+fn copy(octets: &[u8], out: &mut [u8]) -> usize
+    requires { length octets.now ≤ length out.old }
+    ensures copied { take result out.new ≡ octets.now }
+    ensures count { result ≡ length octets.now }
+{
+    out[..octets.len()].copy_from_slice(octets);
+    octets.len()
 }
 
 /// Whether it is an ACL packet with more data than the largest that is kept.

@@ -12,7 +12,7 @@ ghost use Rattle.le_hci.specs.Event.{completed_packets_of};
 ghost use Rattle.le_security.specs.Link.{Encryption, Refresh};
 
 use crate::controller::Controller;
-use crate::going_out::{init_out, is_drained, is_init_drained, next_out};
+use crate::going_out::{init_out, is_drained, is_init_drained, may_owe, next_out};
 use crate::last_event::LastEvent;
 use arrayvec::ArrayVec;
 use att_policy::KeyFacts;
@@ -331,10 +331,26 @@ impl HostState {
         init_out(&mut self.controller, out)
     }
 
+    /// Whether something may be to go out: where it is not so, nothing is.
+    #[inline(always)]
+    pub(crate) fn may_owe(&self) -> bool
+        ensures { OnFalse result
+            (is_drained self.now.controller (open_slots self.now) ≡ true) }
+    {
+        if !self.controller.is_ready() {
+            return true;
+        }
+        may_owe(&self.controller, &self.slots)
+    }
+
     /// Whether nothing is to go out.
     pub(crate) fn is_drained(&self) -> bool
         ensures { result ≡ is_drained self.now.controller (open_slots self.now) }
     {
+        // Most often the marks tell it.
+        if !self.may_owe() {
+            return true;
+        }
         if self.controller.is_ready() {
             is_drained(&self.controller, &self.slots)
         } else {

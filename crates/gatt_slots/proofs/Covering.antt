@@ -1,10 +1,11 @@
 -- What a set of places covers, as slots change and as places leave it.
 use Rattle.std.proofs.Common.{◌≡◌, ◌≢◌, ℕ, zero, suc, ◌+◌, ◌<◌, ◌≤◌, Bool, true, false, ◌||◌, List, [], ◌∷◌, length, set, get_or, Option, Some, None, refl, sym, ap, subst, ◌∙◌, arith}
-use Rattle.std.specs.Prelude.{is_none, if◌then◌else◌}
+use Rattle.std.specs.Prelude.{is_none, if◌then◌else◌, not}
+use Rattle.std.specs.Bool.{OnFalse, OnTrue}
 use Rattle.std.specs.Int.{bit_at}
 use Rattle.std.specs.List.{list_any, position}
 use Rattle.std.specs.Option.{option_map_or}
-use Rattle.std.proofs.lemmas.Bool.{cases_eq, cases_lt}
+use Rattle.std.proofs.lemmas.Bool.{cases_eq, cases_lt, OnFalse_from, OnTrue_at}
 use Rattle.std.proofs.lemmas.List.{get_or-set_same, get_or-set_other, length-set}
 use Rattle.std.proofs.lemmas.Nat.Bits.{bit_at-zero, bit_at_ones}
 use Rattle.std.proofs.lemmas.Option.{slice_get-get_or}
@@ -196,6 +197,20 @@ idle_outside due places slots place covers outside = by (is_due due (kept_at slo
     by : (so : Bool) → is_due due (kept_at slots place) ≡ so → is_due due (kept_at slots place) ≡ false
     by false is = is
     by true is = absurd (omega (arith, covers place is, outside))
+
+-- where no place is in the set, nothing is due at any slot
+none-any : (due : Due) (slots : Held) → ((place : ℕ) → is_due due (kept_at slots place) ≡ false) → list_any (is_due due) slots ≡ false
+none-any due [] idle = refl
+none-any due (slot ∷ slots) idle = λ i. idle zero i || none-any due slots (λ place. idle (suc place)) i
+
+turned : (is : Bool) → not is ≡ false → is ≡ true
+turned true e = refl
+turned false e = cc e
+
+pub none_marked : (due : Due) (places : ℕ) (slots : Held) (empty : Bool) → Covers due places slots → OnTrue empty (places ≡ 0)
+    → OnFalse (not empty) (list_any (is_due due) slots ≡ false)
+none_marked due places slots empty covers is = OnFalse_from _ _ (λ lacks. none-any due slots (λ place.
+    idle_outside due places slots place covers (ap (λ (it : ℕ). bit_at it place) (OnTrue_at (turned empty lacks) is) ∙ bit_at-zero place)))
 
 -- what is read at a place
 pub read_at : (slots : Held) (place : ℕ) (slot : Option Kept) → place < length slots → slot ≡ get_or slots place slot → kept_at slots place ≡ slot

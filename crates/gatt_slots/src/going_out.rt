@@ -100,6 +100,22 @@ impl Slots {
         self.marks.free
     }
 
+    /// A command may be due for the connection of a slot: where it is not so, none is.
+    #[inline(always)]
+    pub fn may_have_command(&self) -> bool
+        ensures { OnFalse result (list_any has_command self.now ≡ false) }
+    {
+        !self.marks.commands.is_empty()
+    }
+
+    /// A slot may give a packet: where it is not so, none does.
+    #[inline(always)]
+    pub fn may_give(&self) -> bool
+        ensures { OnFalse result (list_any gives self.now ≡ false) }
+    {
+        !self.marks.packets.is_empty()
+    }
+
     /// The first slot for which a command is due.
     #[inline(always)]
     pub fn first_with_command(&mut self) -> Option<usize>

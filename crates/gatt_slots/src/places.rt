@@ -1,6 +1,7 @@
 //! Sets of places among slots: where something may be due, so that no other slot is looked at.
 
 ghost use Rattle.std.specs.Prelude.{◌≡◌, ◌≢◌, ℕ, ◌<◌, ◌≤◌, length, None, IfSome};
+ghost use Rattle.std.specs.Bool.{OnTrue};
 ghost use Rattle.std.specs.Int.{bit_at};
 ghost use Rattle.std.specs.List.{position};
 ghost use Rattle.gatt_slots.specs.Places.{is_due, Covers, IsFirstPlace};
@@ -29,6 +30,14 @@ impl Places {
 
     /// Every place.
     pub(crate) const ALL: Places = Places { bits: 0xFF };
+
+    /// No place is in the set.
+    #[inline(always)]
+    pub(crate) fn is_empty(self) -> bool
+        ensures { OnTrue result (self.bits ≡ 0) }
+    {
+        self.bits == 0
+    }
 
     /// Puts a place into the set.
     #[inline(always)]

@@ -1,6 +1,6 @@
 -- Where something goes out, less may go out before more comes from the controller.
-use Rattle.std.proofs.Common.{◌≡◌, ℕ, ◌+◌, ◌<◌, Bool, true, false, List, [], ◌∷◌, Option, Some, None, refl, sym, ap, subst, ◌∙◌, arith}
-use Rattle.std.specs.Prelude.{◌&&◌, ◌==◌, not, nat_lt, is_some, length, if◌then◌else◌}
+use Rattle.std.proofs.Common.{◌≡◌, ℕ, ◌+◌, ◌<◌, Bool, true, false, IfSome, IsSome, List, [], ◌∷◌, Option, Some, None, refl, sym, ap, subst, ◌∙◌, arith}
+use Rattle.std.specs.Prelude.{◌&&◌, ◌==◌, not, nat_lt, is_some, length, take, if◌then◌else◌}
 use Rattle.std.specs.Option.{option_and_then, option_map, option_map_or, option_or}
 use Rattle.std.proofs.lemmas.Bool.{ltb-true}
 use Rattle.gatt_host.proofs.owing.Nexts.{clash}
@@ -109,3 +109,9 @@ fewer_out held octets is =
     open-then held.controller held.slots (is_ready held.controller) (is_ready (controller_then held.controller (open_slots held))) (ready_then held.controller (open_slots held)) in
     let credit : ℕ = (controller_then held.controller (open_slots held)).credit in
     subst (λ (slots : List (Option Kept)). credit + all_packets_out slots < most_out held) (sym then_open) (fewer-then held.controller (open_slots held) octets is)
+
+-- the same of a packet at the front of a buffer, by its length
+pub fewer_into : (held : Held) (count : Option ℕ) (out : Octets) → IfSome count (λ count. next_of held ≡ Some (take count out)) → IsSome count
+    → most_out (after_out held) < most_out held
+fewer_into held (Some count) out next some = fewer_out held (take count out) next
+fewer_into held None out next some = absurd (clash some)

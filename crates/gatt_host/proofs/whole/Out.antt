@@ -1,6 +1,6 @@
 -- What goes out of a host is the first of what it owes.
-use Rattle.std.proofs.Common.{◌≡◌, Bool, true, false, suc, List, [], ◌∷◌, ◌++◌, length, Option, Some, None, refl, sym, ap, subst, ◌∙◌, append_assoc, append-nil}
-use Rattle.std.specs.Prelude.{if◌then◌else◌, is_none, is_some, not, ◌||◌}
+use Rattle.std.proofs.Common.{◌≡◌, ℕ, Bool, true, false, suc, IfSome, List, [], ◌∷◌, ◌++◌, length, Option, Some, None, refl, sym, ap, subst, ◌∙◌, append_assoc, append-nil}
+use Rattle.std.specs.Prelude.{if◌then◌else◌, is_none, is_some, not, take, ◌||◌}
 use Rattle.std.specs.Bool.{OnFalse, OnTrue}
 use Rattle.std.specs.Option.{option_map}
 use Rattle.gatt_host.proofs.owing.Owing.{is_drained_where_nothing_goes_out, rest_is_owed}
@@ -144,3 +144,19 @@ reached_out old new true octets reached next is_after stays frames stream fault 
     reached_by [] (octets ∷ []) old new reached (goes_out old new octets next is_after frames stream fault)
 reached_out old new false octets reached next is_after stays frames stream fault =
     subst IsReached (λ i. record { held = sym stays i; frames = sym frames i; stream = sym stream i; fault = sym fault i }) reached
+
+-- the same of a packet at the front of a buffer, by its length
+abbrev pub Fronts : Whole → Option ℕ → Octets → Type 0
+Fronts old count out = IfSome count (λ count. next_of old.held ≡ Some (take count out))
+
+pub reached_into : (old new : Whole) (count : Option ℕ) (out : Octets) → IsReached old → Fronts old count out → new.held ≡ after_out old.held
+    → (count ≡ None → new.held ≡ old.held) → new.frames ≡ old.frames → new.stream ≡ old.stream → new.fault ≡ old.fault → IsReached new
+reached_into old new (Some count) out reached next is_after stays frames stream fault =
+    reached_out old new true (take count out) reached next is_after tt frames stream fault
+reached_into old new None out reached next is_after stays frames stream fault =
+    reached_out old new false [] reached tt is_after (stays refl) frames stream fault
+
+pub goes_into : (old new : Whole) (count : Option ℕ) (out : Octets) → Fronts old count out → new.held ≡ after_out old.held
+    → new.frames ≡ old.frames → new.stream ≡ old.stream → new.fault ≡ old.fault → IfSome count (λ count. Leads [] (take count out ∷ []) old new)
+goes_into old new (Some count) out next is_after frames stream fault = goes_out old new (take count out) next is_after frames stream fault
+goes_into old new None out next is_after frames stream fault = tt
