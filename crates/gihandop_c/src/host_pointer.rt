@@ -65,11 +65,12 @@ impl HostPointer {
         Some(parts.into_box())
     }
 
-    /// Puts a host in place of what is there.
-    pub(crate) fn put(&mut self, alloc: Global, host: Box<Opened, Global>)
+    /// Puts a host where none is.
+    #[inline(always)]
+    pub(crate) fn put(&mut self, host: Box<Opened, Global>)
+        requires { self.old.host ≡ None }
         ensures { self.new.host ≡ Some host.value }
     {
-        drop(self.take(alloc));
         let none = mem::replace(self, HostPointer::of(BoxParts::of(host)));
         let HostPointer { at: _ } = none;
     }

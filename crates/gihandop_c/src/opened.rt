@@ -3,7 +3,6 @@
 ghost use Rattle.std.specs.Prelude.{◌≡◌, ◌||◌, not, true};
 ghost use Rattle.gatt_host.specs.Whole.{all_out};
 
-use arrayvec::ArrayVec;
 use gatt_host::Host;
 
 /// What lies behind the pointer that a program in C keeps.
@@ -14,8 +13,6 @@ pub struct Opened {
     pub(crate) told: usize,
     /// The host was asked for a packet, and owes none.
     pub(crate) drained: bool,
-    /// Room for a packet on its way out: what it holds between two calls means nothing.
-    pub(crate) packet: ArrayVec<u8, 260>,
     pub ghost out: { (not drained || all_out host) ≡ true },
 }
 
@@ -28,7 +25,6 @@ impl Opened {
             host,
             told: 0,
             drained: false,
-            packet: ArrayVec::new(),
         }
     }
 

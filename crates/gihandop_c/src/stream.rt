@@ -1,6 +1,6 @@
 //! The stream from the controller, and the packets that go back.
 
-ghost use Rattle.std.specs.Prelude.{◌≡◌, ◌≢◌, ◌<◌, ◌≤◌, ◌∷◌, [], length, take, if◌then◌else◌};
+ghost use Rattle.std.specs.Prelude.{◌≡◌, ◌≢◌, ◌<◌, ◌≤◌, ◌∷◌, [], length, take, true, if◌then◌else◌};
 ghost use Rattle.gatt_host.specs.Feeding.{octet_items, TakesUpToAPacket};
 ghost use Rattle.gatt_host.specs.Whole.{all_out};
 ghost use Rattle.gihandop_c.specs.Boundary.{LeadsOn, StaysIfStopped, TellsItems};
@@ -29,8 +29,8 @@ pub(crate) fn take(opened: &mut Opened, octets: &[u8], used: &mut usize) -> u32
     ensures owed { result ≡ OUTPUT_OWED → opened.new ≡ opened.old }
     ensures stopped { StaysIfStopped opened.old opened.new }
 {
-    *used = 0;
-    if !opened.is_drained() {
+    if !opened.drained && !opened.host.drained() {
+        *used = 0;
         return status::OUTPUT_OWED;
     }
     opened.drained = false;
@@ -47,7 +47,22 @@ pub(crate) fn take(opened: &mut Opened, octets: &[u8], used: &mut usize) -> u32
     }
 }
 
+/// Takes in that nothing is owed.
+#[inline(always)]
+pub(crate) fn nothing(opened: &mut Opened, count: &mut usize) -> u32
+    requires { all_out opened.old.host ≡ true }
+    ensures status { result ≡ NOTHING }
+    ensures count { count.new ≡ 0 }
+    ensures unchanged { opened.new.host ≡ opened.old.host }
+    ensures told { opened.new.told ≡ opened.old.told }
+{
+    *count = 0;
+    opened.drained = true;
+    status::NOTHING
+}
+
 /// Puts the next packet that is to go out at the front of `out`, and its length into `count`.
+#[inline(always)]
 pub(crate) fn next_out(opened: &mut Opened, out: &mut [u8], count: &mut usize) -> u32
     ensures status { result ≡ out_status (length out.old) opened.old }
     ensures goes { result ≡ DONE → LeadsOn [] (take count.new out.new ∷ []) opened.old opened.new }
@@ -58,16 +73,17 @@ pub(crate) fn next_out(opened: &mut Opened, out: &mut [u8], count: &mut usize) -
     ensures told { opened.new.told ≡ opened.old.told }
     ensures untouched { result ≢ DONE → out.new ≡ out.old }
 {
-    *count = 0;
     if out.len() < LONGEST_PACKET {
         return too_short(opened, count);
     }
-    if !opened.host.next_out(&mut opened.packet) {
-        opened.drained = true;
-        return status::NOTHING;
+    match opened.host.next_into(out) {
+        Some(length) => {
+            opened.drained = false;
+            *count = length;
+            status::DONE
+        }
+        None => nothing(opened, count),
     }
-    opened.drained = false;
-    copy(opened.packet.as_slice(), out, count)
 }
 
 /// Says how long a buffer has to be, where a packet is owed.
@@ -75,9 +91,10 @@ pub(crate) fn next_out(opened: &mut Opened, out: &mut [u8], count: &mut usize) -
 fn too_short(opened: &Opened, count: &mut usize) -> u32
     ensures status { result ≡ (if all_out opened.now.host then NOTHING else SHORT_BUFFER) }
     ensures needs { result ≡ SHORT_BUFFER → count.new ≡ 260 }
-    ensures none { result ≡ NOTHING → count.new ≡ count.old }
+    ensures none { result ≡ NOTHING → count.new ≡ 0 }
 {
     if opened.is_drained() {
+        *count = 0;
         return status::NOTHING;
     }
     *count = LONGEST_PACKET;

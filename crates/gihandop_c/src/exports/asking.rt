@@ -38,7 +38,7 @@ fn ask(alloc: Global, host: &mut HostPointer, call: App<'_>) -> u32
         return status::CLOSED;
     };
     let answer = asking::call(&mut open, call);
-    host.put(alloc, open);
+    host.put(open);
     answer
 }
 
@@ -158,6 +158,6 @@ pub extern "C" fn gh_replace(alloc: Global, host: &mut HostPointer, table: &[u8]
         return status::CLOSED;
     };
     let answer = asking::replace_by(alloc, &mut open, table);
-    host.put(alloc, open);
+    host.put(open);
     answer
 }

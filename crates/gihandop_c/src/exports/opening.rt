@@ -29,7 +29,7 @@ pub extern "C" fn gh_open(
     ensures unchanged { result ≢ DONE → host.new.host ≡ host.old.host }
 {
     if let Some(open) = host.take(alloc) {
-        host.put(alloc, open);
+        host.put(open);
         return status::ALREADY_OPEN;
     }
     let opened = match opening::open(alloc, table, keys, rows, config) {
@@ -39,7 +39,7 @@ pub extern "C" fn gh_open(
     let Ok(boxed) = Box::new(alloc, opened) else {
         return status::OUT_OF_MEMORY;
     };
-    host.put(alloc, boxed);
+    host.put(boxed);
     status::DONE
 }
 

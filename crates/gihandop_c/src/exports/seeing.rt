@@ -38,7 +38,7 @@ pub extern "C" fn gh_value(
         return status::CLOSED;
     };
     let answer = reading::value(&open, handle, out, count);
-    host.put(alloc, open);
+    host.put(open);
     answer
 }
 
@@ -62,7 +62,7 @@ pub extern "C" fn gh_find(
         return status::CLOSED;
     };
     let answer = reading::find(&open, service, characteristic, handle);
-    host.put(alloc, open);
+    host.put(open);
     answer
 }
 
@@ -85,7 +85,7 @@ pub extern "C" fn gh_connection(
         return status::CLOSED;
     };
     let answer = connections::connection(&open, place, connection);
-    host.put(alloc, open);
+    host.put(open);
     answer
 }
 
@@ -103,7 +103,7 @@ pub extern "C" fn gh_deadline(alloc: Global, host: &mut HostPointer, time: &mut 
         return status::CLOSED;
     };
     let answer = reading::deadline(&open, time);
-    host.put(alloc, open);
+    host.put(open);
     answer
 }
 
@@ -133,7 +133,7 @@ pub extern "C" fn gh_rows_text(
         return status::CLOSED;
     };
     let answer = reading::rows_text(alloc, &open, out, count);
-    host.put(alloc, open);
+    host.put(open);
     answer
 }
 

@@ -1,6 +1,6 @@
 //! Octets of the controller go in, and what they bring comes out.
 
-ghost use Rattle.std.specs.Prelude.{◌≡◌, ◌≢◌, ◌<◌, ◌≤◌, ◌∷◌, [], length, take, IfSome, None};
+ghost use Rattle.std.specs.Prelude.{◌≡◌, ◌≢◌, ◌<◌, ◌≤◌, ◌∷◌, [], length, take, IfSome, Some, None};
 ghost use Rattle.gatt_host.specs.Feeding.{octet_items, TakesUpToAPacket};
 ghost use Rattle.gihandop_c.specs.Boundary.{HostLeads, HostStays, HostStaysIfStopped, HostTellsItems, OfTheHost};
 ghost use Rattle.gihandop_c.specs.Statuses.{if_open, notice_status, out_status, take_status};
@@ -9,6 +9,7 @@ ghost use Rattle.gihandop_c.specs.declared.status.TheConstants.{CLOSED, DONE, OU
 
 use crate::host_pointer::HostPointer;
 use crate::notices::NoticeFields;
+use crate::opened::Opened;
 use crate::{notices, status, stream};
 use std::alloc::Global;
 
@@ -39,12 +40,12 @@ pub extern "C" fn gh_take(
     ensures owed { result ≡ OUTPUT_OWED → host.new.host ≡ host.old.host }
     ensures stopped { HostStaysIfStopped host.old.host host.new.host }
 {
-    *used = 0;
     let Some(mut open) = host.take(alloc) else {
+        *used = 0;
         return status::CLOSED;
     };
     let answer = stream::take(&mut open, octets, used);
-    host.put(alloc, open);
+    host.put(open);
     answer
 }
 
@@ -67,12 +68,40 @@ pub extern "C" fn gh_next_out(
     ensures unchanged { result ≢ DONE → HostStays host.old.host host.new.host }
     ensures untouched { result ≢ DONE → out.new ≡ out.old }
 {
-    *count = 0;
     let Some(mut open) = host.take(alloc) else {
+        *count = 0;
         return status::CLOSED;
     };
+    if !open.host.may_owe() {
+        let answer = stream::nothing(&mut open, count);
+        host.put(open);
+        return answer;
+    }
+    give(host, out, count, open)
+}
+
+/// Puts the next packet that is to go to the controller at the front of `out`, of the host in a box,
+/// and puts the box back. It stands apart, so that a call that finds nothing owed saves no register.
+#[inline(never)]
+fn give(
+    host: &mut HostPointer,
+    out: &mut [u8],
+    count: &mut usize,
+    boxed: Box<Opened, Global>,
+) -> u32
+    requires taken { host.old.host ≡ None }
+    ensures status { result ≡ out_status (length out.old) boxed.value }
+    ensures goes { result ≡ DONE → HostLeads [] (take count.new out.new ∷ [])
+        (Some boxed.value) host.new.host }
+    ensures within { result ≡ DONE → count.new ≤ length out.old }
+    ensures needs { result ≡ SHORT_BUFFER → count.new ≡ 260 }
+    ensures none { result ≢ DONE → result ≢ SHORT_BUFFER → count.new ≡ 0 }
+    ensures unchanged { result ≢ DONE → HostStays (Some boxed.value) host.new.host }
+    ensures untouched { result ≢ DONE → out.new ≡ out.old }
+{
+    let mut open = boxed;
     let answer = stream::next_out(&mut open, out, count);
-    host.put(alloc, open);
+    host.put(open);
     answer
 }
 
@@ -93,6 +122,6 @@ pub extern "C" fn gh_next_notice(
         return status::CLOSED;
     };
     let answer = notices::next(&mut open, notice);
-    host.put(alloc, open);
+    host.put(open);
     answer
 }
