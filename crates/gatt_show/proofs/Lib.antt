@@ -1,0 +1,4 @@
+pub mod Blanks
+pub mod Lines
+pub mod Naming
+pub mod Uuids

@@ -1,0 +1,61 @@
+-- Who may use the attributes of a table, in words: this profile's own.
+use Rattle.std.specs.Prelude.{ℕ, ◌++◌, Bool, true, false, is_none, is_some, if◌then◌else◌, List, [], ◌∷◌, codes, Option, Some}
+use Rattle.std.specs.Fmt.{decimal}
+use Rattle.std.specs.List.{flat_map}
+use Rattle.octets.specs.Number.{Octets}
+use Rattle.att_policy.specs.declared.guard.Guard.{Guard}
+use Rattle.att_policy.specs.declared.policy.Access.TheVariants.{Read, Write, Command}
+use Rattle.att_policy.specs.declared.standing.KeyFacts.{KeyFacts}
+use Rattle.att_policy.specs.declared.standing.Standing.{Standing}
+use Rattle.att_policy.specs.Policy.{first_broken_of, may_hear_of}
+use Rattle.att_attributes.specs.declared.attr.Attr.{Attr}
+use Rattle.att_attributes.specs.declared.attr.Role.{Role}
+use Rattle.att_attributes.specs.declared.attr.Role.TheVariants.{Declaration}
+use Rattle.att_table.specs.Table.{Contents}
+use Rattle.gatt_show.specs.declared.access.Way.{Way}
+use Rattle.gatt_show.specs.declared.access.Way.TheVariants.{Reading, Writing, Commanding, Hearing}
+
+-- the standing of a connection whose link has such a key, or none, and that is authorized or not
+abbrev pub standing_of : Option KeyFacts → Bool → Standing
+standing_of key is_authorized = record { key = key; key_known = is_some key; until = if is_authorized then 1 else 0; now = 0 }
+
+-- whether a connection may use an attribute in a way: a client hears of a value for which it has configured all bits
+abbrev pub permits : Way → Guard → Standing → Bool
+permits Reading guard standing = is_none (first_broken_of Read (Some guard) standing)
+permits Writing guard standing = is_none (first_broken_of Write (Some guard) standing)
+permits Commanding guard standing = is_none (first_broken_of Command (Some guard) standing)
+permits Hearing guard standing = may_hear_of guard 3 standing
+
+-- what anybody may read is not told: declarations
+abbrev pub is_told : Role → Bool
+is_told Declaration = false
+is_told _ = true
+
+-- the handle of an attribute that may be used, with the need that may be left
+abbrev pub left_need : Bool → Octets
+left_need true = []
+left_need false = codes "(authorized)"
+
+abbrev pub handle_text : Way → Option KeyFacts → Attr → Octets
+handle_text way key attr =
+    if is_told attr.role
+    then (if permits way attr.guard (standing_of key true)
+    then 32 ∷ decimal attr.handle ++ left_need (permits way attr.guard (standing_of key false))
+    else [])
+    else []
+
+abbrev pub way_word : Way → Octets
+way_word Reading = codes "  read:"
+way_word Writing = codes "  write:"
+way_word Commanding = codes "  command:"
+way_word Hearing = codes "  hear of:"
+
+-- a line for each way: the handles of the attributes that may be used so
+unfoldable pub way_line : List Attr → Option KeyFacts → Way → Octets
+way_line attributes key way = way_word way ++ flat_map (handle_text way key) attributes ++ 10 ∷ []
+
+-- a line that names who it is, and those lines
+unfoldable pub holder_lines : Contents → Octets → Option KeyFacts → Octets
+holder_lines table name key =
+    name ++ 10 ∷ way_line table.attributes key Reading ++ way_line table.attributes key Writing
+    ++ way_line table.attributes key Commanding ++ way_line table.attributes key Hearing

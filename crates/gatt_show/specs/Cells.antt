@@ -1,0 +1,13 @@
+-- Cells of a line: this profile's own.
+use Rattle.std.specs.Prelude.{ℕ, ◌-◌, ◌++◌, length, replicate, codes}
+use Rattle.octets.specs.Number.{Octets}
+
+-- blanks fill a text up to a width, behind it or before it
+abbrev pub blanks_for : ℕ → Octets → Octets
+blanks_for width text = replicate (width - length text) 32
+
+abbrev pub left : ℕ → Octets → Octets
+left width text = text ++ blanks_for width text
+
+abbrev pub right : ℕ → Octets → Octets
+right width text = blanks_for width text ++ text

@@ -1,0 +1,6 @@
+pub mod Access
+pub mod Cells
+pub mod Line
+pub mod Names
+pub mod Rights
+pub mod TypeText

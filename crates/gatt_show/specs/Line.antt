@@ -1,0 +1,74 @@
+-- A line for each attribute of a table: this profile's own. A function of the table's contents alone.
+use Rattle.std.specs.Prelude.{ℕ, ◌++◌, ◌==◌, if◌then◌else◌, List, [], ◌∷◌, drop, unwrap_or, codes}
+use Rattle.std.specs.Fmt.{decimal}
+use Rattle.std.specs.List.{flat_map}
+use Rattle.octets.specs.Number.{Octets, from_two}
+use Rattle.att_numbers.specs.AttributeType.{type_octets}
+use Rattle.att_numbers.specs.Types.{Handle, AttributeType}
+use Rattle.att_numbers.specs.declared.attribute_type.TheConstants.{PRIMARY_SERVICE, SECONDARY_SERVICE, INCLUDE}
+use Rattle.att_attributes.specs.declared.attr.Attr.{Attr}
+use Rattle.att_attributes.specs.declared.attr.Role.{Role}
+use Rattle.att_attributes.specs.declared.attr.Role.TheVariants.{Declaration, Value, Configuration, Descriptor}
+use Rattle.att_attributes.specs.Group.{is_service_type}
+use Rattle.att_table.specs.Find.{value_where}
+use Rattle.att_table.specs.Table.{Contents}
+use Rattle.gatt_show.specs.Cells.{left, right}
+use Rattle.gatt_show.specs.Rights.{rights_text}
+use Rattle.gatt_show.specs.TypeText.{type_text}
+
+-- what an attribute is, in a word
+abbrev pub declaration_word : AttributeType → Octets
+declaration_word kind =
+    if kind == PRIMARY_SERVICE then codes "service"
+    else if kind == SECONDARY_SERVICE then codes "secondary"
+    else if kind == INCLUDE then codes "include"
+    else codes "characteristic"
+
+abbrev pub kind_word : Role → AttributeType → Octets
+kind_word Declaration kind = declaration_word kind
+kind_word Value kind = codes "value"
+kind_word Configuration kind = codes "configuration"
+kind_word Descriptor kind = codes "descriptor"
+
+-- the value at a handle, and none where there is no attribute
+abbrev pub told_value : Contents → Handle → Octets
+told_value table handle = unwrap_or (value_where table handle) []
+
+-- an include, by its value: the type of the service that begins at the handle in front, and that handle
+abbrev pub include_text : Contents → Octets → Octets
+include_text table (low ∷ high ∷ _) =
+    type_text (told_value table (from_two low high)) ++ codes " at " ++ decimal (from_two low high)
+include_text table _ = []
+
+-- what a declaration declares: a service by its value, an include, a characteristic by the type behind its properties
+-- and the handle of its value (Core 5.0, Vol 3 Part G, 3.1, 3.2 and 3.3.1)
+abbrev pub declared_text : Contents → AttributeType → Octets → Octets
+declared_text table kind value =
+    if is_service_type kind then type_text value
+    else if kind == INCLUDE then include_text table value
+    else type_text (drop 3 value)
+
+-- how many octets the value may have: a client characteristic configuration has two (Core 5.0, Vol 3 Part G, 3.3.3.3)
+abbrev pub length_text : Role → Attr → Octets
+length_text Configuration attr = codes "2"
+length_text _ attr = if attr.fixed then decimal attr.largest else codes "0-" ++ decimal attr.largest
+
+-- the type, the lengths, and what may be done with it
+abbrev pub used_text : Attr → Octets
+used_text attr =
+    left 40 (type_text (type_octets attr.kind)) ++ codes "  " ++ left 5 (length_text attr.role attr)
+    ++ rights_text attr.guard
+
+abbrev pub rest_of_line : Contents → Role → Attr → Octets
+rest_of_line table Declaration attr = declared_text table attr.kind (told_value table attr.handle)
+rest_of_line table _ attr = used_text attr
+
+-- a line: the handle, what the attribute is, and the rest
+unfoldable pub attribute_line : Contents → Attr → Octets
+attribute_line table attr =
+    right 4 (decimal attr.handle) ++ codes "  " ++ left 14 (kind_word attr.role attr.kind) ++ codes "  "
+    ++ rest_of_line table attr.role attr ++ 10 ∷ []
+
+-- those of all attributes, in the order of their handles
+abbrev pub shown_table : Contents → Octets
+shown_table table = flat_map (attribute_line table) table.attributes

@@ -1,0 +1,141 @@
+//! Who may use the attributes of a table.
+
+ghost use Rattle.std.specs.Prelude.{◌≡◌, ◌++◌, OnOk};
+ghost use Rattle.std.specs.List.{flat_map};
+ghost use Rattle.gatt_show.specs.Access.{handle_text, holder_lines, is_told, left_need, permits, standing_of, way_line, way_word};
+
+use crate::cells::add_number;
+use crate::line::all_attributes;
+use att_policy::{Access, Guard, KeyFacts, Standing, first_broken, may_hear};
+use att_table::{Attr, Role, Table};
+use std::alloc::AllocError;
+
+/// A way to use an attribute.
+#[derive(Clone, Copy)]
+pub enum Way {
+    /// By a request that reads it.
+    Reading,
+    /// By a Write Request, or prepared writes.
+    Writing,
+    /// By a Write Command.
+    Commanding,
+    /// By notifications or indications.
+    Hearing,
+}
+
+/// Adds what somebody with such a key, or with none, may do with the attributes of a table: the name,
+/// and in a line for each way the handles, declarations left out, and where being authorized is still
+/// needed this.
+#[tactic(auto, unfolding(crate::specs::Access::holder_lines))]
+pub fn add_holder(
+    text: &mut Vec<u8>,
+    table: &Table,
+    name: &[u8],
+    key: Option<KeyFacts>,
+) -> Result<(), AllocError>
+    ensures ok { OnOk result (text.new.items
+        ≡ text.old.items ++ holder_lines table.now name.now key) }
+{
+    text.extend_from_slice(name)?;
+    text.extend_from_slice(b"\n")?;
+    add_way(text, table, key, Way::Reading)?;
+    add_way(text, table, key, Way::Writing)?;
+    add_way(text, table, key, Way::Commanding)?;
+    add_way(text, table, key, Way::Hearing)
+}
+
+/// Adds the line of a way.
+#[tactic(auto, unfolding(crate::specs::Access::way_line))]
+fn add_way(
+    text: &mut Vec<u8>,
+    table: &Table,
+    key: Option<KeyFacts>,
+    way: Way,
+) -> Result<(), AllocError>
+    ensures ok { OnOk result (text.new.items
+        ≡ text.old.items ++ way_line table.now.attributes key way) }
+{
+    text.extend_from_slice(way_word(way).as_bytes())?;
+    add_handles(text, all_attributes(table), key, way)?;
+    text.extend_from_slice(b"\n")
+}
+
+/// The word of a way, before the handles.
+fn way_word(way: Way) -> &'static str
+    ensures { result.now ≡ way_word way }
+{
+    match way {
+        Way::Reading => "  read:",
+        Way::Writing => "  write:",
+        Way::Commanding => "  command:",
+        Way::Hearing => "  hear of:",
+    }
+}
+
+/// Adds the handles of the attributes that may be used in a way.
+fn add_handles(
+    text: &mut Vec<u8>,
+    attributes: &[Attr],
+    key: Option<KeyFacts>,
+    way: Way,
+) -> Result<(), AllocError>
+    ensures ok { OnOk result (text.new.items
+        ≡ text.old.items ++ flat_map (handle_text way key) attributes.now) }
+{
+    for attr in attributes {
+        add_handle(text, attr, key, way)?;
+    }
+    Ok(())
+}
+
+/// Adds the handle of an attribute, if it may be used in a way.
+fn add_handle(
+    text: &mut Vec<u8>,
+    attr: &Attr,
+    key: Option<KeyFacts>,
+    way: Way,
+) -> Result<(), AllocError>
+    ensures ok { OnOk result (text.new.items ≡ text.old.items ++ handle_text way key attr.now) }
+{
+    if attr.role == Role::Declaration || !permits(way, &attr.guard, &standing_of(key, true)) {
+        return Ok(());
+    }
+    text.extend_from_slice(b" ")?;
+    add_number(text, u64::from(attr.handle))?;
+    add_left_need(text, permits(way, &attr.guard, &standing_of(key, false)))
+}
+
+/// Adds the need that is left, unless all is met.
+fn add_left_need(text: &mut Vec<u8>, is_met: bool) -> Result<(), AllocError>
+    ensures ok { OnOk result (text.new.items ≡ text.old.items ++ left_need is_met) }
+{
+    if is_met {
+        Ok(())
+    } else {
+        text.extend_from_slice(b"(authorized)")
+    }
+}
+
+/// The standing of a connection whose link has such a key, or none.
+fn standing_of(key: Option<KeyFacts>, is_authorized: bool) -> Standing
+    ensures { result ≡ standing_of key is_authorized }
+{
+    Standing {
+        key,
+        key_known: key.is_some(),
+        until: if is_authorized { 1 } else { 0 },
+        now: 0,
+    }
+}
+
+/// Whether a connection may use a guarded attribute in a way.
+fn permits(way: Way, guard: &Guard, standing: &Standing) -> bool
+    ensures { result ≡ permits way guard.now standing.entry.now }
+{
+    match way {
+        Way::Reading => first_broken(Access::Read, Some(guard), standing).is_none(),
+        Way::Writing => first_broken(Access::Write, Some(guard), standing).is_none(),
+        Way::Commanding => first_broken(Access::Command, Some(guard), standing).is_none(),
+        Way::Hearing => may_hear(guard, 3, standing),
+    }
+}

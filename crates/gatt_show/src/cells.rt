@@ -1,0 +1,49 @@
+//! Cells of a line.
+
+ghost use Rattle.std.specs.Prelude.{◌≡◌, ◌≤◌, ◌++◌, replicate, OnOk};
+ghost use Rattle.std.specs.Fmt.{decimal};
+ghost use Rattle.hex.specs.Hex.{encode_lower};
+ghost use Rattle.gatt_show.specs.Cells.{left, right};
+
+use itoa::Buffer;
+use std::alloc::AllocError;
+
+/// The widest cell.
+const WIDEST: usize = 64;
+
+/// Adds a text, filled up with blanks behind it to a width of at most 64.
+pub fn add_left(text: &mut Vec<u8>, cell: &[u8], width: usize) -> Result<(), AllocError>
+    requires { width ≤ 64 }
+    ensures ok { OnOk result (text.new.items ≡ text.old.items ++ left width cell.now) }
+{
+    text.extend_from_slice(cell)?;
+    add_blanks(text, width.saturating_sub(cell.len()))
+}
+
+/// Adds a number in decimal, filled up with blanks before it to a width of at most 64.
+pub fn add_right(text: &mut Vec<u8>, number: u64, width: usize) -> Result<(), AllocError>
+    requires { width ≤ 64 }
+    ensures ok { OnOk result (text.new.items ≡ text.old.items ++ right width (decimal number)) }
+{
+    let mut digits = Buffer::new();
+    let cell = digits.format(number).as_bytes();
+    add_blanks(text, width.saturating_sub(cell.len()))?;
+    text.extend_from_slice(cell)
+}
+
+/// Adds so many blanks.
+#[tactic(auto, using(crate::proofs::Blanks::some_blanks))]
+fn add_blanks(text: &mut Vec<u8>, count: usize) -> Result<(), AllocError>
+    requires { count ≤ 64 }
+    ensures ok { OnOk result (text.new.items ≡ text.old.items ++ replicate count 32) }
+{
+    text.extend_from_slice(&[b' '; WIDEST][..count])
+}
+
+/// Adds a number in decimal.
+pub fn add_number(text: &mut Vec<u8>, number: u64) -> Result<(), AllocError>
+    ensures ok { OnOk result (text.new.items ≡ text.old.items ++ decimal number) }
+{
+    let mut digits = Buffer::new();
+    text.extend_from_slice(digits.format(number).as_bytes())
+}

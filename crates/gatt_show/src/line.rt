@@ -1,0 +1,171 @@
+//! A line for each attribute of a table.
+
+ghost use Rattle.std.specs.Prelude.{◌≡◌, ◌++◌, [], drop, IfOk, OnOk};
+ghost use Rattle.std.specs.List.{flat_map};
+ghost use Rattle.gatt_show.specs.Line.{attribute_line, declared_text, include_text, kind_word, length_text, rest_of_line, shown_table, told_value, used_text};
+ghost use Rattle.gatt_show.specs.TypeText.{type_text};
+ghost use Rattle.att_numbers.specs.AttributeType.{type_octets};
+
+use crate::cells::{add_left, add_number, add_right};
+use crate::rights::add_rights;
+use crate::type_text::add_type;
+use att_numbers::attribute_type::{INCLUDE, PRIMARY_SERVICE, SECONDARY_SERVICE};
+use att_table::{Attr, Role, Table, is_service, type_octets};
+use std::alloc::{AllocError, Global};
+
+/// Adds a line for each attribute of a table, in the order of their handles: its handle, what it is,
+/// its type with its name, how many octets its value may have, and what may be done with it.
+pub fn add_table(alloc: Global, text: &mut Vec<u8>, table: &Table) -> Result<(), AllocError>
+    ensures ok { OnOk result (text.new.items ≡ text.old.items ++ shown_table table.now) }
+{
+    add_attributes(alloc, text, table, all_attributes(table))
+}
+
+/// All attributes of a table.
+#[tactic(auto, using(crate::proofs::Lines::all_attributes))]
+pub fn all_attributes(table: &Table) -> &[Attr]
+    ensures { result.now ≡ table.now.attributes }
+{
+    table.in_range(1, table.len() as u16)
+}
+
+/// Adds the lines of some attributes of a table.
+fn add_attributes(
+    alloc: Global,
+    text: &mut Vec<u8>,
+    table: &Table,
+    attributes: &[Attr],
+) -> Result<(), AllocError>
+    ensures ok { OnOk result (text.new.items
+        ≡ text.old.items ++ flat_map (attribute_line table.now) attributes.now) }
+{
+    for attr in attributes {
+        add_attribute(alloc, text, table, attr)?;
+    }
+    Ok(())
+}
+
+/// Adds the line of an attribute.
+#[tactic(auto, unfolding(crate::specs::Line::attribute_line))]
+fn add_attribute(
+    alloc: Global,
+    text: &mut Vec<u8>,
+    table: &Table,
+    attr: &Attr,
+) -> Result<(), AllocError>
+    ensures ok { OnOk result (text.new.items
+        ≡ text.old.items ++ attribute_line table.now attr.now) }
+{
+    add_right(text, u64::from(attr.handle), 4)?;
+    text.extend_from_slice(b"  ")?;
+    add_left(text, kind_word(attr.role, attr.kind).as_bytes(), 14)?;
+    text.extend_from_slice(b"  ")?;
+    add_rest(alloc, text, table, attr)?;
+    text.extend_from_slice(b"\n")
+}
+
+/// What an attribute is, in a word.
+fn kind_word(role: Role, kind: u128) -> &'static str
+    ensures { result.now ≡ kind_word role kind }
+{
+    match role {
+        Role::Declaration if kind == PRIMARY_SERVICE => "service",
+        Role::Declaration if kind == SECONDARY_SERVICE => "secondary",
+        Role::Declaration if kind == INCLUDE => "include",
+        Role::Declaration => "characteristic",
+        Role::Value => "value",
+        Role::Configuration => "configuration",
+        Role::Descriptor => "descriptor",
+    }
+}
+
+/// Adds what a line says behind what the attribute is.
+fn add_rest(alloc: Global, text: &mut Vec<u8>, table: &Table, attr: &Attr) -> Result<(), AllocError>
+    ensures ok { OnOk result (text.new.items
+        ≡ text.old.items ++ rest_of_line table.now attr.now.role attr.now) }
+{
+    match attr.role {
+        Role::Declaration => {
+            add_declared(text, table, attr.kind, told_value(table, attr.handle))
+        }
+        Role::Value | Role::Configuration | Role::Descriptor => add_used(alloc, text, attr),
+    }
+}
+
+/// The value at a handle, and none where there is no attribute.
+fn told_value(table: &Table, handle: u16) -> &[u8]
+    ensures { result.now ≡ told_value table.now handle }
+{
+    table.value_of(handle).unwrap_or(&[])
+}
+
+/// Adds what a declaration of this type and value declares.
+fn add_declared(
+    text: &mut Vec<u8>,
+    table: &Table,
+    kind: u128,
+    value: &[u8],
+) -> Result<(), AllocError>
+    ensures ok { OnOk result (text.new.items
+        ≡ text.old.items ++ declared_text table.now kind value.now) }
+{
+    if is_service(kind) {
+        add_type(text, value)
+    } else if kind == INCLUDE {
+        add_include(text, table, value)
+    } else {
+        add_type(text, value.get(3..).unwrap_or(&[]))
+    }
+}
+
+/// Adds the service that an include has, by its value.
+fn add_include(text: &mut Vec<u8>, table: &Table, value: &[u8]) -> Result<(), AllocError>
+    ensures ok { OnOk result (text.new.items
+        ≡ text.old.items ++ include_text table.now value.now) }
+{
+    let [low, high, ..] = value else {
+        return Ok(());
+    };
+    let first = u16::from_le_bytes([*low, *high]);
+    add_type(text, told_value(table, first))?;
+    text.extend_from_slice(b" at ")?;
+    add_number(text, u64::from(first))
+}
+
+/// Adds the type of an attribute that is no declaration, how many octets its value may have, and
+/// what may be done with it.
+fn add_used(alloc: Global, text: &mut Vec<u8>, attr: &Attr) -> Result<(), AllocError>
+    ensures ok { OnOk result (text.new.items ≡ text.old.items ++ used_text attr.now) }
+{
+    let kind = type_cell(alloc, attr.kind)?;
+    let length = length_cell(alloc, attr)?;
+    add_left(text, &kind, 40)?;
+    text.extend_from_slice(b"  ")?;
+    add_left(text, &length, 5)?;
+    add_rights(alloc, text, &attr.guard)
+}
+
+/// A type as a text.
+fn type_cell(alloc: Global, kind: u128) -> Result<Vec<u8>, AllocError>
+    ensures ok { IfOk result (λ cell. cell.items ≡ type_text (type_octets kind)) }
+{
+    let mut cell = Vec::new(alloc);
+    add_type(&mut cell, type_octets(kind).as_slice())?;
+    Ok(cell)
+}
+
+/// How many octets the value of an attribute may have.
+fn length_cell(alloc: Global, attr: &Attr) -> Result<Vec<u8>, AllocError>
+    ensures ok { IfOk result (λ cell. cell.items ≡ length_text attr.now.role attr.now) }
+{
+    let mut cell = Vec::new(alloc);
+    if attr.role == Role::Configuration {
+        cell.extend_from_slice(b"2")?;
+        return Ok(cell);
+    }
+    if !attr.fixed {
+        cell.extend_from_slice(b"0-")?;
+    }
+    add_number(&mut cell, u64::from(attr.largest))?;
+    Ok(cell)
+}

@@ -1,0 +1,161 @@
+//! What may be done with an attribute, and what it needs, in words.
+
+ghost use Rattle.std.specs.Prelude.{◌≡◌, ◌++◌, if◌then◌else◌, [], IfOk, OnOk};
+ghost use Rattle.gatt_show.specs.Rights.{both_texts, heard_text, heard_words, is_heard, is_written, key_words, need_words, rights_text, size_words, word, written_text, written_words};
+
+use crate::cells::add_number;
+use att_policy::{Guard, Need, Properties};
+use bitflags::Flags;
+use std::alloc::{AllocError, Global};
+
+/// Adds what may be done with a guarded attribute, and what it needs.
+#[tactic(auto, unfolding(crate::specs::Rights::rights_text))]
+pub fn add_rights(alloc: Global, text: &mut Vec<u8>, guard: &Guard) -> Result<(), AllocError>
+    ensures ok { OnOk result (text.new.items ≡ text.old.items ++ rights_text guard.now) }
+{
+    match (is_heard(guard.properties), is_written(guard.properties)) {
+        (true, true) => add_both(alloc, text, guard),
+        (true, false) => add_heard(text, guard),
+        (false, true) => add_written(text, guard),
+        (false, false) => text.extend_from_slice(b" nothing"),
+    }
+}
+
+/// Adds what both ways of use need, once where it is the same.
+fn add_both(alloc: Global, text: &mut Vec<u8>, guard: &Guard) -> Result<(), AllocError>
+    ensures ok { OnOk result (text.new.items ≡ text.old.items ++ both_texts guard.now) }
+{
+    let read = need_words(alloc, &guard.read)?;
+    let write = need_words(alloc, &guard.write)?;
+    if read.as_slice() == write.as_slice() {
+        add_heard_words(text, guard.properties)?;
+    } else {
+        add_heard(text, guard)?;
+        text.extend_from_slice(b";")?;
+    }
+    add_written(text, guard)
+}
+
+/// Whether some properties need what reading needs.
+fn is_heard(properties: Properties) -> bool
+    ensures { result ≡ is_heard properties }
+{
+    properties.contains(Properties::READ)
+        || properties.contains(Properties::NOTIFY)
+        || properties.contains(Properties::INDICATE)
+}
+
+/// Whether some properties need what writing needs.
+fn is_written(properties: Properties) -> bool
+    ensures { result ≡ is_written properties }
+{
+    properties.contains(Properties::WRITE)
+        || properties.contains(Properties::WRITE_WITHOUT_RESPONSE)
+}
+
+/// Adds the properties that need what reading needs, and what that is.
+fn add_heard(text: &mut Vec<u8>, guard: &Guard) -> Result<(), AllocError>
+    ensures ok { OnOk result (text.new.items ≡ text.old.items ++ heard_text guard.now) }
+{
+    add_heard_words(text, guard.properties)?;
+    add_need(text, &guard.read)
+}
+
+/// Adds the properties that need what writing needs, and what that is.
+fn add_written(text: &mut Vec<u8>, guard: &Guard) -> Result<(), AllocError>
+    ensures ok { OnOk result (text.new.items ≡ text.old.items ++ written_text guard.now) }
+{
+    add_written_words(text, guard.properties)?;
+    add_need(text, &guard.write)
+}
+
+/// Adds the words of the properties that need what reading needs.
+fn add_heard_words(text: &mut Vec<u8>, properties: Properties) -> Result<(), AllocError>
+    ensures ok { OnOk result (text.new.items ≡ text.old.items ++ heard_words properties) }
+{
+    add_word(text, properties, Properties::READ, b" read")?;
+    add_word(text, properties, Properties::NOTIFY, b" notify")?;
+    add_word(text, properties, Properties::INDICATE, b" indicate")
+}
+
+/// Adds the words of the properties that need what writing needs.
+fn add_written_words(text: &mut Vec<u8>, properties: Properties) -> Result<(), AllocError>
+    ensures ok { OnOk result (text.new.items ≡ text.old.items ++ written_words properties) }
+{
+    add_word(text, properties, Properties::WRITE, b" write")?;
+    add_word(
+        text,
+        properties,
+        Properties::WRITE_WITHOUT_RESPONSE,
+        b" command",
+    )
+}
+
+/// Adds the word of a property, if it is among some.
+fn add_word(
+    text: &mut Vec<u8>,
+    properties: Properties,
+    property: Properties,
+    said: &[u8],
+) -> Result<(), AllocError>
+    ensures ok { OnOk result (text.new.items
+        ≡ text.old.items ++ word properties property said.now) }
+{
+    if properties.contains(property) {
+        text.extend_from_slice(said)
+    } else {
+        Ok(())
+    }
+}
+
+/// What a need asks for, in words.
+fn need_words(alloc: Global, need: &Need) -> Result<Vec<u8>, AllocError>
+    ensures ok { IfOk result (λ words. words.items ≡ need_words need.now) }
+{
+    let mut words = Vec::new(alloc);
+    add_need(&mut words, need)?;
+    Ok(words)
+}
+
+/// Adds what a need asks for.
+fn add_need(text: &mut Vec<u8>, need: &Need) -> Result<(), AllocError>
+    ensures ok { OnOk result (text.new.items ≡ text.old.items ++ need_words need.now) }
+{
+    if need.needs_encryption() {
+        add_key(text, need)?;
+        if need.authorized {
+            return text.extend_from_slice(b", authorized");
+        }
+    } else if need.authorized {
+        return text.extend_from_slice(b" if authorized");
+    }
+    Ok(())
+}
+
+/// Adds what a need asks of the link's key.
+fn add_key(text: &mut Vec<u8>, need: &Need) -> Result<(), AllocError>
+    ensures ok { OnOk result (text.new.items ≡ text.old.items ++ key_words need.now) }
+{
+    if need.secure {
+        return text.extend_from_slice(b" if secure connections");
+    }
+    if need.needs_authentication() {
+        text.extend_from_slice(b" if authenticated")?;
+    } else {
+        text.extend_from_slice(b" if encrypted")?;
+    }
+    add_size(text, need.key_size)
+}
+
+/// Adds how many octets a key needs, if it needs any.
+fn add_size(text: &mut Vec<u8>, size: Option<u8>) -> Result<(), AllocError>
+    ensures ok { OnOk result (text.new.items ≡ text.old.items ++ size_words size) }
+{
+    match size {
+        Some(size) => {
+            text.extend_from_slice(b", key of ")?;
+            add_number(text, u64::from(size))
+        }
+        None => Ok(()),
+    }
+}
