@@ -1,0 +1,165 @@
+//! What is shown of tables, and of who may use their attributes: expected by the rules of the
+//! profile, as the files say them.
+
+use att_policy::KeyFacts;
+use att_table::Table;
+use att_table::examples::{BELL, DOOR};
+use gatt_show::{add_holder, add_table, name_of};
+use std::alloc::Global;
+use std::process::Abort;
+use std::test::Fail;
+
+/// The lines of the door lock.
+const DOOR_LINES: &str = r"   1  service         1800 Generic Access
+   2  characteristic  2a00 Device Name
+   3  value           2a00 Device Name                          0-4   read
+   4  service         180f Battery
+   5  characteristic  2a19 Battery Level
+   6  value           2a19 Battery Level                        1     read notify
+   7  configuration   2902 Client Characteristic Configuration  2     read write
+   8  service         fff0
+   9  characteristic  fff1
+  10  value           fff1                                      1     read notify if encrypted; write if authenticated
+  11  configuration   2902 Client Characteristic Configuration  2     read; write if encrypted
+  12  characteristic  fff2
+  13  value           fff2                                      0-8   read write if authenticated, key of 16, authorized
+  14  characteristic  fff3
+  15  value           fff3                                      0-1   read
+  16  characteristic  fff3
+  17  value           fff3                                      0-1   read if encrypted
+  18  characteristic  fff3
+  19  value           fff3                                      0-1   read
+  20  characteristic  fff4
+  21  value           fff4                                      0-512 read write command
+";
+
+/// The lines of the door bell.
+const BELL_LINES: &str = r"   1  service         fff8
+   2  characteristic  fff9
+   3  value           fff9                                      0-1   read notify indicate
+   4  configuration   2902 Client Characteristic Configuration  2     read write
+   5  characteristic  12345678-9abc-def0-0123-456789abcdef
+   6  value           12345678-9abc-def0-0123-456789abcdef      0-1   indicate
+   7  configuration   2902 Client Characteristic Configuration  2     read write
+   8  secondary       fffa
+   9  include         fff8 at 1
+";
+
+/// Tables, and what is shown of them.
+const TABLES: &[(&str, &str)] = &[(DOOR, DOOR_LINES), (BELL, BELL_LINES), ("service = []", "")];
+
+/// Who uses the door lock with which key, and what is shown of it.
+const HOLDERS: &[(&str, Option<KeyFacts>, &str)] = &[
+    (
+        "stranger",
+        None,
+        r"stranger
+  read: 3 6 7 11 15 19 21
+  write: 7 21
+  command: 21
+  hear of: 6
+",
+    ),
+    (
+        "random c0:00:00:00:00:01, key of 16",
+        Some(KeyFacts {
+            size: 16,
+            authenticated: false,
+            secure: false,
+        }),
+        r"random c0:00:00:00:00:01, key of 16
+  read: 3 6 7 10 11 15 17 19 21
+  write: 7 11 21
+  command: 21
+  hear of: 6 10
+",
+    ),
+    (
+        "public 00:11:22:33:44:55, key of 16, authenticated",
+        Some(KeyFacts {
+            size: 16,
+            authenticated: true,
+            secure: false,
+        }),
+        r"public 00:11:22:33:44:55, key of 16, authenticated
+  read: 3 6 7 10 11 13(authorized) 15 17 19 21
+  write: 7 10 11 13(authorized) 21
+  command: 21
+  hear of: 6 10
+",
+    ),
+    (
+        "public 00:11:22:33:44:55, key of 7, authenticated",
+        Some(KeyFacts {
+            size: 7,
+            authenticated: true,
+            secure: false,
+        }),
+        r"public 00:11:22:33:44:55, key of 7, authenticated
+  read: 3 6 7 10 11 15 17 19 21
+  write: 7 10 11 21
+  command: 21
+  hear of: 6 10
+",
+    ),
+];
+
+/// Numbers of types, and their names.
+const NAMES: &[(u16, Option<&str>)] = &[
+    (0x1800, Some("Generic Access")),
+    (0x180F, Some("Battery")),
+    (0x2902, Some("Client Characteristic Configuration")),
+    (0x2A19, Some("Battery Level")),
+    (0x2B3A, Some("Server Supported Features")),
+    (0x0000, None),
+    (0xFFF0, None),
+    (0xFFFF, None),
+];
+
+#[test]
+fn shows_a_line_for_each_attribute(rt: HostRuntime) {
+    for (table, lines) in TABLES {
+        shows(&rt, rt.alloc(), table, lines);
+    }
+}
+
+#[test]
+fn shows_who_may_do_what(rt: HostRuntime) {
+    for (name, key, lines) in HOLDERS {
+        shows_holder(&rt, rt.alloc(), name, *key, lines);
+    }
+}
+
+#[test]
+fn names_the_common_types(rt: HostRuntime) {
+    for (number, name) in NAMES {
+        assert!(rt; name_of(*number) == *name, "{number}");
+    }
+}
+
+/// Shows a table, and compares the lines.
+fn shows(rt: &impl Abort, alloc: Global, table: &str, lines: &str) {
+    assert!(rt; is_shown(alloc, table, lines), "{lines}");
+}
+
+fn is_shown(alloc: Global, table: &str, lines: &str) -> bool {
+    let mut text: Vec<u8> = Vec::new(alloc);
+    let Ok(table) = Table::read(alloc, table) else {
+        return false;
+    };
+    add_table(alloc, &mut text, &table).is_ok() && text.as_slice() == lines.as_bytes()
+}
+
+/// Shows what somebody may do with the door lock, and compares the lines.
+fn shows_holder(rt: &impl Abort, alloc: Global, name: &str, key: Option<KeyFacts>, lines: &str) {
+    assert!(rt; is_shown_of(alloc, name, key, lines), "{lines}");
+}
+
+fn is_shown_of(alloc: Global, name: &str, key: Option<KeyFacts>, lines: &str) -> bool {
+    let mut text: Vec<u8> = Vec::new(alloc);
+    let Ok(table) = Table::read(alloc, DOOR) else {
+        return false;
+    };
+    add_holder(&mut text, &table, name.as_bytes(), key).is_ok()
+        && text.as_slice() == lines.as_bytes()
+}
