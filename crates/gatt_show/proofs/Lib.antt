@@ -1,4 +1,6 @@
 pub mod Blanks
+pub mod Entries
 pub mod Lines
 pub mod Naming
 pub mod Uuids
+pub mod Worth

@@ -1,5 +1,6 @@
 pub mod Access
 pub mod Cells
+pub mod Holders
 pub mod Line
 pub mod Names
 pub mod Rights

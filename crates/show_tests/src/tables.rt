@@ -4,7 +4,8 @@
 use att_policy::KeyFacts;
 use att_table::Table;
 use att_table::examples::{BELL, DOOR};
-use gatt_show::{add_holder, add_table, name_of};
+use gatt_show::{add_holder, add_holders, add_table, name_of};
+use le_security::examples::{KEYS, SECURE_KEY};
 use std::alloc::Global;
 use std::process::Abort;
 use std::test::Fail;
@@ -104,6 +105,52 @@ const HOLDERS: &[(&str, Option<KeyFacts>, &str)] = &[
     ),
 ];
 
+/// Key files, and what is shown of who may use the door lock, after a stranger.
+const KEY_FILES: &[(&str, &str)] = &[
+    (
+        KEYS,
+        r"
+random c0:00:00:00:00:01, key of 16
+  read: 3 6 7 10 11 15 17 19 21
+  write: 7 11 21
+  command: 21
+  hear of: 6 10
+
+public 00:11:22:33:44:55, key of 16, authenticated
+  read: 3 6 7 10 11 13(authorized) 15 17 19 21
+  write: 7 10 11 13(authorized) 21
+  command: 21
+  hear of: 6 10
+
+public 00:11:22:33:44:55, key of 7, authenticated
+  read: 3 6 7 10 11 15 17 19 21
+  write: 7 10 11 21
+  command: 21
+  hear of: 6 10
+",
+    ),
+    (
+        SECURE_KEY,
+        r"
+random c0:00:00:00:00:02, key of 16, authenticated, secure connections
+  read: 3 6 7 10 11 13(authorized) 15 17 19 21
+  write: 7 10 11 13(authorized) 21
+  command: 21
+  hear of: 6 10
+",
+    ),
+    ("", ""),
+];
+
+/// What is shown of a stranger, behind a blank line.
+const STRANGER: &str = r"
+stranger
+  read: 3 6 7 11 15 19 21
+  write: 7 21
+  command: 21
+  hear of: 6
+";
+
 /// Numbers of types, and their names.
 const NAMES: &[(u16, Option<&str>)] = &[
     (0x1800, Some("Generic Access")),
@@ -127,6 +174,13 @@ fn shows_a_line_for_each_attribute(rt: HostRuntime) {
 fn shows_who_may_do_what(rt: HostRuntime) {
     for (name, key, lines) in HOLDERS {
         shows_holder(&rt, rt.alloc(), name, *key, lines);
+    }
+}
+
+#[test]
+fn shows_who_has_which_key(rt: HostRuntime) {
+    for (keys, lines) in KEY_FILES {
+        shows_holders(&rt, rt.alloc(), keys, lines);
     }
 }
 
@@ -162,4 +216,20 @@ fn is_shown_of(alloc: Global, name: &str, key: Option<KeyFacts>, lines: &str) ->
     };
     add_holder(&mut text, &table, name.as_bytes(), key).is_ok()
         && text.as_slice() == lines.as_bytes()
+}
+
+/// Shows who has which key and what he may do with the door lock, and compares the lines.
+fn shows_holders(rt: &impl Abort, alloc: Global, keys: &str, lines: &str) {
+    assert!(rt; are_shown(alloc, keys, lines), "{lines}");
+}
+
+fn are_shown(alloc: Global, keys: &str, lines: &str) -> bool {
+    let mut text: Vec<u8> = Vec::new(alloc);
+    let Ok(table) = Table::read(alloc, DOOR) else {
+        return false;
+    };
+    let Ok(all) = format!(in alloc; "{STRANGER}{lines}") else {
+        return false;
+    };
+    add_holders(alloc, &mut text, &table, keys).is_ok() && text.as_slice() == all.as_bytes()
 }

@@ -1,0 +1,88 @@
+-- Who has which key, in words, and what he may do: this profile's own.
+use Rattle.std.specs.Prelude.{◌≡◌, ℕ, ℤ, ◌++◌, Bool, true, false, List, [], ◌∷◌, map, codes, Option, Some, None, Ok}
+use Rattle.std.specs.Fmt.{decimal}
+use Rattle.octets.specs.Number.{Octets}
+use Rattle.toml.specs.Data.{Data, Items, no_items, item, Members, as_table}
+use Rattle.toml.specs.Parse.{parse_document}
+use Rattle.toml_tables.specs.Reading.{text_at, integer_at, flag_at, items_at}
+use Rattle.att_policy.specs.declared.standing.KeyFacts.{KeyFacts}
+use Rattle.att_table.specs.Table.{Contents}
+use Rattle.le_security.specs.declared.entry.Entry.{Entry}
+use Rattle.le_security.specs.EntryFile.{size_of}
+use Rattle.le_security.specs.KeyFile.{keys_of}
+use Rattle.gatt_show.specs.Access.{holder_lines}
+
+-- what an entry of a key file writes: its texts, and what its key is worth
+abbrev pub written_text : Option Octets → Octets
+written_text None = []
+written_text (Some text) = text
+
+abbrev pub size_in : Option ℕ → ℕ
+size_in None = 0
+size_in (Some size) = size
+
+abbrev pub written_size : Option ℤ → ℕ
+written_size None = 0
+written_size (Some size) = size_in (size_of size)
+
+unfoldable pub facts_at : Members → KeyFacts
+facts_at members = record {
+  size = written_size (integer_at (codes "size") members);
+  authenticated = flag_at (codes "authenticated") members;
+  secure = flag_at (codes "secure") members;
+}
+
+-- a peer with a key: the kind of its address, the address, and what the key is worth
+abbrev pub words_if : Bool → Octets → Octets
+words_if true words = words
+words_if false words = []
+
+abbrev pub size_words : ℕ → Octets
+size_words size = codes ", key of " ++ decimal size
+
+abbrev pub facts_words : KeyFacts → Octets
+facts_words facts =
+    size_words facts.size ++ words_if facts.authenticated (codes ", authenticated")
+    ++ words_if facts.secure (codes ", secure connections")
+
+unfoldable pub holder_name : Members → Octets
+holder_name members =
+    written_text (text_at (codes "kind") members) ++ 32 ∷ written_text (text_at (codes "address") members)
+    ++ facts_words (facts_at members)
+
+-- a blank line, and what he may do
+abbrev pub holder_text : Contents → Octets → Option KeyFacts → Octets
+holder_text table name key = 10 ∷ holder_lines table name key
+
+abbrev pub entry_text : Contents → Option Members → Octets
+entry_text table None = []
+entry_text table (Some members) = holder_text table (holder_name members) (Some (facts_at members))
+
+abbrev pub entries_text : Contents → Items → Octets
+entries_text table no_items = []
+entries_text table (item value rest) = entry_text table (as_table value) ++ entries_text table rest
+
+-- a stranger, and then who has the keys of a document, in its order
+abbrev pub holders_text : Contents → Members → Octets
+holders_text table members =
+    holder_text table (codes "stranger") None ++ entries_text table (items_at (codes "key") members)
+
+-- what is told of the keys of a text stands behind what stood
+pub record TellsHolders (table : Contents) (key_file old new : Octets) : Type 0 where
+  pub members : Members
+  pub document : parse_document key_file ≡ Some members
+  pub told : new ≡ old ++ holders_text table members
+
+-- what the keys of some entries are worth, as the entries write it
+abbrev pub facts_before : Option Members → List KeyFacts → List KeyFacts
+facts_before None rest = rest
+facts_before (Some members) rest = facts_at members ∷ rest
+
+abbrev pub all_facts : Items → List KeyFacts
+all_facts no_items = []
+all_facts (item value rest) = facts_before (as_table value) (all_facts rest)
+
+-- and that is what the keys that a server has of the document are worth
+abbrev pub AreWorthIt : Type 0
+AreWorthIt = (members : Members) (keys : List Entry) → keys_of members ≡ Ok keys
+    → all_facts (items_at (codes "key") members) ≡ map (λ (entry : Entry). entry.key.facts) keys

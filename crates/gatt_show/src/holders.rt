@@ -1,0 +1,158 @@
+//! Who has which key, and what he may do.
+
+ghost use Rattle.std.specs.Prelude.{◌≡◌, ◌++◌, option_map, OnOk};
+ghost use Rattle.toml.specs.View.{items_view, table_view};
+ghost use Rattle.toml_tables.specs.Reading.{text_at};
+ghost use Rattle.gatt_show.specs.Holders.{AreWorthIt, TellsHolders, entries_text, entry_text, facts_at, facts_words, holder_name, holder_text, holders_text, size_words, words_if, written_size, written_text};
+
+use crate::access::add_holder;
+use crate::cells::add_number;
+use att_policy::KeyFacts;
+use att_table::Table;
+use std::alloc::{AllocError, Global};
+use toml::Value;
+
+/// Adds what a stranger may do with the attributes of a table, and what each peer of a key file may do
+/// with each of its keys, in the order of the file.
+#[tactic(auto, using(crate::proofs::Worth::are_worth_it))]
+pub fn add_holders(
+    alloc: Global,
+    text: &mut Vec<u8>,
+    table: &Table,
+    key_file: &str,
+) -> Result<(), AllocError>
+    ensures ok { OnOk result (TellsHolders table.now key_file.now text.old.items text.new.items) }
+    ensures facts { AreWorthIt }
+{
+    let Ok(document) = toml::table_from_str(alloc, key_file) else {
+        return Err(AllocError);
+    };
+    add_one(text, table, b"stranger", None)?;
+    add_entries(alloc, text, table, toml_tables::items(&document, "key"))
+}
+
+/// Adds what somebody may do, behind a blank line.
+fn add_one(
+    text: &mut Vec<u8>,
+    table: &Table,
+    name: &[u8],
+    key: Option<KeyFacts>,
+) -> Result<(), AllocError>
+    ensures ok { OnOk result (text.new.items
+        ≡ text.old.items ++ holder_text table.now name.now key) }
+{
+    text.extend_from_slice(b"\n")?;
+    add_holder(text, table, name, key)
+}
+
+/// Adds what the peers of some entries may do.
+fn add_entries(
+    alloc: Global,
+    text: &mut Vec<u8>,
+    table: &Table,
+    elements: &[Value],
+) -> Result<(), AllocError>
+    ensures ok { OnOk result (text.new.items
+        ≡ text.old.items ++ entries_text table.now (items_view elements.now)) }
+{
+    for element in elements {
+        add_entry(alloc, text, table, element.as_table())?;
+    }
+    Ok(())
+}
+
+/// Adds what the peer of an entry may do.
+fn add_entry(
+    alloc: Global,
+    text: &mut Vec<u8>,
+    table: &Table,
+    members: Option<&toml::Table>,
+) -> Result<(), AllocError>
+    ensures ok { OnOk result (text.new.items ≡ text.old.items
+        ++ entry_text table.now (option_map (λ members. table_view members.now) members.entry)) }
+{
+    let Some(members) = members else {
+        return Ok(());
+    };
+    let facts = facts_at(members);
+    let mut name = Vec::new(alloc);
+    add_name(&mut name, members, facts)?;
+    add_one(text, table, name.as_slice(), Some(facts))
+}
+
+/// What the key of an entry is worth.
+#[tactic(auto, unfolding(crate::specs::Holders::facts_at))]
+fn facts_at(members: &toml::Table) -> KeyFacts
+    ensures { result ≡ facts_at (table_view members.now) }
+{
+    KeyFacts {
+        size: written_size(toml_tables::integer(members, "size")),
+        authenticated: toml_tables::flag(members, "authenticated"),
+        secure: toml_tables::flag(members, "secure"),
+    }
+}
+
+/// The size of a key, in octets.
+fn written_size(size: Option<i64>) -> u8
+    ensures { result ≡ written_size size }
+{
+    let Some(size) = size else {
+        return 0;
+    };
+    match u8::try_from(size) {
+        Ok(size @ 7..=16) => size,
+        _ => 0,
+    }
+}
+
+/// Adds who the peer of an entry is, and what its key is worth.
+#[tactic(auto, unfolding(crate::specs::Holders::holder_name))]
+fn add_name(text: &mut Vec<u8>, members: &toml::Table, facts: KeyFacts) -> Result<(), AllocError>
+    requires { facts ≡ facts_at (table_view members.now) }
+    ensures ok { OnOk result (text.new.items
+        ≡ text.old.items ++ holder_name (table_view members.now)) }
+{
+    add_text(text, members, "kind")?;
+    text.extend_from_slice(b" ")?;
+    add_text(text, members, "address")?;
+    add_facts(text, facts)
+}
+
+/// Adds the text at a key.
+fn add_text(text: &mut Vec<u8>, members: &toml::Table, key: &str) -> Result<(), AllocError>
+    ensures ok { OnOk result (text.new.items
+        ≡ text.old.items ++ written_text (text_at key.now (table_view members.now))) }
+{
+    match toml_tables::text(members, key) {
+        Some(written) => text.extend_from_slice(written.as_bytes()),
+        None => Ok(()),
+    }
+}
+
+/// Adds what a key is worth.
+fn add_facts(text: &mut Vec<u8>, facts: KeyFacts) -> Result<(), AllocError>
+    ensures ok { OnOk result (text.new.items ≡ text.old.items ++ facts_words facts) }
+{
+    add_size(text, facts.size)?;
+    add_if(text, facts.authenticated, b", authenticated")?;
+    add_if(text, facts.secure, b", secure connections")
+}
+
+/// Adds how many octets a key has.
+fn add_size(text: &mut Vec<u8>, size: u8) -> Result<(), AllocError>
+    ensures ok { OnOk result (text.new.items ≡ text.old.items ++ size_words size) }
+{
+    text.extend_from_slice(b", key of ")?;
+    add_number(text, u64::from(size))
+}
+
+/// Adds words where something holds.
+fn add_if(text: &mut Vec<u8>, holds: bool, words: &[u8]) -> Result<(), AllocError>
+    ensures ok { OnOk result (text.new.items ≡ text.old.items ++ words_if holds words.now) }
+{
+    if holds {
+        text.extend_from_slice(words)
+    } else {
+        Ok(())
+    }
+}

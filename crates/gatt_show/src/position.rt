@@ -1,0 +1,45 @@
+//! Places in a text, and what is wrong where it is no TOML.
+
+use crate::cells::add_number;
+use std::alloc::AllocError;
+use toml::de::Error;
+
+/// Adds where octets stop to be UTF-8: behind so many that are.
+pub fn add_no_text(text: &mut Vec<u8>, octets: &[u8], valid: usize) -> Result<(), AllocError> {
+    add_position(text, octets, valid)?;
+    text.extend_from_slice(b": it is not UTF-8")
+}
+
+/// Adds where a text stops to be TOML, and why. That memory was refused has no place.
+pub fn add_no_toml(text: &mut Vec<u8>, octets: &[u8], error: &Error) -> Result<(), AllocError> {
+    let Some(span) = error.span() else {
+        return Err(AllocError);
+    };
+    add_position(text, octets, span.start)?;
+    text.extend_from_slice(b": ")?;
+    text.extend_from_slice(error.message().as_bytes())
+}
+
+/// Adds the line and the column of the octet at a place, both counted from 1, columns in characters.
+fn add_position(text: &mut Vec<u8>, octets: &[u8], at: usize) -> Result<(), AllocError> {
+    let before = octets.get(..at).unwrap_or(octets);
+    let mut line: u64 = 1;
+    let mut column: u64 = 1;
+    for octet in before {
+        if *octet == b'\n' {
+            line = line.saturating_add(1);
+            column = 1;
+        } else if !is_inside(*octet) {
+            column = column.saturating_add(1);
+        }
+    }
+    text.extend_from_slice(b"line ")?;
+    add_number(text, line)?;
+    text.extend_from_slice(b", column ")?;
+    add_number(text, column)
+}
+
+/// Whether an octet goes on with a character that an earlier one has begun.
+fn is_inside(octet: u8) -> bool {
+    octet & 0xC0 == 0x80
+}

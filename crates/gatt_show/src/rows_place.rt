@@ -1,0 +1,20 @@
+//! Where a rows file has its fault, and what it is, in words.
+
+use crate::position::add_no_text;
+use gatt_subs::{Rows, RowsFault};
+use std::alloc::{AllocError, Global};
+use std::str;
+
+/// Adds where a rows file with these octets has its first fault, and what it is. Of a file without a
+/// fault nothing is added.
+pub fn add_rows_fault(alloc: Global, text: &mut Vec<u8>, octets: &[u8]) -> Result<(), AllocError> {
+    let file = match str::from_utf8(octets) {
+        Ok(file) => file,
+        Err(error) => return add_no_text(text, octets, error.valid_up_to()),
+    };
+    match Rows::read(alloc, file) {
+        Ok(_) => Ok(()),
+        Err(RowsFault::OutOfMemory) => Err(AllocError),
+        Err(fault) => text.extend_from_slice(format!(in alloc; "{fault}")?.as_bytes()),
+    }
+}
