@@ -36,3 +36,5 @@ mod serve_command;
 mod serve_paths;
 #[cfg(test)]
 mod serving;
+#[cfg(test)]
+mod show_command;

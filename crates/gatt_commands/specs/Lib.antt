@@ -16,5 +16,6 @@ pub mod Saving
 pub mod ScriptFile
 pub mod Serving
 pub mod Session
+pub mod Show
 pub mod TableFile
 pub mod Turns

@@ -25,7 +25,7 @@ pub fn read_keys<R: Read>(alloc: Global, reader: &mut R) -> Result<Keys, ShellFa
 
 /// The keys of a file with these octets, or the number of the fault for which it is refused: refused
 /// memory is a fault of the file like any other.
-fn judged_keys(alloc: Global, octets: &[u8]) -> Result<Keys, ShellFault>
+pub(crate) fn judged_keys(alloc: Global, octets: &[u8]) -> Result<Keys, ShellFault>
     ensures keys { IfOk result (λ keys. keys_in octets.now ≡ Ok keys) }
     ensures refused { IfErr result (IsKeyRefusal octets.now) }
 {

@@ -22,6 +22,7 @@ mod script_file;
 mod serve;
 mod server;
 mod session;
+mod show;
 mod table_file;
 mod told;
 
@@ -38,4 +39,5 @@ pub use rows_path::{RowsPath, RowsReader};
 pub use rows_store::RowsStore;
 pub use run::{NextPath, RunPaths, ScriptPath, run_paths, run_script};
 pub use serve::{Address, ServePaths, TURNS, serve_on, serve_paths};
+pub use show::{ShowPaths, show_files, show_paths};
 pub use table_file::read_table;

@@ -58,7 +58,7 @@ fn next_fault(fault: ShellFault) -> ShellFault
 
 /// The table of a file with these octets, or the number of the fault for which it is refused: refused
 /// memory is a fault of the file like any other.
-fn judged_table(alloc: Global, octets: &[u8]) -> Result<Table, ShellFault>
+pub(crate) fn judged_table(alloc: Global, octets: &[u8]) -> Result<Table, ShellFault>
     ensures table { IfOk result (λ table. table_in octets.now ≡ Ok table) }
     ensures refused { IfErr result (IsTableRefusal octets.now) }
 {

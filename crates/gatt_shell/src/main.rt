@@ -10,7 +10,8 @@ ghost use Rattle.gatt_commands.specs.Fault.{status_of};
 use arrayvec::ArrayVec;
 use device_host::{HostWords, Stop};
 use gatt_commands::{
-    Address, KeysPath, NextPath, RowsPath, RunPaths, ScriptPath, ServePaths, ShellFault, TablePath,
+    Address, KeysPath, NextPath, RowsPath, RunPaths, ScriptPath, ServePaths, ShellFault, ShowPaths,
+    TablePath,
 };
 use gatt_words::{Choice, HostChoice, Refusal};
 use std::fs::{File, Files};
@@ -26,6 +27,15 @@ fn tell(rt: &impl Eprint, fault: &ShellFault) {
     let mut text = ArrayVec::new();
     gatt_commands::text(fault, &mut text);
     let _ = rt.eprintln(str::from_utf8(text.as_slice()).unwrap_or(""));
+}
+
+/// Prints the text of a fault on standard error, and where the fault is.
+fn tell_at(rt: &impl Eprint, fault: &ShellFault, place: &[u8]) {
+    let mut text = ArrayVec::new();
+    gatt_commands::text(fault, &mut text);
+    let _ = rt.eprint(str::from_utf8(text.as_slice()).unwrap_or(""));
+    let _ = rt.eprint(": ");
+    let _ = rt.eprintln(str::from_utf8(place).unwrap_or(""));
 }
 
 /// The status of a command that has ended, of which a fault is told.
@@ -94,6 +104,20 @@ fn run_check(
     ensures { IfErr result IsCheckFault }
 {
     gatt_commands::check_paths(rt.alloc(), rt, table, keys, &mut io::writer(rt))
+}
+
+/// Shows a table and who may use it, and returns the status of the program. Where a file is refused,
+/// where it has its fault is told behind the number of that.
+fn run_show(rt: &(impl Files + Print + Eprint + AllocGlobal), paths: ShowPaths<'_>) -> u8 {
+    let mut place = Vec::new(rt.alloc());
+    let ran = gatt_commands::show_paths(rt.alloc(), rt, paths, &mut io::writer(rt), &mut place);
+    if let Err(fault) = &ran
+        && !place.is_empty()
+    {
+        tell_at(rt, fault, place.as_slice());
+        return gatt_commands::status(fault);
+    }
+    exit_status(rt, ran)
 }
 
 /// Runs a script, and prints what its lines bring, which is written out at each line feed and at
@@ -165,6 +189,14 @@ fn carry_out(
         Choice::Att => exit_status(rt, run_att(rt)),
         Choice::Check { table, keys } => {
             exit_status(rt, run_check(rt, TablePath(table), KeysPath(keys)))
+        }
+        Choice::Show { table, keys, rows } => {
+            let paths = ShowPaths {
+                table: TablePath(table),
+                keys: keys.map(KeysPath),
+                rows: RowsPath(rows),
+            };
+            run_show(rt, paths)
         }
         Choice::Run {
             table,

@@ -29,6 +29,19 @@ pub enum Level {
     Properties,
 }
 
+impl Level {
+    /// The key of the array.
+    pub fn key(self) -> &'static str {
+        match self {
+            Level::Services => "service",
+            Level::Includes => "include",
+            Level::Characteristics => "characteristic",
+            Level::Descriptors => "descriptor",
+            Level::Properties => "properties",
+        }
+    }
+}
+
 /// A front of a table file: so many services, so many includes and characteristics of the last of
 /// them, and so on. The last element is the deepest one of a table that is kept.
 #[derive(Clone, Copy)]
@@ -102,6 +115,15 @@ impl<'a> Front<'a> {
             keep_keys(element, self.keys)?;
         }
         Ok(kept)
+    }
+
+    /// How many elements a document has at a level, of the last element in which that array stands.
+    pub fn count(&self, document: &Table, level: Level) -> Result<usize, AllocError> {
+        let mut kept = self.with(level, usize::MAX).of(document)?;
+        Ok(match self.with(level, 0).last_element(&mut kept) {
+            Some(element) => toml_tables::items(element, level.key()).len(),
+            None => 0,
+        })
     }
 
     /// Cuts the arrays of a document.

@@ -17,8 +17,6 @@ use toml::Table;
 struct Refused<'a> {
     alloc: Global,
     document: &'a Table,
-    /// No array of it has so many elements.
-    most: usize,
     /// Its first fault.
     fault: TableFault,
 }
@@ -31,25 +29,19 @@ pub fn add_table_fault(alloc: Global, text: &mut Vec<u8>, octets: &[u8]) -> Resu
         Err(error) => return add_no_text(text, octets, error.valid_up_to()),
     };
     match toml::table_from_str(alloc, file) {
-        Ok(document) => add_fault(alloc, text, &document, octets.len()),
+        Ok(document) => add_fault(alloc, text, &document),
         Err(error) => add_no_toml(text, octets, &error),
     }
 }
 
 /// Adds where a document has its first fault, and what it is.
-fn add_fault(
-    alloc: Global,
-    text: &mut Vec<u8>,
-    document: &Table,
-    most: usize,
-) -> Result<(), AllocError> {
+fn add_fault(alloc: Global, text: &mut Vec<u8>, document: &Table) -> Result<(), AllocError> {
     let Some(fault) = fault_of(alloc, document)? else {
         return Ok(());
     };
     let refused = Refused {
         alloc,
         document,
-        most,
         fault,
     };
     let front = shortest(&refused)?;
@@ -103,10 +95,10 @@ fn shortest(refused: &Refused<'_>) -> Result<Front<'static>, AllocError> {
 }
 
 /// The least count at a level with which a front has the first fault of its document, where it has
-/// not with 0, and has with any count that is large enough.
+/// not with 0, and has with all elements.
 fn least(refused: &Refused<'_>, front: &Front<'_>, level: Level) -> Result<usize, AllocError> {
     let mut without = 0;
-    let mut with = refused.most;
+    let mut with = front.count(refused.document, level)?;
     for _halving in 0..usize::BITS {
         let middle = usize::midpoint(without, with);
         if middle == without {

@@ -3,7 +3,7 @@ use Rattle.std.specs.Prelude.{◌≡◌, ℕ, List, [], codes, map, take, unwrap
 use Rattle.clap.specs.Words.{App, Row, Rule, Shape, Text, all_of, first_of, new_app, new_rule, one_of, with_rule, with_subcommand}
 use Rattle.clap.specs.declared.builder.action.ArgAction.TheVariants.{Append, Set, SetTrue}
 use Rattle.gatt_words.specs.declared.words.Choice.{Choice}
-use Rattle.gatt_words.specs.declared.words.Choice.TheVariants.{Att, Check, Run, Serve, Host}
+use Rattle.gatt_words.specs.declared.words.Choice.TheVariants.{Att, Check, Show, Run, Serve, Host}
 
 -- the command `att`, which has no argument
 abbrev pub att_shape : Shape
@@ -24,6 +24,15 @@ option_rule name = record (new_rule name) { long = Some name; action = Some Set;
 -- an option that may be given again and again
 abbrev pub list_rule : Text → Rule
 list_rule name = record (new_rule name) { long = Some name; action = Some Append; value_names = 1 }
+
+-- an argument that is a path and may be left out
+abbrev pub optional_rule : Text → Rule
+optional_rule name = record (new_rule name) { action = Some Set }
+
+-- the command `show`, of a table file, a key file that may be left out, and a rows file
+abbrev pub show_shape : Shape
+show_shape = (with_rule (with_rule (with_rule (new_app (codes "show"))
+    (file_rule (codes "TABLE"))) (optional_rule (codes "KEYS"))) (option_rule (codes "rows"))).top
 
 -- a flag, which has no value and may be left out
 abbrev pub flag_rule : Text → Rule
@@ -79,13 +88,14 @@ program_line = record { top = program_shape; subs = [] }
 
 abbrev pub command_line : App
 command_line =
-    with_subcommand (with_subcommand (with_subcommand (with_subcommand (with_subcommand program_line
-    att_shape) check_shape) run_shape) serve_shape) host_shape
+    with_subcommand (with_subcommand (with_subcommand (with_subcommand (with_subcommand (with_subcommand program_line
+    att_shape) check_shape) show_shape) run_shape) serve_shape) host_shape
 
 -- the name that chooses a command
 abbrev pub name_of : Choice → List ℕ
 name_of Att = codes "att"
 name_of (Check table keys) = codes "check"
+name_of (Show table keys rows) = codes "show"
 name_of (Run table next keys rows script notices) = codes "run"
 name_of (Serve table keys rows address) = codes "serve"
 name_of (Host words) = codes "host"
@@ -111,6 +121,10 @@ abbrev pub HasFilesOf : List Row → Choice → Type 0
 HasFilesOf arguments Att = Unit {0}
 HasFilesOf arguments (Check table keys) =
     IsGiven (codes "TABLE") arguments table.now × IsGiven (codes "KEYS") arguments keys.now
+HasFilesOf arguments (Show table keys rows) =
+    IsGiven (codes "TABLE") arguments table.now
+    × IsGivenIfAny (codes "KEYS") arguments (option_map (λ path. path.now) keys)
+    × IsGivenIfAny (codes "rows") arguments (option_map (λ path. path.now) rows)
 HasFilesOf arguments (Run table next keys rows script notices) =
     IsGiven (codes "TABLE") arguments table.now × IsGiven (codes "KEYS") arguments keys.now
     × IsGiven (codes "SCRIPT") arguments script.now

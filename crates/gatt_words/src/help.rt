@@ -54,6 +54,24 @@ on standard error, and nothing is printed.
 
   gatt_shell check examples/door.toml examples/keys.toml";
 
+/// The name of the command `show`.
+pub const SHOW: &str = "show";
+
+/// What `show` does, in a line.
+pub const SHOW_ABOUT: &str =
+    "Show a table in words, who may use it, and where a file has its fault";
+
+/// What `show` reads and prints.
+pub const SHOW_DETAILS: &str = "\
+Show a table in words, who may use it, and where a file has its fault.
+
+For each attribute there is a line: its handle, what it is, its type with its name, how many octets
+its value may have, and what may be done with it. With KEYS it is also shown what a stranger and
+each peer with a key may read, write and hear of. The rows file is only judged. Where a file is
+refused, its first fault is told by its number, as by `check`, and then where it is and what.
+
+  gatt_shell show examples/door.toml examples/keys.toml";
+
 /// The argument of the table file.
 pub const TABLE: &str = "TABLE";
 

@@ -5,6 +5,7 @@
 mod given;
 mod help;
 mod host;
+mod show;
 mod words;
 
 pub use given::words_of;

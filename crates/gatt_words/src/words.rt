@@ -11,6 +11,7 @@ ghost use Rattle.gatt_words.specs.Refusal.{ShowsUnlessMemory, refusal_for};
 
 use crate::help;
 use crate::host::{HostChoice, host_command, hosting};
+use crate::show::{show_command, showing};
 use clap::error::ErrorKind;
 use clap::{Arg, ArgAction, ArgMatches, Command, Error};
 use std::alloc::{AllocError, Global};
@@ -26,6 +27,15 @@ pub enum Choice<'a> {
         table: &'a str,
         /// The key file.
         keys: &'a str,
+    },
+    /// Shows a table.
+    Show {
+        /// The table file.
+        table: &'a str,
+        /// The key file.
+        keys: Option<&'a str>,
+        /// The rows file.
+        rows: Option<&'a str>,
     },
     /// Runs a script.
     Run {
@@ -96,6 +106,7 @@ fn choice_in<'a>(matches: &ArgMatches<'a>) -> Result<Choice<'a>, Refusal>
     match name {
         help::ATT => Ok(Choice::Att),
         help::CHECK => checking(arguments).ok_or(Refusal::Misunderstood),
+        help::SHOW => showing(arguments).ok_or(Refusal::Misunderstood),
         help::RUN => running(arguments).ok_or(Refusal::Misunderstood),
         help::SERVE => serving(arguments).ok_or(Refusal::Misunderstood),
         help::HOST => hosting(arguments).ok_or(Refusal::Misunderstood),
@@ -351,6 +362,7 @@ fn command<'a>(alloc: Global) -> Result<Command<'a>, AllocError>
     program(alloc)?
         .subcommand(att_command(alloc))?
         .subcommand(check_command(alloc)?)?
+        .subcommand(show_command(alloc)?)?
         .subcommand(run_command(alloc)?)?
         .subcommand(serve_command(alloc)?)?
         .subcommand(host_command(alloc)?)
