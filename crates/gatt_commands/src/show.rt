@@ -7,6 +7,7 @@ ghost use Rattle.gatt_commands.specs.KeyFile.{keys_in, AreRefusedAs as KeysAreRe
 ghost use Rattle.gatt_commands.specs.RowsFile.{rows_in, AreRefusedAs, IsRowsFileFault};
 ghost use Rattle.gatt_commands.specs.Show.{AreShown, HasHolders, IsShowFault, TellsHoldersOf};
 ghost use Rattle.gatt_commands.specs.TableFile.{table_in, IsRefusedAs, IsTableFileFault};
+ghost use Rattle.gatt_commands.specs.Turns.{IsPast, OfKeys, OfRows, OfTable};
 
 use crate::check::{KeysPath, TablePath};
 use crate::fault::ShellFault;
@@ -25,8 +26,8 @@ use std::str;
 
 /// Judges a table file, a key file, if there is one, and a rows file, and prints what the table says,
 /// and who may do what where there are keys. Each file is read only once those in front of it have
-/// been accepted. Of one that is refused, where it has its fault and what that is is added to `place`,
-/// unless memory is refused.
+/// been accepted. Of one that is refused, where it has its fault and what that is is added to `place`;
+/// where memory is refused for that text, `place` is empty.
 pub fn show_files<T: Read, K: Read, R: Read, W: Write>(
     alloc: Global,
     table: &mut T,
@@ -38,17 +39,31 @@ pub fn show_files<T: Read, K: Read, R: Read, W: Write>(
     // All files were accepted, and what they say was printed.
     ensures ok { OnOk result (AreShown (T.remaining table.old) (option_map K.remaining keys.old)
         (W.contents writer.old) (W.contents writer.new)) }
-    ensures rows_judged { OnOk result
-        (IfSome (R.remaining rows.old) (λ octets. IsOk (rows_in octets))) }
-    // A file is refused for its first fault, or for want of memory, as by `check`.
+    // A file is refused for its first fault, or for want of memory, which is 10 of a table file, 8 of
+    // a key file and 4 of a rows file.
     ensures table { (number : ℕ) → result ≡ Err (ShellFault.Table number) → number ≢ 10
         → IfSome (T.remaining table.old) (λ octets. IsRefusedAs number (table_in octets)) }
     ensures keys { (number : ℕ) → result ≡ Err (ShellFault.Keys number) → number ≢ 8
         → IfSome keys.old (λ file. IfSome (K.remaining file) (λ octets. KeysAreRefusedAs number (keys_in octets))) }
     ensures rows { (number : ℕ) → result ≡ Err (ShellFault.Rows number) → number ≢ 4
         → IfSome (R.remaining rows.old) (λ octets. AreRefusedAs number (rows_in octets)) }
+    // And only where those in front of it are accepted: table, keys, rows. Then the output is written
+    // to.
+    ensures table_first { IsPast OfTable result
+        → IfSome (T.remaining table.old) (λ octets. IsOk (table_in octets)) }
+    ensures keys_second { IsPast OfKeys result
+        → IfSome keys.old (λ file. IfSome (K.remaining file) (λ octets. IsOk (keys_in octets))) }
+    ensures rows_third { IsPast OfRows result
+        → IfSome (R.remaining rows.old) (λ octets. IsOk (rows_in octets)) }
+    // Those behind it are not read.
     ensures keys_unread { (number : ℕ) → result ≡ Err (ShellFault.Table number)
         → keys.new ≡ keys.old }
+    ensures rows_unread { (number : ℕ) → result ≡ Err (ShellFault.Table number)
+        → rows.new ≡ rows.old }
+    ensures rows_unread_at_keys { (number : ℕ) → result ≡ Err (ShellFault.Keys number)
+        → rows.new ≡ rows.old }
+    // Nothing is told of files that are all accepted.
+    ensures place { IsOk result → place.new ≡ place.old }
     ensures nothing_printed { IfErr result (λ fault. fault ≢ ShellFault.Unwritten
         → Keeps (W.contents writer.old) (W.contents writer.new)) }
     ensures faults { IfErr result IsShowFault }
@@ -71,6 +86,7 @@ fn read_table_at<R: Read>(
         (λ table. IfSome (R.remaining reader.old) (λ octets. table_in octets ≡ Ok table)) }
     ensures refused { (number : ℕ) → result ≡ Err (ShellFault.Table number) → number ≢ 10
         → IfSome (R.remaining reader.old) (λ octets. IsRefusedAs number (table_in octets)) }
+    ensures place { IsOk result → place.new ≡ place.old }
     ensures faults { IfErr result IsTableFileFault }
 {
     let octets = read_all(alloc, reader)?;
@@ -95,8 +111,11 @@ fn add_keys<K: Read>(
 ) -> Result<(), ShellFault>
     ensures ok { OnOk result (HasHolders (option_map K.remaining keys.old)
         table.now text.old.items text.new.items) }
+    ensures accepted { OnOk result
+        (IfSome keys.old (λ file. IfSome (K.remaining file) (λ octets. IsOk (keys_in octets)))) }
     ensures refused { (number : ℕ) → result ≡ Err (ShellFault.Keys number) → number ≢ 8
         → IfSome keys.old (λ file. IfSome (K.remaining file) (λ octets. KeysAreRefusedAs number (keys_in octets))) }
+    ensures place { IsOk result → place.new ≡ place.old }
     ensures faults { IfErr result IsKeyFileFault }
 {
     match keys {
@@ -115,8 +134,11 @@ fn add_holders<K: Read>(
 ) -> Result<(), ShellFault>
     ensures ok { OnOk result (TellsHoldersOf (K.remaining reader.old)
         table.now text.old.items text.new.items) }
+    ensures accepted { OnOk result
+        (IfSome (K.remaining reader.old) (λ octets. IsOk (keys_in octets))) }
     ensures refused { (number : ℕ) → result ≡ Err (ShellFault.Keys number) → number ≢ 8
         → IfSome (K.remaining reader.old) (λ octets. KeysAreRefusedAs number (keys_in octets)) }
+    ensures place { IsOk result → place.new ≡ place.old }
     ensures faults { IfErr result IsKeyFileFault }
 {
     let octets = read_all(alloc, reader)?;
@@ -141,6 +163,7 @@ fn key_text(octets: &[u8]) -> Result<&str, ShellFault>
 fn judge_keys_at(alloc: Global, octets: &[u8], place: &mut Vec<u8>) -> Result<(), ShellFault>
     ensures accepted { OnOk result (IsOk (keys_in octets.now)) }
     ensures refused { IfErr result (IsKeyRefusal octets.now) }
+    ensures place { IsOk result → place.new ≡ place.old }
 {
     match judged_keys(alloc, octets) {
         Ok(_) => Ok(()),
@@ -163,6 +186,7 @@ fn judge_rows_at<R: Read>(
         (IfSome (R.remaining reader.old) (λ octets. IsOk (rows_in octets))) }
     ensures refused { (number : ℕ) → result ≡ Err (ShellFault.Rows number) → number ≢ 4
         → IfSome (R.remaining reader.old) (λ octets. AreRefusedAs number (rows_in octets)) }
+    ensures place { IsOk result → place.new ≡ place.old }
     ensures faults { IfErr result IsRowsFileFault }
 {
     let octets = read_all(alloc, reader)?;
@@ -196,6 +220,7 @@ pub fn show_paths<F: Files, W: Write>(
     writer: &mut W,
     place: &mut Vec<u8>,
 ) -> Result<(), ShellFault>
+    ensures place { IsOk result → place.new ≡ place.old }
     ensures nothing_printed { IfErr result (λ fault. fault ≢ ShellFault.Unwritten
         → Keeps (W.contents writer.old) (W.contents writer.new)) }
     ensures faults { IfErr result IsShowFault }

@@ -5,6 +5,8 @@ use Rattle.std.specs.Io.KnownBytes.{Appends}
 use Rattle.octets.specs.Number.{Octets}
 use Rattle.gatt_show.specs.Line.{shown_table}
 use Rattle.gatt_commands.specs.Show.{HasHolders}
+use Rattle.gatt_commands.specs.TableFile.{table_in}
+use Rattle.gatt_commands.proofs.RunOrders.{accepted}
 use Rattle.gatt_commands.proofs.show.show_files.Goals as goal
 
 pub returns-clause-ok : goal.returns-clause-ok
@@ -22,3 +24,6 @@ returns-clause-ok g c =
       printed = subst (Appends (g.W.Write.contents c.args.writer.now) (g.W.Write.contents c.print.new.writer)) c.as_slice.ensures.value printed;
     })
     c.print.ensures.ok
+
+pub returns-clause-table_first : goal.returns-clause-table_first
+returns-clause-table_first g c = λ past. accepted (g.T.Read.remaining c.args.table.now) table_in c.in_ok-table.table c.in_ok-table.ensures.table
