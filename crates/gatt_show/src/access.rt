@@ -25,7 +25,7 @@ pub enum Way {
 
 /// Adds what somebody with such a key, or with none, may do with the attributes of a table: the name,
 /// and in a line for each way the handles, declarations left out, and where being authorized is still
-/// needed this.
+/// needed this. On `Err` memory was refused, and the text means nothing.
 #[tactic(auto, unfolding(crate::specs::Access::holder_lines))]
 pub fn add_holder(
     text: &mut Vec<u8>,

@@ -13,7 +13,8 @@ use std::alloc::{AllocError, Global};
 use toml::Value;
 
 /// Adds what a stranger may do with the attributes of a table, and what each peer of a key file may do
-/// with each of its keys, in the order of the file.
+/// with each of its keys, in the order of the file. On `Err` memory was refused, or the text of the
+/// file is no TOML, and `text` means nothing.
 #[tactic(auto, using(crate::proofs::Worth::are_worth_it))]
 pub fn add_holders(
     alloc: Global,

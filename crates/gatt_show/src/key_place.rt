@@ -10,10 +10,10 @@ use toml::{Table, Value};
 
 /// The keys that an entry has to have, in the order in which they are missed.
 const WANTED: [&str; 7] = [
-    "ediv",
     "address",
     "kind",
     "rand",
+    "ediv",
     "ltk",
     "size",
     "authenticated",
@@ -29,7 +29,8 @@ struct Refused<'a> {
 }
 
 /// Adds where a key file with these octets has its first fault, and what it is. Of a file without a
-/// fault nothing is added.
+/// fault nothing is added. Lines, columns and elements count from 1. On `Err` memory was refused, and
+/// the text means nothing.
 pub fn add_keys_fault(alloc: Global, text: &mut Vec<u8>, octets: &[u8]) -> Result<(), AllocError> {
     let file = match str::from_utf8(octets) {
         Ok(file) => file,

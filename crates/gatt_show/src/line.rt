@@ -14,7 +14,8 @@ use att_table::{Attr, Role, Table, is_service, type_octets};
 use std::alloc::{AllocError, Global};
 
 /// Adds a line for each attribute of a table, in the order of their handles: its handle, what it is,
-/// its type with its name, how many octets its value may have, and what may be done with it.
+/// its type with its name, how many octets its value may have, and what may be done with it. On `Err`
+/// memory was refused, and the text means nothing.
 pub fn add_table(alloc: Global, text: &mut Vec<u8>, table: &Table) -> Result<(), AllocError>
     ensures ok { OnOk result (text.new.items ≡ text.old.items ++ shown_table table.now) }
 {

@@ -6,7 +6,8 @@ use std::alloc::{AllocError, Global};
 use std::str;
 
 /// Adds where a rows file with these octets has its first fault, and what it is. Of a file without a
-/// fault nothing is added.
+/// fault nothing is added. Lines and columns count from 1. On `Err` memory was refused, and the text
+/// means nothing.
 pub fn add_rows_fault(alloc: Global, text: &mut Vec<u8>, octets: &[u8]) -> Result<(), AllocError> {
     let file = match str::from_utf8(octets) {
         Ok(file) => file,

@@ -22,7 +22,8 @@ struct Refused<'a> {
 }
 
 /// Adds where a table file with these octets has its first fault, and what it is. Of a file without a
-/// fault nothing is added.
+/// fault nothing is added. Lines, columns and elements count from 1. On `Err` memory was refused, and
+/// the text means nothing.
 pub fn add_table_fault(alloc: Global, text: &mut Vec<u8>, octets: &[u8]) -> Result<(), AllocError> {
     let file = match str::from_utf8(octets) {
         Ok(file) => file,

@@ -228,6 +228,17 @@ const KEYS: &[(&str, &str)] = &[
     (
         r#"
         [[key]]
+        kind = "random"
+        rand = "0101010101010101"
+        ltk = "ff112233445566778899aabbccddeeff"
+        size = 16
+        authenticated = true
+        "#,
+        "key 2, address: a key that has to be there is not",
+    ),
+    (
+        r#"
+        [[key]]
         address = "c0:00:00:00:02"
         kind = "random"
         rand = "0101010101010101"
