@@ -6,9 +6,7 @@ mod begun;
 mod capture;
 mod packet;
 mod record;
-mod tapped;
 
 pub use capture::{Capture, CaptureFault};
 pub use packet::LARGEST;
 pub use record::Direction;
-pub use tapped::Tapped;
