@@ -52,7 +52,7 @@ same_needed (x ∷ octets) more count all is =
     (same_acl octets more count behind) (same_behind_two octets more count behind) (same_event octets more count behind) is
 
 packet_needed : (packet more : Octets) → IsPacket packet → needed_of (packet ++ more) ≡ Some (length packet)
-packet_needed packet more is = same_needed packet more (length packet) refl is
+packet_needed packet more is = same_needed packet more (length packet) refl is.0
 
 -- a packet that is unfinished does not begin with one that is whole
 not_whole : {A : Type 0} (left packet more : Octets) → IsUnfinished left → IsPacket packet → left ≡ packet ++ more → A

@@ -29,9 +29,9 @@ needed_of (indicator ∷ octets) =
     else if indicator == EVENT then Some (event_needed octets)
     else None
 
--- these octets are one packet, all of it
+-- these octets are one packet of at most 1,029 octets, all of it
 abbrev pub IsPacket : Octets → Type 0
-IsPacket octets = needed_of octets ≡ Some (length octets)
+IsPacket octets = (needed_of octets ≡ Some (length octets)) × (length octets ≤ 1029)
 
 -- these octets begin a packet of at most 1,029 octets, which lacks some
 pub record IsUnfinished (octets : Octets) : Type 0 where

@@ -1,5 +1,5 @@
 -- A capture in the form of btsnoop: the numbers are written with their highest octet first.
-use Rattle.std.specs.Prelude.{◌≡◌, ℕ, ◌+◌, ◌%◌, ◌^◌, ◌==◌, if◌then◌else◌, List, [], ◌∷◌, ◌++◌, length}
+use Rattle.std.specs.Prelude.{◌≡◌, ℕ, ◌+◌, ◌*◌, ◌%◌, ◌^◌, ◌==◌, if◌then◌else◌, List, [], ◌∷◌, ◌++◌, length}
 use Rattle.std.specs.Int.{w32, w64, to_be_bytes}
 use Rattle.std.specs.List.{flat_map}
 use Rattle.octets.specs.Number.{Octets}
@@ -28,16 +28,17 @@ kind_flag [] = 0
 abbrev pub flags_of : Direction → Octets → ℕ
 flags_of direction packet = direction_flag direction + kind_flag packet
 
--- the microseconds from the start of the year 0 to that of 1970
+-- the microseconds from the start of the year 0 to that of 1970, as readers of btsnoop take them: of 719,540 days, twelve more
+-- than by the Gregorian calendar, since in that of Symbian each fourth year before 1600 is a leap year
 abbrev pub epoch : ℕ
-epoch = 0x00DCDDB30F2F8000
+epoch = 719540 * 86400 * 1000000
 
 -- a time in microseconds since the start of 1970, as it is written
 abbrev pub timestamp : ℕ → ℕ
 timestamp time = (time + epoch) % 2 ^ 64
 
--- what stands before a packet: how many octets it has, and how many of them follow, which are all; its flags; how many
--- packets were dropped before it, which is none; and its time
+-- what stands before a packet: how many octets it has, and how many of them follow, which are all; its flags; a count of
+-- packets that were dropped, which is 0 since they are not counted; and its time
 unfoldable pub header_of : Direction → ℕ → Octets → Octets
 header_of direction time packet =
     to_be_bytes w32 (length packet) ++ to_be_bytes w32 (length packet) ++ to_be_bytes w32 (flags_of direction packet)

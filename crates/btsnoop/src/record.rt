@@ -13,8 +13,9 @@ use octets::{Failed, Sink, write_all};
 /// Identification, version 1, and the data link of H4 packets: 1002.
 const FILE_HEADER: [u8; 16] = *b"btsnoop\0\0\0\0\x01\0\0\x03\xea";
 
-/// The microseconds from the start of the year 0 to that of 1970.
-const EPOCH: u64 = 0x00DC_DDB3_0F2F_8000;
+/// The microseconds from the start of the year 0 to that of 1970, as readers of btsnoop take them: of
+/// 719,540 days, twelve more than by the Gregorian calendar.
+const EPOCH: u64 = 719_540 * 86_400 * 1_000_000;
 
 /// The octets of a record before its packet.
 const HEADER: usize = 24;
