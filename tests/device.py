@@ -364,6 +364,22 @@ def once(folder):
     controller.close()
 
 
+def a_file_in_the_way(folder):
+    """A file where an application is to connect stays what it is; a socket that was left behind goes."""
+    path = f"{folder}/way"
+    with open(path, "w") as file:
+        file.write("kept")
+    device = Device(*DOOR, "--listen", "127.0.0.1:0", "--application", path)
+    check("a file in the way", 2, device.process.wait(PATIENCE))
+    check("is kept", "kept", text_of(path))
+    os.remove(path)
+    for _ in range(2):
+        device = Device(*DOOR, "--listen", "127.0.0.1:0", "--application", path)
+        device.said("ready")
+        check("a socket that was left behind", "+ waiting", Application(path).line())
+        device.end()
+
+
 def words(folder):
     """What is no command."""
     for given, status in [
@@ -540,8 +556,8 @@ def main():
     with tempfile.TemporaryDirectory() as folder:
         later = a_bell(folder)
         plays = (
-            a_day, a_stranger, a_listener, a_serial_line, a_lock, a_visit, once, words, unknown, values, slots, a_full_disk,
-            floods, idle,
+            a_day, a_stranger, a_listener, a_serial_line, a_lock, a_visit, a_file_in_the_way, once, words, unknown, values, slots,
+            a_full_disk, floods, idle,
         )
         for play in plays:
             try:

@@ -9,7 +9,7 @@ use std::alloc::Global;
 use std::fs::{Files, Permissions};
 use std::io::{ErrorKind, Read, Write};
 use std::net::{Net, SocketAddr, TcpListener, TcpStream};
-use std::os::unix::fs::PermissionsExt;
+use std::os::unix::fs::{FileTypeExt, PermissionsExt};
 use std::os::unix::net::{UnixListener, UnixStream};
 use std::{fs, io};
 
@@ -89,8 +89,8 @@ impl Application {
         }
     }
 
-    /// Listens at a path, where a socket that was left behind is removed first. Nobody but the
-    /// owner may connect.
+    /// Listens at a path, where a socket that was left behind is removed first; another file is left
+    /// alone, and nothing is listened for. Nobody but the owner may connect.
     pub(crate) fn listen_at_path<R: Files + Net>(
         &mut self,
         rt: &R,
@@ -100,7 +100,7 @@ impl Application {
         if UnixStream::connect(rt, path).is_ok() {
             return Err(io::Error::from(ErrorKind::AddrInUse));
         }
-        let _ = fs::remove_file(rt, path);
+        remove_left_socket(rt, path);
         let listener = UnixListener::bind(rt, path)?;
         fs::set_permissions(rt, path, Permissions::from_mode(OWNER_ALONE))?;
         listener.set_nonblocking(true)?;
@@ -252,6 +252,15 @@ impl Application {
                     }
                 },
             }
+        }
+    }
+}
+
+/// Removes a socket at a path, and nothing else.
+fn remove_left_socket<R: Files>(rt: &R, path: &str) {
+    if let Ok(found) = fs::symlink_metadata(rt, path) {
+        if found.file_type().is_socket() {
+            let _ = fs::remove_file(rt, path);
         }
     }
 }
