@@ -11,8 +11,8 @@ use std::time::{Clock, Duration};
 /// How long a read may take that was said to be ready, in milliseconds.
 const READ_TIME: u64 = 1;
 
-/// How long a controller may take nothing, or less than all that there is for it, in milliseconds,
-/// before it is given up.
+/// How long a controller may take over all that there is for it, in milliseconds. A write that is
+/// begun in that time may take as long itself, so one that is too slow is given up within twice that.
 const WRITE_TIME: u64 = 5_000;
 
 /// The way to a controller and back.
@@ -61,18 +61,15 @@ impl Stream {
         log: &Log<'_, R>,
     ) -> io::Result<()> {
         let mut rest = octets;
-        let mut begun = None;
+        let begun = log.now();
         for _write in 0..u64::MAX {
             let count = self.write_once(rest)?;
             rest = rest.split_at(count.min(rest.len())).1;
             if rest.is_empty() {
                 return Ok(());
             }
-            let now = log.now();
-            match begun {
-                None => begun = Some(now),
-                Some(begun) if now.saturating_sub(begun) < WRITE_TIME => {}
-                Some(_) => return Err(io::Error::from(ErrorKind::TimedOut)),
+            if log.now().saturating_sub(begun) >= WRITE_TIME {
+                return Err(io::Error::from(ErrorKind::TimedOut));
             }
         }
         Ok(())
