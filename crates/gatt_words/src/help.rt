@@ -17,7 +17,7 @@ Exit status:
    0  the work is done, or help or the version was asked for
    1  a file is refused, or cannot be read or written
    2  a fault in a run
-  64  the words of the command line are not understood (nothing is printed)";
+  64  the words of the command line are not understood";
 
 /// The name of the command `att`.
 pub const ATT: &str = "att";
@@ -156,6 +156,18 @@ pub const UUID: &str = "UUID";
 
 /// What stands for the value of an option that names a file.
 pub const FILE: &str = "FILE";
+
+/// The same of a socket or a line.
+pub const PATH: &str = "PATH";
+
+/// The same of a text.
+pub const TEXT: &str = "TEXT";
+
+/// The same of a number.
+pub const N: &str = "N";
+
+/// The same of a time.
+pub const SECONDS: &str = "SECONDS";
 
 /// The name of the command `host`.
 pub const HOST: &str = "host";

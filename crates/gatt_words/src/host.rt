@@ -114,7 +114,7 @@ fn host_files_command<'a>(alloc: Global) -> Result<Command<'a>, AllocError>
         .after_help(help::STATUSES);
     let command = with_file(alloc, command, help::TABLE, help::TABLE_ABOUT)?;
     let command = with_file(alloc, command, help::KEYS, help::KEYS_ABOUT)?;
-    let command = with_option(alloc, command, help::ROWS, help::ROWS_ABOUT)?;
+    let command = with_option(alloc, command, help::ROWS, help::FILE, help::ROWS_ABOUT)?;
     with_flag(alloc, command, help::DROP_UNKNOWN, help::DROP_UNKNOWN_ABOUT)
 }
 
@@ -124,14 +124,33 @@ fn host_ways_command<'a>(alloc: Global) -> Result<Command<'a>, AllocError>
     ensures local { IfOk result (λ command. (out-Command command).has_globals ≡ false) }
 {
     let command = host_files_command(alloc)?;
-    let command = with_option(alloc, command, help::LISTEN, help::LISTEN_ABOUT)?;
-    let command = with_option(alloc, command, help::CONNECT, help::CONNECT_ABOUT)?;
-    let command = with_option(alloc, command, help::SERIAL, help::SERIAL_ABOUT)?;
-    let command = with_option(alloc, command, help::APPLICATION, help::APPLICATION_ABOUT)?;
+    let command = with_option(
+        alloc,
+        command,
+        help::LISTEN,
+        help::ADDRESS,
+        help::LISTEN_ABOUT,
+    )?;
+    let command = with_option(
+        alloc,
+        command,
+        help::CONNECT,
+        help::ADDRESS,
+        help::CONNECT_ABOUT,
+    )?;
+    let command = with_option(alloc, command, help::SERIAL, help::PATH, help::SERIAL_ABOUT)?;
+    let command = with_option(
+        alloc,
+        command,
+        help::APPLICATION,
+        help::PATH,
+        help::APPLICATION_ABOUT,
+    )?;
     with_option(
         alloc,
         command,
         help::APPLICATION_PORT,
+        help::ADDRESS,
         help::APPLICATION_PORT_ABOUT,
     )
 }
@@ -142,12 +161,13 @@ fn host_radio_command<'a>(alloc: Global) -> Result<Command<'a>, AllocError>
     ensures local { IfOk result (λ command. (out-Command command).has_globals ≡ false) }
 {
     let command = host_ways_command(alloc)?;
-    let command = with_option(alloc, command, help::NAME, help::NAME_ABOUT)?;
+    let command = with_option(alloc, command, help::NAME, help::TEXT, help::NAME_ABOUT)?;
     let command = with_list(alloc, command, help::ADVERTISE, help::ADVERTISE_ABOUT)?;
     with_option(
         alloc,
         command,
         help::RANDOM_ADDRESS,
+        help::ADDRESS,
         help::RANDOM_ADDRESS_ABOUT,
     )
 }
@@ -158,7 +178,13 @@ fn host_records_command<'a>(alloc: Global) -> Result<Command<'a>, AllocError>
     ensures local { IfOk result (λ command. (out-Command command).has_globals ≡ false) }
 {
     let command = host_radio_command(alloc)?;
-    let command = with_option(alloc, command, help::CAPTURE, help::CAPTURE_ABOUT)?;
+    let command = with_option(
+        alloc,
+        command,
+        help::CAPTURE,
+        help::FILE,
+        help::CAPTURE_ABOUT,
+    )?;
     with_flag(alloc, command, help::LOG_VALUES, help::LOG_VALUES_ABOUT)
 }
 
@@ -168,7 +194,7 @@ pub(crate) fn host_command<'a>(alloc: Global) -> Result<Command<'a>, AllocError>
     ensures local { IfOk result (λ command. (out-Command command).has_globals ≡ false) }
 {
     let command = host_records_command(alloc)?;
-    let command = with_option(alloc, command, help::SLOTS, help::SLOTS_ABOUT)?;
-    let command = with_option(alloc, command, help::IDLE, help::IDLE_ABOUT)?;
+    let command = with_option(alloc, command, help::SLOTS, help::N, help::SLOTS_ABOUT)?;
+    let command = with_option(alloc, command, help::IDLE, help::SECONDS, help::IDLE_ABOUT)?;
     with_flag(alloc, command, help::ONCE, help::ONCE_ABOUT)
 }

@@ -59,5 +59,5 @@ pub(crate) fn show_command<'a>(alloc: Global) -> Result<Command<'a>, AllocError>
         .after_help(help::STATUSES);
     let command = with_file(alloc, command, help::TABLE, help::TABLE_ABOUT)?;
     let command = with_optional(alloc, command, help::KEYS, help::KEYS_ABOUT)?;
-    with_option(alloc, command, help::ROWS, help::ROWS_ABOUT)
+    with_option(alloc, command, help::ROWS, help::FILE, help::ROWS_ABOUT)
 }

@@ -219,24 +219,25 @@ fn check_command<'a>(alloc: Global) -> Result<Command<'a>, AllocError>
     with_file(alloc, command, help::KEYS, help::KEYS_ABOUT)
 }
 
-/// An option that names a file, and may be left out.
-fn file_option<'a>(alloc: Global, name: &'a str, about: &'a str) -> Arg<'a>
+/// An option that has a value, and may be left out.
+fn option<'a>(alloc: Global, name: &'a str, value: &'a str, about: &'a str) -> Arg<'a>
     ensures rule { rule_of result ≡ option_rule name.entry.now }
     ensures plain { IsPlainArg result }
     ensures local { result.global ≡ false }
 {
     Arg::new(alloc, name)
         .long(name)
-        .value_name(help::FILE)
+        .value_name(value)
         .help(about)
         .action(ArgAction::Set)
 }
 
-/// The command with one more option, which names a file.
+/// The command with one more option, which has a value.
 pub(crate) fn with_option<'a>(
     alloc: Global,
     command: Command<'a>,
     name: &'a str,
+    value: &'a str,
     about: &'a str,
 ) -> Result<Command<'a>, AllocError>
     ensures app { IfOk result
@@ -244,7 +245,7 @@ pub(crate) fn with_option<'a>(
     ensures local { IfOk result
         (λ added. (out-Command added).has_globals ≡ (out-Command command.entry).has_globals) }
 {
-    command.arg(file_option(alloc, name, about))
+    command.arg(option(alloc, name, value, about))
 }
 
 /// An option that may be given again and again.
@@ -322,8 +323,8 @@ fn run_command<'a>(alloc: Global) -> Result<Command<'a>, AllocError>
     ensures local { IfOk result (λ command. (out-Command command).has_globals ≡ false) }
 {
     let command = run_files_command(alloc)?;
-    let command = with_option(alloc, command, help::ROWS, help::ROWS_ABOUT)?;
-    let command = with_option(alloc, command, help::NEXT, help::NEXT_ABOUT)?;
+    let command = with_option(alloc, command, help::ROWS, help::FILE, help::ROWS_ABOUT)?;
+    let command = with_option(alloc, command, help::NEXT, help::FILE, help::NEXT_ABOUT)?;
     with_flag(alloc, command, help::NOTICES, help::NOTICES_ABOUT)
 }
 
@@ -339,7 +340,7 @@ fn serve_command<'a>(alloc: Global) -> Result<Command<'a>, AllocError>
     let command = with_file(alloc, command, help::TABLE, help::TABLE_ABOUT)?;
     let command = with_file(alloc, command, help::KEYS, help::KEYS_ABOUT)?;
     let command = with_file(alloc, command, help::ADDRESS, help::ADDRESS_ABOUT)?;
-    with_option(alloc, command, help::ROWS, help::ROWS_ABOUT)
+    with_option(alloc, command, help::ROWS, help::FILE, help::ROWS_ABOUT)
 }
 
 /// The program without its commands, of which one has to be named.
