@@ -10,6 +10,11 @@ pub(crate) type Data = ArrayVec<u8, 31>;
 /// Flags for general discovery, without BR/EDR.
 const FLAGS: [u8; 3] = [0x02, 0x01, 0x06];
 
+/// A UUID of 16 bits is this one, with them from bit 96 on. Core 5.0, Vol 3 Part B, 2.5.1.
+const BASE_UUID: u128 = 0x0000_0000_0000_1000_8000_0080_5F9B_34FB;
+
+const BELOW_BIT_96: u128 = 0xFFFF_FFFF_FFFF_FFFF_FFFF_FFFF;
+
 /// The types of data.
 const SERVICES_OF_16_BITS: u8 = 0x03;
 
@@ -46,9 +51,13 @@ fn add_service(
         let [high, low] = octets;
         return short.try_extend_from_slice(&[low, high]).ok();
     }
-    let uuid = Uuid::parse_str(word).ok()?;
-    long.try_extend_from_slice(&uuid.as_u128().to_le_bytes())
-        .ok()
+    let uuid = Uuid::parse_str(word).ok()?.as_u128();
+    match u16::try_from(uuid >> 96) {
+        Ok(bits) if uuid & BELOW_BIT_96 == BASE_UUID => {
+            short.try_extend_from_slice(&bits.to_le_bytes()).ok()
+        }
+        _ => long.try_extend_from_slice(&uuid.to_le_bytes()).ok(),
+    }
 }
 
 /// Adds a part with its length and its type, unless it is empty.

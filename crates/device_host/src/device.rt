@@ -55,6 +55,8 @@ pub(crate) struct Device<'a, R> {
     pub(crate) is_ending: bool,
     /// Whether it was read in the turn before.
     pub(crate) was_read: bool,
+    /// Whether it is logged that no controller is reached.
+    pub(crate) is_missed: bool,
     /// When a controller is tried again, in milliseconds.
     pub(crate) retry: u64,
     /// The time that the host was told last, in milliseconds.
@@ -84,7 +86,11 @@ impl<
 
     /// Waits until something is to be done.
     fn wait(&mut self, deadline: Option<u64>) {
+        let was_there = self.application.is_there();
         self.application.fill();
+        if was_there && !self.application.is_there() {
+            self.log.say("application gone");
+        }
         let timeout = self.timeout(deadline);
         let Ok(ready) = self.waiting.wait(timeout) else {
             return;
@@ -127,16 +133,26 @@ impl<
         match reached {
             Ok(Some(stream)) => {
                 if self.waiting.watch(&stream, Source::Controller).is_err() {
-                    self.log.say("controller: not watched");
+                    self.miss("controller: no line or socket that can be waited for");
                     return;
                 }
+                self.is_missed = false;
                 self.stream = Some(stream);
                 self.is_reached = true;
                 self.is_readable = false;
                 self.is_ending = false;
             }
+            Ok(None) if self.way.is_tried() => self.miss("controller: not there"),
             Ok(None) => {}
             Err(_) => self.log.say("controller: not accepted"),
+        }
+    }
+
+    /// Logs once why no controller is reached: it is tried again and again.
+    fn miss(&mut self, words: &str) {
+        if !self.is_missed {
+            self.is_missed = true;
+            self.log.say(words);
         }
     }
 

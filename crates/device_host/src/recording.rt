@@ -5,7 +5,11 @@ use btsnoop::{Capture, CaptureFault};
 use octets::Writer;
 use std::fs::{File, Files};
 use std::io;
+use std::os::unix::fs::OpenOptionsExt;
 use std::time::Clock;
+
+/// What the owner of a capture may do, and nobody else.
+const OWNER_ALONE: u32 = 0o600;
 
 /// A capture, if one is written.
 #[derive(Drop)]
@@ -24,9 +28,15 @@ impl Recording {
         }
     }
 
-    /// Begins a capture in a file at a path, in place of what that had.
+    /// Begins a capture in a file at a path, in place of what that had. One that is new is its owner's
+    /// alone: keys go by in it.
     pub(crate) fn begin<R: Files<File = File>>(rt: &R, path: &str) -> io::Result<Recording> {
-        let file = File::create(rt, path)?;
+        let file = File::options()
+            .write(true)
+            .create(true)
+            .truncate(true)
+            .mode(OWNER_ALONE)
+            .open(rt, path)?;
         Ok(Recording {
             capture: Some(Capture::begin(Writer::new(file))),
             is_told: false,

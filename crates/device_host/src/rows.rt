@@ -56,7 +56,7 @@ impl<'a> RowsFile<'a> {
     }
 }
 
-/// Writes a file beside another, and puts it in its place once it is on the disk.
+/// Writes a file beside another, with its permission, and puts it in its place once it is on the disk.
 fn write_in_place<R: Files<File = File>>(
     rt: &R,
     alloc: Global,
@@ -65,6 +65,9 @@ fn write_in_place<R: Files<File = File>>(
 ) -> io::Result<()> {
     let beside = format!(in alloc; "{path}.new")?;
     let mut file = File::create(rt, beside.as_str())?;
+    if let Ok(found) = fs::metadata(rt, path) {
+        fs::set_permissions(rt, beside.as_str(), found.permissions())?;
+    }
     file.write_all(text)?;
     file.sync_all()?;
     fs::rename(rt, beside.as_str(), path)?;

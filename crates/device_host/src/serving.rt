@@ -189,6 +189,7 @@ fn listening<
         is_readable: false,
         is_ending: false,
         was_read: false,
+        is_missed: false,
         retry: 0,
         time: 0,
         is_told: false,

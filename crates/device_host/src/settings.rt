@@ -133,7 +133,14 @@ fn read_address(word: Option<&str>) -> Result<Option<[u8; 6]>, &'static str> {
         return Ok(None);
     };
     match le_security::read_address(word.as_bytes()) {
-        Some(address) if address[5] >= 0xC0 => Ok(Some(address)),
+        Some(address) if is_static(&address) => Ok(Some(address)),
         _ => Err("--address: a static random address, whose first digit is c, d, e or f"),
     }
+}
+
+/// Whether a random address is a static one: its two highest bits are set, and of the others some are
+/// and some are not. Core 5.0, Vol 6 Part B, 1.3.2.1.
+fn is_static(address: &[u8; 6]) -> bool {
+    let [.., highest] = *address;
+    highest >= 0xC0 && *address != [0xFF; 6] && *address != [0, 0, 0, 0, 0, 0xC0]
 }
