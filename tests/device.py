@@ -197,6 +197,7 @@ def a_day(folder):
     went = bytes.fromhex("01030c00") + b"".join(it.received for it in day)
     came = b"".join(it.sent for it in day).replace(garbage, b"")
     is_captured("a day", capture, since, went, came)
+    check("the capture is its owner's", 0o600, os.stat(capture).st_mode & 0o777)
     device.said("capture: no packet")
     check("SIGTERM", -signal.SIGTERM, device.end(signal.SIGTERM))
     check("the rows are whole", "0 00:11:22:33:44:55 7 1\n", text_of(rows))
@@ -267,7 +268,8 @@ def a_listener(folder):
     address = "127.0.0.1:%d" % server.getsockname()[1]
     device = Device(
         *DOOR, "--connect", address, "--name", "Front door of the house", "--advertise", "180f",
-        "--advertise", "fff0", "--address", "c0:11:22:33:44:55", "--application", f"{folder}/listener.socket",
+        "--advertise", "0000fff0-0000-1000-8000-00805f9b34fb", "--address", "c0:11:22:33:44:55",
+        "--application", f"{folder}/listener.socket",
     )
     for _ in range(2):
         controller = Controller(server.accept()[0])
@@ -290,6 +292,7 @@ def a_serial_line(folder):
     device.said("ready")
     application = Application(socket_path)
     check("no line yet", "+ waiting", application.line())
+    check("which is logged", "", device.said("controller: not there"))
     for _ in range(2):
         line = SerialLine(path)
         controller = Controller(line)
@@ -389,6 +392,7 @@ def words(folder):
         (["--listen", "127.0.0.1:0", *["--advertise", "180f"] * 14], 64),
         (["--listen", "127.0.0.1:0", *["--advertise", "180f"] * 40], 64),
         (["--listen", "127.0.0.1:0", "--address", "00:11:22:33:44:55"], 64),
+        (["--listen", "127.0.0.1:0", "--address", "ff:ff:ff:ff:ff:ff"], 64),
         (["--listen", "127.0.0.1:0", "--rows", f"{folder}/none/rows"], 1),
         (["--listen", "127.0.0.1:0", "--capture", f"{folder}/none/capture"], 1),
         (["--listen", "127.0.0.1:0", "--application", f"{folder}/none/socket"], 2),
