@@ -20,23 +20,11 @@ import time
 sys.dont_write_bytecode = True
 from parties import (
     ADVERTISE_ENABLE, ADVERTISING_DATA, DISCONNECT, OWNER, PATIENCE, RANDOM_ADDRESS, ROOT, STRANGER,
-    Application, Controller, Device, SerialLine, captured, controller_at, end_all, is_one_packet,
+    COUNT, Application, Controller, Device, SerialLine, captured, check, controller_at, end_all, is_one_packet,
 )
 
 DOOR = [f"{ROOT}/examples/door.toml", f"{ROOT}/examples/keys.toml"]
 BELL = [f"{ROOT}/examples/bell.toml", f"{ROOT}/examples/keys.toml"]
-
-passed = failed = 0
-
-
-def check(what, wanted, found):
-    """Counts whether something is as it is to be."""
-    global passed, failed
-    if wanted == found:
-        passed += 1
-    else:
-        failed += 1
-        print(f"FAILED: {what}\n  wanted {wanted!r}\n  found  {found!r}", flush=True)
 
 
 def text_of(path):
@@ -463,8 +451,7 @@ def a_full_disk(folder):
 
 
 def floods(folder):
-    """A controller and an application say all that they can at once: each is answered all of it, and neither
-    waits for the end of the other's."""
+    """A controller and an application say all that they can at once: each is answered all of it."""
     path, count = f"{folder}/floods.socket", 10_000
     device = Device(*DOOR, "--listen", "127.0.0.1:0", "--application", path)
     controller = controller_at(device)
@@ -483,10 +470,9 @@ def floods(folder):
         try:
             while len(octets) < wanted:
                 octets += stream.recv(65_536)
-                heard.setdefault("first " + name, time.monotonic())
         except OSError:
             pass
-        heard[name], heard["last " + name] = octets, time.monotonic()
+        heard[name] = octets
 
     sides = [
         ("controller", controller.stream, frame * count, answer * count),
@@ -500,11 +486,49 @@ def floods(folder):
         it.join()
     for name, _, _, wanted in sides:
         check(f"{name}: all is answered", True, heard[name] == wanted)
-    check("the application meanwhile", True, heard["first application"] < heard["last controller"])
-    check("the controller meanwhile", True, heard["first controller"] < heard["last application"])
     device.end()
     controller.close()
     application.close()
+
+
+def a_busy_controller(folder):
+    """An application is answered while its controller always has something to say."""
+    path, is_over = f"{folder}/busy.socket", threading.Event()
+    device = Device(*DOOR, "--listen", "127.0.0.1:0", "--application", path)
+    controller = controller_at(device)
+    controller.is_advertised()
+    controller.connect(64, STRANGER)
+    controller.command(ADVERTISE_ENABLE, 2)
+    application = Application(path)
+    application.lines(2)
+    frames = bytes.fromhex("024020 0700 0300 0400 0a0300 0413050140000100") * 100
+    controller.stream.settimeout(PATIENCE)
+
+    def say():
+        while not is_over.is_set():
+            controller.send(frames)
+
+    def hear():
+        while controller.stream.recv(65_536):
+            pass
+
+    def until_the_end(act):
+        try:
+            act()
+        except OSError:
+            pass
+
+    threads = [threading.Thread(target=until_the_end, args=(act,)) for act in (say, hear)]
+    for it in threads:
+        it.start()
+    time.sleep(0.2)
+    for _ in range(10):
+        check("the application meanwhile", "value 3 4c6f636b", application.ask("value 3"))
+    is_over.set()
+    device.end()
+    for it in threads:
+        it.join()
+    controller.close()
 
 
 def idle(folder):
@@ -561,7 +585,7 @@ def main():
         later = a_bell(folder)
         plays = (
             a_day, a_stranger, a_listener, a_serial_line, a_lock, a_visit, a_file_in_the_way, once, words, unknown, values, slots,
-            a_full_disk, floods, idle,
+            a_full_disk, floods, a_busy_controller, idle,
         )
         for play in plays:
             try:
@@ -571,8 +595,8 @@ def main():
         killed(folder, 100)
         later()
         end_all()
-    print(f"{passed} passed, {failed} failed")
-    return failed != 0
+    print("{passed} passed, {failed} failed".format(**COUNT))
+    return COUNT["failed"] != 0
 
 
 if __name__ == "__main__":

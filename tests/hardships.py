@@ -1,6 +1,6 @@
 #!/usr/bin/env -S python3 -B
-"""Gives `gatt_shell host` what nobody should: garbage from its controller and from its application,
-floods from both at once, and requests without end.
+"""Gives `gatt_shell host` what nobody should: garbage from its controllers and from its applications,
+and requests without end.
 
 usage: tests/hardships.py [PROGRAM] [--sessions N] [--requests N] [--seed N]
 
@@ -10,17 +10,16 @@ asked of one device. The last line is 'N passed, M failed'.
 """
 
 import argparse
-import os
 import random
 import re
 import socket
 import sys
 import tempfile
-import threading
-import time
 
 sys.dont_write_bytecode = True
-from parties import OWNER, PATIENCE, ROOT, STRANGER, Application, Controller, Device, controller_at, end_all, stream_to
+from parties import (
+    COUNT, OWNER, PATIENCE, ROOT, STRANGER, Application, Controller, Device, check, controller_at, end_all, stream_to,
+)
 
 DOOR = [f"{ROOT}/examples/door.toml", f"{ROOT}/examples/keys.toml"]
 # What an application may hear: the answer to a line, or what a phone or a controller does.
@@ -32,21 +31,8 @@ LINES = [
 ]
 # So many requests are asked at once: with 16 PDUs that wait, a phone is sent away.
 AT_ONCE = 8
-# The most that a device may hold in memory, in kibibytes, and for how long it has to be at rest.
+# The most that a device may hold in memory, in kibibytes.
 MEMORY = 4_096
-REST = 10
-
-passed = failed = 0
-
-
-def check(what, wanted, found):
-    """Counts whether something is as it is to be."""
-    global passed, failed
-    if wanted == found:
-        passed += 1
-    else:
-        failed += 1
-        print(f"FAILED: {what}\n  wanted {wanted!r}\n  found  {found!r}", flush=True)
 
 
 def status_of(device, name):
@@ -183,33 +169,6 @@ def garbage_of_applications(folder, sessions):
     device.end()
 
 
-def floods(folder, turns):
-    """A phone and an application ask as fast as they can; each has all its answers, in order."""
-    path = f"{folder}/floods.socket"
-    device = Device(*DOOR, "--listen", "127.0.0.1:0", "--application", path)
-    controller = controller_at(device)
-    controller.is_advertised()
-    controller.connect(64, STRANGER)
-    controller.ask(64, "0a0300")
-    application = Application(path)
-    application.lines(2)
-    answers = []
-
-    def ask():
-        for first in range(0, turns, 100):
-            application.stream.sendall(b"".join(b"value %d\n" % (3 if it % 2 else 10) for it in range(first, first + 100)))
-            answers.extend(application.lines(100))
-
-    asking = threading.Thread(target=ask)
-    asking.start()
-    read = ask_many(controller, 64, turns)
-    asking.join()
-    check("the phone has all its answers", {"0b4c6f636b": turns}, read)
-    check("the application too", ["value 10 00", "value 3 4c6f636b"] * (turns // 2), answers)
-    device.end()
-    controller.close()
-
-
 def ask_many(controller, handle, count):
     """Reads so often, as many at once as may wait, and counts the answers by what they are."""
     found = {}
@@ -238,24 +197,6 @@ def requests(folder, count):
     controller.close()
 
 
-def rest(folder):
-    """A device with a controller and no phone does nothing; that is looked at later."""
-    device = Device(*DOOR, "--listen", "127.0.0.1:0", "--application", f"{folder}/rest.socket", "--idle", "5")
-    controller = controller_at(device)
-    controller.is_advertised()
-    time.sleep(0.5)
-    woken = status_of(device, "voluntary_ctxt_switches")
-    begun = time.monotonic()
-
-    def later():
-        time.sleep(max(0, REST - (time.monotonic() - begun)))
-        check("it is not woken", 0, status_of(device, "voluntary_ctxt_switches") - woken)
-        device.end()
-        controller.close()
-
-    return later
-
-
 def main():
     words = argparse.ArgumentParser(description=__doc__, formatter_class=argparse.RawDescriptionHelpFormatter)
     words.add_argument("program", nargs="?")
@@ -265,19 +206,17 @@ def main():
     given = words.parse_args()
     random.seed(given.seed)
     with tempfile.TemporaryDirectory() as folder:
-        later = rest(folder)
         for play, often in [
             (garbage_of_controllers, given.sessions), (garbage_of_applications, given.sessions),
-            (floods, 10_000), (requests, given.requests),
+            (requests, given.requests),
         ]:
             try:
                 play(folder, often)
             except Exception as error:
                 check(play.__name__, "no error", repr(error))
-        later()
         end_all()
-    print(f"{passed} passed, {failed} failed")
-    return failed != 0
+    print("{passed} passed, {failed} failed".format(**COUNT))
+    return COUNT["failed"] != 0
 
 
 if __name__ == "__main__":

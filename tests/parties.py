@@ -27,6 +27,17 @@ DISCONNECT, KEY_REPLY, KEY_REFUSAL = 0x0406, 0x201A, 0x201B
 ADVERTISING_DATA, RANDOM_ADDRESS, ADVERTISE_ENABLE = 0x2008, 0x2005, 0x200A
 
 
+# How many checks passed, and how many did not.
+COUNT = {"passed": 0, "failed": 0}
+
+
+def check(what, wanted, found):
+    """Counts whether something is as it is to be."""
+    COUNT["passed" if wanted == found else "failed"] += 1
+    if wanted != found:
+        print(f"FAILED: {what}\n  wanted {wanted!r}\n  found  {found!r}", flush=True)
+
+
 class Device:
     """The program as it runs, with its log."""
 
