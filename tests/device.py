@@ -450,9 +450,8 @@ def a_full_disk(folder):
     controller.close()
 
 
-def floods(folder):
-    """A controller and an application say all that they can at once: each is answered all of it."""
-    path, count = f"{folder}/floods.socket", 10_000
+def with_a_stranger(path):
+    """A device with a controller, a stranger that has come, and an application at a path that has heard so."""
     device = Device(*DOOR, "--listen", "127.0.0.1:0", "--application", path)
     controller = controller_at(device)
     controller.is_advertised()
@@ -460,6 +459,13 @@ def floods(folder):
     controller.command(ADVERTISE_ENABLE, 2)
     application = Application(path)
     application.lines(2)
+    return device, controller, application
+
+
+def floods(folder):
+    """A controller and an application say all that they can at once: each is answered all of it."""
+    count = 10_000
+    device, controller, application = with_a_stranger(f"{folder}/floods.socket")
     frame = bytes.fromhex("024020 0700 0300 0400 0a0300 0413050140000100")
     answer = bytes.fromhex("024000 0900 0500 0400 0b4c6f636b")
     heard = {}
@@ -493,14 +499,8 @@ def floods(folder):
 
 def a_busy_controller(folder):
     """An application is answered while its controller always has something to say."""
-    path, is_over = f"{folder}/busy.socket", threading.Event()
-    device = Device(*DOOR, "--listen", "127.0.0.1:0", "--application", path)
-    controller = controller_at(device)
-    controller.is_advertised()
-    controller.connect(64, STRANGER)
-    controller.command(ADVERTISE_ENABLE, 2)
-    application = Application(path)
-    application.lines(2)
+    is_over = threading.Event()
+    device, controller, application = with_a_stranger(f"{folder}/busy.socket")
     frames = bytes.fromhex("024020 0700 0300 0400 0a0300 0413050140000100") * 100
     controller.stream.settimeout(PATIENCE)
 
