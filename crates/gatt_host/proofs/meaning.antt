@@ -1,5 +1,5 @@
+pub mod Staying
 pub mod Together
-pub mod Reported
-pub mod Arriving
+pub mod Leads
 pub mod Beginning
 pub mod Drained

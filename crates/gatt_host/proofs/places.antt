@@ -1,3 +1,4 @@
+pub mod Crediting
 pub mod Places
 pub mod Entering
 pub mod Refusing

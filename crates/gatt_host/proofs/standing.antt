@@ -7,6 +7,7 @@ pub mod ForAll
 pub mod Happenings
 pub mod Holding
 pub mod Links
+pub mod Names
 pub mod OneSlot
 pub mod OwnEvents
 pub mod Replacements

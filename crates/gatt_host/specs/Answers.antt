@@ -4,9 +4,10 @@ use Rattle.std.specs.Prelude.{ℕ, Bool, true, false, ◌&&◌, if◌then◌else
 use Rattle.gatt_host.specs.declared.host_fault.HostFault.{HostFault}
 use Rattle.gatt_host.specs.declared.host_fault.HostFault.TheVariants as stop
 use Rattle.gatt_laws.specs.machine.Controller.{Controller, is_ready}
-use Rattle.gatt_laws.specs.machine.Event.{Event}
+use Rattle.gatt_laws.specs.machine.Event.{Happening}
 use Rattle.gatt_laws.specs.machine.Packets.{Fault, Desync, BadEventCode, InitFailed, Hardware}
 use Rattle.gatt_laws.specs.machine.State.{is_refusal}
+use Rattle.gatt_slots.specs.Slots.{Place}
 use Rattle.le_h4.specs.declared.deframer.H4Fault.{H4Fault}
 use Rattle.le_h4.specs.declared.deframer.H4Fault.TheVariants as lost
 use Rattle.le_hci.specs.declared.init.Init.{Init}
@@ -18,9 +19,9 @@ told_fault (BadEventCode code) = stop.BadEvent code
 told_fault (InitFailed fault) = stop.Init fault
 told_fault (Hardware code) = stop.Hardware code
 
--- why the host stops where a packet means no event
-abbrev pub stop_of : Result Event Fault → Option HostFault
-stop_of (Ok event) = None
+-- why the host stops where a packet means nothing that happens
+abbrev pub stop_of : Result (Happening Place) Fault → Option HostFault
+stop_of (Ok happening) = None
 stop_of (Err fault) = Some (told_fault fault)
 
 abbrev pub following_stop : Result (Option Init) Fault → Option HostFault

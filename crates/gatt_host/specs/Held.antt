@@ -1,5 +1,5 @@
 -- What a host holds, and what each event makes of it before anything goes out.
-use Rattle.std.specs.Prelude.{◌≡◌, ℕ, ◌&&◌, if◌then◌else◌, List, [], ◌∷◌, take, map, length, Option, Some, None, Result, Ok}
+use Rattle.std.specs.Prelude.{◌≡◌, ℕ, ◌&&◌, if◌then◌else◌, List, [], ◌∷◌, take, map, length, Option, Some, None}
 use Rattle.std.specs.Option.{option_map_or, option_to_list}
 use Rattle.att_numbers.specs.Types.{Handle, Mtu, Row}
 use Rattle.att_table.specs.Changer.{changer_of}
@@ -9,21 +9,19 @@ use Rattle.gatt_host.specs.declared.last_event.LastEvent.{LastEvent}
 use Rattle.gatt_host.specs.declared.last_event.LastEvent.TheVariants as last
 use Rattle.gatt_host.specs.GoingOut.{controller_then, next_out, slots_then}
 use Rattle.gatt_laws.specs.machine.Controller.{Controller, is_ready}
-use Rattle.gatt_laws.specs.machine.Event.{Event, Connected, Gone, Credit}
-use Rattle.gatt_laws.specs.machine.Packets.{Fault}
+use Rattle.gatt_laws.specs.machine.Event.{Connected, Gone}
 use Rattle.gatt_laws.specs.machine.Room.{share_of, size_of}
 use Rattle.gatt_laws.specs.machine.State.{announced, told_of}
 use Rattle.gatt_laws.specs.machine.Turn.{channel_answer, gained_encryption, remote_user_terminated}
 use Rattle.gatt_slots.specs.Kept.{Kept}
 use Rattle.gatt_slots.specs.declared.request.Brought.{Brought}
 use Rattle.gatt_slots.specs.Request.{table_after, bond_served, confirmed_of, kept_served, handles_of, is_full}
-use Rattle.gatt_slots.specs.Slots.{at_place, kept_at as kept_at_place, late_handles, all_heard, all_after_time, all_after_table, after_entries, slots_at}
+use Rattle.gatt_slots.specs.Slots.{Place, at_place, kept_at as kept_at_place, late_handles, all_heard, all_after_time, all_after_table, after_completions, slots_at}
 use Rattle.gatt_slots.specs.Turn as turn
 use Rattle.gatt_slots.specs.Turn.{after_authorizing, after_ending, after_key_asked, after_link_step, after_signal, has_no_room}
 use Rattle.gatt_subs.specs.Changes.{with_changes_owed}
 use Rattle.gatt_subs.specs.Rows.{Subscriptions, row_of, owes, kept_bond, ChangesBond}
 use Rattle.le_acl.specs.Shares.{usable}
-use Rattle.le_hci.specs.declared.event.CompletedPackets.{CompletedPackets}
 use Rattle.le_hci.specs.declared.init.Init.{Init}
 use Rattle.le_hci.specs.declared.init.Init.TheVariants.{Ready}
 use Rattle.le_hci.specs.declared.peer.Peer.{Peer}
@@ -145,8 +143,8 @@ pub record Serves (place : ℕ) (pdu : Octets) (kept : Kept) (old new : Held) : 
   pub bond : ChangesBond (bond_served old.table old.time old.changer (row_at old kept) pdu kept) kept.peer old.rows new.rows
 
 -- packets are completed
-abbrev pub after_completing : List CompletedPackets → Held → Held
-after_completing entries held = after_end None [] [] (record held { slots = after_entries entries held.slots })
+abbrev pub after_completing : List (Place × ℕ) → Held → Held
+after_completing entries held = after_end None [] [] (record held { slots = after_completions entries held.slots })
 
 -- a connection comes, and goes
 abbrev pub share_in : Held → ℕ
@@ -193,12 +191,6 @@ after_replacing table held =
       };
       slots = all_after_table held.table.attributes table.attributes held.slots;
     })
-
--- what an answer leads to: the event that it means, and what is held then
-pub record Credits (event : Result Event Fault) (allowed opcode : ℕ) (status : Option ℕ) (old new : Held) : Type 0 where
-  pub following : Option Init
-  pub means : event ≡ Ok (Credit allowed opcode status following)
-  pub held : new ≡ after_credit allowed opcode status following old
 
 -- what goes out next is out
 abbrev pub next_of : Held → Option Octets

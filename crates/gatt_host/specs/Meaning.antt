@@ -1,38 +1,31 @@
 -- What a packet and a call mean to a host, by what it holds.
-use Rattle.std.specs.Prelude.{◌≡◌, ℕ, ◌==◌, nat_le, ◌&&◌, is_none, if◌then◌else◌, List, set, Option, Some, None, IfSome}
-use Rattle.att_numbers.specs.Types.{Handle}
+use Rattle.std.specs.Prelude.{◌≡◌, ℕ, List, set, get_or, None, IfSome}
 use Rattle.att_table.specs.ConfigRow.{IsRowOf}
-use Rattle.att_table.specs.Table.{Contents}
 use Rattle.gatt_host.specs.Held.{Held, Serves, after_ask_key, after_authorize, after_coming, after_completing, after_credit, after_disconnect, after_going, after_link, after_nothing, after_replacing, after_signals, after_tick, after_update, kept_at, row_at}
-use Rattle.gatt_laws.specs.machine.Controller.{is_ready}
-use Rattle.gatt_laws.specs.machine.Event.{Own, Connected, Gone, KeyAsked, Encrypted, Refreshed, Asks, Signals, Authorized, Ended}
-use Rattle.gatt_laws.specs.machine.Packets.{of_octets, peripheral, last_connection_handle}
+use Rattle.gatt_laws.specs.machine.Context.{Context}
+use Rattle.gatt_laws.specs.machine.Event.{Own, Connected, Gone, KeyAsked, Encrypted, Refreshed, Asks, Signals, Authorized, Ended, Happening, Of, Completed, Credit, Update, Tick, Replaced, Nothing}
+use Rattle.gatt_laws.specs.machine.Packets.{Recombination}
 use Rattle.gatt_slots.specs.Hearing.{row_in_force}
 use Rattle.gatt_slots.specs.Kept.{Kept}
-use Rattle.gatt_slots.specs.Slots.{place_free, place_holding, place_serving}
+use Rattle.gatt_slots.specs.Slots.{Place, place_free, place_holding, place_serving}
 use Rattle.le_acl.specs.Fragment.{Fragment, Beginning, Continuation}
 use Rattle.le_acl.specs.Reassembler.{Assembly, nothing, assembled_of, with_continuation}
-use Rattle.le_hci.specs.declared.event.CompletedPackets.{CompletedPackets}
-use Rattle.le_hci.specs.declared.init.Init.{Init}
-use Rattle.le_hci.specs.declared.peer.Peer.{Peer}
-use Rattle.le_hci.specs.Event as event
-use Rattle.le_hci.specs.Event.{Reported}
 use Rattle.le_security.specs.Link.{Encryption, Refresh}
-use Rattle.octets.specs.Number.{Octets}
 
--- what happens: to the connection of a slot, one that comes to it among them; packets are completed; a command is answered; a
--- value is written, the time told, or the table replaced; or nothing that counts
-pub data Happening : Type 0 where
-  At : (place : ℕ) (own : Own) → Happening
-  Completes : (entries : List CompletedPackets) → Happening
-  Credits : (allowed opcode : ℕ) (status : Option ℕ) (following : Option Init) → Happening
-  Updates : (handle : Handle) (value : Octets) → Happening
-  Ticks : (time : ℕ) → Happening
-  Replaces : (table : Contents) → Happening
-  Passes : Happening
+-- what a host knows, with each connection at the place of its slot
+abbrev pub context_in : Held → Context Place
+context_in held = record {
+  controller = held.controller;
+  attributes = held.table.attributes;
+  changer = held.changer;
+  time = held.time;
+  serving = place_serving held.slots;
+  holding = place_holding held.slots;
+  coming = place_free held.slots;
+}
 
 -- what is held then
-abbrev pub IsAfterOwn : ℕ → Own → Held → Held → Type 0
+abbrev pub IsAfterOwn : Place → Own → Held → Held → Type 0
 IsAfterOwn place (Connected handle peer) old new = new ≡ after_coming place handle peer old
 IsAfterOwn place Gone old new = new ≡ after_going place old
 IsAfterOwn place (KeyAsked random_number diversifier) old new = new ≡ after_ask_key place random_number diversifier old
@@ -43,48 +36,21 @@ IsAfterOwn place (Signals channel payload) old new = new ≡ after_signals place
 IsAfterOwn place (Authorized until) old new = new ≡ after_authorize place until old
 IsAfterOwn place Ended old new = new ≡ after_disconnect place old
 
-abbrev pub IsAfter : Happening → Held → Held → Type 0
-IsAfter (At place own) old new = IsAfterOwn place own old new
-IsAfter (Completes entries) old new = new ≡ after_completing entries old
-IsAfter (Credits allowed opcode status following) old new = new ≡ after_credit allowed opcode status following old
-IsAfter (Updates handle value) old new = new ≡ after_update handle value old
-IsAfter (Ticks time) old new = new ≡ after_tick time old
-IsAfter (Replaces table) old new = new ≡ after_replacing table old
-IsAfter Passes old new = new ≡ after_nothing old
-
--- to the connection of a slot, if one was found
-abbrev pub at_found : Option ℕ → Own → Happening
-at_found None own = Passes
-at_found (Some place) own = At place own
-
--- what is reported of connections
-abbrev pub coming : Held → ℕ → ℕ → ℕ → Peer → Happening
-coming held status handle role peer =
-    if (status == 0) && (role == peripheral) && nat_le handle last_connection_handle && is_none (place_holding held.slots handle)
-    then at_found (place_free held.slots) (Connected handle peer) else Passes
-
-abbrev pub connection_happening : Held → Reported → Happening
-connection_happening held (event.DisconnectionComplete status handle reason) =
-    if status == 0 then at_found (place_holding held.slots handle) Gone else Passes
-connection_happening held (event.EncryptionChange status handle enabled) = at_found (place_serving held.slots handle) (Encrypted status enabled)
-connection_happening held (event.EncryptionKeyRefreshComplete status handle) = at_found (place_serving held.slots handle) (Refreshed status)
-connection_happening held (event.NumberOfCompletedPackets entries) = Completes entries
-connection_happening held (event.ConnectionComplete status handle role peer interval latency timeout clock_accuracy) =
-    coming held status handle role peer
-connection_happening held (event.LongTermKeyRequest handle random_number diversifier) =
-    at_found (place_serving held.slots handle) (KeyAsked random_number diversifier)
-connection_happening held reported = Passes
-
--- until the controller is initialised nothing that is reported of connections counts
-abbrev pub reported_happening : Held → Reported → Happening
-reported_happening held reported = if is_ready held.controller then connection_happening held reported else Passes
+abbrev pub IsAfter : Happening Place → Held → Held → Type 0
+IsAfter (Of place own) old new = IsAfterOwn place own old new
+IsAfter (Completed entries) old new = new ≡ after_completing entries old
+IsAfter (Credit allowed opcode status following) old new = new ≡ after_credit allowed opcode status following old
+IsAfter (Update handle value) old new = new ≡ after_update handle value old
+IsAfter (Tick time) old new = new ≡ after_tick time old
+IsAfter (Replaced table) old new = new ≡ after_replacing table old
+IsAfter Nothing old new = new ≡ after_nothing old
 
 -- the frames that are put together, by slots: a connection that comes begins with none
 abbrev pub Frames : Type 0
 Frames = List Assembly
 
-abbrev pub frames_after : Happening → Frames → Frames
-frames_after (At place (Connected handle peer)) frames = set frames place nothing
+abbrev pub frames_after : Happening Place → Frames → Frames
+frames_after (Of place (Connected handle peer)) frames = set frames place nothing
 frames_after happening frames = frames
 
 -- a fragment is put to those before it, and a frame that it makes whole is heard
@@ -96,12 +62,12 @@ with_fragment assembly (Continuation octets) = with_continuation assembly octets
 abbrev pub once_heard : Assembly → Assembly
 once_heard assembly = record { unfinished = assembly.unfinished; frame = None }
 
-abbrev pub frame_happening : ℕ → Option Own → Happening
-frame_happening place None = Passes
-frame_happening place (Some own) = At place own
+-- the frame that a fragment makes whole, behind what is put together
+abbrev pub recombination : Assembly → Recombination
+recombination earlier fragment = (with_fragment earlier fragment).frame
 
-abbrev pub assembly_happening : ℕ → Assembly → Happening
-assembly_happening place assembly = frame_happening place (of_octets assembly.frame)
+abbrev pub recombinations_in : Frames → Place → Recombination
+recombinations_in frames place = recombination (get_or frames place nothing)
 
 -- each row in force is one of the table
 abbrev pub HasRowsOfTheTable : Held → Type 0

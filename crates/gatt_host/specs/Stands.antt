@@ -1,5 +1,5 @@
 -- Where a host stands: what it holds is what a state of the whole machine says, but for what is still to go out.
-use Rattle.std.specs.Prelude.{◌≡◌, ℕ, ◌≤◌, true, false, is_some, if◌then◌else◌, unwrap_or, List, [], length, replicate, slice_get, Option, Some, None}
+use Rattle.std.specs.Prelude.{◌≡◌, ℕ, suc, ◌≤◌, true, false, is_some, if◌then◌else◌, unwrap_or, List, [], ◌∷◌, length, map, replicate, slice_get, Option, Some, None}
 use Rattle.std.specs.Option.{option_map_or}
 use Rattle.att_numbers.specs.Types.{Handle}
 use Rattle.att_table.specs.Changer.{changer_of}
@@ -7,27 +7,26 @@ use Rattle.att_table.specs.Table.{Contents}
 use Rattle.gatt_host.specs.Held.{Held, open_slots, kept_at, after_authorize, after_ask_key, after_coming, after_completing, after_credit, after_disconnect, after_going, after_link, after_nothing, after_replacing, after_signals, after_tick, after_update, Serves}
 use Rattle.gatt_host.specs.Notices.{last_notices}
 use Rattle.gatt_host.specs.Owing.{IsOwing}
-use Rattle.gatt_laws.specs.machine.Controller.{has_free, is_ready}
+use Rattle.gatt_laws.specs.machine.Controller.{Slots, has_free, is_ready, with_taken}
 use Rattle.gatt_laws.specs.machine.Event.{Ordinal, Event, Nothing, Tick, Update, Of, Connected, Gone, Authorized, Ended, KeyAsked, Encrypted, Refreshed, Signals, Asks, Completed, Credit, Replaced}
 use Rattle.gatt_laws.specs.machine.Input.{Item, course}
 use Rattle.gatt_laws.specs.machine.Notice.{noticed}
-use Rattle.gatt_laws.specs.machine.Packets.{completed_entries}
 use Rattle.gatt_laws.specs.machine.Part.{Part, is_live, key_of}
 use Rattle.gatt_laws.specs.machine.Room.{Bonds, Owed}
 use Rattle.gatt_laws.specs.laws.Placed.{IsPlaced}
-use Rattle.gatt_laws.specs.laws.Possible.{Possible, MayBeUpdated}
+use Rattle.gatt_laws.specs.laws.Possible.{HaveSlots, Possible, MayBeUpdated}
 use Rattle.gatt_laws.specs.laws.Queued.{HasBoundedQueues}
-use Rattle.gatt_laws.specs.laws.Settled.{IsSettled}
+use Rattle.gatt_laws.specs.laws.Renaming.{renamed_entry}
+use Rattle.gatt_laws.specs.laws.Settled.{is_slot_of, IsSettled}
 use Rattle.gatt_laws.specs.machine.Start.{Start, new_controller, state_at, first_out}
 use Rattle.gatt_laws.specs.machine.State.{State, step, out}
 use Rattle.gatt_slots.specs.Kept.{Kept}
-use Rattle.gatt_slots.specs.Slots.{place_free}
+use Rattle.gatt_slots.specs.Slots.{Place, place_free}
 use Rattle.gatt_subs.specs.declared.bond.Bond.{Bond}
 use Rattle.gatt_subs.specs.Fit.{IsListed, rows_listed}
 use Rattle.gatt_subs.specs.Rows.{Subscriptions, bond_of, row_of}
 use Rattle.le_acl.specs.Shares.{usable}
 use Rattle.le_hci.specs.declared.buffers.Buffers.{Buffers}
-use Rattle.le_hci.specs.declared.event.CompletedPackets.{CompletedPackets}
 use Rattle.le_hci.specs.declared.init.Init.{Init}
 use Rattle.le_hci.specs.declared.peer.Peer.{Peer}
 use Rattle.le_hci.specs.InitTold.{told_in}
@@ -143,10 +142,19 @@ ComingLeadsOn = (state : State) (held : Held) (place handle : ℕ) (peer : Peer)
     has_free state.slots ≡ true → place_free held.slots ≡ Some place →
     LeadsTo state (Of state.next (Connected handle peer)) (after_coming place handle peer held)
 
+-- a connection is named by the place of its slot, and the one that comes next by that of the slot that it takes
+abbrev pub place_among : Slots → Ordinal → Place
+place_among [] ordinal = 0
+place_among (slot ∷ slots) ordinal = if is_slot_of ordinal slot then 0 else suc (place_among slots ordinal)
+
+abbrev pub place_of : State → Ordinal → Place
+place_of state ordinal = place_among (with_taken state.next state.slots) ordinal
+
 -- packets of connections are completed
 abbrev pub CompletionLeadsOn : Type 0
-CompletionLeadsOn = (state : State) (held : Held) (entries : List CompletedPackets) → IsSound state → Stands state [] held →
-    is_ready state.controller ≡ true → LeadsTo state (Completed (completed_entries state entries)) (after_completing entries held)
+CompletionLeadsOn = (state : State) (held : Held) (entries : List (Ordinal × ℕ)) → IsSound state → Stands state [] held →
+    is_ready state.controller ≡ true → HaveSlots state.slots entries →
+    LeadsTo state (Completed entries) (after_completing (map (renamed_entry (place_of state)) entries) held)
 
 -- a table replaces another
 abbrev pub ReplacementLeadsOn : Type 0

@@ -4,8 +4,8 @@ ghost use Rattle.std.specs.Prelude.{◌≡◌, ◌≤◌, true, length, Err, IsO
 ghost use Rattle.att_attributes.specs.Attributes.{attribute_at};
 ghost use Rattle.att_table.specs.Changer.{changer_of};
 ghost use Rattle.att_table.specs.Table.{room_at};
-ghost use Rattle.gatt_laws.specs.machine.Calls.{has_length, same_changer, TickCall};
-ghost use Rattle.gatt_host.specs.Asked.{authorize_happening, call_happening, call_of, disconnect_happening, refused_of, replacement_happening, update_happening};
+ghost use Rattle.gatt_laws.specs.machine.Calls.{has_length, same_changer, AuthorizeCall, DisconnectCall, TickCall, UpdateCall};
+ghost use Rattle.gatt_host.specs.Asked.{call_happening, call_of, refused_of, replacement_happening};
 ghost use Rattle.gatt_host.specs.Held.{after_replacing, with_last};
 ghost use Rattle.gatt_host.specs.Meaning.{IsAfter};
 ghost use Rattle.gatt_slots.specs.Slots.{place_serving};
@@ -50,11 +50,11 @@ impl HostState {
 
     #[tactic(auto, using(crate::proofs::packets::Lengths::fits_there, crate::proofs::packets::Lengths::exact_there, crate::proofs::packets::Lengths::none_past))]
     fn update_value(&mut self, handle: u16, value: &[u8]) -> Result<(), AppFault>
-        ensures after { IsOk result → IsOkAnd
-            (update_happening handle value.now (attribute_at self.old.table.attributes handle))
+        ensures after { IsOk result
+            → IsOkAnd (call_happening self.old (UpdateCall handle value.now))
             (λ happening. IsAfter happening self.old self.new) }
-        ensures refused { IfErr result (λ fault. update_happening handle value.now
-            (attribute_at self.old.table.attributes handle) ≡ Err (refused_of fault)) }
+        ensures refused { IfErr result (λ fault. call_happening self.old
+            (UpdateCall handle value.now) ≡ Err (refused_of fault)) }
         ensures unchanged { OnErr result (self.new ≡ self.old) }
     {
         if usize::from(handle) > self.table.len() {
@@ -75,10 +75,10 @@ impl HostState {
 
     fn authorize_connection(&mut self, handle: u16, until: u64) -> Result<(), AppFault>
         ensures after { IsOk result
-            → IsOkAnd (authorize_happening until (place_serving self.old.slots handle))
+            → IsOkAnd (call_happening self.old (AuthorizeCall handle until))
             (λ happening. IsAfter happening self.old self.new) }
-        ensures refused { IfErr result (λ fault. authorize_happening until
-            (place_serving self.old.slots handle) ≡ Err (refused_of fault)) }
+        ensures refused { IfErr result (λ fault. call_happening self.old
+            (AuthorizeCall handle until) ≡ Err (refused_of fault)) }
         ensures unchanged { OnErr result (self.new ≡ self.old) }
     {
         let Some(place) = self.slots.find_serving(handle) else {
@@ -90,10 +90,10 @@ impl HostState {
 
     fn end_connection(&mut self, handle: u16) -> Result<(), AppFault>
         ensures after { IsOk result
-            → IsOkAnd (disconnect_happening (place_serving self.old.slots handle))
+            → IsOkAnd (call_happening self.old (DisconnectCall handle))
             (λ happening. IsAfter happening self.old self.new) }
-        ensures refused { IfErr result (λ fault. disconnect_happening
-            (place_serving self.old.slots handle) ≡ Err (refused_of fault)) }
+        ensures refused { IfErr result (λ fault. call_happening self.old
+            (DisconnectCall handle) ≡ Err (refused_of fault)) }
         ensures unchanged { OnErr result (self.new ≡ self.old) }
     {
         match self.slots.find_serving(handle) {

@@ -1,9 +1,10 @@
 //! The controller comes to be ready, and connections come: how many slots there are, and what a
 //! connection that takes one may have.
 
-ghost use Rattle.std.specs.Prelude.{◌≡◌, ◌<◌, ◌^◌, length, Some, IsSome, IsOk, IfErr, OnErr};
+ghost use Rattle.std.specs.Prelude.{◌≡◌, ◌<◌, ◌^◌, length, Some, IsSome, IsOk, IsOkAnd, IfErr, OnErr};
 ghost use Rattle.gatt_host.specs.Answers.{following_if, stop_of};
-ghost use Rattle.gatt_host.specs.Held.{after_coming, opened, Credits};
+ghost use Rattle.gatt_host.specs.Held.{after_coming, opened};
+ghost use Rattle.gatt_host.specs.Meaning.{IsAfter};
 ghost use Rattle.gatt_laws.specs.machine.Packets.{completed_event, status_event, status_of};
 ghost use Rattle.le_acl.specs.Shares.{acl_len, share};
 ghost use Rattle.le_hci.specs.InitTold.{told_in};
@@ -33,15 +34,16 @@ impl HostState {
     }
 
     /// A command is complete.
+    #[tactic(auto, using(crate::proofs::places::Crediting::credited))]
     pub(crate) fn completed(
         &mut self,
         allowed: u8,
         opcode: u16,
         returned: &[u8],
     ) -> Result<(), HostFault>
-        ensures credits { IsOk result → Credits
-            (completed_event self.old.controller allowed opcode returned.now) allowed opcode
-            (status_of returned.now) self.old self.new }
+        ensures after { IsOk result
+            → IsOkAnd (completed_event self.old.controller allowed opcode returned.now)
+            (λ happening. IsAfter happening self.old self.new) }
         ensures stops { IfErr result (λ fault. stop_of
             (completed_event self.old.controller allowed opcode returned.now) ≡ Some fault) }
         ensures unchanged { OnErr result (self.new ≡ self.old) }
@@ -53,10 +55,11 @@ impl HostState {
     }
 
     /// A command is under way, or refused.
+    #[tactic(auto, using(crate::proofs::places::Crediting::credited))]
     pub(crate) fn status(&mut self, status: u8, allowed: u8, opcode: u16) -> Result<(), HostFault>
-        ensures credits { IsOk result
-            → Credits (status_event self.old.controller status allowed opcode) allowed opcode
-            (Some status) self.old self.new }
+        ensures after { IsOk result
+            → IsOkAnd (status_event self.old.controller status allowed opcode)
+            (λ happening. IsAfter happening self.old self.new) }
         ensures stops { IfErr result (λ fault. stop_of
             (status_event self.old.controller status allowed opcode) ≡ Some fault) }
         ensures unchanged { OnErr result (self.new ≡ self.old) }

@@ -5,6 +5,7 @@ ghost use Rattle.gatt_laws.specs.machine.Packets.{completed_event, status_event,
 ghost use Rattle.gatt_laws.specs.machine.State.{told_of, is_refusal};
 ghost use Rattle.gatt_host.specs.Answers.{answered_by, following_if, following_stop, stop_of, told_fault};
 ghost use Rattle.gatt_host.specs.Owing.{OwesTheFirstCommand};
+ghost use Rattle.gatt_slots.specs.Slots.{Place};
 ghost use Rattle.le_hci.specs.Init.{command_awaited, first_state, outcome_of};
 ghost use Rattle.le_hci.specs.InitTold.{AreUsable, told_in};
 ghost use Rattle.le_hci.specs.declared.peer.Peer.{Peer};
@@ -113,7 +114,7 @@ impl Controller {
         returned: &[u8],
     ) -> Result<bool, HostFault>
         ensures event { IfOk result
-            (λ followed. completed_event self.old allowed opcode returned.now ≡ Ok
+            (λ followed. completed_event {C = Place} self.old allowed opcode returned.now ≡ Ok
             (Credit allowed opcode (status_of returned.now) (following_if followed self.new))) }
         ensures after { IfOk result (λ followed. self.new ≡ answered_by self.old allowed opcode
             (status_of returned.now) (following_if followed self.new)) }
@@ -135,7 +136,7 @@ impl Controller {
     #[tactic(auto, using(crate::proofs::places::Refusing::stops_where_refused))]
     pub fn status(&mut self, status: u8, allowed: u8, opcode: u16) -> Result<(), HostFault>
         ensures event { IsOk result
-            → status_event self.old status allowed opcode
+            → status_event {C = Place} self.old status allowed opcode
             ≡ Ok (Credit allowed opcode (Some status) None) }
         ensures after { IsOk result
             → self.new ≡ answered_by self.old allowed opcode (Some status) None }

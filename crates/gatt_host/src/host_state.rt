@@ -6,7 +6,8 @@ ghost use Rattle.att_table.specs.ConfigRow.{IsRowOf};
 ghost use Rattle.att_table.specs.Table.{room_at};
 ghost use Rattle.gatt_host.specs.GoingOut.{is_drained};
 ghost use Rattle.gatt_host.specs.Held.{open_slots, next_of, after_out, after_end, after_ask_key, after_authorize, after_completing, after_disconnect, after_going, after_link, after_nothing, after_replacing, after_signals, after_tick, after_update, kept_at, row_at, with_last, Serves};
-ghost use Rattle.gatt_slots.specs.Slots.{all_heard};
+ghost use Rattle.gatt_laws.specs.machine.Packets.{completed_entries};
+ghost use Rattle.gatt_slots.specs.Slots.{all_heard, place_holding};
 ghost use Rattle.gatt_slots.specs.Hearing.{row_in_force};
 ghost use Rattle.le_hci.specs.Event.{completed_packets_of};
 ghost use Rattle.le_security.specs.Link.{Encryption, Refresh};
@@ -53,7 +54,7 @@ impl Model for HostState {
     ghost use Rattle.gatt_laws.specs.machine.Packets.{completed_event, status_event, status_of};
     ghost use Rattle.le_acl.specs.Shares.{acl_len, share};
     ghost use Rattle.le_hci.specs.InitTold.{told_in};
-    ghost use Rattle.gatt_host.specs.Held.{after_end, opened, Credits, Held};
+    ghost use Rattle.gatt_host.specs.Held.{after_end, opened, Held};
 
     ghost Value = { Held };
 
@@ -168,8 +169,10 @@ impl HostState {
     }
 
     /// Packets are completed.
+    #[tactic(auto, using(gatt_slots::proofs::parts::Found::entries_at_places))]
     pub(crate) fn complete(&mut self, entries: &[[u8; 4]])
-        ensures { self.new ≡ after_completing (map completed_packets_of entries.now) self.old }
+        ensures { self.new ≡ after_completing (completed_entries
+            (place_holding self.old.slots) (map completed_packets_of entries.now)) self.old }
     {
         self.slots.complete(entries);
         self.nothing();

@@ -4,13 +4,13 @@ ghost use Rattle.std.specs.Bool.{OnTrue};
 ghost use Rattle.std.specs.Prelude.{◌≡◌, ◌<◌, false, true, length, get_or, IsSome, IsOk, IfSome, IfErr, Some, OnErr};
 ghost use Rattle.std.specs.Result.{result_err};
 ghost use Rattle.std.specs.Option.{option_and_then, option_map_or};
-ghost use Rattle.gatt_laws.specs.machine.Packets.{of_octets, of_frame};
+ghost use Rattle.gatt_laws.specs.machine.Packets.{fragment_event, frame_event, of_octets, of_frame};
 ghost use Rattle.gatt_host.specs.GoingOut.{is_drained};
 ghost use Rattle.gatt_host.specs.Held.{kept_at, open_slots};
 ghost use Rattle.gatt_host.specs.Whole.{is_own, LeadsBy};
-ghost use Rattle.gatt_host.specs.Meaning.{frame_happening, once_heard, with_fragment, HasRowsOfTheTable, IsAfter};
+ghost use Rattle.gatt_host.specs.Meaning.{recombination, once_heard, with_fragment, HasRowsOfTheTable, IsAfter};
 ghost use Rattle.le_h4.specs.Packet.{seen};
-ghost use Rattle.gatt_host.specs.Packet.{acl_happening, packet_stop, TakesPacket, event_stop, fragment_happening, fragment_left, frame_given, frames_after_acl, frames_after_event, TakesEvent};
+ghost use Rattle.gatt_host.specs.Packet.{acl_happening, packet_stop, TakesPacket, event_stop, fragment_left, frame_given, frames_after_acl, frames_after_event, TakesEvent};
 ghost use Rattle.gatt_host.specs.Telling.{TellsOfPacket};
 ghost use Rattle.gatt_slots.specs.Slots.{IsThere};
 ghost use Rattle.le_acl.specs.Fragment.{fragment_of, Beginning};
@@ -114,7 +114,7 @@ impl HostState {
         requires there { IsThere self.old.slots place }
         requires rows { HasRowsOfTheTable self.old }
         ensures { IsAfter
-            (frame_happening place (of_frame (frame_of octets.now))) self.old self.new }
+            (frame_event place (of_frame (frame_of octets.now))) self.old self.new }
     {
         match read_frame(octets) {
             Ok(frame) => match frame.cid {
@@ -161,7 +161,7 @@ fn fragment(
     requires there { IsThere state.old.slots place }
     requires rows { HasRowsOfTheTable state.old }
     ensures after { IsAfter
-        (fragment_happening place (fragment_of pb bc octets.now) frame.old) state.old state.new }
+        (fragment_event place (recombination frame.old) (fragment_of pb bc octets.now)) state.old state.new }
     ensures left { frame.new ≡ fragment_left (fragment_of pb bc octets.now) frame.old }
 {
     if is_whole(pb, bc, octets) {
@@ -185,7 +185,7 @@ fn join_fragment(
     requires there { IsThere state.old.slots place }
     requires rows { HasRowsOfTheTable state.old }
     ensures after { IsAfter
-        (fragment_happening place (fragment_of pb bc octets.now) frame.old) state.old state.new }
+        (fragment_event place (recombination frame.old) (fragment_of pb bc octets.now)) state.old state.new }
     ensures left { frame.new ≡ fragment_left (fragment_of pb bc octets.now) frame.old }
 {
     match join(frame, pb, bc, octets) {

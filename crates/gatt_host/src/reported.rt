@@ -2,8 +2,9 @@
 
 ghost use Rattle.std.specs.Prelude.{◌≡◌, ◌==◌, ◌<◌, ◌^◌, true, if◌then◌else◌, Some, IsSome, IfSome};
 ghost use Rattle.gatt_laws.specs.machine.Controller as laws;
-ghost use Rattle.gatt_laws.specs.machine.Event.{Connected, Gone, KeyAsked, Encrypted, Refreshed, Asks, Signals};
-ghost use Rattle.gatt_host.specs.Meaning.{at_found, coming, connection_happening, frames_after, reported_happening, IsAfter, Passes};
+ghost use Rattle.gatt_laws.specs.machine.Event.{Connected, Gone, KeyAsked, Encrypted, Refreshed, Asks, Signals, Nothing};
+ghost use Rattle.gatt_laws.specs.machine.Packets.{coming_event, connection_event, connection_event_if_ready, own_event};
+ghost use Rattle.gatt_host.specs.Meaning.{context_in, frames_after, IsAfter};
 ghost use Rattle.gatt_slots.specs.Slots.{place_holding, place_serving};
 ghost use Rattle.le_hci.specs.Event.{report_of};
 ghost use Rattle.le_hci.specs.InitTold.{told_in};
@@ -23,9 +24,9 @@ impl HostState {
     #[inline(always)]
     pub(crate) fn reported(&mut self, frames: &mut [Reassembler; 8], event: &Event<'_>)
         ensures after { IsAfter
-            (reported_happening self.old (report_of event.now)) self.old self.new }
+            (connection_event_if_ready (context_in self.old) (report_of event.now)) self.old self.new }
         ensures frames { frames.new
-            ≡ frames_after (reported_happening self.old (report_of event.now)) frames.old }
+            ≡ frames_after (connection_event_if_ready (context_in self.old) (report_of event.now)) frames.old }
     {
         if self.controller.is_ready() {
             self.connection_reported(frames, event);
@@ -39,9 +40,9 @@ impl HostState {
     fn connection_reported(&mut self, frames: &mut [Reassembler; 8], event: &Event<'_>)
         requires { laws.is_ready self.old.controller ≡ true }
         ensures after { IsAfter
-            (connection_happening self.old (report_of event.now)) self.old self.new }
+            (connection_event (context_in self.old) (report_of event.now)) self.old self.new }
         ensures frames { frames.new
-            ≡ frames_after (connection_happening self.old (report_of event.now)) frames.old }
+            ≡ frames_after (connection_event (context_in self.old) (report_of event.now)) frames.old }
     {
         match *event {
             Event::DisconnectionComplete { status, handle, .. } => self.gone(status, handle),
@@ -72,8 +73,8 @@ impl HostState {
 
     /// A connection has ended.
     fn gone(&mut self, status: u8, handle: u16)
-        ensures { IsAfter (if status == 0 then at_found
-            (place_holding self.old.slots handle) Gone else Passes) self.old self.new }
+        ensures { IsAfter (if status == 0 then own_event
+            (place_holding self.old.slots handle) Gone else Nothing) self.old self.new }
     {
         if status != 0 {
             return self.nothing();
@@ -86,7 +87,7 @@ impl HostState {
 
     /// Encryption of a link was changed, or could not be.
     fn encryption_changed(&mut self, status: u8, handle: u16, enabled: u8)
-        ensures { IsAfter (at_found (place_serving self.old.slots handle)
+        ensures { IsAfter (own_event (place_serving self.old.slots handle)
             (Encrypted status enabled)) self.old self.new }
     {
         match self.slots.find_serving(handle) {
@@ -98,7 +99,7 @@ impl HostState {
     /// The key of a link was refreshed, or could not be.
     fn key_refreshed(&mut self, status: u8, handle: u16)
         ensures { IsAfter
-            (at_found (place_serving self.old.slots handle) (Refreshed status)) self.old self.new }
+            (own_event (place_serving self.old.slots handle) (Refreshed status)) self.old self.new }
     {
         match self.slots.find_serving(handle) {
             Some(place) => self.refresh(place, status),
@@ -108,7 +109,7 @@ impl HostState {
 
     /// The key of a link is asked for.
     fn key_asked(&mut self, handle: u16, random_number: [u8; 8], diversifier: u16)
-        ensures { IsAfter (at_found (place_serving self.old.slots handle)
+        ensures { IsAfter (own_event (place_serving self.old.slots handle)
             (KeyAsked random_number diversifier)) self.old self.new }
     {
         match self.slots.find_serving(handle) {
@@ -129,9 +130,10 @@ impl HostState {
         peer: Peer,
     )
         requires { laws.is_ready self.old.controller ≡ true }
-        ensures after { IsAfter (coming self.old status handle role peer) self.old self.new }
+        ensures after { IsAfter
+            (coming_event (context_in self.old) status handle role peer) self.old self.new }
         ensures frames { frames.new
-            ≡ frames_after (coming self.old status handle role peer) frames.old }
+            ≡ frames_after (coming_event (context_in self.old) status handle role peer) frames.old }
     {
         if status != 0 || role != PERIPHERAL || handle > LAST_CONNECTION_HANDLE {
             return self.nothing();

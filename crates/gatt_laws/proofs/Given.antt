@@ -20,14 +20,13 @@ use Rattle.std.proofs.lemmas.Bool.Decides.{nat_tests}
 use Rattle.gatt_laws.proofs.Places.{HasPlace, absent_place, step_place, run_told, ready_at, none_comes, comes_only, start_absent, completed_gone, next_grows, IsAny, ComesOnlyFrom}
 use Rattle.gatt_laws.specs.laws.Settled.{has_slot, HaveOneSlotEach, IsSettled}
 use Rattle.gatt_laws.specs.laws.Runs.{after_events, events_of, ArePossible}
-use Rattle.gatt_laws.specs.laws.SameView.{packets_at, packets_in}
 use Rattle.le_hci.specs.declared.peer.Peer.{Peer}
 use Rattle.gatt_laws.specs.machine.Controller.{Slots, is_ready, command_of_init, count_before, without_command}
 use Rattle.gatt_laws.specs.machine.Event.{Ordinal, Own, Event, Connected, Gone, KeyAsked, Encrypted, Refreshed, Asks, Signals, Authorized, Ended, Of, Completed, Credit, Update, Tick, Replaced, Nothing}
 use Rattle.gatt_laws.proofs.Always.{any_tables}
 use Rattle.gatt_laws.proofs.Runs.{is_where_events_lead, means_possible_events}
 use Rattle.gatt_laws.proofs.Settled.{stays_settled, settled_at_first}
-use Rattle.gatt_laws.specs.laws.Given.{packets_given_by_now, IsGivenTheFront}
+use Rattle.gatt_laws.specs.laws.Given.{packets_given_by_now, BringsWhatItGives, IsGivenTheFront, packets_at, packets_by_slot, packets_in}
 use Rattle.gatt_laws.specs.machine.Input.{course}
 use Rattle.gatt_laws.specs.machine.Start.{state_at}
 use Rattle.gatt_laws.specs.laws.View.{peer_in}
@@ -35,7 +34,7 @@ use Rattle.gatt_laws.specs.machine.Heard.{heard_in_turn, hearer_of, after_hearin
 use Rattle.gatt_laws.specs.machine.Part.{Mark, Absent, Live, Ending, Part, absent, is_live, is_there, key_of, row_of, mtu_of, connection_of, with_pdus, after_ending}
 use Rattle.gatt_laws.specs.machine.Room.{Room, Bonds, share_of, size_of}
 use Rattle.gatt_laws.specs.laws.Silence.{IsAllGiven}
-use Rattle.gatt_laws.specs.machine.State.{State, Change, with_completed, after_completed, part_replaced, packets_given, change_of, finished, parts_finished, step}
+use Rattle.gatt_laws.specs.machine.State.{State, Change, with_completed, after_completed, part_replaced, packets_given, change_of, finished, parts_finished, step, before_commands, commands_out, out, slot_out}
 use Rattle.gatt_laws.specs.machine.Turn.{turn_to, served, is_full, request_turn, after_channel, channel_answer, with_step, lost_encryption, live_turn, turn_of, remote_user_terminated, authentication_failure}
 use Rattle.gatt_subs.specs.Indications.{after_replacement}
 use Rattle.le_acl.specs.Fragment.{Fragment}
@@ -488,3 +487,14 @@ is_given_the_front start ordinal input there =
       within = subst (λ (part : Part). is_there part.mark ≡ true → part.given ≤ total (size_of told) part.pdus) (sym none) (λ here. cc here);
     }) (ap (λ (state : State). is_there (state.parts ordinal).mark) (sym leads) ∙ there)
     ∙ ap (λ (state : State). packets_given_by_now told (state.parts ordinal)) (sym leads)
+
+-- what an event gives goes out
+pub brings_what_it_gives : BringsWhatItGives
+unfolding out
+brings_what_it_gives state event =
+    let new : State = before_commands state event in
+    λ i. commands_out new ++ flat_map (λ slot. same slot i) new.slots
+  where
+    same : (slot : Option Ordinal) → slot_out state (before_commands state event) slot ≡ packets_by_slot state event slot
+    same None = refl
+    same (Some ordinal) = refl

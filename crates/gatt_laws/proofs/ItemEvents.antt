@@ -1,85 +1,109 @@
--- What an item does is what its event does, and it means the same where states look the same to a packet and to a call.
-use Rattle.std.proofs.Common.{◌≡◌, Bool, true, false, [], ◌∷◌, ◌++◌, Option, Some, None, refl, sym, ap, ◌∙◌}
+-- What an item does is what its event does, which is meant in the state; and it means the same where the same is known.
+use Rattle.std.proofs.Common.{◌≡◌, Bool, true, false, [], ◌∷◌, ◌++◌, append-nil, Option, Some, None, refl, sym, ap, ◌∙◌}
 use Rattle.std.specs.Prelude.{Result, Ok, Err, is_some, if◌then◌else◌}
 use Rattle.att_table.specs.Table.{Contents}
-use Rattle.gatt_laws.specs.laws.Alike.{erased}
-use Rattle.gatt_laws.specs.machine.Calls.{Call, UpdateCall, AuthorizeCall, DisconnectCall, TickCall, call_event, replacement_event}
+use Rattle.gatt_laws.proofs.Meant.{MeantIfAny, call_meant, packet_meant, replacement_meant}
+use Rattle.gatt_laws.specs.laws.Possible.{IsFine, IsMeant}
+use Rattle.gatt_laws.specs.machine.Calls.{Call, call_event, call_meaning, replacement_event, replacement_meaning}
+use Rattle.gatt_laws.specs.machine.Context.{context_of}
 use Rattle.gatt_laws.specs.machine.Event.{Event}
-use Rattle.gatt_laws.specs.machine.Input.{Item, AnOctet, APacket, ACall, ATable, TheEnd, Course, after_result, packet_taken, after_packet, with_unfinished, after_first, taken, unless_stopped, after_item}
-use Rattle.gatt_laws.specs.machine.ItemEvents.{event_if, event_of_first, event_taken, event_at, after_if, MeansItsEvent}
-use Rattle.gatt_laws.specs.machine.Packets.{Fault, Desync, Fragments, arrival, with_arrival, packet_event}
-use Rattle.gatt_laws.specs.machine.State.{State, with_values}
+use Rattle.gatt_laws.specs.machine.Input.{Item, AnOctet, APacket, ACall, ATable, TheEnd, Intake, Course, after_result, packet_taken, after_packet, with_unfinished, after_first, taken, unless_stopped, after_item}
+use Rattle.gatt_laws.specs.machine.ItemEvents.{event_if, event_of_packet, event_of_first, event_taken, event_at, DoesAs, MeansItsEvent}
+use Rattle.gatt_laws.specs.machine.Packets.{Fault, Desync, Fragments, arrival, arrival_of, recombinations_of, packet_event, packet_meaning, with_arrival}
+use Rattle.gatt_laws.specs.machine.State.{State}
+use Rattle.le_acl.specs.Fragment.{fragment_of}
 use Rattle.le_h4.specs.Division.{is_long}
 use Rattle.le_h4.specs.Packet.{Packet, AclPacket, EventPacket, ScoPacket, First, FirstPacket, NoneYet, NoPacket, first_of}
 use Rattle.octets.specs.Number.{Octets}
 
 -- An item does what its event does.
 
+nothing-done : (old new : Course) → new.intake.state ≡ old.intake.state → new.gone ≡ old.gone → DoesAs old new None
+nothing-done old new state gone = record { state = state; gone = gone ∙ sym (append-nil old.gone) }
+
 module _ (course : Course) where
   abbrev before : State
   before = course.intake.state
 
-  result-means : {E : Type 0} (result : Result Event E) → (after_result course result).intake.state ≡ after_if before (event_if result)
-  result-means (Ok event) = refl
-  result-means (Err fault) = refl
+  result-means : {E : Type 0} (result : Result Event E) → DoesAs course (after_result course result) (event_if result)
+  result-means (Ok event) = record { state = refl; gone = refl }
+  result-means (Err fault) = nothing-done course course refl refl
 
   packet-means : (octets : Octets) (packet : Packet) (result : Result Event Fault)
-      → (packet_taken (with_unfinished course octets) packet result).intake.state ≡ after_if before (event_if result)
-  packet-means octets packet (Ok event) = refl
-  packet-means octets packet (Err fault) = refl
+      → DoesAs course (packet_taken (with_unfinished course octets) packet result) (event_if result)
+  packet-means octets packet (Ok event) = record { state = refl; gone = refl }
+  packet-means octets packet (Err fault) = nothing-done course (packet_taken (with_unfinished course octets) packet (Err fault)) refl refl
 
-  first-means : (octets : Octets) (first : First) → (after_first course octets first).intake.state ≡ after_if before (event_of_first before course.intake.fragments first)
+  first-means : (octets : Octets) (first : First) → DoesAs course (after_first course octets first) (event_of_first before course.intake.fragments first)
   first-means octets (FirstPacket packet rest) =
-      elim (is_long packet) as (λ (long : Bool). (if long then with_unfinished course rest else after_packet (with_unfinished course rest) packet).intake.state
-      ≡ after_if before (if long then None else event_if (packet_event before course.intake.fragments packet))) [
-        | true ↦ refl
+      elim (is_long packet) as (λ (long : Bool). DoesAs course (if long then with_unfinished course rest else after_packet (with_unfinished course rest) packet)
+      (if long then None else event_if (packet_event before course.intake.fragments packet))) [
+        | true ↦ nothing-done course (with_unfinished course rest) refl refl
         | false ↦ packet-means rest packet (packet_event before course.intake.fragments packet)
       ]
-  first-means octets NoneYet = refl
-  first-means octets (NoPacket indicator) = refl
+  first-means octets NoneYet = nothing-done course (after_first course octets NoneYet) refl refl
+  first-means octets (NoPacket indicator) = nothing-done course (after_first course octets (NoPacket indicator)) refl refl
 
-  taken-means : (item : Item) → (taken course item).intake.state ≡ after_if before (event_taken course.intake item)
+  taken-means : (item : Item) → DoesAs course (taken course item) (event_taken course.intake item)
   taken-means (AnOctet octet) = first-means (course.intake.unfinished ++ octet ∷ []) (first_of (course.intake.unfinished ++ octet ∷ []))
   taken-means (APacket packet) = first-means [] (FirstPacket packet course.intake.unfinished)
   taken-means (ACall call) = result-means (call_event before call)
   taken-means (ATable table) = result-means (replacement_event before table)
-  taken-means TheEnd = refl
+  taken-means TheEnd = nothing-done course (taken course TheEnd) refl refl
 
-  unless-means : (fault : Option Fault) (new : Course) (event : Option Event) → new.intake.state ≡ after_if before event
-      → (unless_stopped fault course new).intake.state ≡ after_if before (if is_some fault then None else event)
-  unless-means (Some fault) new event means = refl
+  unless-means : (fault : Option Fault) (new : Course) (event : Option Event) → DoesAs course new event
+      → DoesAs course (unless_stopped fault course new) (if is_some fault then None else event)
+  unless-means (Some fault) new event means = nothing-done course course refl refl
   unless-means None new event means = means
 
 pub means_its_event : MeansItsEvent
 unfolding after_item
 means_its_event course item = unless-means course course.intake.fault (taken course item) (event_taken course.intake item) (taken-means course item)
 
--- All of a state that a packet or a call looks at: no value, nothing that is configured or owed, and of connections what is
--- not erased.
-abbrev pub looked_at : State → State
-looked_at state = record state {
-  room = with_values state.room [];
-  bonds = λ peer. [];
-  owed = λ peer. false;
-  parts = λ ordinal. erased (state.parts ordinal);
-}
+-- And it is meant in the state.
+module _ (Fine : Contents → Type 0) where
+  abbrev pub MeantIfSome : State → Option Event → Type 0
+  MeantIfSome state None = Unit
+  MeantIfSome state (Some event) = IsMeant Fine state event
 
-packet-looks : (state : State) (fragments : Fragments) (packet : Packet) → packet_event (looked_at state) fragments packet ≡ packet_event state fragments packet
-unfolding packet_event
-packet-looks state fragments (EventPacket octets) = refl
-packet-looks state fragments (AclPacket handle boundary broadcast octets) = refl
-packet-looks state fragments ScoPacket = refl
+  result-meant : {E : Type 0} (state : State) (result : Result Event E) → MeantIfAny Fine state result → MeantIfSome state (event_if result)
+  result-meant state (Ok event) meant = meant
+  result-meant state (Err fault) meant = tt
 
-arrival-looks : (state : State) (packet : Packet) → arrival (looked_at state) packet ≡ arrival state packet
-arrival-looks state (EventPacket octets) = refl
-arrival-looks state (AclPacket handle boundary broadcast octets) = refl
-arrival-looks state ScoPacket = refl
+  unless-meant : (state : State) (test : Bool) (found : Option Event) → MeantIfSome state found → MeantIfSome state (if test then None else found)
+  unless-meant state true found meant = tt
+  unless-meant state false found meant = meant
 
-call-looks : (state : State) (call : Call) → call_event (looked_at state) call ≡ call_event state call
-call-looks state (UpdateCall handle value) = refl
-call-looks state (AuthorizeCall handle until) = refl
-call-looks state (DisconnectCall handle) = refl
-call-looks state (TickCall time) = refl
+  of-packet : (state : State) (fragments : Fragments) (packet : Packet) → MeantIfSome state (event_of_packet state fragments packet)
+  of-packet state fragments packet =
+      unless-meant state (is_long packet) (event_if (packet_event state fragments packet))
+      (result-meant state (packet_event state fragments packet) (packet_meant Fine state fragments packet))
+
+  of-first : (state : State) (fragments : Fragments) (first : First) → MeantIfSome state (event_of_first state fragments first)
+  of-first state fragments (FirstPacket packet rest) = of-packet state fragments packet
+  of-first state fragments NoneYet = tt
+  of-first state fragments (NoPacket indicator) = tt
+
+  taken-meant : (intake : Intake) (item : Item) → IsFine Fine item → MeantIfSome intake.state (event_taken intake item)
+  taken-meant intake (AnOctet octet) fine = of-first intake.state intake.fragments (first_of (intake.unfinished ++ octet ∷ []))
+  taken-meant intake (APacket packet) fine = of-packet intake.state intake.fragments packet
+  taken-meant intake (ACall call) fine = result-meant intake.state (call_event intake.state call) (call_meant Fine intake.state call)
+  taken-meant intake (ATable table) fine =
+      result-meant intake.state (replacement_event intake.state table) (replacement_meant Fine intake.state table fine)
+  taken-meant intake TheEnd fine = tt
+
+  pub item_meant : (intake : Intake) (item : Item) → IsFine Fine item → MeantIfSome intake.state (event_at intake item)
+  item_meant intake item fine = unless-meant intake.state (is_some intake.fault) (event_taken intake item) (taken-meant intake item fine)
+
+-- any table will do
+pub any_table : (item : Item) → IsFine (λ table. Unit) item
+any_table (AnOctet octet) = tt
+any_table (APacket packet) = tt
+any_table (ACall call) = tt
+any_table (ATable table) = tt
+any_table TheEnd = tt
+
+-- An item means the same where the same is known.
 
 -- what an intake keeps beside the state
 pub record Kept : Type 0 where
@@ -90,20 +114,22 @@ pub record Kept : Type 0 where
 abbrev pub kept : Course → Kept
 kept course = record { unfinished = course.intake.unfinished; fragments = course.intake.fragments; fault = course.intake.fault }
 
-module _ (one other : Course) (looks : looked_at one.intake.state ≡ looked_at other.intake.state) where
+module _ (one other : Course) (looks : context_of one.intake.state ≡ context_of other.intake.state) where
   packets-same : (fragments its : Fragments) → fragments ≡ its → (packet : Packet)
       → packet_event one.intake.state fragments packet ≡ packet_event other.intake.state its packet
-  packets-same fragments its same packet =
-      sym (packet-looks one.intake.state fragments packet) ∙ (λ i. packet_event (looks i) (same i) packet) ∙ packet-looks other.intake.state its packet
+  unfolding packet_event
+  packets-same fragments its same packet = λ i. packet_meaning (looks i) (recombinations_of (same i)) packet
 
   arrivals-same : (packet : Packet) → arrival one.intake.state packet ≡ arrival other.intake.state packet
-  arrivals-same packet = sym (arrival-looks one.intake.state packet) ∙ ap (λ (s : State). arrival s packet) looks ∙ arrival-looks other.intake.state packet
+  arrivals-same (AclPacket handle boundary broadcast octets) = λ i. arrival_of ((looks i).serving handle) (fragment_of boundary broadcast octets)
+  arrivals-same (EventPacket octets) = refl
+  arrivals-same ScoPacket = refl
 
   calls-same : (call : Call) → call_event one.intake.state call ≡ call_event other.intake.state call
-  calls-same call = sym (call-looks one.intake.state call) ∙ ap (λ (s : State). call_event s call) looks ∙ call-looks other.intake.state call
+  calls-same call = λ i. call_meaning (looks i) call
 
   replacements-same : (table : Contents) → replacement_event one.intake.state table ≡ replacement_event other.intake.state table
-  replacements-same table = ap (λ (s : State). replacement_event s table) looks
+  replacements-same table = λ i. replacement_meaning (looks i) table
 
   module _ (same : kept one ≡ kept other) where
     first-same : (first : First) → event_of_first one.intake.state one.intake.fragments first ≡ event_of_first other.intake.state other.intake.fragments first

@@ -12,7 +12,7 @@ use Rattle.att_table.specs.ConfigRow.{kept_row}
 use Rattle.att_table.specs.Table.{Contents}
 use Rattle.gatt_conn.specs.Answer.{Question}
 use Rattle.gatt_conn.specs.Transcript.{Dropped}
-use Rattle.gatt_laws.proofs.Always.{first-true, last-true}
+use Rattle.gatt_laws.proofs.Meant.{first-true, last-true}
 use Rattle.gatt_laws.proofs.Ends.{end_keeps}
 use Rattle.gatt_laws.proofs.Notices.{or-first}
 use Rattle.gatt_laws.proofs.Steady.{completed_steady}

@@ -6,20 +6,19 @@ use Rattle.std.specs.Option.{option_map_or}
 use Rattle.std.proofs.lemmas.Bool.{eqb-true, eq-eqb}
 use Rattle.std.proofs.lemmas.Bool.Decides.{nat_tests}
 use Rattle.att_numbers.specs.Types.{Row}
-use Rattle.gatt_laws.proofs.ItemEvents.{means_its_event}
-use Rattle.gatt_laws.proofs.Knowing.{item_possible}
+use Rattle.gatt_laws.proofs.ItemEvents.{MeantIfSome, any_table, item_meant, means_its_event}
+use Rattle.gatt_laws.proofs.Meant.{possible_where_meant, unused_where_meant}
 use Rattle.gatt_laws.proofs.Named.{IsNamedAs, end_named, step_named}
 use Rattle.gatt_laws.proofs.Placed.{taken-has, freed-has, freed_lacks, init-has, stays_placed}
 use Rattle.gatt_laws.proofs.Placed.{placed_at_first}
 use Rattle.gatt_laws.proofs.Present.{present_both, if-live-others, slots-others, peer_at}
 use Rattle.gatt_laws.proofs.Present.{same-peers, none-has, taken-peers, freed-peers, freed-none}
 use Rattle.gatt_laws.proofs.Present.{init-peers}
-use Rattle.gatt_laws.proofs.Unused.{item_unused}
 use Rattle.gatt_laws.proofs.Settled.{none_next, stays_settled, settled_at_first}
-use Rattle.gatt_laws.specs.machine.Calls.{holding}
+use Rattle.gatt_laws.specs.machine.Context.{holding}
 use Rattle.gatt_laws.specs.machine.Controller.{with_freed}
 use Rattle.gatt_laws.specs.machine.Event as event
-use Rattle.gatt_laws.specs.machine.Event.{Ordinal, Own, Event, KeyAsked, Encrypted, Refreshed, Asks}
+use Rattle.gatt_laws.specs.machine.Event.{Ordinal, Event, KeyAsked, Encrypted, Refreshed, Asks}
 use Rattle.gatt_laws.specs.machine.Event.{Signals, Authorized, Ended, Of, Completed, Credit, Update, Tick}
 use Rattle.gatt_laws.specs.machine.Event.{Replaced, Nothing}
 use Rattle.gatt_laws.specs.machine.Input.{Item, Course, after_item, after_items, at_start, course}
@@ -341,24 +340,24 @@ record Goes (state new : State) (notices : List Notice) : Type 0 where
   present : present_in (peers_in state) notices ≡ peers_in new
 
 event-goes : (state : State) (found : Option Event) → IsKnowing state
-    → ((happens : Event) → found ≡ Some happens → Possible (λ table. Unit) state happens)
-    → ((happens : Event) → found ≡ Some happens → ComesUnused state happens)
+    → MeantIfSome (λ table. Unit) state found
     → Goes state (after_if state found) (option_map_or (noticed state) found [])
-event-goes state None is possible unused = record { knowing = is; present = refl }
-event-goes state (Some happens) is possible unused = record {
-  knowing = stays-knowing state happens (possible happens refl) (unused happens refl) is;
-  present = λ i asked. tells_who_is_there state happens asked is (possible happens refl)
-      (unused happens refl) i;
-}
+event-goes state None is meant = record { knowing = is; present = refl }
+event-goes state (Some happens) is meant =
+    let possible = possible_where_meant (λ table. Unit) state happens meant in
+    let unused = unused_where_meant (λ table. Unit) state happens meant in
+    record {
+      knowing = stays-knowing state happens possible unused is;
+      present = λ i asked. tells_who_is_there state happens asked is possible unused i;
+    }
 
 item-goes : (old : Course) (item : Item) → IsKnowing old.intake.state
     → Goes old.intake.state (after_item old item).intake.state (notices_of old item)
 item-goes old item is =
     subst (λ (state : State). Goes old.intake.state state (notices_of old item))
-    (sym (means_its_event old item))
+    (sym (means_its_event old item).state)
     (event-goes old.intake.state (event_at old.intake item) is
-    (λ happens found. item_possible old.intake item happens found)
-    (λ happens found. item_unused old.intake item happens found))
+    (item_meant (λ table. Unit) old.intake item (any_table item)))
 
 record GoesOn (new : Course) (present : Present) (notices : List Notice) : Type 0 where
   knowing : IsKnowing new.intake.state

@@ -12,6 +12,7 @@ pub mod KeyNotices
 pub mod Knowing
 pub mod KnowingWho
 pub mod MayBeHeard
+pub mod Meant
 pub mod Named
 pub mod NextParts
 pub mod NothingCrosses
@@ -24,6 +25,7 @@ pub mod Placed
 pub mod Present
 pub mod Queued
 pub mod Refusals
+pub mod Renaming
 pub mod RowNotices
 pub mod RowsOfTheTable
 pub mod Runs
@@ -40,6 +42,5 @@ pub mod ToldIsSo
 pub mod TurnsAlike
 pub mod TwoWorlds
 pub mod Unfinished
-pub mod Unused
 pub mod ValuesOfTheTable
 pub mod examples

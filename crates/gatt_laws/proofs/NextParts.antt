@@ -13,7 +13,8 @@ use Rattle.gatt_laws.specs.machine.Part.{Part, Mark, Absent, Live, Ending, absen
 use Rattle.gatt_laws.specs.machine.Room.{Room, size_of}
 use Rattle.gatt_laws.specs.machine.State.{State, Change, own_change, with_completed, after_completed, part_dropped, change_of, finished, packets_given}
 use Rattle.gatt_laws.specs.machine.Turn.{Turn, turn_to, is_full, served, channel_answer, after_channel, with_step, lost_encryption, link_turn, live_turn, turn_of, authentication_failure, remote_user_terminated}
-use Rattle.gatt_laws.specs.laws.TwoWorlds.{given_to, GivesNothingToTheAbsent}
+use Rattle.gatt_laws.specs.laws.TwoWorlds.{GivesNothingToTheAbsent}
+use Rattle.gatt_laws.specs.laws.Given.{packets_at}
 use Rattle.gatt_subs.specs.Indications.{after_replacement}
 use Rattle.le_acl.specs.Outgoing.{acl_octets}
 use Rattle.le_acl.specs.Fragment.{Fragment}
@@ -172,13 +173,13 @@ module _ (state : State) (event : Event) (ordinal : Ordinal) where
   abbrev end_of : List Handle → Part → Part
   end_of raised part = finished change.state.room change.state.bonds raised part
 
-  pub none_goes : new ≡ absent → given_to ordinal state event ≡ []
+  pub none_goes : new ≡ absent → packets_at ordinal state event ≡ []
   none_goes is =
       ap (λ (part : Part). given (end_of (change.raised ordinal) part)) is
       ∙ ap given (only_serves_the_live change.state.room change.state.bonds (change.raised ordinal) absent refl)
       ∙ ap (map (acl_octets 0)) (drop-none old.given)
 
-  stayed-away : Stays old new → is_there old.mark ≡ false → given_to ordinal state event ≡ []
+  stayed-away : Stays old new → is_there old.mark ≡ false → packets_at ordinal state event ≡ []
   stayed-away stays away =
       ap given (only_serves_the_live change.state.room change.state.bonds (change.raised ordinal) new (stays.live (away-silent old.mark away)))
       ∙ ap (λ (n : ℕ). map (acl_octets new.handle) (drop old.given (take n (packets_of (size_of change.state.room.told) new.pdus)))) stays.given
@@ -188,7 +189,7 @@ module _ (state : State) (event : Event) (ordinal : Ordinal) where
   unfolding after_hearing
   come-hears handle peer = refl
 
-  came-to : Comes old new (change.raised ordinal) → given_to ordinal state event ≡ []
+  came-to : Comes old new (change.raised ordinal) → packets_at ordinal state event ≡ []
   came-to comes =
       let is = comes.is in
       let silent = comes.silent in
@@ -198,13 +199,13 @@ module _ (state : State) (event : Event) (ordinal : Ordinal) where
       ∙ ap (λ (xs : List Fragment). map (acl_octets part.handle) (drop old.given xs)) (take-none part.given)
       ∙ ap (map (acl_octets part.handle)) (drop-none old.given)
 
-  none-away : is_there old.mark ≡ false → Becomes old new (change.raised ordinal) → given_to ordinal state event ≡ []
+  none-away : is_there old.mark ≡ false → Becomes old new (change.raised ordinal) → packets_at ordinal state event ≡ []
   none-away away (Stayed stays) = stayed-away stays away
   none-away away (Went is) = none_goes is
   none-away away (Came comes) = came-to comes
 
   -- nothing is given to one that was not there
-  pub none_given : is_there old.mark ≡ false → given_to ordinal state event ≡ []
+  pub none_given : is_there old.mark ≡ false → packets_at ordinal state event ≡ []
   none_given away = none-away away (becomes state event ordinal)
 
   one-of : (P : Type 0) → is_there old.mark ≡ true → Becomes old new (change.raised ordinal) → (new.peer ≡ old.peer → P) → (new ≡ absent → P) → P
@@ -213,8 +214,8 @@ module _ (state : State) (event : Event) (ordinal : Ordinal) where
   one-of P there (Came comes) first second = cc (there, comes.was_away)
 
   -- nor to one that was, and whose peer is not what it was
-  pub none_left : is_there old.mark ≡ true → (new.peer ≡ old.peer → ⊥) → given_to ordinal state event ≡ []
-  none_left there differs = one-of (given_to ordinal state event ≡ []) there (becomes state event ordinal) (λ is. absurd (differs is)) none_goes
+  pub none_left : is_there old.mark ≡ true → (new.peer ≡ old.peer → ⊥) → packets_at ordinal state event ≡ []
+  none_left there differs = one-of (packets_at ordinal state event ≡ []) there (becomes state event ordinal) (λ is. absurd (differs is)) none_goes
 
 pub gives_nothing_to_the_absent : GivesNothingToTheAbsent
 gives_nothing_to_the_absent = none_given

@@ -2,6 +2,7 @@
 use Rattle.std.proofs.Common.{◌≡◌, Bool, true, false, ◌==◌, ◌&&◌, ◌||◌, List, [], ◌∷◌, ◌++◌, Option, Some, None, refl, sym, ap, subst, ◌∙◌}
 use Rattle.std.specs.Prelude.{not, is_some, if◌then◌else◌, Ok, Err}
 use Rattle.std.specs.List.{list_any}
+use Rattle.std.specs.Option.{option_to_list}
 use Rattle.std.proofs.lemmas.Bool.{eqb-true}
 use Rattle.att_numbers.specs.Types.{Handle}
 use Rattle.att_attributes.specs.Attributes.{HaveHandlesFrom}
@@ -10,23 +11,27 @@ use Rattle.att_table.specs.Facts.{IsTable}
 use Rattle.att_table.specs.Table.{Contents}
 use Rattle.gatt_laws.proofs.Always.{always, any_tables}
 use Rattle.gatt_laws.proofs.ChangersAlike.{tables_same}
-use Rattle.gatt_laws.proofs.ItemEvents.{means_its_event, looked_at, kept, same_events, item_kept, table_kept}
+use Rattle.gatt_laws.proofs.ItemEvents.{means_its_event, kept, same_events, item_kept, table_kept}
 use Rattle.gatt_laws.proofs.Settled.{stays_settled, is_always_settled}
 use Rattle.gatt_laws.proofs.TwoWorlds.{keeps_alike, given_alike, commands_alike}
 use Rattle.gatt_laws.specs.laws.Alike.{is_of, Alike, Hides, may_read_at}
 use Rattle.gatt_laws.specs.machine.Calls.{Refused, NoServiceChanged, same_changer}
+use Rattle.gatt_laws.specs.machine.Context.{context_of, ordinal_where}
+use Rattle.gatt_laws.specs.machine.Controller.{has_free}
 use Rattle.gatt_laws.specs.machine.Event.{Ordinal, Event, Of, Completed, Credit, Update, Tick, Replaced, Nothing}
 use Rattle.gatt_laws.specs.machine.Input.{Item, AnOctet, APacket, ACall, ATable, TheEnd, Course, after_item, after_items, at_start, course}
 use Rattle.gatt_laws.specs.machine.ItemEvents.{event_if, event_at, after_if}
-use Rattle.gatt_laws.specs.laws.NothingCrosses.{Agree, knows, knows_in, is_known, is_replaced, known_while, hidden_while, StartsAgree, ItemsAgree, InputsAgree, SparedIf, SparedIn, given_if, given_by, NothingCrosses, LeavesConnectionsTheSame}
+use Rattle.gatt_laws.specs.laws.NothingCrosses.{Agree, knows, knows_in, is_known, is_replaced, known_while, hidden_while, StartsAgree, ItemsAgree, InputsAgree, SparedIf, SparedIn, given_by, NothingCrosses, LeavesConnectionsTheSame}
 use Rattle.gatt_laws.specs.machine.Part.{Part, is_live, row_of, standing_of}
 use Rattle.gatt_laws.specs.laws.Possible.{AllTables}
 use Rattle.gatt_laws.specs.laws.Settled.{has_slot, IsSettled}
 use Rattle.gatt_laws.specs.machine.Start.{Start, before_first_command}
-use Rattle.gatt_laws.specs.machine.State.{State, with_values, step}
-use Rattle.gatt_laws.specs.laws.TwoWorlds.{SameTable, Matched, Agrees, Spared}
+use Rattle.gatt_laws.specs.machine.State.{State, step}
+use Rattle.gatt_laws.specs.laws.Runs.{events_in}
+use Rattle.gatt_laws.specs.laws.TwoWorlds.{SameTable, Matched, Agrees, Spared, given_in, given_of}
 use Rattle.gatt_subs.specs.Hearing.{may_hear_at}
 use Rattle.le_hci.specs.declared.peer.Peer.{Peer}
+use Rattle.octets.specs.Number.{Octets}
 
 -- Tests.
 
@@ -124,6 +129,26 @@ alike-more peer hidden more one other wider alike = record {
     not-hidden false handle is shown = is
     not-hidden true handle is shown = cc (wider handle is, shown)
 
+-- The packets of one item, and of those behind it.
+
+abbrev given_if : Peer → Ordinal → State → Option Event → List Octets
+given_if peer ordinal state None = []
+given_if peer ordinal state (Some event) = given_of peer ordinal state event
+
+then-given : (peer : Peer) (ordinal : Ordinal) (state : State) (event : Option Event) (events : List Event)
+    → given_in peer ordinal state (option_to_list event ++ events) ≡ given_if peer ordinal state event ++ given_in peer ordinal (after_if state event) events
+then-given peer ordinal state None events = refl
+then-given peer ordinal state (Some event) events = refl
+
+given-next : (peer : Peer) (ordinal : Ordinal) (course : Course) (item : Item) (items : List Item)
+    → given_by peer ordinal course (item ∷ items)
+    ≡ given_if peer ordinal course.intake.state (event_at course.intake item) ++ given_by peer ordinal (after_item course item) items
+given-next peer ordinal course item items =
+    let event : Option Event = event_at course.intake item in
+    let events : List Event = events_in (after_item course item) items in
+    then-given peer ordinal course.intake.state event events
+    ∙ ap (λ (state : State). given_if peer ordinal course.intake.state event ++ given_in peer ordinal state events) (sym (means_its_event course item).state)
+
 -- One event, if there is one.
 
 same-table : (hidden : Handle → Bool) (table : Contents) → SameTable hidden table table
@@ -168,7 +193,8 @@ record Together (peer : Peer) (one other : Course) (items : List Item) : Type 0 
   alike : Alike peer (hidden_while peer one items) one.intake.state other.intake.state
   same : kept one ≡ kept other
 
-looks-same : (peer : Peer) (hidden : Handle → Bool) (one other : State) → Alike peer hidden one other → looked_at one ≡ looked_at other
+-- a connection that is found is found alike by what is not erased of each
+looks-same : (peer : Peer) (hidden : Handle → Bool) (one other : State) → Alike peer hidden one other → context_of one ≡ context_of other
 looks-same peer hidden one other alike =
     let room = alike.room in
     let others = alike.others in
@@ -176,13 +202,13 @@ looks-same peer hidden one other alike =
     let next = alike.next in
     let controller = alike.controller in
     λ i. record {
-      room = with_values (room i) [];
-      bonds = λ named. [];
-      owed = λ named. false;
-      parts = λ ordinal. others ordinal i;
-      slots = slots i;
-      next = next i;
       controller = controller i;
+      attributes = (room i).table.attributes;
+      changer = (room i).changer;
+      time = (room i).time;
+      serving = λ handle. ordinal_where (λ ordinal. is_live (others ordinal i).mark && (others ordinal i).handle == handle) (slots i);
+      holding = λ handle. ordinal_where (λ ordinal. (others ordinal i).handle == handle) (slots i);
+      coming = if has_free (slots i) then Some (next i) else None;
     }
 
 settled-then : (course : Course) (item : Item) → IsSettled course.intake.state → IsSettled (after_item course item).intake.state
@@ -203,7 +229,7 @@ module _ (peer : Peer) (ordinal : Ordinal) (one other : Course) (item : Item) (i
   hides-then =
       hides-unknown peer hidden_then (after_item one item).intake.state (settled-then one item together.settled) (now-unknown peer (after_item one item) items)
 
-  looks : looked_at one.intake.state ≡ looked_at other.intake.state
+  looks : context_of one.intake.state ≡ context_of other.intake.state
   looks = looks-same peer hidden one.intake.state other.intake.state together.alike
 
   record Next (its : Item) : Type 0 where
@@ -213,8 +239,8 @@ module _ (peer : Peer) (ordinal : Ordinal) (one other : Course) (item : Item) (i
   next-by : (its : Item) → AfterBoth peer hidden_then one.intake.state other.intake.state (event_at one.intake item) (event_at other.intake its)
       → kept (after_item one item) ≡ kept (after_item other its) → Next its
   next-by its both same =
-      let state = means_its_event one item in
-      let state_too = means_its_event other its in
+      let state = (means_its_event one item).state in
+      let state_too = (means_its_event other its).state in
       record {
         after = record {
           settled = settled-then one item together.settled;
@@ -229,7 +255,7 @@ module _ (peer : Peer) (ordinal : Ordinal) (one other : Course) (item : Item) (i
   next-same stays spared spared_too =
       let wider : (handle : Handle) → hidden handle ≡ true → hidden_then handle ≡ true = λ handle is. later-unknown peer one item items handle stays is in
       let then_hides : Hides peer hidden (after_if one.intake.state (event_at one.intake item)) =
-      subst (Hides peer hidden) (means_its_event one item) (λ at live mine handle is. hides-then at live mine handle (wider handle is)) in
+      subst (Hides peer hidden) (means_its_event one item).state (λ at live mine handle is. hides-then at live mine handle (wider handle is)) in
       let both = after-same peer hidden one.intake.state other.intake.state (event_at one.intake item) (event_at other.intake item)
       (same_events one other looks together.same item) together.alike hides-now then_hides spared spared_too in
       next-by item (record {
@@ -260,9 +286,9 @@ module _ (peer : Peer) (ordinal : Ordinal) (one other : Course) (item : Item) (i
       ap (event_at one.intake) is ∙ replacement (is_some one.intake.fault) (same_changer one.intake.state.room.changer (changer_of table)) table facts.0 facts.1 in
       let events_too : event_at other.intake (ATable its) ≡ Some (Replaced its) =
       replacement (is_some other.intake.fault) (same_changer other.intake.state.room.changer (changer_of its)) its
-      (sym (λ i. is_some (same i).fault) ∙ facts.0) (sym (λ i. same_changer (looks i).room.changer (changer i)) ∙ facts.1) in
+      (sym (λ i. is_some (same i).fault) ∙ facts.0) (sym (λ i. same_changer (looks i).changer (changer i)) ∙ facts.1) in
       let then_hides : Hides peer hidden_then (step one.intake.state (Replaced table)) =
-      subst (Hides peer hidden_then) (means_its_event one item ∙ ap (after_if one.intake.state) events) hides-then in
+      subst (Hides peer hidden_then) ((means_its_event one item).state ∙ ap (after_if one.intake.state) events) hides-then in
       let both : AfterBoth peer hidden_then one.intake.state other.intake.state (Some (Replaced table)) (Some (Replaced its)) =
       after-both peer hidden hidden_then one.intake.state other.intake.state (Replaced table) (Replaced its) together.alike
       (record { its = its; is = refl; same = tables }) hides-now then_hides tt tt in
@@ -323,7 +349,7 @@ given-same peer ordinal (item ∷ items) (its ∷ others) one other together tab
     let next = next-item peer ordinal one other item items together its tables agree.0 spared.0 spared_too.0 in
     let first = next.given in
     let later = given-same peer ordinal items others (after_item one item) (after_item other its) next.after (other-tables item items tables) agree.1 spared.1 spared_too.1 in
-    λ i. first i ++ later i
+    given-next peer ordinal one item items ∙ (λ i. first i ++ later i) ∙ sym (given-next peer ordinal other its others)
 
 together-then : (peer : Peer) (items others : List Item) (one other : Course) → Together peer one other items → AllTables HasHandles items
     → InputsAgree peer one items others → SparedIn peer one items → SparedIn peer other others → Together peer (after_items one items) (after_items other others) []

@@ -13,12 +13,11 @@ use Rattle.att_policy.specs.declared.standing.KeyFacts.{KeyFacts}
 use Rattle.att_table.specs.ConfigRow.{bits_at}
 use Rattle.gatt_conn.specs.Answer.{is_confirmation}
 use Rattle.gatt_laws.proofs.Named.{IsNamedAs}
-use Rattle.gatt_laws.specs.machine.Calls.{ordinal_where}
+use Rattle.gatt_laws.specs.machine.Context.{ordinal_where}
 use Rattle.gatt_laws.specs.machine.Controller.{Slots, has_free, with_taken, with_freed}
 use Rattle.gatt_laws.specs.machine.Event as event
-use Rattle.gatt_laws.specs.machine.Event.{Ordinal, Own, Event, KeyAsked, Encrypted, Refreshed, Asks}
-use Rattle.gatt_laws.specs.machine.Event.{Signals, Authorized, Ended, Of, Completed, Credit, Update, Tick}
-use Rattle.gatt_laws.specs.machine.Event.{Replaced, Nothing}
+use Rattle.gatt_laws.specs.machine.Event.{Ordinal, Own, KeyAsked, Encrypted, Refreshed, Asks}
+use Rattle.gatt_laws.specs.machine.Event.{Signals, Authorized, Ended}
 use Rattle.gatt_laws.specs.machine.Notice.{Notice, Secured, Written}
 use Rattle.gatt_laws.specs.machine.Notice.{Configured, Confirmed, TimedOut, Ending, are_same_facts}
 use Rattle.gatt_laws.specs.machine.Notice.{link_told, write_told, confirmation_told, end_told, live_told}

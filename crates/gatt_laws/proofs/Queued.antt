@@ -10,7 +10,8 @@ use Rattle.att_pdu.specs.Response.{Response}
 use Rattle.att_attributes.specs.declared.attr.Attr.{Attr}
 use Rattle.gatt_conn.proofs.Dues.{answered_where_due}
 use Rattle.gatt_conn.specs.Answer.{Question, answer_to}
-use Rattle.gatt_laws.proofs.Always.{always, any_tables, last-true}
+use Rattle.gatt_laws.proofs.Always.{always, any_tables}
+use Rattle.gatt_laws.proofs.Meant.{last-true}
 use Rattle.std.proofs.lemmas.List.{length-map}
 use Rattle.att_table.specs.ConfigRow.{kept_row}
 use Rattle.att_table.specs.Table.{Contents}

@@ -28,14 +28,15 @@ use Rattle.gatt_laws.specs.machine.Heard.{Heard, heard_in_turn, hearer_of, with_
 use Rattle.gatt_laws.specs.machine.Part.{Mark, Absent, Live, Ending, Part, absent, come, is_live, is_there, key_of, row_of, mtu_of, connection_of, with_pdus, after_giving, after_ending}
 use Rattle.gatt_laws.specs.machine.Room.{Room, Bonds, share_of, size_of}
 use Rattle.gatt_laws.specs.laws.Runs.{after_events}
-use Rattle.gatt_laws.specs.laws.SameView.{Seen, without_commands, seen, IsReleased, IsKnown, packets_at, LeavesWhoSeesNothing, DoesTheSameToWhoSeesTheSame, IsKnownThroughout, packets_in, SameViewSamePacketsOfEvents}
+use Rattle.gatt_laws.specs.laws.SameView.{Seen, without_commands, seen, IsReleased, IsKnown, LeavesWhoSeesNothing, DoesTheSameToWhoSeesTheSame, IsKnownThroughout, SameViewSamePacketsOfEvents}
+use Rattle.gatt_laws.specs.laws.Given.{packets_at, packets_in}
 use Rattle.gatt_laws.specs.laws.Silence.{IsAllGiven}
 use Rattle.gatt_laws.specs.machine.State.{State, Change, at_peer, with_values, own_change, with_completed, after_completed, announced, part_replaced, change_of, finished, parts_finished, packets_given, step}
-use Rattle.gatt_laws.specs.machine.Turn.{Turn, turn_to, served, is_full, request_turn, after_channel, channel_answer, with_step, lost_encryption, link_turn, values_among, owed_after, live_turn, turn_of, remote_user_terminated, authentication_failure, handles_written}
+use Rattle.gatt_laws.specs.machine.Turn.{Turn, turn_to, served, is_full, request_turn, after_channel, channel_answer, with_step, lost_encryption, link_turn, values_among, live_turn, turn_of, remote_user_terminated, authentication_failure, handles_written}
 use Rattle.gatt_laws.specs.laws.View.{Written, Shown, Happens, Completes, Updates, Tells, Replaces, Writes, values_there, bits_there, written_in, are_none, is_unseen, shown_written, own_counts, shown_counts, shown, shown_in}
 use Rattle.gatt_subs.specs.Fit.{wants_changes}
 use Rattle.gatt_subs.specs.Hearing.{is_indicated}
-use Rattle.gatt_subs.specs.Indications.{Indications, may_indicate, from_due, first_of, rest_of, unconfirmed_since, released_handle, after_release, after_tick, after_replacement}
+use Rattle.gatt_subs.specs.Indications.{Indications, may_indicate, from_due, first_of, rest_of, unconfirmed_since, after_tick, after_replacement}
 use Rattle.gatt_subs.specs.Told.{Hearer}
 use Rattle.le_acl.specs.History.{packets_allowed}
 use Rattle.le_acl.specs.Outgoing.{acl_octets}

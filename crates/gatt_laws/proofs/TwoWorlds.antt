@@ -23,7 +23,8 @@ use Rattle.gatt_laws.specs.machine.Part.{Part, is_live, is_there, row_of, standi
 use Rattle.gatt_laws.specs.machine.Room.{Room, Bonds, Owed}
 use Rattle.gatt_laws.specs.machine.State.{State, Change, with_values, at_peer, after_turn, own_change, with_completed, after_completed, all_changed, announced, part_dropped, part_replaced, change_of, finished, parts_finished, with_commands_sent, before_commands, packets_given, step}
 use Rattle.gatt_laws.specs.machine.Turn.{Turn, turn_of}
-use Rattle.gatt_laws.specs.laws.TwoWorlds.{SameTable, Matched, finds_no_room, Spared, Agrees, KeepsAlike, given_to, given_of, GivesTheSame, NothingCrossesInARun}
+use Rattle.gatt_laws.specs.laws.TwoWorlds.{SameTable, Matched, finds_no_room, Spared, Agrees, KeepsAlike, given_of, GivesTheSame, NothingCrossesInARun}
+use Rattle.gatt_laws.specs.laws.Given.{packets_at}
 use Rattle.gatt_subs.proofs.Undisclosed.{tells_only_what_is_heard}
 use Rattle.gatt_subs.specs.Hearing.{may_hear_at}
 use Rattle.gatt_subs.specs.Fit.{wants_changes}
@@ -544,12 +545,12 @@ gives_the_same peer hidden one other event its alike agrees ordinal belongs =
     changes-alike peer hidden agrees.following one other event its alike agrees.matched agrees.hides agrees.spared agrees.spared_too in
     let room = same.state.room in
     let new = same.state.others ordinal in
-    elim (is_there (one.parts ordinal).mark) as (λ (there : Bool). is_there (one.parts ordinal).mark ≡ there → given_to ordinal one event ≡ given_to ordinal other its) [
+    elim (is_there (one.parts ordinal).mark) as (λ (there : Bool). is_there (one.parts ordinal).mark ≡ there → packets_at ordinal one event ≡ packets_at ordinal other its) [
       | false ↦ λ away. none_given one event ordinal away ∙ sym (none_given other its ordinal (sym (λ i. is_there (old i).mark) ∙ away))
       | true ↦ λ there.
           let mine : is_of peer (one.parts ordinal) ≡ true = belongs there in
           let equal = alike.own ordinal mine in
-          elim (is_of peer (change.state.parts ordinal)) as (λ (is : Bool). is_of peer (change.state.parts ordinal) ≡ is → given_to ordinal one event ≡ given_to ordinal other its) [
+          elim (is_of peer (change.state.parts ordinal)) as (λ (is : Bool). is_of peer (change.state.parts ordinal) ≡ is → packets_at ordinal one event ≡ packets_at ordinal other its) [
             | true ↦ λ still.
                 let ends = finished-both peer agrees.following change too same (hides-before peer agrees.following one event agrees.hides_then) ordinal still in
                 λ i. packets_given (room i) (equal i) (ends i)
@@ -565,8 +566,8 @@ pub given_alike : (peer : Peer) (hidden : Handle → Bool) (one other : State) (
     → Agrees peer hidden one other event its → (ordinal : Ordinal) → given_of peer ordinal one event ≡ given_of peer ordinal other its
 given_alike peer hidden one other event its alike agrees ordinal =
     let parts = alike.others ordinal in
-    both_choices (λ (a b : List Octets). a ≡ b) (is_of peer (one.parts ordinal)) (is_of peer (other.parts ordinal)) (given_to ordinal one event) []
-    (given_to ordinal other its) [] (λ i. is_of peer (parts i)) (λ mine. gives_the_same peer hidden one other event its alike agrees ordinal (λ there. mine))
+    both_choices (λ (a b : List Octets). a ≡ b) (is_of peer (one.parts ordinal)) (is_of peer (other.parts ordinal)) (packets_at ordinal one event) []
+    (packets_at ordinal other its) [] (λ i. is_of peer (parts i)) (λ mine. gives_the_same peer hidden one other event its alike agrees ordinal (λ there. mine))
     (λ is. refl)
 
 pub nothing_crosses_in_a_run : NothingCrossesInARun

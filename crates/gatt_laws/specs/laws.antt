@@ -15,6 +15,7 @@ pub mod Preparing
 pub mod Present
 pub mod Queued
 pub mod Refusals
+pub mod Renaming
 pub mod RowNotices
 pub mod RowsOfTheTable
 pub mod Runs

@@ -1,4 +1,5 @@
 pub mod Calls
+pub mod Context
 pub mod Controller
 pub mod Event
 pub mod Heard

@@ -18,7 +18,7 @@ use Rattle.gatt_laws.proofs.TurnsAlike.{both_choices, either_choice, SameTurn, O
 use Rattle.gatt_laws.specs.laws.Alike.{erased, MayNotKnow}
 use Rattle.gatt_laws.specs.laws.RowNotices.{is_replacement}
 use Rattle.gatt_laws.specs.laws.Runs.{events_of}
-use Rattle.gatt_laws.specs.laws.SameView.{packets_in}
+use Rattle.gatt_laws.specs.laws.Given.{packets_in}
 use Rattle.gatt_laws.specs.laws.TwoWorlds.{finds_no_room, is_answer_due}
 use Rattle.gatt_laws.specs.machine.Controller.{Slots, command_of_init, command_for, commands_for, commands_due, count_before, without_command, enabling, controller_after}
 use Rattle.gatt_laws.specs.machine.Event.{Ordinal, Own, Event, Connected, Gone, KeyAsked, Encrypted, Refreshed, Asks, Signals, Authorized, Ended, Of, Completed, Credit, Update, Tick, Replaced, Nothing}

@@ -6,10 +6,9 @@ use Rattle.gatt_laws.proofs.Given.{is_given_the_front}
 use Rattle.gatt_laws.proofs.Placed.{is_always_placed}
 use Rattle.gatt_laws.proofs.Runs.{is_where_events_lead}
 use Rattle.gatt_laws.proofs.Settled.{is_always_settled}
-use Rattle.gatt_laws.specs.laws.Given.{packets_given_by_now}
+use Rattle.gatt_laws.specs.laws.Given.{packets_given_by_now, packets_at, packets_in}
 use Rattle.gatt_laws.specs.laws.Placed.{IsPlaced}
 use Rattle.gatt_laws.specs.laws.Runs.{after_events, events_in, events_of}
-use Rattle.gatt_laws.specs.laws.SameView.{packets_at, packets_in}
 use Rattle.gatt_laws.specs.laws.Settled.{has_slot, IsSettled}
 use Rattle.gatt_laws.specs.machine.Controller.{command_of_init, count_before}
 use Rattle.gatt_laws.specs.machine.Event.{Ordinal, Event}

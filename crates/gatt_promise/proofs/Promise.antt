@@ -1,7 +1,7 @@
 -- The promise is kept.
 use Rattle.gatt_conn.proofs.Dues.{answered_where_due}
-use Rattle.gatt_laws.proofs.Courses.{continues, keeps_what_is_gone}
-use Rattle.gatt_laws.proofs.Given.{is_given_the_front}
+use Rattle.gatt_laws.proofs.Courses.{continues, has_gone_by_events, keeps_what_is_gone}
+use Rattle.gatt_laws.proofs.Given.{brings_what_it_gives, is_given_the_front}
 use Rattle.gatt_laws.proofs.Headline.{refusals_change_nothing, sends_what_may_be_read, writes_what_may_be_written}
 use Rattle.gatt_laws.proofs.MayBeHeard.{tells_what_may_be_heard}
 use Rattle.gatt_laws.proofs.NextParts.{gives_nothing_to_the_absent}
@@ -91,6 +91,8 @@ runs_in_order = record {
   divides = takes_the_division;
   unfinished = leaves_less_than_a_packet;
   events = is_where_events_lead;
+  goes = has_gone_by_events;
+  brings = brings_what_it_gives;
   table = always_has_a_table;
   rows = always_has_rows_of_its_table;
 }

@@ -7,8 +7,8 @@ use Rattle.att_writes.specs.SameBut.{SameBut}
 use Rattle.gatt_laws.specs.laws.Alike.{MayNotKnow, erased}
 use Rattle.gatt_laws.specs.laws.RowNotices.{is_replacement}
 use Rattle.gatt_laws.specs.laws.Runs.{events_of}
-use Rattle.gatt_laws.specs.laws.SameView.{packets_in, packets_to}
-use Rattle.gatt_laws.specs.laws.TwoWorlds.{finds_no_room, given_to}
+use Rattle.gatt_laws.specs.laws.Given.{packets_at, packets_in, packets_to}
+use Rattle.gatt_laws.specs.laws.TwoWorlds.{finds_no_room}
 use Rattle.gatt_laws.specs.machine.Event.{Ordinal, Event, Of}
 use Rattle.gatt_laws.specs.machine.Input.{Item}
 use Rattle.gatt_laws.specs.machine.Part.{is_live, is_there, row_of, standing_of}
@@ -60,7 +60,7 @@ KeepsAlikeToOne = (ordinal : Ordinal) (peer : Peer) (hidden : Handle → Bool) (
 abbrev pub GivesTheSameToOne : Type 0
 GivesTheSameToOne = (ordinal : Ordinal) (peer : Peer) (hidden : Handle → Bool) (one other : State) (event : Event) →
     AlikeTo ordinal peer hidden one other → AgreesFor ordinal peer hidden one other event →
-    given_to ordinal one event ≡ given_to ordinal other event
+    packets_at ordinal one event ≡ packets_at ordinal other event
 
 -- and so do runs of events
 abbrev pub AgreeFor : Ordinal → Peer → (Handle → Bool) → State → State → List Event → Type 0

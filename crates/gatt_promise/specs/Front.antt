@@ -1,8 +1,7 @@
 -- What is given to a connection, also to one that has gone since, is the front of what was queued for it.
 use Rattle.std.specs.Prelude.{◌≡◌, if◌then◌else◌, List, [], ◌∷◌}
-use Rattle.gatt_laws.specs.laws.Given.{packets_given_by_now}
+use Rattle.gatt_laws.specs.laws.Given.{packets_given_by_now, packets_to}
 use Rattle.gatt_laws.specs.laws.Runs.{events_of}
-use Rattle.gatt_laws.specs.laws.SameView.{packets_to}
 use Rattle.gatt_laws.specs.machine.Event.{Ordinal, Event}
 use Rattle.gatt_laws.specs.machine.Input.{Item}
 use Rattle.gatt_laws.specs.machine.Part.{is_there}

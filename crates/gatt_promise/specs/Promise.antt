@@ -4,7 +4,7 @@
 -- packets of the course. These records say what holds of each course, for every start and every input, however connections
 -- interleave: that the order of octets alone decides it, what each connection is sent and what it may change, what it may not learn,
 -- and what the application is told. Each field is proved.
-use Rattle.gatt_laws.specs.laws.Given.{IsGivenTheFront}
+use Rattle.gatt_laws.specs.laws.Given.{BringsWhatItGives, IsGivenTheFront}
 use Rattle.gatt_laws.specs.laws.Headline.{RefusalsChangeNothing, SendsWhatMayBeRead, WritesWhatMayBeWritten}
 use Rattle.gatt_laws.specs.laws.Laws.{ContinuesItsCourse, KeepsWhatIsGone, LeavesLessThanAPacket, TakesTheDivision}
 use Rattle.gatt_laws.specs.laws.MayBeHeard.{TellsWhatMayBeHeard}
@@ -15,7 +15,7 @@ use Rattle.gatt_laws.specs.laws.Preparing.{PreparesByItself, PreparesTheSame}
 use Rattle.gatt_laws.specs.laws.Queued.{AlwaysHasBoundedQueues}
 use Rattle.gatt_laws.specs.laws.Refusals.{RefusesByTheFirstBrokenRule, RefusesTheFirstEntry, RefusesTheFirstHandle, RefusesTheFirstListed}
 use Rattle.gatt_laws.specs.laws.RowsOfTheTable.{AlwaysHasRowsOfItsTable}
-use Rattle.gatt_laws.specs.laws.Runs.{IsWhereEventsLead}
+use Rattle.gatt_laws.specs.laws.Runs.{HasGoneByEvents, IsWhereEventsLead}
 use Rattle.gatt_laws.specs.laws.SameView.{DoesTheSameToWhoSeesTheSame, LeavesWhoSeesNothing, SameViewSamePackets}
 use Rattle.gatt_laws.specs.laws.Silence.{GivesAllThatItMay, OnlyServesTheLive, OnlyTheLiveAct}
 use Rattle.gatt_laws.specs.laws.Telling.{TellsTheApplication}
@@ -138,6 +138,9 @@ pub record RunsInOrder : Type 0 where
   pub unfinished : LeavesLessThanAPacket
   -- a state is that to which the events of the input lead
   pub events : IsWhereEventsLead
+  -- and what has gone out is what they bring: each commands, and then the packets that it gives to each connection that has a slot
+  pub goes : HasGoneByEvents
+  pub brings : BringsWhatItGives
   -- in each state a table stands, where each that is handed in is one; with rows of it, where those of the start are of its table
   pub table : AlwaysHasATable
   pub rows : AlwaysHasRowsOfItsTable

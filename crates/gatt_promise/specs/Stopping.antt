@@ -1,11 +1,13 @@
 -- No phone stops the host: data of a connection is taken in, whatever it is.
 use Rattle.std.specs.Prelude.{◌≡◌, ℕ, Ok}
-use Rattle.gatt_laws.specs.machine.Packets.{Fragments, arrival, arrival_event, packet_event}
+use Rattle.gatt_laws.specs.machine.Context.{serving}
+use Rattle.gatt_laws.specs.machine.Packets.{Fragments, data_event, recombinations_of, packet_event}
 use Rattle.gatt_laws.specs.machine.State.{State}
+use Rattle.le_acl.specs.Fragment.{fragment_of}
 use Rattle.le_h4.specs.Packet.{AclPacket}
 use Rattle.octets.specs.Number.{Octets}
 
 abbrev pub TakesAllData : Type 0
 TakesAllData = (state : State) (fragments : Fragments) (handle boundary broadcast : ℕ) (octets : Octets) →
     let packet = AclPacket handle boundary broadcast octets in
-    packet_event state fragments packet ≡ Ok (arrival_event fragments (arrival state packet))
+    packet_event state fragments packet ≡ Ok (data_event (recombinations_of fragments) (serving state handle) (fragment_of boundary broadcast octets))

@@ -13,6 +13,10 @@ use Rattle.gatt_subs.specs.Indications.{times_out}
 use Rattle.gatt_subs.specs.Rows.{Subscriptions, row_of}
 use Rattle.le_hci.specs.declared.event.CompletedPackets.{CompletedPackets}
 
+-- a connection is named by the place of its slot
+abbrev pub Place : Type 0
+Place = ℕ
+
 -- what each slot keeps
 abbrev pub Held : Type 0
 Held = List (Option Kept)
@@ -120,3 +124,8 @@ after_entry entry slots =
 abbrev pub after_entries : List CompletedPackets → Held → Held
 after_entries [] slots = slots
 after_entries (entry ∷ entries) slots = after_entries entries (after_entry entry slots)
+
+-- or place by place
+abbrev pub after_completions : List (Place × ℕ) → Held → Held
+after_completions [] slots = slots
+after_completions (entry ∷ entries) slots = after_completions entries (slots_at entry.0 (after_completed entry.1) slots)

@@ -1,246 +1,201 @@
--- What a call means to a host is what it means to the state, and it is refused alike; so with a table that replaces another.
-use Rattle.std.proofs.Common.{◌≡◌, ℕ, zero, suc, ◌≤◌, Bool, true, false, List, [], ◌∷◌, length, Option, Some, None, refl, sym, ap, subst, ◌∙◌, arith}
-use Rattle.std.specs.Prelude.{Result, Ok, Err, nat_lt, ◌==◌, ◌&&◌, not, replicate, if◌then◌else◌}
-use Rattle.std.specs.List.{position}
-use Rattle.std.specs.Option.{option_map}
-use Rattle.std.proofs.lemmas.Bool.{ltb-false}
+-- What a call means to a host is what it means to the state, and it is refused alike; so with a
+-- table that replaces another.
+use Rattle.std.proofs.Common.{◌≡◌, ℕ, Bool, true, false, Option, Some, None, Result, Ok, Err, refl}
+use Rattle.std.proofs.Common.{sym, ap, subst, ◌∙◌}
+use Rattle.std.specs.Prelude.{IsOkAnd, nat_lt, not, length, if◌then◌else◌}
 use Rattle.att_numbers.specs.Types.{Handle}
 use Rattle.att_attributes.specs.declared.attr.Attr.{Attr}
 use Rattle.att_attributes.specs.Attributes.{attribute_at, is_value}
 use Rattle.att_table.specs.Changer.{changer_of}
 use Rattle.att_table.specs.Table.{Contents}
-use Rattle.gatt_host.proofs.asking.Led.{KeepsSlots, Led, led_on}
-use Rattle.gatt_host.proofs.standing.ForAll.{time_leads_on, update_leads_on}
-use Rattle.gatt_host.proofs.standing.Holding.{Holds, holds, some-is, were_open}
-use Rattle.gatt_host.proofs.standing.OwnEvents.{authorizing_leads_on, disconnecting_leads_on}
-use Rattle.gatt_host.proofs.standing.Replacements.{replacement_leads_on as table_leads_on}
-use Rattle.gatt_host.specs.Asked.{update_happening, authorize_happening, disconnect_happening, call_happening, replacement_happening}
+use Rattle.gatt_host.proofs.meaning.Leads.{IsAny, event_led}
+use Rattle.gatt_host.proofs.standing.Names.{knows_the_same}
+use Rattle.gatt_host.specs.Asked.{call_happening, replacement_happening}
 use Rattle.gatt_host.specs.Held.{Held}
-use Rattle.gatt_host.specs.Meaning.{Frames, Happening, Updates, Ticks, Replaces, IsAfter}
-use Rattle.gatt_host.specs.Owing.{all_given, slot_held}
-use Rattle.gatt_host.specs.Standing.{IsDrainedIn, CallLeadsOn, CallIsRefused, ReplacementLeadsOn, ReplacementIsRefused}
-use Rattle.gatt_host.specs.Stands.{Stands, IsSound, LeadsTo}
-use Rattle.gatt_laws.specs.machine.Calls.{Call, UpdateCall, AuthorizeCall, DisconnectCall, TickCall, Refused, NotAValue, BadLength, TimeWentBack, NoServiceChanged, ordinal_where, serving, has_length, update_event, authorize_event, disconnect_event, call_event, same_changer, replacement_event}
-use Rattle.gatt_laws.specs.machine.Controller.{Slots, is_ready}
-use Rattle.gatt_laws.specs.machine.Event.{Ordinal, Event, Of, Authorized, Ended, Update, Tick, Replaced}
-use Rattle.gatt_laws.specs.machine.Input.{Course}
-use Rattle.gatt_laws.specs.machine.Part.{is_live}
-use Rattle.gatt_laws.specs.laws.Possible.{MayBeUpdated}
-use Rattle.gatt_laws.specs.machine.State.{State, change_of, step}
-use Rattle.gatt_slots.proofs.parts.Found.{finds_serving}
-use Rattle.gatt_slots.proofs.parts.Places.{Finds, position_step}
-use Rattle.gatt_slots.specs.Kept.{Kept}
-use Rattle.gatt_slots.specs.Slots.{is_serving, place_serving}
+use Rattle.gatt_host.specs.Meaning.{Frames, context_in, frames_after, IsAfter}
+use Rattle.gatt_host.specs.Notices.{last_notices}
+use Rattle.gatt_host.specs.Standing.{IsDrainedIn, StandsIn}
+use Rattle.gatt_host.specs.Stands.{place_of}
+use Rattle.gatt_host.specs.Telling.{noticed_in}
+use Rattle.gatt_laws.proofs.Meant.{MeantIfAny, call_meant, replacement_meant}
+use Rattle.gatt_laws.proofs.Renaming.{calls_mean_the_same, replacements_mean_the_same}
+use Rattle.gatt_laws.specs.laws.Renaming.{renamed_if}
+use Rattle.gatt_laws.specs.machine.Calls.{Call, UpdateCall, AuthorizeCall, DisconnectCall, TickCall}
+use Rattle.gatt_laws.specs.machine.Calls.{Refused, NotAValue, BadLength, TimeWentBack}
+use Rattle.gatt_laws.specs.machine.Calls.{NoServiceChanged, has_length, update_event}
+use Rattle.gatt_laws.specs.machine.Calls.{authorize_event, disconnect_event, call_event}
+use Rattle.gatt_laws.specs.machine.Calls.{call_meaning, same_changer, replacement_event}
+use Rattle.gatt_laws.specs.machine.Calls.{replacement_meaning}
+use Rattle.gatt_laws.specs.machine.Context.{Context, context_of}
+use Rattle.gatt_laws.specs.machine.Event.{Ordinal, Event, Happening, Update, Tick, Replaced}
+use Rattle.gatt_laws.specs.machine.Input.{Course, after_result, refusal_in}
+use Rattle.gatt_laws.specs.machine.State.{State, out}
+use Rattle.gatt_slots.specs.Slots.{Place}
 use Rattle.octets.specs.Number.{Octets}
 
--- whom a test finds passes it
-found-passes : (test : Ordinal → Bool) (slots : Slots) (ordinal : Ordinal) → ordinal_where test slots ≡ Some ordinal → test ordinal ≡ true
-found-passes test [] ordinal is = cc is
-found-passes test (None ∷ slots) ordinal is = found-passes test slots ordinal is
-found-passes test (Some other ∷ slots) ordinal is =
-    elim (test other) as (λ (passes : Bool). test other ≡ passes
-    → (if passes then Some other else ordinal_where test slots) ≡ Some ordinal → test ordinal ≡ true) [
-      | true ↦ λ passes same. ap test (sym (some-is same)) ∙ passes
-      | false ↦ λ fails later. found-passes test slots ordinal later
-    ] refl is
+-- nothing that is put together is changed by what is asked
+abbrev LeavesFrames : Result (Happening Place) Refused → Type 0
+LeavesFrames (Ok happening) = (frames : Frames) → frames ≡ frames_after happening frames
+LeavesFrames (Err refused) = Unit
 
-and-left : (one other : Bool) → (one && other) ≡ true → one ≡ true
-and-left true other is = refl
-and-left false other is = is
+update-leaves : (handle : Handle) (value : Octets) (found : Option Attr)
+    → LeavesFrames (update_event handle value found)
+update-leaves handle value None = tt
+update-leaves handle value (Some attr) =
+    elim (is_value attr.role) as
+    (λ (is : Bool). LeavesFrames
+    (if not is then Err NotAValue else if not (has_length attr (length value)) then Err BadLength
+    else Ok (Update handle value))) [
+      | false ↦ tt
+      | true ↦
+          elim (has_length attr (length value)) as
+          (λ (has : Bool). LeavesFrames
+          (if not has then Err BadLength else Ok (Update handle value))) [
+            | false ↦ tt
+            | true ↦
+                λ frames. refl
+          ]
+    ]
 
-abbrev serves : State → ℕ → Ordinal → Bool
-serves state handle ordinal = is_live (state.parts ordinal).mark && ((state.parts ordinal).handle == handle)
+authorize-leaves : (until : ℕ) (found : Option Place) → LeavesFrames (authorize_event until found)
+authorize-leaves until None = tt
+authorize-leaves until (Some place) = λ frames. refl
 
-found-live : (state : State) (handle : ℕ) (ordinal : Ordinal) → serving state handle ≡ Some ordinal
-    → is_live (state.parts ordinal).mark ≡ true
-found-live state handle ordinal is =
-    and-left (is_live (state.parts ordinal).mark) ((state.parts ordinal).handle == handle)
-    (found-passes (serves state handle) state.slots ordinal is)
+disconnect-leaves : (found : Option Place) → LeavesFrames (disconnect_event found)
+disconnect-leaves None = tt
+disconnect-leaves (Some place) = λ frames. refl
 
--- nobody is found while all slots are free
-none-free : (test : Option Kept → Bool) → test None ≡ false → (count : ℕ) → position test (replicate count None) ≡ None
-none-free test free zero = refl
-none-free test free (suc count) =
-    position_step test None (replicate count None)
-    ∙ (λ i. if free i then Some 0 else option_map suc (none-free test free count i))
+call-leaves : (context : Context Place) (call : Call) → LeavesFrames (call_meaning context call)
+call-leaves context (UpdateCall handle value) =
+    update-leaves handle value (attribute_at context.attributes handle)
+call-leaves context (AuthorizeCall handle until) = authorize-leaves until (context.serving handle)
+call-leaves context (DisconnectCall handle) = disconnect-leaves (context.serving handle)
+call-leaves context (TickCall time) =
+    elim (nat_lt time context.time) as
+    (λ (back : Bool). LeavesFrames (if back then Err TimeWentBack else Ok (Tick time))) [
+      | true ↦
+          tt
+      | false ↦ λ frames. refl
+    ]
 
--- the connection of a handle that serves is in the slot that is found
-module _ (state : State) (held : Held) (handle : ℕ) (sound : IsSound state) (stands : Stands state [] held) where
-  is : Holds state (all_given state) held
-  is = holds state held stands
+replacement-leaves : (context : Context Place) (table : Contents)
+    → LeavesFrames (replacement_meaning context table)
+replacement-leaves context table =
+    elim (same_changer context.changer (changer_of table)) as
+    (λ (same : Bool). LeavesFrames (if same then Ok (Replaced table) else Err NoServiceChanged))
+    [ true ↦ λ frames. refl | false ↦ tt ]
 
-  finds-open : (ready : Bool) → is_ready state.controller ≡ ready
-      → Finds state.slots (serving state handle) (place_serving held.slots handle)
-  finds-open true ready =
-      subst (λ (slots : List (Option Kept)). Finds state.slots (serving state handle) (place_serving slots handle))
-      (sym (were_open state (all_given state) held is ready))
-      (finds_serving state (all_given state) (slot_held state (all_given state)) refl (λ ordinal. refl) handle)
-  finds-open false early =
-      let none : place_serving held.slots handle ≡ None =
-      ap (λ (slots : List (Option Kept)). place_serving slots handle) (is.free early)
-      ∙ none-free (is_serving handle) refl state.room.slots in
-      subst (λ (slots : Slots). Finds state.slots (ordinal_where (serves state handle) slots) (place_serving held.slots handle))
-      (sym (sound.settled.early early)) none
+-- where what is asked leads a host, and what is told of it
+pub record Led (course : Course) (new : Held) (frames : Frames) (result : Result Event Refused) :
+    Type 0 where
+  pub stands : StandsIn (after_result course result) course.gone new frames
+  pub told : last_notices new ≡ noticed_in course.intake.state result
 
-  finds : Finds state.slots (serving state handle) (place_serving held.slots handle)
-  finds = finds-open (is_ready state.controller) refl
+module _ (course : Course) (held new : Held) (frames : Frames) (is : IsDrainedIn course held frames)
+  where
+    abbrev state : State
+    state = course.intake.state
 
--- what is asked for means the same to both, or is refused by both
-abbrev Means : Course → Held → Held → Frames → Result Happening Refused → Result Event Refused → Type 0
-Means course held new frames (Ok happening) event = IsAfter happening held new → Led course new frames event
-Means course held new frames (Err refused) event = event ≡ Err refused
+    abbrev Holds : Result (Happening Place) Refused → Type 0
+    Holds result = IsOkAnd result (λ happening. IsAfter happening held new)
 
--- what is refused where a test passes, or where it fails
-abbrev unless : {A : Type 0} → Bool → Refused → A → Result A Refused
-unless test refused meant = if test then Err refused else Ok meant
+    by-result : (result : Result Event Refused) → MeantIfAny IsAny state result
+        → LeavesFrames (renamed_if (place_of state) result)
+        → Holds (renamed_if (place_of state) result) → Led course new frames result
+    by-result (Ok event) meant leaves after =
+        let led =
+        event_led state held new course.intake.fragments frames frames event is.sound is.stands
+        is.together meant after (leaves frames) in
+        record {
+          stands = record {
+            owed = out state event;
+            all = refl;
+            sound = led.sound;
+            stands =
+                led.stands;
+            together = led.together;
+          };
+          told = led.told;
+        }
+    by-result (Err refused) meant leaves after = absurd after
 
-abbrev where_so : {A : Type 0} → Bool → Refused → A → Result A Refused
-where_so test refused meant = if test then Ok meant else Err refused
+    asked-led : (result : Result Event Refused) (happening : Result (Happening Place) Refused)
+        → happening ≡ renamed_if (place_of state) result
+        → MeantIfAny IsAny state result → LeavesFrames happening → Holds happening
+        → Led course new frames result
+    asked-led result happening same meant leaves after =
+        by-result result meant (subst LeavesFrames same leaves) (subst Holds same after)
 
-abbrev fitting : {A : Type 0} → (is_value has_length : Bool) → A → Result A Refused
-fitting is_value has_length meant = if not is_value then Err NotAValue else if not has_length then Err BadLength else Ok meant
+same-refusal : (names : Ordinal → Place) (result : Result Event Refused)
+    (happening : Result (Happening Place) Refused) → happening ≡ renamed_if names result
+    → refusal_in None result ≡ refusal_in None happening
+same-refusal names result happening same =
+    by result
+    ∙ sym (ap (λ (happening : Result (Happening Place) Refused). refusal_in None happening) same)
+  where
+    by : (result : Result Event Refused)
+        → refusal_in None result ≡ refusal_in None (renamed_if names result)
+    by (Ok event) = refl
+    by (Err refused) = refl
 
-module _ (course : Course) (held new : Held) (frames : Frames) (is : IsDrainedIn course held frames) where
-  abbrev state : State
-  state = course.intake.state
+same-error : (names : Ordinal → Place) (result : Result Event Refused) (refused : Refused)
+    → renamed_if names result ≡ Err refused → result ≡ Err refused
+same-error names (Ok event) refused is = cc is
+same-error names (Err why) refused is = let same : why ≡ refused = cc is in ap Err same
 
-  abbrev Alike : Result Happening Refused → Result Event Refused → Type 0
-  Alike happening event = Means course held new frames happening event
+module _ (course : Course) (held : Held) (frames : Frames) (is : IsDrainedIn course held frames)
+  where
+    abbrev before : State
+    before = course.intake.state
 
-  -- a value is written
-  update-keeps : (handle : Handle) (value : Octets) → KeepsSlots state (step state (Update handle value))
-  unfolding step change_of
-  update-keeps handle value = record { slots = refl; next = refl }
+    same-call : (call : Call)
+        → call_happening held call ≡ renamed_if (place_of before) (call_event before call)
+    same-call call =
+        calls_mean_the_same Ordinal Place (place_of before) (context_of before) (context_in held)
+        (knows_the_same before held is.sound is.stands) call
 
-  update-alike : (handle : Handle) (value : Octets) (found : Option Attr) → attribute_at state.room.table.attributes handle ≡ found
-      → Alike (update_happening handle value found) (update_event handle value found)
-  update-alike handle value None at = refl
-  update-alike handle value (Some attr) at =
-      let has_room : Bool = has_length attr (length value) in
-      elim (is_value attr.role) as (λ (is : Bool). Alike (fitting is has_room (Updates handle value)) (fitting is has_room (Update handle value))) [
-        | false ↦ refl
-        | true ↦
-            elim has_room as (λ (has : Bool). has_room ≡ has
-            → Alike (fitting true has (Updates handle value)) (fitting true has (Update handle value))) [
-              | false ↦ λ has. refl
-              | true ↦ λ has after.
-                  let may : MayBeUpdated state handle value = record { attr = attr; there = at; fits = has } in
-                  led_on course held new frames (Update handle value) is may (update-keeps handle value)
-                  (subst (λ (new : Held). LeadsTo state (Update handle value) new) (sym after)
-                  (update_leads_on state held handle value is.sound is.stands may))
-            ] refl
-      ]
+    same-table : (table : Contents) → replacement_happening held table ≡ renamed_if (place_of before)
+        (replacement_event before table)
+    same-table table =
+        replacements_mean_the_same Ordinal Place (place_of before) (context_of before)
+        (context_in held) (knows_the_same before held is.sound is.stands) table
 
-  -- a connection is authorized
-  authorize-keeps : (ordinal : Ordinal) (until : ℕ) → KeepsSlots state (step state (Of ordinal (Authorized until)))
-  unfolding step change_of
-  authorize-keeps ordinal until = record { slots = refl; next = refl }
+    pub call_led : (new : Held) (call : Call)
+        → IsOkAnd (call_happening held call) (λ happening. IsAfter happening held new)
+        → Led course new frames (call_event before call)
+    call_led new call after =
+        asked-led course held new frames is (call_event before call) (call_happening held call)
+        (same-call call) (call_meant IsAny before call)
+        (call-leaves (context_in held) call) after
 
-  authorize-alike : (until handle : ℕ) (found : Option Ordinal) (place : Option ℕ) → serving state handle ≡ found
-      → Finds state.slots found place → Alike (authorize_happening until place) (authorize_event until found)
-  authorize-alike until handle None place is_found none =
-      subst (λ (place : Option ℕ). Alike (authorize_happening until place) (authorize_event until None)) (sym none) refl
-  authorize-alike until handle (Some ordinal) place is_found found =
-      subst (λ (place : Option ℕ). Alike (authorize_happening until place) (authorize_event until (Some ordinal))) (sym found.is)
-      (λ after. led_on course held new frames (Of ordinal (Authorized until)) is tt (authorize-keeps ordinal until)
-      (subst (λ (new : Held). LeadsTo state (Of ordinal (Authorized until)) new) (sym after)
-      (authorizing_leads_on state held found.at ordinal until is.sound is.stands
-      (record { there = found.has; live = found-live state handle ordinal is_found }))))
+    pub table_led : (new : Held) (table : Contents)
+        → IsOkAnd (replacement_happening held table) (λ happening. IsAfter happening held new)
+        → Led course new frames (replacement_event before table)
+    table_led new table after =
+        asked-led course held new frames is (replacement_event before table)
+        (replacement_happening held table) (same-table table)
+        (replacement_meant IsAny before table tt) (replacement-leaves (context_in held) table) after
 
-  -- a connection is ended
-  disconnect-keeps : (ordinal : Ordinal) → KeepsSlots state (step state (Of ordinal Ended))
-  unfolding step change_of
-  disconnect-keeps ordinal = record { slots = refl; next = refl }
+    -- it is refused for the same reason
+    pub call_is_refused : (call : Call) (refused : Refused) → call_happening held call ≡ Err refused
+        → call_event before call ≡ Err refused
+    call_is_refused call refused is =
+        same-error (place_of before) (call_event before call) refused (sym (same-call call) ∙ is)
 
-  disconnect-alike : (handle : ℕ) (found : Option Ordinal) (place : Option ℕ) → serving state handle ≡ found
-      → Finds state.slots found place → Alike (disconnect_happening place) (disconnect_event found)
-  disconnect-alike handle None place is_found none =
-      subst (λ (place : Option ℕ). Alike (disconnect_happening place) (disconnect_event None)) (sym none) refl
-  disconnect-alike handle (Some ordinal) place is_found found =
-      subst (λ (place : Option ℕ). Alike (disconnect_happening place) (disconnect_event (Some ordinal))) (sym found.is)
-      (λ after. led_on course held new frames (Of ordinal Ended) is tt (disconnect-keeps ordinal)
-      (subst (λ (new : Held). LeadsTo state (Of ordinal Ended) new) (sym after)
-      (disconnecting_leads_on state held found.at ordinal is.sound is.stands
-      (record { there = found.has; live = found-live state handle ordinal is_found }))))
+    pub table_is_refused : (table : Contents) (refused : Refused) → replacement_happening held table
+        ≡ Err refused → replacement_event before table ≡ Err refused
+    table_is_refused table refused is =
+        same-error (place_of before) (replacement_event before table) refused (sym (same-table table)
+        ∙ is)
 
-  -- the time is told
-  tick-keeps : (time : ℕ) → KeepsSlots state (step state (Tick time))
-  unfolding step change_of
-  tick-keeps time = record { slots = refl; next = refl }
+    pub call_refusal_same : (call : Call) → refusal_in None (call_event before call)
+        ≡ refusal_in None (call_happening held call)
+    call_refusal_same call =
+        same-refusal (place_of before) (call_event before call) (call_happening held call)
+        (same-call call)
 
-  tick-alike : (time : ℕ)
-      → Alike (unless (nat_lt time state.room.time) TimeWentBack (Ticks time)) (unless (nat_lt time state.room.time) TimeWentBack (Tick time))
-  tick-alike time =
-      elim (nat_lt time state.room.time) as (λ (back : Bool). nat_lt time state.room.time ≡ back
-      → Alike (unless back TimeWentBack (Ticks time)) (unless back TimeWentBack (Tick time))) [
-        | true ↦ λ back. refl
-        | false ↦ λ back after.
-            let later : state.room.time ≤ time = omega (arith, ltb-false time state.room.time back) in
-            led_on course held new frames (Tick time) is later (tick-keeps time)
-            (subst (λ (new : Held). LeadsTo state (Tick time) new) (sym after)
-            (time_leads_on state held time is.sound is.stands later))
-      ] refl
-
-  call-alike : (call : Call) → Alike (call_happening held call) (call_event state call)
-  call-alike (UpdateCall handle value) =
-      let event : Result Event Refused = update_event handle value (attribute_at state.room.table.attributes handle) in
-      subst (λ (table : Contents). Alike (update_happening handle value (attribute_at table.attributes handle)) event)
-      (sym is.stands.table) (update-alike handle value (attribute_at state.room.table.attributes handle) refl)
-  call-alike (AuthorizeCall handle until) =
-      authorize-alike until handle (serving state handle) (place_serving held.slots handle) refl
-      (finds state held handle is.sound is.stands)
-  call-alike (DisconnectCall handle) =
-      disconnect-alike handle (serving state handle) (place_serving held.slots handle) refl
-      (finds state held handle is.sound is.stands)
-  call-alike (TickCall time) =
-      let event : Result Event Refused = unless (nat_lt time state.room.time) TimeWentBack (Tick time) in
-      subst (λ (now : ℕ). Alike (unless (nat_lt time now) TimeWentBack (Ticks time)) event)
-      (sym is.stands.time) (tick-alike time)
-
-  -- a table replaces another
-  replacement-keeps : (table : Contents) → KeepsSlots state (step state (Replaced table))
-  unfolding step change_of
-  replacement-keeps table = record { slots = refl; next = refl }
-
-  same-alike : (table : Contents) (same : Bool)
-      → Alike (where_so same NoServiceChanged (Replaces table)) (where_so same NoServiceChanged (Replaced table))
-  same-alike table true = λ after.
-      led_on course held new frames (Replaced table) is tt (replacement-keeps table)
-      (subst (λ (new : Held). LeadsTo state (Replaced table) new) (sym after)
-      (table_leads_on state held table is.sound is.stands))
-  same-alike table false = refl
-
-  replacement-alike : (table : Contents) → Alike (replacement_happening held table) (replacement_event state table)
-  replacement-alike table =
-      let may_replace : Option Handle → Bool = λ changer. same_changer changer (changer_of table) in
-      subst (λ (changer : Option Handle). Alike (where_so (may_replace changer) NoServiceChanged (Replaces table)) (replacement_event state table))
-      (sym is.stands.changer) (same-alike table (same_changer state.room.changer (changer_of table)))
-
-pub call_led : (course : Course) (held new : Held) (frames : Frames) (call : Call) (happening : Happening) → IsDrainedIn course held frames
-    → call_happening held call ≡ Ok happening → IsAfter happening held new → Led course new frames (call_event course.intake.state call)
-call_led course held new frames call happening is means after =
-    subst (λ (result : Result Happening Refused). Means course held new frames result (call_event course.intake.state call)) means
-    (call-alike course held new frames is call) after
-
-pub call_leads_on : CallLeadsOn
-call_leads_on course held new frames call happening is means after = (call_led course held new frames call happening is means after).stands
-
-pub call_is_refused : CallIsRefused
-call_is_refused course held frames call refused is refuses =
-    subst (λ (result : Result Happening Refused). Means course held held frames result (call_event course.intake.state call)) refuses
-    (call-alike course held held frames is call)
-
-pub replacement_led : (course : Course) (held new : Held) (frames : Frames) (table : Contents) (happening : Happening) → IsDrainedIn course held frames
-    → replacement_happening held table ≡ Ok happening → IsAfter happening held new → Led course new frames (replacement_event course.intake.state table)
-replacement_led course held new frames table happening is means after =
-    subst (λ (result : Result Happening Refused). Means course held new frames result (replacement_event course.intake.state table)) means
-    (replacement-alike course held new frames is table) after
-
-pub replacement_leads_on : ReplacementLeadsOn
-replacement_leads_on course held new frames table happening is means after =
-    (replacement_led course held new frames table happening is means after).stands
-
-pub replacement_is_refused : ReplacementIsRefused
-replacement_is_refused course held frames table refused is refuses =
-    subst (λ (result : Result Happening Refused). Means course held held frames result (replacement_event course.intake.state table)) refuses
-    (replacement-alike course held held frames is table)
+    pub table_refusal_same : (table : Contents) → refusal_in None (replacement_event before table)
+        ≡ refusal_in None (replacement_happening held table)
+    table_refusal_same table =
+        same-refusal (place_of before) (replacement_event before table)
+        (replacement_happening held table) (same-table table)

@@ -4,7 +4,7 @@ use Rattle.std.specs.Prelude.{is_some, is_none, replicate, ◌==◌, ◌||◌, i
 use Rattle.std.specs.Option.{option_map}
 use Rattle.std.proofs.lemmas.Bool.{eq-eqb}
 use Rattle.std.proofs.lemmas.List.{get_or-set_same, get_or-set_other, length-set}
-use Rattle.gatt_host.proofs.asking.Led.{rooms_stay}
+use Rattle.gatt_host.proofs.meaning.Staying.{rooms_stay}
 use Rattle.gatt_host.proofs.owing.Nexts.{clash}
 use Rattle.gatt_host.proofs.standing.ForAll.{each_length}
 use Rattle.gatt_host.proofs.standing.Holding.{Holds, holds, some-is, were_open}
@@ -12,7 +12,7 @@ use Rattle.gatt_host.specs.Held.{Held}
 use Rattle.gatt_host.specs.Meaning.{Frames, once_heard}
 use Rattle.gatt_host.specs.Owing.{all_given, slot_held}
 use Rattle.gatt_host.specs.Standing.{IsPutTogether}
-use Rattle.gatt_host.specs.Stands.{IsSound, Stands, slots_for as slots_opened}
+use Rattle.gatt_host.specs.Stands.{IsSound, Stands, place_among, slots_for as slots_opened}
 use Rattle.gatt_laws.specs.machine.Controller.{Slots, has_free, is_ready, with_freed, with_taken}
 use Rattle.gatt_laws.specs.machine.Event.{Ordinal, Own, Event, Connected, Gone, KeyAsked, Encrypted, Refreshed, Asks, Signals, Authorized, Ended, Of, Completed, Credit, Update, Tick, Replaced, Nothing}
 use Rattle.gatt_laws.specs.machine.Packets.{Fragments}
@@ -162,6 +162,23 @@ module _ (keep : Option Ordinal → Option Kept) (free : keep None ≡ None) whe
       (there first (ap (λ (own : Bool). own || has_slot first slots) (eq-eqb first first refl)))
       ∙ ap (λ (place : Option ℕ). option_map suc place)
       (finds_free slots has (λ other other_has. there other (or-true (first == other) (has_slot other slots) other_has)))
+
+-- which is that of the one that comes next
+or-false-left : (one other : Bool) → (one || other) ≡ false → one ≡ false
+or-false-left false other is = refl
+or-false-left true other is = absurd (clash (sym is))
+
+or-false-right : (one other : Bool) → (one || other) ≡ false → other ≡ false
+or-false-right false other is = is
+or-false-right true other is = absurd (clash (sym is))
+
+pub next_place : (next : Ordinal) (slots : Slots) → has_free slots ≡ true → has_slot next slots ≡ false → place_among (with_taken next slots) next ≡ first_free slots
+unfolding first_free
+next_place next [] free lacks = absurd (clash free)
+next_place next (None ∷ slots) free lacks = ap (λ (own : Bool). if own then 0 else suc (place_among slots next)) (eq-eqb next next refl)
+next_place next (Some first ∷ slots) free lacks =
+    ap (λ (own : Bool). if own then 0 else suc (place_among (with_taken next slots) next)) (or-false-left (first == next) (has_slot next slots) lacks)
+    ∙ ap (λ (place : ℕ). suc place) (next_place next slots free (or-false-right (first == next) (has_slot next slots) lacks))
 
 -- who has a slot once one is taken had it before, or has come to it
 abbrev CameOrWas : Ordinal → Slots → ℕ → Ordinal → Type 0

@@ -126,16 +126,19 @@ share-kept slots (Some buffers) =
 no-slots : (slots : Slots) → slots ≡ [] → has_free slots ≡ false
 no-slots slots none = ap has_free none
 
+pub ready_where_free : (state : State) → IsSound state → has_free state.slots ≡ true → is_ready state.controller ≡ true
+ready_where_free state sound free = elim (is_ready state.controller) as (λ (ready : Bool). is_ready state.controller ≡ ready → ready ≡ true) [
+  | true ↦ λ is. refl
+  | false ↦ λ early. absurd (clash (sym (no-slots state.slots (sound.settled.early early)) ∙ free))
+] refl
+
 module _ (state : State) (held : Held) (place handle : ℕ) (peer : Peer) (sound : IsSound state) (stands : Stands state [] held)
     (free : has_free state.slots ≡ true) (found : place_free held.slots ≡ Some place) where
   came-is : Holds state (all_given state) held
   came-is = holds state held stands
 
   came-ready : is_ready state.controller ≡ true
-  came-ready = elim (is_ready state.controller) as (λ (ready : Bool). is_ready state.controller ≡ ready → ready ≡ true) [
-    | true ↦ λ is. refl
-    | false ↦ λ early. absurd (clash (sym (no-slots state.slots (sound.settled.early early)) ∙ free))
-  ] refl
+  came-ready = ready_where_free state sound free
 
   abbrev next : Ordinal
   next = state.next

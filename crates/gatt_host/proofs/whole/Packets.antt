@@ -2,9 +2,8 @@
 use Rattle.std.proofs.Common.{◌≡◌, Bool, true, false, List, Option, Some, None, Result, Ok, Err, refl, sym, ap, subst, ◌∙◌}
 use Rattle.std.specs.Prelude.{if◌then◌else◌, IsOk, IfErr, OnErr}
 use Rattle.std.specs.Result.{result_err}
-use Rattle.gatt_host.proofs.meaning.Arriving.{acl_leads_on, acl_told, sco_leads_on, sco_told}
 use Rattle.gatt_host.proofs.meaning.Drained.{all_gone, drained_in}
-use Rattle.gatt_host.proofs.meaning.Reported.{event_leads_on, event_meant, event_stops, event_told}
+use Rattle.gatt_host.proofs.meaning.Leads.{packet_led, packet_stops}
 use Rattle.gatt_host.proofs.whole.Items.{takes_item}
 use Rattle.gatt_host.proofs.whole.Silence.{stands_at_in_silence}
 use Rattle.gatt_host.proofs.standing.Holding.{some-is}
@@ -13,20 +12,18 @@ use Rattle.gatt_host.specs.declared.host_fault.HostFault.{HostFault}
 use Rattle.gatt_host.specs.GoingOut.{is_drained}
 use Rattle.gatt_host.specs.declared.last_event.LastEvent.TheVariants as last
 use Rattle.gatt_host.specs.Held.{Held, open_slots, with_last}
-use Rattle.gatt_host.specs.Meaning.{Frames}
-use Rattle.gatt_host.specs.Packet.{TakesPacket, event_stop, packet_stop}
-use Rattle.gatt_host.specs.Standing.{IsDrainedIn, StandsIn}
+use Rattle.gatt_host.specs.Meaning.{Frames, context_in}
+use Rattle.gatt_host.specs.Packet.{TakesPacket, packet_stop}
+use Rattle.gatt_host.specs.Standing.{StandsIn}
 use Rattle.gatt_host.specs.Telling.{TellsOfPacket}
 use Rattle.gatt_host.specs.Whole.{is_own, HoldsStream, LeadsBy, SameFault, StandsAt, StandsWith, Takes, Whole}
 use Rattle.gatt_laws.specs.machine.Event.{Event}
 use Rattle.gatt_laws.specs.machine.Input.{APacket, Course, after_packet, packet_taken}
-use Rattle.gatt_laws.specs.machine.Packets.{Fault, Desync, BadEventCode, InitFailed, Hardware, completed_event, packet_event, status_event}
+use Rattle.gatt_laws.specs.machine.Packets.{Fault, Desync, BadEventCode, InitFailed, Hardware, event_or_bad, packet_event}
 use Rattle.le_h4.specs.Deframer.{Deframing}
 use Rattle.le_h4.specs.Division.{is_long}
 use Rattle.le_h4.specs.Packet.{Packet, AclPacket, EventPacket, ScoPacket}
-use Rattle.le_hci.specs.declared.event.BadEvent.{BadEvent}
-use Rattle.le_hci.specs.Event as event
-use Rattle.le_hci.specs.Event.{Reported, event_of}
+use Rattle.le_hci.specs.Event.{event_of}
 use Rattle.octets.specs.Number.{Octets}
 
 -- where all is out, what stands in the course of what is gone stands in that of all that is
@@ -35,77 +32,43 @@ stands-all : (course after : Course) (gone : List Octets) (held new : Held) (fra
 stands-all course after gone held new frames then_frames is drained stands =
     subst (λ (packets : List Octets). StandsIn after packets new then_frames) (all_gone course gone held frames is drained) stands
 
-no-why : (course : Course) (packet : Packet) (event : Event) → packet_event course.intake.state course.intake.fragments packet ≡ Ok event
-    → course.intake.fault ≡ None → (after_packet course packet).intake.fault ≡ None
-no-why course packet event means none =
-    ap (λ (result : Result Event Fault). (packet_taken course packet result).intake.fault) means ∙ none
-
 same-none : (why : Option Fault) → why ≡ None → SameFault why None
 same-none None none = tt
 same-none (Some why) none = cc none
 
 pub packet_leads : (packet : Packet) (old new : Held) (frames after : Frames) → is_drained old.controller (open_slots old) ≡ true
     → TakesPacket packet old frames new after → LeadsBy packet old frames new after None
-unfolding packet_event
-packet_leads (AclPacket handle boundary broadcast octets) old new frames after drained takes course gone none is =
-    let in_course : IsDrainedIn course old frames = drained_in course gone old frames is drained in
-    let packet : Packet = AclPacket handle boundary broadcast octets in
+packet_leads packet old new frames after drained takes course gone none is =
+    let led = packet_led course old frames (drained_in course gone old frames is drained) new after packet takes in
     record {
-      stands = stands-all course (after_packet course packet) gone old new frames after is drained
-          (subst (λ (then_frames : Frames). StandsIn (after_packet course packet) course.gone new then_frames) (sym takes.frames_then)
-          (acl_leads_on course old new frames handle boundary broadcast octets in_course takes.held));
-      same = same-none course.intake.fault none;
-    }
-packet_leads (EventPacket octets) old new frames after drained takes course gone none is =
-    let in_course : IsDrainedIn course old frames = drained_in course gone old frames is drained in
-    let packet : Packet = EventPacket octets in
-    let meant = event_meant course old new frames octets in_course takes.held in
-    record {
-      stands = stands-all course (after_packet course packet) gone old new frames after is drained
-          (subst (λ (then_frames : Frames). StandsIn (after_packet course packet) course.gone new then_frames) (sym takes.frames_then)
-          (event_leads_on course old new frames octets in_course takes.held));
-      same = same-none (after_packet course packet).intake.fault (no-why course packet meant.0 meant.1 none);
-    }
-packet_leads ScoPacket old new frames after drained takes course gone none is =
-    let in_course : IsDrainedIn course old frames = drained_in course gone old frames is drained in
-    record {
-      stands = stands-all course (after_packet course ScoPacket) gone old new frames after is drained
-          (subst (λ (then_frames : Frames). StandsIn (after_packet course ScoPacket) course.gone new then_frames) (sym takes.frames_then)
-          (sco_leads_on course old new frames in_course takes.held));
-      same = same-none course.intake.fault none;
+      stands = stands-all course (after_packet course packet) gone old new frames after is drained led.stands;
+      same = same-none (after_packet course packet).intake.fault (led.goes ∙ none);
     }
 
 -- and what is told of it is what the course has
 pub packet_told : (packet : Packet) (old new : Held) (frames after : Frames) → is_drained old.controller (open_slots old) ≡ true
     → TakesPacket packet old frames new after → TellsOfPacket packet old frames new
-packet_told (AclPacket handle boundary broadcast octets) old new frames after drained takes course gone is =
-    acl_told course old new frames handle boundary broadcast octets (drained_in course gone old frames is drained) takes.held
-packet_told (EventPacket octets) old new frames after drained takes course gone is =
-    event_told course old new frames octets (drained_in course gone old frames is drained) takes.held
-packet_told ScoPacket old new frames after drained takes course gone is =
-    sco_told course old new frames (drained_in course gone old frames is drained) takes.held
+packet_told packet old new frames after drained takes course gone is =
+    (packet_led course old frames (drained_in course gone old frames is drained) new after packet takes).told
 
 -- or the host stops, and keeps what it has
-event-stopped : (course : Course) (gone : List Octets) (held : Held) (frames : Frames) (octets : Octets) (why : Fault) (fault : HostFault)
-    → packet_event course.intake.state course.intake.fragments (EventPacket octets) ≡ Err why → told_fault why ≡ fault → StandsIn course gone held frames
-    → StandsWith (after_packet course (EventPacket octets)) gone held frames (Some fault)
-event-stopped course gone held frames octets why fault means same is =
-    subst (λ (result : Result Event Fault). StandsWith (packet_taken course (EventPacket octets) result) gone held frames (Some fault)) (sym means)
+why-stopped : (course : Course) (gone : List Octets) (held : Held) (frames : Frames) (packet : Packet) (why : Fault) (fault : HostFault)
+    → packet_event course.intake.state course.intake.fragments packet ≡ Err why → told_fault why ≡ fault → StandsIn course gone held frames
+    → StandsWith (after_packet course packet) gone held frames (Some fault)
+why-stopped course gone held frames packet why fault means same is =
+    subst (λ (result : Result Event Fault). StandsWith (packet_taken course packet result) gone held frames (Some fault)) (sym means)
     (record {
       stands = record { owed = is.owed; all = is.all; sound = is.sound; stands = is.stands; together = is.together };
       same = same;
     })
 
-pub packet_stops : (packet : Packet) (old new : Held) (frames after : Frames) (fault : HostFault) → is_drained old.controller (open_slots old) ≡ true
+pub packet_stopped : (packet : Packet) (old new : Held) (frames after : Frames) (fault : HostFault) → is_drained old.controller (open_slots old) ≡ true
     → packet_stop packet old ≡ Some fault → new ≡ old → after ≡ frames → LeadsBy packet old frames new after (Some fault)
-packet_stops (AclPacket handle boundary broadcast octets) old new frames after fault drained stops same same_frames course gone none is = cc stops
-packet_stops (EventPacket octets) old new frames after fault drained stops same same_frames course gone none is =
-    let in_course : IsDrainedIn course old frames = drained_in course gone old frames is drained in
-    let why = event_stops course old frames octets fault in_course stops in
-    subst (λ (held : Held). StandsWith (after_packet course (EventPacket octets)) gone held after (Some fault)) (sym same)
-    (subst (λ (then_frames : Frames). StandsWith (after_packet course (EventPacket octets)) gone old then_frames (Some fault)) (sym same_frames)
-    (event-stopped course gone old frames octets why.0 fault why.1 why.2.same is))
-packet_stops ScoPacket old new frames after fault drained stops same same_frames course gone none is = cc stops
+packet_stopped packet old new frames after fault drained stops same same_frames course gone none is =
+    let why = packet_stops course old frames packet fault (drained_in course gone old frames is drained) stops in
+    subst (λ (held : Held). StandsWith (after_packet course packet) gone held after (Some fault)) (sym same)
+    (subst (λ (then_frames : Frames). StandsWith (after_packet course packet) gone old then_frames (Some fault)) (sym same_frames)
+    (why-stopped course gone old frames packet why.0 fault why.1 why.2.same is))
 
 -- a packet that is handed in whole
 stream-kept : (course : Course) (packet : Packet) (stream : Deframing) (result : Result Event Fault) → HoldsStream course stream → course.intake.fault ≡ None
@@ -134,11 +97,12 @@ passes_long packet old new long none same =
     (subst (λ (whole : Whole). StandsAt course gone whole) (sym same) (stands_at_in_silence course gone old is)))
 
 -- by the result
-pub packet_led : (packet : Packet) (old new : Held) (frames after : Frames) (result : Result Unit HostFault) → is_drained old.controller (open_slots old) ≡ true
+pub packet_leads_or_stops : (packet : Packet) (old new : Held) (frames after : Frames) (result : Result Unit HostFault) → is_drained old.controller (open_slots old) ≡ true
     → (IsOk result → TakesPacket packet old frames new after) → IfErr result (λ fault. packet_stop packet old ≡ Some fault)
     → OnErr result (new ≡ old) → OnErr result (after ≡ frames) → LeadsBy packet old frames new after (result_err result)
-packet_led packet old new frames after (Ok done) drained takes stops same same_frames = packet_leads packet old new frames after drained (takes refl)
-packet_led packet old new frames after (Err fault) drained takes stops same same_frames = packet_stops packet old new frames after fault drained stops same same_frames
+packet_leads_or_stops packet old new frames after (Ok done) drained takes stops same same_frames = packet_leads packet old new frames after drained (takes refl)
+packet_leads_or_stops packet old new frames after (Err fault) drained takes stops same same_frames =
+    packet_stopped packet old new frames after fault drained stops same same_frames
 
 -- the host stops for no reason of its own
 told-not-own : (why : Fault) → is_own (told_fault why) ≡ false
@@ -154,20 +118,7 @@ stop-not-own (Err why) fault is = sym (ap is_own (some-is is)) ∙ told-not-own 
 pub not_own : (packet : Packet) (held : Held) (fault : HostFault) → packet_stop packet held ≡ Some fault → is_own fault ≡ false
 not_own (AclPacket handle boundary broadcast octets) held fault is = cc is
 not_own ScoPacket held fault is = cc is
-not_own (EventPacket octets) held fault is = event-not-own (event_of octets) is
-  where
-    event-not-own : (read : Result Reported BadEvent) → event_stop read held ≡ Some fault → is_own fault ≡ false
-    event-not-own (Ok (event.CommandComplete allowed opcode returned)) is = stop-not-own (completed_event held.controller allowed opcode returned) fault is
-    event-not-own (Ok (event.CommandStatus status allowed opcode)) is = stop-not-own (status_event held.controller status allowed opcode) fault is
-    event-not-own (Ok (event.HardwareError code)) is = sym (ap is_own (some-is is))
-    event-not-own (Ok (event.DisconnectionComplete status handle reason)) is = cc is
-    event-not-own (Ok (event.EncryptionChange status handle enabled)) is = cc is
-    event-not-own (Ok (event.NumberOfCompletedPackets entries)) is = cc is
-    event-not-own (Ok (event.EncryptionKeyRefreshComplete status handle)) is = cc is
-    event-not-own (Ok (event.ConnectionComplete status handle role peer interval latency timeout clock_accuracy)) is = cc is
-    event-not-own (Ok (event.LongTermKeyRequest handle random_number diversifier)) is = cc is
-    event-not-own (Ok event.Other) is = cc is
-    event-not-own (Err bad) is = sym (ap is_own (some-is is))
+not_own (EventPacket octets) held fault is = stop-not-own (event_or_bad (context_in held) (event_of octets)) fault is
 
 pub result_not_own : (packet : Packet) (held : Held) (result : Result Unit HostFault) → IfErr result (λ fault. packet_stop packet held ≡ Some fault)
     → IfErr result (λ fault. is_own fault ≡ false)

@@ -13,7 +13,8 @@ use Rattle.gatt_laws.specs.machine.Heard.{after_hearing}
 use Rattle.gatt_laws.specs.machine.Input.{Item, course, after_item}
 use Rattle.gatt_laws.specs.machine.Packets.{packet_event}
 use Rattle.gatt_laws.specs.laws.Runs.{events_of}
-use Rattle.gatt_laws.specs.laws.SameView.{IsAlwaysReleased, AreServedAlike, packets_to}
+use Rattle.gatt_laws.specs.laws.SameView.{IsAlwaysReleased, AreServedAlike}
+use Rattle.gatt_laws.specs.laws.Given.{packets_to}
 use Rattle.gatt_laws.specs.machine.State.{step, change_of}
 use Rattle.gatt_laws.specs.machine.Turn.{live_turn}
 use Rattle.gatt_laws.specs.laws.View.{View, Happens, Updates, Writes, shown, view}

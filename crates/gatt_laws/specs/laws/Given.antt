@@ -1,16 +1,38 @@
--- What has gone out to a connection is the front of what was queued for it.
-use Rattle.std.specs.Prelude.{◌≡◌, true, List, map, take, Option}
-use Rattle.gatt_laws.specs.machine.Event.{Ordinal}
+-- The packets that are given to a connection, and that they are the front of what was queued for it.
+use Rattle.std.specs.Prelude.{◌≡◌, true, List, [], ◌∷◌, ◌++◌, map, take, Option, Some, None}
+use Rattle.std.specs.List.{flat_map}
+use Rattle.gatt_laws.specs.machine.Event.{Ordinal, Event}
 use Rattle.gatt_laws.specs.machine.Input.{Item, course}
 use Rattle.gatt_laws.specs.machine.Part.{Part, is_there}
 use Rattle.gatt_laws.specs.machine.Room.{size_of}
-use Rattle.gatt_laws.specs.laws.SameView.{packets_to}
-use Rattle.gatt_laws.specs.machine.Start.{Start}
-use Rattle.gatt_laws.specs.machine.State.{State}
+use Rattle.gatt_laws.specs.laws.Runs.{events_of}
+use Rattle.gatt_laws.specs.machine.Start.{Start, state_at}
+use Rattle.gatt_laws.specs.machine.State.{State, before_commands, commands_out, out, slot_out, step}
 use Rattle.le_acl.specs.Outgoing.{acl_octets}
 use Rattle.le_acl.specs.Packets.{packets_of}
 use Rattle.le_hci.specs.declared.buffers.Buffers.{Buffers}
 use Rattle.octets.specs.Number.{Octets}
+
+-- at an event, at events in their order, and by an input
+abbrev pub packets_at : Ordinal → State → Event → List Octets
+packets_at ordinal state event = slot_out state (before_commands state event) (Some ordinal)
+
+abbrev pub packets_in : Ordinal → State → List Event → List Octets
+packets_in ordinal state [] = []
+packets_in ordinal state (event ∷ events) = packets_at ordinal state event ++ packets_in ordinal (step state event) events
+
+abbrev pub packets_to : Ordinal → Start → List Item → List Octets
+packets_to ordinal start input = packets_in ordinal (state_at start) (events_of start input)
+
+-- an event brings out commands, and then what it gives to each connection that has a slot
+abbrev pub packets_by_slot : State → Event → Option Ordinal → List Octets
+packets_by_slot state event None = []
+packets_by_slot state event (Some ordinal) = packets_at ordinal state event
+
+abbrev pub BringsWhatItGives : Type 0
+BringsWhatItGives = (state : State) (event : Event) →
+    let new = before_commands state event in
+    out state event ≡ commands_out new ++ flat_map (packets_by_slot state event) new.slots
 
 -- the packets of what was queued, as many as count as given
 abbrev pub packets_given_by_now : Option Buffers → Part → List Octets

@@ -1,6 +1,6 @@
 -- Nothing crosses: two inputs that differ in the octets of values that no connection of a peer may know, and in nothing else,
 -- give the same packets to its connections.
-use Rattle.std.specs.Prelude.{◌≡◌, Bool, true, false, ◌&&◌, ◌||◌, not, is_some, if◌then◌else◌, List, [], ◌∷◌, ◌++◌, Option, Some, None}
+use Rattle.std.specs.Prelude.{◌≡◌, Bool, true, false, ◌&&◌, ◌||◌, not, is_some, if◌then◌else◌, List, [], ◌∷◌, Option, Some, None}
 use Rattle.std.specs.List.{list_any}
 use Rattle.att_numbers.specs.Types.{Handle}
 use Rattle.att_attributes.specs.Attributes.{type_at}
@@ -16,7 +16,8 @@ use Rattle.gatt_laws.specs.machine.Part.{is_live, row_of, standing_of}
 use Rattle.gatt_laws.specs.laws.Possible.{AllTables}
 use Rattle.gatt_laws.specs.machine.Start.{Start}
 use Rattle.gatt_laws.specs.machine.State.{State}
-use Rattle.gatt_laws.specs.laws.TwoWorlds.{Spared, given_of}
+use Rattle.gatt_laws.specs.laws.Runs.{events_in}
+use Rattle.gatt_laws.specs.laws.TwoWorlds.{Spared, given_in}
 use Rattle.gatt_subs.specs.Hearing.{may_hear_at}
 use Rattle.le_hci.specs.declared.peer.Peer.{Peer}
 use Rattle.octets.specs.Number.{Octets}
@@ -96,15 +97,9 @@ SparedIn peer course [] = Unit
 SparedIn peer course (item ∷ items) =
     SparedIf peer course.intake.state (event_at course.intake item) × SparedIn peer (after_item course item) items
 
--- the packets that are given to a connection while it is one of the peer, in their order
-abbrev pub given_if : Peer → Ordinal → State → Option Event → List Octets
-given_if peer ordinal state None = []
-given_if peer ordinal state (Some event) = given_of peer ordinal state event
-
+-- the packets that are given to a connection while it is one of the peer, by the events of items
 abbrev pub given_by : Peer → Ordinal → Course → List Item → List Octets
-given_by peer ordinal course [] = []
-given_by peer ordinal course (item ∷ items) =
-    given_if peer ordinal course.intake.state (event_at course.intake item) ++ given_by peer ordinal (after_item course item) items
+given_by peer ordinal course items = given_in peer ordinal course.intake.state (events_in course items)
 
 -- whatever is hidden from a peer, its connections are given the same
 abbrev pub NothingCrosses : Type 0

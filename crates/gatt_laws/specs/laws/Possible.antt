@@ -1,13 +1,17 @@
 -- Which events may come in a state, since a packet or a call means them.
-use Rattle.std.specs.Prelude.{◌≡◌, ◌≤◌, true, false, List, [], ◌∷◌, length, Some, None}
+use Rattle.std.specs.Prelude.{◌≡◌, ℕ, ◌≤◌, true, false, List, [], ◌∷◌, length, Some, None}
 use Rattle.att_numbers.specs.Types.{Handle}
 use Rattle.att_attributes.specs.declared.attr.Attr.{Attr}
 use Rattle.att_attributes.specs.Attributes.{attribute_at}
 use Rattle.att_table.specs.Table.{Contents}
 use Rattle.gatt_laws.specs.machine.Calls.{has_length}
-use Rattle.gatt_laws.specs.machine.Controller.{has_free, is_ready}
-use Rattle.gatt_laws.specs.machine.Event.{Ordinal, Own, Event, Connected, Of, Completed, Credit, Update, Tick, Replaced, Nothing}
+use Rattle.gatt_laws.specs.laws.Settled.{has_slot}
+use Rattle.gatt_laws.specs.machine.Context.{holding}
+use Rattle.gatt_laws.specs.machine.Controller.{Slots, has_free, is_ready}
+use Rattle.gatt_laws.specs.machine.Event.{Ordinal, Own, Event, Connected, Gone, Of, Completed}
+use Rattle.gatt_laws.specs.machine.Event.{Credit, Update, Tick, Replaced, Nothing}
 use Rattle.gatt_laws.specs.machine.Input.{Item, AnOctet, APacket, ACall, ATable, TheEnd}
+use Rattle.gatt_laws.specs.machine.Part.{is_live}
 use Rattle.gatt_laws.specs.machine.State.{State}
 use Rattle.octets.specs.Number.{Octets}
 
@@ -26,8 +30,8 @@ pub record MayBeUpdated (state : State) (handle : Handle) (value : Octets) : Typ
   pub there : attribute_at state.room.table.attributes handle ≡ Some attr
   pub fits : has_length attr (length value) ≡ true
 
--- a state of initialisation follows only before the controller is initialised, and what is so of each table that is handed
--- in is so of the one that replaces another
+-- a state of initialisation follows only before the controller is initialised, and what is so of
+-- each table that is handed in is so of the one that replaces another
 abbrev pub Possible : (Contents → Type 0) → State → Event → Type 0
 Possible Fine state (Of ordinal own) = OwnMayCome state ordinal own
 Possible Fine state (Completed entries) = Unit
@@ -38,7 +42,37 @@ Possible Fine state (Tick time) = state.room.time ≤ time
 Possible Fine state (Replaced table) = Fine table
 Possible Fine state Nothing = Unit
 
--- it is so of each table that is handed in
+-- An event that is meant is more than possible. A connection that comes has a handle that is not in
+-- use; one that goes has a slot; and what else happens to a connection happens while it serves.
+-- Packets are completed of connections that have slots, once the controller is initialised.
+pub record ComesUnusedNext (state : State) (ordinal : Ordinal) (handle : ℕ) : Type 0 where
+  pub may : MayCome state ordinal
+  pub unused : holding state handle ≡ None
+
+pub record ServesInASlot (state : State) (ordinal : Ordinal) : Type 0 where
+  pub has : has_slot ordinal state.slots ≡ true
+  pub live : is_live (state.parts ordinal).mark ≡ true
+
+abbrev pub OwnIsMeant : State → Ordinal → Own → Type 0
+OwnIsMeant state ordinal (Connected handle peer) = ComesUnusedNext state ordinal handle
+OwnIsMeant state ordinal Gone = has_slot ordinal state.slots ≡ true
+OwnIsMeant state ordinal own = ServesInASlot state ordinal
+
+abbrev pub HaveSlots : Slots → List (Ordinal × ℕ) → Type 0
+HaveSlots slots [] = Unit
+HaveSlots slots (entry ∷ entries) = (has_slot entry.0 slots ≡ true) × HaveSlots slots entries
+
+abbrev pub IsMeant : (Contents → Type 0) → State → Event → Type 0
+IsMeant Fine state (Of ordinal own) = OwnIsMeant state ordinal own
+IsMeant Fine state (Completed entries) =
+    (is_ready state.controller ≡ true) × HaveSlots state.slots entries
+IsMeant Fine state event = Possible Fine state event
+
+-- it is so of a table that is handed in, and of each
+abbrev pub IsFine : (Contents → Type 0) → Item → Type 0
+IsFine Fine (ATable table) = Fine table
+IsFine Fine item = Unit
+
 abbrev pub AllTables : (Contents → Type 0) → List Item → Type 0
 AllTables Fine [] = Unit
 AllTables Fine (AnOctet octet ∷ items) = AllTables Fine items

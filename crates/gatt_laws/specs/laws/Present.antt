@@ -1,7 +1,7 @@
 -- Who is there, as a listener knows it.
 use Rattle.std.specs.Prelude.{◌≡◌, ℕ, ◌==◌, true, if◌then◌else◌, List, [], ◌∷◌, Option, Some, None}
 use Rattle.std.specs.Option.{option_map}
-use Rattle.gatt_laws.specs.machine.Calls.{holding}
+use Rattle.gatt_laws.specs.machine.Context.{holding}
 use Rattle.gatt_laws.specs.machine.Event as event
 use Rattle.gatt_laws.specs.machine.Event.{Ordinal, Event, Of}
 use Rattle.gatt_laws.specs.machine.Input.{Item, course}

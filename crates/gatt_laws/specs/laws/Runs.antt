@@ -6,8 +6,9 @@ use Rattle.gatt_laws.specs.laws.Possible.{Possible, AllTables}
 use Rattle.gatt_laws.specs.machine.Event.{Event}
 use Rattle.gatt_laws.specs.machine.Input.{Item, Course, after_item, at_start, course}
 use Rattle.gatt_laws.specs.machine.ItemEvents.{event_at}
-use Rattle.gatt_laws.specs.machine.Start.{Start, state_at}
-use Rattle.gatt_laws.specs.machine.State.{State, step}
+use Rattle.gatt_laws.specs.machine.Start.{Start, first_out, state_at}
+use Rattle.gatt_laws.specs.machine.State.{State, out, step}
+use Rattle.octets.specs.Number.{Octets}
 
 -- the state after events, in their order
 abbrev pub after_events : State → List Event → State
@@ -27,6 +28,15 @@ events_of start input = events_in (at_start start) input
 abbrev pub IsWhereEventsLead : Type 0
 IsWhereEventsLead = (start : Start) (input : List Item) →
     (course start input).intake.state ≡ after_events (state_at start) (events_of start input)
+
+-- and what has gone out is what goes out at first, and then what they bring, in their order
+abbrev pub out_in : State → List Event → List Octets
+out_in state [] = []
+out_in state (event ∷ events) = out state event ++ out_in (step state event) events
+
+abbrev pub HasGoneByEvents : Type 0
+HasGoneByEvents = (start : Start) (input : List Item) →
+    (course start input).gone ≡ first_out start ++ out_in (state_at start) (events_of start input)
 
 -- each of some events may come in the state that those before it lead to
 abbrev pub ArePossible : (Contents → Type 0) → State → List Event → Type 0

@@ -1,19 +1,19 @@
 -- Connections that see the same are given the same packets.
-use Rattle.std.specs.Prelude.{◌≡◌, Bool, true, false, is_some, List, [], ◌∷◌, ◌++◌, Option, Some, None}
+use Rattle.std.specs.Prelude.{◌≡◌, Bool, true, false, is_some, List, [], ◌∷◌, Option, Some, None}
 use Rattle.att_numbers.specs.Types.{Row}
 use Rattle.gatt_laws.specs.machine.Event.{Ordinal, Event}
 use Rattle.gatt_laws.specs.machine.Input.{Item, course}
 use Rattle.gatt_laws.specs.machine.Part.{Part, absent, is_there}
 use Rattle.gatt_laws.specs.machine.Room.{Room}
+use Rattle.gatt_laws.specs.laws.Given.{packets_at, packets_in, packets_to}
 use Rattle.gatt_laws.specs.laws.Runs.{after_events, events_of}
 use Rattle.gatt_laws.specs.laws.Silence.{IsAllGiven}
 use Rattle.gatt_laws.specs.machine.Start.{Start, state_at}
-use Rattle.gatt_laws.specs.machine.State.{State, before_commands, step, slot_out}
+use Rattle.gatt_laws.specs.machine.State.{State, step}
 use Rattle.gatt_laws.specs.laws.View.{Shown, shown, shown_in, view}
 use Rattle.gatt_subs.specs.Indications.{Indications}
 use Rattle.le_hci.specs.declared.buffers.Buffers.{Buffers}
 use Rattle.le_hci.specs.declared.peer.Peer.{Peer}
-use Rattle.octets.specs.Number.{Octets}
 
 -- all that decides what a connection is given: the room, the row of its peer's bond, whether its peer is owed, and what is
 -- kept of the connection itself, but for the commands that wait for it
@@ -48,10 +48,6 @@ pub record IsKnown (told : Option Buffers) (peer : Peer) (ordinal : Ordinal) (st
   pub released : IsReleased (state.parts ordinal).pending
   pub given : IsAllGiven state.room (state.parts ordinal)
 
--- the packets that are given to a connection at an event
-abbrev pub packets_at : Ordinal → State → Event → List Octets
-packets_at ordinal state event = slot_out state (before_commands state event) (Some ordinal)
-
 -- an event of which a connection sees nothing leaves what decides, and gives it nothing
 pub record Leaves (told : Option Buffers) (peer : Peer) (ordinal : Ordinal) (state : State) (event : Event) : Type 0 where
   pub seen : seen told peer ordinal (step state event) ≡ seen told peer ordinal state
@@ -83,10 +79,6 @@ IsKnownThroughout told peer ordinal state [] = IsKnown told peer ordinal state
 IsKnownThroughout told peer ordinal state (event ∷ events) =
     IsKnown told peer ordinal state × IsKnownThroughout told peer ordinal (step state event) events
 
-abbrev pub packets_in : Ordinal → State → List Event → List Octets
-packets_in ordinal state [] = []
-packets_in ordinal state (event ∷ events) = packets_at ordinal state event ++ packets_in ordinal (step state event) events
-
 -- runs that lead to the same and give the same packets
 pub record LeadsToTheSame (told : Option Buffers) (peer : Peer) (one other : Ordinal) (state another : State) (events further : List Event)
     : Type 0 where
@@ -109,9 +101,6 @@ IsReleasedThroughout ordinal state (event ∷ events) =
 
 abbrev pub IsAlwaysReleased : Ordinal → Start → List Item → Type 0
 IsAlwaysReleased ordinal start input = IsReleasedThroughout ordinal (state_at start) (events_of start input)
-
-abbrev pub packets_to : Ordinal → Start → List Item → List Octets
-packets_to ordinal start input = packets_in ordinal (state_at start) (events_of start input)
 
 -- two connections are given the same packets, and in the end have the same, but for the commands that wait for them
 pub record AreServedAlike (start : Start) (one other : Ordinal) (input another : List Item) : Type 0 where

@@ -1,16 +1,17 @@
 -- Nothing crosses from one connection to those of another peer: two runs that differ in what the connections of a peer may
 -- not know are the same to them.
-use Rattle.std.specs.Prelude.{◌≡◌, Bool, true, false, ◌&&◌, is_some, if◌then◌else◌, List, [], ◌∷◌, ◌++◌, Some}
+use Rattle.std.specs.Prelude.{◌≡◌, Bool, true, false, ◌&&◌, is_some, if◌then◌else◌, List, [], ◌∷◌, ◌++◌}
 use Rattle.att_numbers.specs.Types.{Handle}
 use Rattle.att_pdu.specs.Grammar.{request_of, is_due}
 use Rattle.att_table.specs.Changer.{changer_of}
 use Rattle.att_table.specs.Table.{Contents}
 use Rattle.att_writes.specs.SameBut.{SameBut}
 use Rattle.gatt_laws.specs.laws.Alike.{is_of, Alike, Hides}
+use Rattle.gatt_laws.specs.laws.Given.{packets_at}
 use Rattle.gatt_laws.specs.machine.Event.{Ordinal, Own, Event, Asks, Signals, Of, Replaced}
 use Rattle.gatt_laws.specs.machine.Part.{Part, is_live, is_there, mtu_of}
 use Rattle.gatt_laws.specs.machine.Room.{Room}
-use Rattle.gatt_laws.specs.machine.State.{State, before_commands, slot_out, step}
+use Rattle.gatt_laws.specs.machine.State.{State, step}
 use Rattle.gatt_laws.specs.machine.Turn.{channel_answer, is_full}
 use Rattle.le_hci.specs.declared.peer.Peer.{Peer}
 use Rattle.octets.specs.Number.{Octets}
@@ -47,10 +48,6 @@ Spared peer state (Of ordinal own) =
     is_of peer (state.parts ordinal) ≡ false → finds_no_room state.room (state.parts ordinal) own ≡ false
 Spared peer state event = Unit
 
--- the packets that are given to one connection at an event
-abbrev pub given_to : Ordinal → State → Event → List Octets
-given_to ordinal state event = slot_out state (before_commands state event) (Some ordinal)
-
 -- while a connection is there it is one of the peer
 abbrev pub BelongsTo : Peer → Part → Type 0
 BelongsTo peer part = is_there part.mark ≡ true → is_of peer part ≡ true
@@ -73,16 +70,16 @@ KeepsAlike = (peer : Peer) (hidden : Handle → Bool) (one other : State) (event
 abbrev pub GivesTheSame : Type 0
 GivesTheSame = (peer : Peer) (hidden : Handle → Bool) (one other : State) (event its : Event) → Alike peer hidden one other →
     Agrees peer hidden one other event its → (ordinal : Ordinal) → BelongsTo peer (one.parts ordinal) →
-    given_to ordinal one event ≡ given_to ordinal other its
+    packets_at ordinal one event ≡ packets_at ordinal other its
 
 -- nothing is given to a connection that is not there when it happens
 abbrev pub GivesNothingToTheAbsent : Type 0
 GivesNothingToTheAbsent = (state : State) (event : Event) (ordinal : Ordinal) → is_there (state.parts ordinal).mark ≡ false →
-    given_to ordinal state event ≡ []
+    packets_at ordinal state event ≡ []
 
 -- the packets that are given to a connection while it is one of the peer: at an event, and in a run of events
 abbrev pub given_of : Peer → Ordinal → State → Event → List Octets
-given_of peer ordinal state event = if is_of peer (state.parts ordinal) then given_to ordinal state event else []
+given_of peer ordinal state event = if is_of peer (state.parts ordinal) then packets_at ordinal state event else []
 
 abbrev pub given_in : Peer → Ordinal → State → List Event → List Octets
 given_in peer ordinal state [] = []

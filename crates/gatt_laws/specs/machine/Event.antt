@@ -24,14 +24,19 @@ pub data Own : Type 0 where
   Authorized : (until : ℕ) → Own
   Ended : Own
 
--- what happens: to one connection; packets of connections are completed; a command is answered, with the commands that
--- the controller takes now, with the status if there is one, and with the state of initialisation that follows where it
--- was awaited; the application writes a value, tells the time, or replaces the table; or nothing that counts
-pub data Event : Type 0 where
-  Of : (ordinal : Ordinal) (own : Own) → Event
-  Completed : (entries : List (Ordinal × ℕ)) → Event
-  Credit : (allowed opcode : ℕ) (status : Option ℕ) (following : Option Init) → Event
-  Update : (handle : Handle) (value : Octets) → Event
-  Tick : (time : ℕ) → Event
-  Replaced : (table : Contents) → Event
-  Nothing : Event
+-- what happens, where connections have names of some kind: to one connection; packets of connections are completed; a
+-- command is answered, with the commands that the controller takes now, with the status if there is one, and with the state of
+-- initialisation that follows where it was awaited; the application writes a value, tells the time, or replaces the table; or
+-- nothing that counts
+pub data Happening (C : Type 0) : Type 0 where
+  Of : (connection : C) (own : Own) → Happening C
+  Completed : (entries : List (C × ℕ)) → Happening C
+  Credit : (allowed opcode : ℕ) (status : Option ℕ) (following : Option Init) → Happening C
+  Update : (handle : Handle) (value : Octets) → Happening C
+  Tick : (time : ℕ) → Happening C
+  Replaced : (table : Contents) → Happening C
+  Nothing : Happening C
+
+-- to the whole host it happens by ordinals
+abbrev pub Event : Type 0
+Event = Happening Ordinal

@@ -1,12 +1,13 @@
 -- The event that an item of the input means, if it means one.
-use Rattle.std.specs.Prelude.{◌≡◌, is_some, if◌then◌else◌, [], ◌∷◌, ◌++◌, Option, Some, None, Result, Ok, Err}
+use Rattle.std.specs.Prelude.{◌≡◌, is_some, if◌then◌else◌, List, [], ◌∷◌, ◌++◌, Option, Some, None, Result, Ok, Err}
 use Rattle.gatt_laws.specs.machine.Calls.{call_event, replacement_event}
 use Rattle.gatt_laws.specs.machine.Event.{Event}
 use Rattle.gatt_laws.specs.machine.Input.{Item, AnOctet, APacket, ACall, ATable, TheEnd, Intake, Course, after_item}
 use Rattle.gatt_laws.specs.machine.Packets.{Fragments, packet_event}
-use Rattle.gatt_laws.specs.machine.State.{State, step}
+use Rattle.gatt_laws.specs.machine.State.{State, out, step}
 use Rattle.le_h4.specs.Division.{is_long}
 use Rattle.le_h4.specs.Packet.{Packet, First, FirstPacket, NoneYet, NoPacket, first_of}
+use Rattle.octets.specs.Number.{Octets}
 
 abbrev pub event_if : {E : Type 0} → Result Event E → Option Event
 event_if (Ok event) = Some event
@@ -37,7 +38,14 @@ abbrev pub after_if : State → Option Event → State
 after_if state None = state
 after_if state (Some event) = step state event
 
--- an item makes of the state what its event makes of it
+abbrev pub out_if : State → Option Event → List Octets
+out_if state None = []
+out_if state (Some event) = out state event
+
+-- an item makes of the state what its event makes of it, and brings out what that brings
+pub record DoesAs (old new : Course) (event : Option Event) : Type 0 where
+  pub state : new.intake.state ≡ after_if old.intake.state event
+  pub gone : new.gone ≡ old.gone ++ out_if old.intake.state event
+
 abbrev pub MeansItsEvent : Type 0
-MeansItsEvent = (course : Course) (item : Item) →
-    (after_item course item).intake.state ≡ after_if course.intake.state (event_at course.intake item)
+MeansItsEvent = (course : Course) (item : Item) → DoesAs course (after_item course item) (event_at course.intake item)

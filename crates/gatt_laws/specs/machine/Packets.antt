@@ -3,9 +3,9 @@
 use Rattle.std.specs.Prelude.{ℕ, ◌==◌, nat_le, Bool, false, ◌&&◌, ◌||◌, not, is_none, if◌then◌else◌, List, [], ◌∷◌, Option, Some, None, Result, Ok, Err}
 use Rattle.std.specs.List.{flat_map}
 use Rattle.std.specs.Option.{option_map, option_map_or, option_to_list}
-use Rattle.gatt_laws.specs.machine.Calls.{serving, holding}
-use Rattle.gatt_laws.specs.machine.Controller.{Controller, is_ready, has_free}
-use Rattle.gatt_laws.specs.machine.Event.{Ordinal, Own, Event, Connected, Gone, KeyAsked, Encrypted, Refreshed, Asks, Signals, Of, Completed, Credit, Nothing}
+use Rattle.gatt_laws.specs.machine.Context.{Context, context_of, serving}
+use Rattle.gatt_laws.specs.machine.Controller.{Controller, is_ready}
+use Rattle.gatt_laws.specs.machine.Event.{Ordinal, Own, Happening, Event, Connected, Gone, KeyAsked, Encrypted, Refreshed, Asks, Signals, Of, Completed, Credit, Nothing}
 use Rattle.gatt_laws.specs.machine.State.{State}
 use Rattle.le_acl.specs.Fragment.{Fragment, fragment_of}
 use Rattle.le_acl.specs.Frame.{frame_at}
@@ -15,6 +15,7 @@ use Rattle.le_hci.specs.declared.event.CompletedPackets.{CompletedPackets}
 use Rattle.le_hci.specs.declared.init.Init.{Init}
 use Rattle.le_hci.specs.declared.init.InitFault.{InitFault}
 use Rattle.le_hci.specs.declared.init.InitFault.TheVariants.{Refused, BadBuffers, Short}
+use Rattle.le_hci.specs.declared.peer.Peer.{Peer}
 use Rattle.le_hci.specs.Event as event
 use Rattle.le_hci.specs.Event.{Reported, event_of}
 use Rattle.le_hci.specs.Init.{opcode_awaited, outcome_of}
@@ -50,7 +51,7 @@ abbrev pub is_awaited : Controller → ℕ → Bool
 is_awaited controller opcode =
     controller.awaiting && option_map_or (λ awaited. opcode == awaited) (opcode_awaited controller.init) false
 
-abbrev pub answered : ℕ → ℕ → Option ℕ → Result (Option Init) Fault → Result Event Fault
+abbrev pub answered : {C : Type 0} → ℕ → ℕ → Option ℕ → Result (Option Init) Fault → Result (Happening C) Fault
 answered allowed opcode status (Ok following) = Ok (Credit allowed opcode status following)
 answered allowed opcode status (Err fault) = Err fault
 
@@ -58,22 +59,22 @@ abbrev pub status_of : Octets → Option ℕ
 status_of [] = None
 status_of (status ∷ values) = Some status
 
-abbrev pub completed_event : Controller → ℕ → ℕ → Octets → Result Event Fault
+abbrev pub completed_event : {C : Type 0} → Controller → ℕ → ℕ → Octets → Result (Happening C) Fault
 completed_event controller allowed opcode returned =
     answered allowed opcode (status_of returned)
     (if is_awaited controller opcode then following_of (outcome_of controller.init returned) else Ok None)
 
 -- a status of 0 tells that the command is being carried out
-abbrev pub status_event : Controller → ℕ → ℕ → ℕ → Result Event Fault
+abbrev pub status_event : {C : Type 0} → Controller → ℕ → ℕ → ℕ → Result (Happening C) Fault
 status_event controller status allowed opcode =
     answered allowed opcode (Some status)
     (if is_awaited controller opcode && not (status == 0)
     then following_of (outcome_of controller.init (status ∷ [])) else Ok None)
 
--- an event of a connection
-abbrev pub own_event : Option Ordinal → Own → Event
+-- an event of a connection, if one is found
+abbrev pub own_event : {C : Type 0} → Option C → Own → Happening C
 own_event None own = Nothing
-own_event (Some ordinal) own = Of ordinal own
+own_event (Some connection) own = Of connection own
 
 -- the role of this side, and the largest handle of a connection: Core 5.0, Vol 2 Part E, 7.7.65.1
 abbrev pub peripheral : ℕ
@@ -84,43 +85,44 @@ last_connection_handle = 0x0EFF
 
 -- a connection is accepted where it was made, this side is the peripheral, its handle is one and not in use, and a slot is
 -- free
-abbrev pub is_accepted : State → ℕ → ℕ → ℕ → Bool
-is_accepted state status handle role =
-    (status == 0) && (role == peripheral) && nat_le handle last_connection_handle && is_none (holding state handle) && has_free state.slots
+abbrev pub coming_event : {C : Type 0} → Context C → ℕ → ℕ → ℕ → Peer → Happening C
+coming_event context status handle role peer =
+    if (status == 0) && (role == peripheral) && nat_le handle last_connection_handle && is_none (context.holding handle)
+    then own_event context.coming (Connected handle peer) else Nothing
 
-abbrev pub completed_entries : State → List CompletedPackets → List (Ordinal × ℕ)
-completed_entries state entries =
-    flat_map (λ (entry : CompletedPackets). option_to_list (option_map (λ ordinal. (ordinal, entry.packets)) (holding state entry.handle))) entries
+-- packets are completed of the connections of handles that are found: an entry of any other counts for nothing
+abbrev pub completed_entries : {C : Type 0} → (ℕ → Option C) → List CompletedPackets → List (C × ℕ)
+completed_entries found entries =
+    flat_map (λ (entry : CompletedPackets). option_to_list (option_map (λ connection. (connection, entry.packets)) (found entry.handle))) entries
 
 -- what is reported of connections
-abbrev pub connection_event : State → Reported → Event
-connection_event state (event.DisconnectionComplete status handle reason) =
-    if status == 0 then own_event (holding state handle) Gone else Nothing
-connection_event state (event.EncryptionChange status handle enabled) =
-    own_event (serving state handle) (Encrypted status enabled)
-connection_event state (event.EncryptionKeyRefreshComplete status handle) =
-    own_event (serving state handle) (Refreshed status)
-connection_event state (event.NumberOfCompletedPackets entries) = Completed (completed_entries state entries)
-connection_event state (event.ConnectionComplete status handle role peer interval latency timeout clock_accuracy) =
-    if is_accepted state status handle role then Of state.next (Connected handle peer) else Nothing
-connection_event state (event.LongTermKeyRequest handle random_number diversifier) =
-    own_event (serving state handle) (KeyAsked random_number diversifier)
-connection_event state _ = Nothing
+abbrev pub connection_event : {C : Type 0} → Context C → Reported → Happening C
+connection_event context (event.DisconnectionComplete status handle reason) =
+    if status == 0 then own_event (context.holding handle) Gone else Nothing
+connection_event context (event.EncryptionChange status handle enabled) =
+    own_event (context.serving handle) (Encrypted status enabled)
+connection_event context (event.EncryptionKeyRefreshComplete status handle) =
+    own_event (context.serving handle) (Refreshed status)
+connection_event context (event.NumberOfCompletedPackets entries) = Completed (completed_entries context.holding entries)
+connection_event context (event.ConnectionComplete status handle role peer interval latency timeout clock_accuracy) =
+    coming_event context status handle role peer
+connection_event context (event.LongTermKeyRequest handle random_number diversifier) =
+    own_event (context.serving handle) (KeyAsked random_number diversifier)
+connection_event context _ = Nothing
 
 -- until the controller is initialised, nothing that is reported of connections counts
-abbrev pub reported_event : State → Reported → Result Event Fault
-reported_event state (event.CommandComplete allowed opcode returned) = completed_event state.controller allowed opcode returned
-reported_event state (event.CommandStatus status allowed opcode) = status_event state.controller status allowed opcode
-reported_event state (event.HardwareError code) = Err (Hardware code)
-reported_event state reported = Ok (if is_ready state.controller then connection_event state reported else Nothing)
+abbrev pub connection_event_if_ready : {C : Type 0} → Context C → Reported → Happening C
+connection_event_if_ready context reported = if is_ready context.controller then connection_event context reported else Nothing
 
-abbrev pub event_or_bad : State → Result Reported BadEvent → Result Event Fault
-event_or_bad state (Ok reported) = reported_event state reported
-event_or_bad state (Err bad) = Err (bad_event bad)
+abbrev pub reported_event : {C : Type 0} → Context C → Reported → Result (Happening C) Fault
+reported_event context (event.CommandComplete allowed opcode returned) = completed_event context.controller allowed opcode returned
+reported_event context (event.CommandStatus status allowed opcode) = status_event context.controller status allowed opcode
+reported_event context (event.HardwareError code) = Err (Hardware code)
+reported_event context reported = Ok (connection_event_if_ready context reported)
 
--- the fragments of each connection, the newest first
-abbrev pub Fragments : Type 0
-Fragments = Ordinal → List Fragment
+abbrev pub event_or_bad : {C : Type 0} → Context C → Result Reported BadEvent → Result (Happening C) Fault
+event_or_bad context (Ok reported) = reported_event context reported
+event_or_bad context (Err bad) = Err (bad_event bad)
 
 -- what a frame brings
 abbrev pub frame_own : BasicFrame → Option Own
@@ -137,9 +139,41 @@ abbrev pub of_octets : Option Octets → Option Own
 of_octets None = None
 of_octets (Some octets) = of_frame (frame_of octets)
 
-abbrev pub frame_event : Ordinal → Option Own → Event
-frame_event ordinal None = Nothing
-frame_event ordinal (Some own) = Of ordinal own
+abbrev pub frame_event : {C : Type 0} → C → Option Own → Happening C
+frame_event connection None = Nothing
+frame_event connection (Some own) = Of connection own
+
+-- the frame that a fragment makes whole behind those before it, if it makes one
+abbrev pub Recombination : Type 0
+Recombination = Fragment → Option Octets
+
+-- and so data of a connection that serves: one of any other is ignored
+abbrev pub fragment_event : {C : Type 0} → C → Recombination → Option Fragment → Happening C
+fragment_event connection recombination None = Nothing
+fragment_event connection recombination (Some fragment) = frame_event connection (of_octets (recombination fragment))
+
+abbrev pub data_event : {C : Type 0} → (C → Recombination) → Option C → Option Fragment → Happening C
+data_event recombinations None fragment = Nothing
+data_event recombinations (Some connection) fragment = fragment_event connection (recombinations connection) fragment
+
+-- what a packet means, or why the host stops
+abbrev pub packet_meaning : {C : Type 0} → Context C → (C → Recombination) → Packet → Result (Happening C) Fault
+packet_meaning context recombinations (EventPacket octets) = event_or_bad context (event_of octets)
+packet_meaning context recombinations (AclPacket handle boundary broadcast octets) =
+    Ok (data_event recombinations (context.serving handle) (fragment_of boundary broadcast octets))
+packet_meaning context recombinations ScoPacket = Ok Nothing
+
+-- To a state.
+
+-- the fragments of each connection, the newest first
+abbrev pub Fragments : Type 0
+Fragments = Ordinal → List Fragment
+
+abbrev pub recombinations_of : Fragments → Ordinal → Recombination
+recombinations_of fragments ordinal fragment = frame_at (fragment ∷ fragments ordinal)
+
+unfoldable pub packet_event : State → Fragments → Packet → Result Event Fault
+packet_event state fragments packet = packet_meaning (context_of state) (recombinations_of fragments) packet
 
 -- the connection whose fragment a packet is, if it is one
 abbrev pub Arrival : Type 0
@@ -157,13 +191,3 @@ arrival state ScoPacket = None
 abbrev pub with_arrival : Fragments → Arrival → Fragments
 with_arrival fragments None = fragments
 with_arrival fragments (Some arrived) = λ ordinal. if ordinal == arrived.0 then arrived.1 ∷ fragments ordinal else fragments ordinal
-
-abbrev pub arrival_event : Fragments → Arrival → Event
-arrival_event fragments None = Nothing
-arrival_event fragments (Some arrived) =
-    frame_event arrived.0 (of_octets (frame_at (arrived.1 ∷ fragments arrived.0)))
-
--- what a packet means, or why the host stops
-unfoldable pub packet_event : State → Fragments → Packet → Result Event Fault
-packet_event state fragments (EventPacket octets) = event_or_bad state (event_of octets)
-packet_event state fragments packet = Ok (arrival_event fragments (arrival state packet))

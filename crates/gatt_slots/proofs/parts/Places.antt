@@ -7,7 +7,7 @@ use Rattle.std.proofs.lemmas.Bool.{cases_eq, cases_lt, lt-ltb, le-ltb, eq-eqb, n
 use Rattle.std.proofs.lemmas.Option.{slice_get-map}
 use Rattle.att_numbers.specs.Types.{Handle}
 use Rattle.att_table.specs.Table.{Contents}
-use Rattle.gatt_laws.specs.machine.Calls.{ordinal_where}
+use Rattle.gatt_laws.specs.machine.Context.{ordinal_where}
 use Rattle.gatt_laws.specs.machine.Controller.{Slots, has_free, with_taken, with_freed}
 use Rattle.gatt_laws.specs.machine.Event.{Ordinal}
 use Rattle.gatt_laws.specs.laws.Settled.{is_slot_of, has_slot, HaveOneSlotEach}
