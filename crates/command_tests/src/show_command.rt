@@ -6,14 +6,15 @@ use std::process::Abort;
 use std::test::Fail;
 
 /// What is shown where a table has no attributes and there are no keys.
-const NOBODY: &str = "\nstranger\n  read:\n  write:\n  command:\n  hear of:\n";
+const NOBODY: &str =
+    "no attributes\n\nstranger\n  read: -\n  write: -\n  command: -\n  hear of: -\n";
 
 /// A table file, a key file, if there is one, and a rows file.
 type Files = (&'static [u8], Option<&'static [u8]>, &'static [u8]);
 
 /// Files, how `show` ends, what it prints, and what it tells of where a fault is.
 const FILES: &[(Files, Result<(), ShellFault>, &str, &str)] = &[
-    ((b"service = []", None, b""), Ok(()), "", ""),
+    ((b"service = []", None, b""), Ok(()), "no attributes\n", ""),
     (
         (b"service = []", Some(b"key = []"), b""),
         Ok(()),

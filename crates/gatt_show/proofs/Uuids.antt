@@ -1,6 +1,6 @@
 -- Types of 128 bits.
-use Rattle.std.proofs.Common.{◌≡◌, ◌≤◌, ◌<◌, ℕ, Bool, true, false, length, get_or, [], ◌∷◌, Result, Ok, Err, refl}
-use Rattle.std.specs.Prelude.{OnOk, IsOk, ◌==◌, if◌then◌else◌}
+use Rattle.std.proofs.Common.{◌≡◌, length, get_or, [], ◌∷◌, Result, Ok, Err, refl}
+use Rattle.std.specs.Prelude.{OnOk, IsOk}
 use Rattle.octets.specs.Number.{Octets}
 use Rattle.gatt_show.specs.TypeText.{long_text, uuid_text}
 

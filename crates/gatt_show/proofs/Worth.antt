@@ -1,5 +1,5 @@
 -- What a key is worth, as it is told and as a server has it.
-use Rattle.std.proofs.Common.{◌≡◌, ℕ, ℤ, Bool, true, false, List, [], ◌∷◌, ◌++◌, map, codes, Option, Some, None, Result, Ok, Err, refl, sym, ap, ◌∙◌, append_assoc}
+use Rattle.std.proofs.Common.{◌≡◌, ℕ, ℤ, Bool, List, [], ◌∷◌, ◌++◌, map, codes, Option, Some, None, Result, Ok, Err, refl, sym, ap, ◌∙◌, append_assoc}
 use Rattle.std.specs.Prelude.{not, ◌||◌, nat_lt, length}
 use Rattle.std.specs.Result.{result_ok}
 use Rattle.std.proofs.lemmas.List.{append-nil, map-append}
@@ -15,8 +15,8 @@ use Rattle.le_security.specs.EntryFile.{Written, diversifier_of, entry_after, en
 use Rattle.le_security.specs.Address.{address_of, address_type_of}
 use Rattle.le_security.specs.Keys.{has_answer}
 use Rattle.hex.specs.Hex.{decode_sized}
-use Rattle.le_security.specs.KeyFile.{key_step, keys_of, root_keys}
-use Rattle.gatt_show.specs.Holders.{AreWorthIt, all_facts, facts_at, facts_before, size_in, written_size}
+use Rattle.le_security.specs.KeyFile.{key_step, root_keys}
+use Rattle.gatt_show.specs.Holders.{FactsAreTheServers, all_facts, facts_at, facts_before, size_in, written_size}
 
 -- a step that gives something, and what it gave
 then-ok : {A B E : Type 0} (first : Result A E) (next : A → Result B E) (last : B) → (first >>= next) ≡ Ok last
@@ -161,7 +161,7 @@ all-worth (item value rest) entries keys is =
     ∙ ap (λ (front : List Entry). map facts_of front ++ all_facts rest) next
     ∙ all-worth rest step.0 keys step.2
 
-pub are_worth_it : AreWorthIt
-are_worth_it members keys is =
+pub facts_are_the_servers : FactsAreTheServers
+facts_are_the_servers members keys is =
     let shaped = then-ok (unless (is_shaped root_keys members) Shape) _ keys is in
     all-worth (items_at (codes "key") members) [] keys shaped.2

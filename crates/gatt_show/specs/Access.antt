@@ -1,5 +1,5 @@
 -- Who may use the attributes of a table, in words: this profile's own.
-use Rattle.std.specs.Prelude.{ℕ, ◌++◌, Bool, true, false, is_none, is_some, if◌then◌else◌, List, [], ◌∷◌, codes, Option, Some}
+use Rattle.std.specs.Prelude.{◌++◌, Bool, true, false, is_none, is_some, if◌then◌else◌, List, [], ◌∷◌, codes, Option, Some}
 use Rattle.std.specs.Fmt.{decimal}
 use Rattle.std.specs.List.{flat_map}
 use Rattle.octets.specs.Number.{Octets}
@@ -50,9 +50,14 @@ way_word Writing = codes "  write:"
 way_word Commanding = codes "  command:"
 way_word Hearing = codes "  hear of:"
 
+-- some handles, or a dash for none
+abbrev pub handles_or_dash : Octets → Octets
+handles_or_dash [] = codes " -"
+handles_or_dash (first ∷ rest) = first ∷ rest
+
 -- a line for each way: the handles of the attributes that may be used so
 unfoldable pub way_line : List Attr → Option KeyFacts → Way → Octets
-way_line attributes key way = way_word way ++ flat_map (handle_text way key) attributes ++ 10 ∷ []
+way_line attributes key way = way_word way ++ handles_or_dash (flat_map (handle_text way key) attributes) ++ 10 ∷ []
 
 -- a line that names who it is, and those lines
 unfoldable pub holder_lines : Contents → Octets → Option KeyFacts → Octets

@@ -1,5 +1,5 @@
 -- Cells of a line: this profile's own.
-use Rattle.std.specs.Prelude.{ℕ, ◌-◌, ◌++◌, length, replicate, codes}
+use Rattle.std.specs.Prelude.{ℕ, ◌-◌, ◌++◌, length, replicate}
 use Rattle.octets.specs.Number.{Octets}
 
 -- blanks fill a text up to a width, behind it or before it

@@ -1,8 +1,7 @@
 -- Who has which key, in words, and what he may do: this profile's own.
 use Rattle.std.specs.Prelude.{◌≡◌, ℕ, ℤ, ◌++◌, Bool, true, false, List, [], ◌∷◌, map, codes, Option, Some, None, Ok}
-use Rattle.std.specs.Fmt.{decimal}
 use Rattle.octets.specs.Number.{Octets}
-use Rattle.toml.specs.Data.{Data, Items, no_items, item, Members, as_table}
+use Rattle.toml.specs.Data.{Items, no_items, item, Members, as_table}
 use Rattle.toml.specs.Parse.{parse_document}
 use Rattle.toml_tables.specs.Reading.{text_at, integer_at, flag_at, items_at}
 use Rattle.att_policy.specs.declared.standing.KeyFacts.{KeyFacts}
@@ -11,6 +10,7 @@ use Rattle.le_security.specs.declared.entry.Entry.{Entry}
 use Rattle.le_security.specs.EntryFile.{size_of}
 use Rattle.le_security.specs.KeyFile.{keys_of}
 use Rattle.gatt_show.specs.Access.{holder_lines}
+use Rattle.gatt_show.specs.Rights.{size_words}
 
 -- what an entry of a key file writes: its texts, and what its key is worth
 abbrev pub written_text : Option Octets → Octets
@@ -36,9 +36,6 @@ facts_at members = record {
 abbrev pub words_if : Bool → Octets → Octets
 words_if true words = words
 words_if false words = []
-
-abbrev pub size_words : ℕ → Octets
-size_words size = codes ", key of " ++ decimal size
 
 abbrev pub facts_words : KeyFacts → Octets
 facts_words facts =
@@ -83,6 +80,6 @@ all_facts no_items = []
 all_facts (item value rest) = facts_before (as_table value) (all_facts rest)
 
 -- and that is what the keys that a server has of the document are worth
-abbrev pub AreWorthIt : Type 0
-AreWorthIt = (members : Members) (keys : List Entry) → keys_of members ≡ Ok keys
+abbrev pub FactsAreTheServers : Type 0
+FactsAreTheServers = (members : Members) (keys : List Entry) → keys_of members ≡ Ok keys
     → all_facts (items_at (codes "key") members) ≡ map (λ (entry : Entry). entry.key.facts) keys

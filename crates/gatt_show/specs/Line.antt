@@ -1,5 +1,5 @@
 -- A line for each attribute of a table: this profile's own. A function of the table's contents alone.
-use Rattle.std.specs.Prelude.{ℕ, ◌++◌, ◌==◌, if◌then◌else◌, List, [], ◌∷◌, drop, unwrap_or, codes}
+use Rattle.std.specs.Prelude.{◌++◌, ◌==◌, if◌then◌else◌, List, [], ◌∷◌, drop, unwrap_or, codes}
 use Rattle.std.specs.Fmt.{decimal}
 use Rattle.std.specs.List.{flat_map}
 use Rattle.octets.specs.Number.{Octets, from_two}
@@ -69,6 +69,11 @@ attribute_line table attr =
     right 4 (decimal attr.handle) ++ codes "  " ++ left 14 (kind_word attr.role attr.kind) ++ codes "  "
     ++ rest_of_line table attr.role attr ++ 10 ∷ []
 
--- those of all attributes, in the order of their handles
+-- those of some attributes, in the order of their handles, or a line that says that there are none
+abbrev pub attribute_lines : Contents → List Attr → Octets
+attribute_lines table [] = codes "no attributes" ++ 10 ∷ []
+attribute_lines table (first ∷ rest) = flat_map (attribute_line table) (first ∷ rest)
+
+-- those of all attributes
 abbrev pub shown_table : Contents → Octets
-shown_table table = flat_map (attribute_line table) table.attributes
+shown_table table = attribute_lines table table.attributes

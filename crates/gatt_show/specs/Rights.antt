@@ -31,14 +31,17 @@ written_words properties =
     word properties WRITE (codes " write") ++ word properties WRITE_WITHOUT_RESPONSE (codes " command")
 
 -- what the link's key has to be: keys of LE Secure Connections have 16 octets
-abbrev pub size_words : Option ℕ → Octets
-size_words None = []
-size_words (Some size) = codes ", key of " ++ decimal size
+abbrev pub size_words : ℕ → Octets
+size_words size = codes ", key of " ++ decimal size
+
+abbrev pub asked_size_words : Option ℕ → Octets
+asked_size_words None = []
+asked_size_words (Some size) = size_words size
 
 abbrev pub key_words : Need → Octets
 key_words need =
     if need.secure then codes " if secure connections"
-    else (if needs_authentication_of need then codes " if authenticated" else codes " if encrypted") ++ size_words need.key_size
+    else (if needs_authentication_of need then codes " if authenticated" else codes " if encrypted") ++ asked_size_words need.key_size
 
 -- and that the user lets the connection through
 abbrev pub need_words : Need → Octets

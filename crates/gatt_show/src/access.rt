@@ -1,14 +1,14 @@
 //! Who may use the attributes of a table.
 
-ghost use Rattle.std.specs.Prelude.{◌≡◌, ◌++◌, OnOk};
+ghost use Rattle.std.specs.Prelude.{◌≡◌, ◌++◌, IfOk, OnOk};
 ghost use Rattle.std.specs.List.{flat_map};
-ghost use Rattle.gatt_show.specs.Access.{handle_text, holder_lines, is_told, left_need, permits, standing_of, way_line, way_word};
+ghost use Rattle.gatt_show.specs.Access.{handle_text, handles_or_dash, holder_lines, is_told, left_need, permits, standing_of, way_line, way_word};
 
 use crate::cells::add_number;
 use crate::line::all_attributes;
 use att_policy::{Access, Guard, KeyFacts, Standing, first_broken, may_hear};
 use att_table::{Attr, Role, Table};
-use std::alloc::AllocError;
+use std::alloc::{AllocError, Global};
 
 /// A way to use an attribute.
 #[derive(Clone, Copy)]
@@ -25,9 +25,10 @@ pub enum Way {
 
 /// Adds what somebody with such a key, or with none, may do with the attributes of a table: the name,
 /// and in a line for each way the handles, declarations left out, and where being authorized is still
-/// needed this. On `Err` memory was refused, and the text means nothing.
+/// needed this, or a dash where there are none. On `Err` memory was refused, and the text means nothing.
 #[tactic(auto, unfolding(crate::specs::Access::holder_lines))]
 pub fn add_holder(
+    alloc: Global,
     text: &mut Vec<u8>,
     table: &Table,
     name: &[u8],
@@ -38,15 +39,16 @@ pub fn add_holder(
 {
     text.extend_from_slice(name)?;
     text.extend_from_slice(b"\n")?;
-    add_way(text, table, key, Way::Reading)?;
-    add_way(text, table, key, Way::Writing)?;
-    add_way(text, table, key, Way::Commanding)?;
-    add_way(text, table, key, Way::Hearing)
+    add_way(alloc, text, table, key, Way::Reading)?;
+    add_way(alloc, text, table, key, Way::Writing)?;
+    add_way(alloc, text, table, key, Way::Commanding)?;
+    add_way(alloc, text, table, key, Way::Hearing)
 }
 
 /// Adds the line of a way.
 #[tactic(auto, unfolding(crate::specs::Access::way_line))]
 fn add_way(
+    alloc: Global,
     text: &mut Vec<u8>,
     table: &Table,
     key: Option<KeyFacts>,
@@ -56,8 +58,34 @@ fn add_way(
         ≡ text.old.items ++ way_line table.now.attributes key way) }
 {
     text.extend_from_slice(way_word(way).as_bytes())?;
-    add_handles(text, all_attributes(table), key, way)?;
+    let handles = handles(alloc, all_attributes(table), key, way)?;
+    add_handles_or_dash(text, &handles)?;
     text.extend_from_slice(b"\n")
+}
+
+/// Adds some handles, or a dash for none.
+fn add_handles_or_dash(text: &mut Vec<u8>, handles: &[u8]) -> Result<(), AllocError>
+    ensures ok { OnOk result (text.new.items ≡ text.old.items ++ handles_or_dash handles.now) }
+{
+    match handles {
+        [] => text.extend_from_slice(b" -"),
+        _ => text.extend_from_slice(handles),
+    }
+}
+
+/// The handles of the attributes that may be used in a way.
+fn handles(
+    alloc: Global,
+    attributes: &[Attr],
+    key: Option<KeyFacts>,
+    way: Way,
+) -> Result<Vec<u8>, AllocError>
+    ensures ok { IfOk result
+        (λ handles. handles.items ≡ flat_map (handle_text way key) attributes.now) }
+{
+    let mut handles = Vec::new(alloc);
+    add_handles(&mut handles, attributes, key, way)?;
+    Ok(handles)
 }
 
 /// The word of a way, before the handles.

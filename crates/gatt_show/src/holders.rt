@@ -3,10 +3,10 @@
 ghost use Rattle.std.specs.Prelude.{◌≡◌, ◌++◌, option_map, OnOk};
 ghost use Rattle.toml.specs.View.{items_view, table_view};
 ghost use Rattle.toml_tables.specs.Reading.{text_at};
-ghost use Rattle.gatt_show.specs.Holders.{AreWorthIt, TellsHolders, entries_text, entry_text, facts_at, facts_words, holder_name, holder_text, holders_text, size_words, words_if, written_size, written_text};
+ghost use Rattle.gatt_show.specs.Holders.{FactsAreTheServers, TellsHolders, entries_text, entry_text, facts_at, facts_words, holder_name, holder_text, holders_text, words_if, written_size, written_text};
 
 use crate::access::add_holder;
-use crate::cells::add_number;
+use crate::rights::add_size;
 use att_policy::KeyFacts;
 use att_table::Table;
 use std::alloc::{AllocError, Global};
@@ -15,7 +15,7 @@ use toml::Value;
 /// Adds what a stranger may do with the attributes of a table, and what each peer of a key file may do
 /// with each of its keys, in the order of the file. On `Err` memory was refused, or the text of the
 /// file is no TOML, and `text` means nothing.
-#[tactic(auto, using(crate::proofs::Worth::are_worth_it))]
+#[tactic(auto, using(crate::proofs::Worth::facts_are_the_servers))]
 pub fn add_holders(
     alloc: Global,
     text: &mut Vec<u8>,
@@ -23,17 +23,18 @@ pub fn add_holders(
     key_file: &str,
 ) -> Result<(), AllocError>
     ensures ok { OnOk result (TellsHolders table.now key_file.now text.old.items text.new.items) }
-    ensures facts { AreWorthIt }
+    ensures facts { FactsAreTheServers }
 {
     let Ok(document) = toml::table_from_str(alloc, key_file) else {
         return Err(AllocError);
     };
-    add_one(text, table, b"stranger", None)?;
+    add_one(alloc, text, table, b"stranger", None)?;
     add_entries(alloc, text, table, toml_tables::items(&document, "key"))
 }
 
 /// Adds what somebody may do, behind a blank line.
 fn add_one(
+    alloc: Global,
     text: &mut Vec<u8>,
     table: &Table,
     name: &[u8],
@@ -43,7 +44,7 @@ fn add_one(
         ≡ text.old.items ++ holder_text table.now name.now key) }
 {
     text.extend_from_slice(b"\n")?;
-    add_holder(text, table, name, key)
+    add_holder(alloc, text, table, name, key)
 }
 
 /// Adds what the peers of some entries may do.
@@ -78,7 +79,7 @@ fn add_entry(
     let facts = facts_at(members);
     let mut name = Vec::new(alloc);
     add_name(&mut name, members, facts)?;
-    add_one(text, table, name.as_slice(), Some(facts))
+    add_one(alloc, text, table, name.as_slice(), Some(facts))
 }
 
 /// What the key of an entry is worth.
@@ -137,14 +138,6 @@ fn add_facts(text: &mut Vec<u8>, facts: KeyFacts) -> Result<(), AllocError>
     add_size(text, facts.size)?;
     add_if(text, facts.authenticated, b", authenticated")?;
     add_if(text, facts.secure, b", secure connections")
-}
-
-/// Adds how many octets a key has.
-fn add_size(text: &mut Vec<u8>, size: u8) -> Result<(), AllocError>
-    ensures ok { OnOk result (text.new.items ≡ text.old.items ++ size_words size) }
-{
-    text.extend_from_slice(b", key of ")?;
-    add_number(text, u64::from(size))
 }
 
 /// Adds words where something holds.

@@ -2,7 +2,7 @@
 
 ghost use Rattle.std.specs.Prelude.{◌≡◌, ◌++◌, [], drop, IfOk, OnOk};
 ghost use Rattle.std.specs.List.{flat_map};
-ghost use Rattle.gatt_show.specs.Line.{attribute_line, declared_text, include_text, kind_word, length_text, rest_of_line, shown_table, told_value, used_text};
+ghost use Rattle.gatt_show.specs.Line.{attribute_line, attribute_lines, declared_text, include_text, kind_word, length_text, rest_of_line, shown_table, told_value, used_text};
 ghost use Rattle.gatt_show.specs.TypeText.{type_text};
 ghost use Rattle.att_numbers.specs.AttributeType.{type_octets};
 
@@ -14,12 +14,28 @@ use att_table::{Attr, Role, Table, is_service, type_octets};
 use std::alloc::{AllocError, Global};
 
 /// Adds a line for each attribute of a table, in the order of their handles: its handle, what it is,
-/// its type with its name, how many octets its value may have, and what may be done with it. On `Err`
-/// memory was refused, and the text means nothing.
+/// its type with its name, how many octets its value may have, and what may be done with it; or a line
+/// that says that there are none. On `Err` memory was refused, and the text means nothing.
 pub fn add_table(alloc: Global, text: &mut Vec<u8>, table: &Table) -> Result<(), AllocError>
     ensures ok { OnOk result (text.new.items ≡ text.old.items ++ shown_table table.now) }
 {
-    add_attributes(alloc, text, table, all_attributes(table))
+    add_lines(alloc, text, table, all_attributes(table))
+}
+
+/// Adds the lines of some attributes of a table, or one that says that there are none.
+fn add_lines(
+    alloc: Global,
+    text: &mut Vec<u8>,
+    table: &Table,
+    attributes: &[Attr],
+) -> Result<(), AllocError>
+    ensures ok { OnOk result (text.new.items
+        ≡ text.old.items ++ attribute_lines table.now attributes.now) }
+{
+    match attributes {
+        [] => text.extend_from_slice(b"no attributes\n"),
+        _ => add_attributes(alloc, text, table, attributes),
+    }
 }
 
 /// All attributes of a table.

@@ -1,7 +1,7 @@
 //! What may be done with an attribute, and what it needs, in words.
 
 ghost use Rattle.std.specs.Prelude.{◌≡◌, ◌++◌, if◌then◌else◌, [], IfOk, OnOk};
-ghost use Rattle.gatt_show.specs.Rights.{both_texts, heard_text, heard_words, is_heard, is_written, key_words, need_words, rights_text, size_words, word, written_text, written_words};
+ghost use Rattle.gatt_show.specs.Rights.{asked_size_words, both_texts, heard_text, heard_words, is_heard, is_written, key_words, need_words, rights_text, size_words, word, written_text, written_words};
 
 use crate::cells::add_number;
 use att_policy::{Guard, Need, Properties};
@@ -144,18 +144,23 @@ fn add_key(text: &mut Vec<u8>, need: &Need) -> Result<(), AllocError>
     } else {
         text.extend_from_slice(b" if encrypted")?;
     }
-    add_size(text, need.key_size)
+    add_asked_size(text, need.key_size)
 }
 
 /// Adds how many octets a key needs, if it needs any.
-fn add_size(text: &mut Vec<u8>, size: Option<u8>) -> Result<(), AllocError>
-    ensures ok { OnOk result (text.new.items ≡ text.old.items ++ size_words size) }
+fn add_asked_size(text: &mut Vec<u8>, size: Option<u8>) -> Result<(), AllocError>
+    ensures ok { OnOk result (text.new.items ≡ text.old.items ++ asked_size_words size) }
 {
     match size {
-        Some(size) => {
-            text.extend_from_slice(b", key of ")?;
-            add_number(text, u64::from(size))
-        }
+        Some(size) => add_size(text, size),
         None => Ok(()),
     }
+}
+
+/// Adds how many octets a key has, or needs.
+pub fn add_size(text: &mut Vec<u8>, size: u8) -> Result<(), AllocError>
+    ensures ok { OnOk result (text.new.items ≡ text.old.items ++ size_words size) }
+{
+    text.extend_from_slice(b", key of ")?;
+    add_number(text, u64::from(size))
 }

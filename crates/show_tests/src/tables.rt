@@ -47,7 +47,11 @@ const BELL_LINES: &str = r"   1  service         fff8
 ";
 
 /// Tables, and what is shown of them.
-const TABLES: &[(&str, &str)] = &[(DOOR, DOOR_LINES), (BELL, BELL_LINES), ("service = []", "")];
+const TABLES: &[(&str, &str)] = &[
+    (DOOR, DOOR_LINES),
+    (BELL, BELL_LINES),
+    ("service = []", "no attributes\n"),
+];
 
 /// Who uses the door lock with which key, and what is shown of it.
 const HOLDERS: &[(&str, Option<KeyFacts>, &str)] = &[
@@ -178,6 +182,15 @@ fn shows_who_may_do_what(rt: HostRuntime) {
 }
 
 #[test]
+fn shows_that_nothing_may_be_done(rt: HostRuntime) {
+    let lines = "stranger\n  read: -\n  write: -\n  command: -\n  hear of: -\n";
+    assert!(rt;
+        is_shown_of(rt.alloc(), "service = []", "stranger", None, lines),
+        "{lines}"
+    );
+}
+
+#[test]
 fn shows_who_has_which_key(rt: HostRuntime) {
     for (keys, lines) in KEY_FILES {
         shows_holders(&rt, rt.alloc(), keys, lines);
@@ -206,15 +219,15 @@ fn is_shown(alloc: Global, table: &str, lines: &str) -> bool {
 
 /// Shows what somebody may do with the door lock, and compares the lines.
 fn shows_holder(rt: &impl Abort, alloc: Global, name: &str, key: Option<KeyFacts>, lines: &str) {
-    assert!(rt; is_shown_of(alloc, name, key, lines), "{lines}");
+    assert!(rt; is_shown_of(alloc, DOOR, name, key, lines), "{lines}");
 }
 
-fn is_shown_of(alloc: Global, name: &str, key: Option<KeyFacts>, lines: &str) -> bool {
+fn is_shown_of(alloc: Global, table: &str, name: &str, key: Option<KeyFacts>, lines: &str) -> bool {
     let mut text: Vec<u8> = Vec::new(alloc);
-    let Ok(table) = Table::read(alloc, DOOR) else {
+    let Ok(table) = Table::read(alloc, table) else {
         return false;
     };
-    add_holder(&mut text, &table, name.as_bytes(), key).is_ok()
+    add_holder(alloc, &mut text, &table, name.as_bytes(), key).is_ok()
         && text.as_slice() == lines.as_bytes()
 }
 
