@@ -25,13 +25,13 @@ const FILES: &[(Files, Result<(), ShellFault>, &str, &str)] = &[
         (b"", Some(b"key"), b"none"),
         Err(ShellFault::Table(2)),
         "",
-        "service: a key that has to be there is not: service",
+        "service: the key is missing",
     ),
     (
         (b"service = []", Some(b"bell = 1"), b"none"),
         Err(ShellFault::Keys(9)),
         "",
-        "bell: a key that is unknown, or of another TOML type than its own",
+        "bell: there is no such key",
     ),
     (
         (b"service = []", Some(b"\n \xFF"), b"none"),

@@ -1,24 +1,28 @@
-//! Fronts of table files.
+//! Fronts of files.
 
-use std::alloc::AllocError;
+use std::alloc::{AllocError, Global};
 use toml::{Table, Value};
 
-/// Which keys of the last element of a front are kept.
+/// Which keys of the last table of a front are kept.
 #[derive(Clone, Copy)]
 pub enum Kept<'a> {
     /// Each one.
     All,
     /// This one alone.
     Alone(&'a str),
+    /// This one alone, with a value in place of its own, as TOML writes it.
+    AloneAs(&'a str, &'a str),
     /// Each one but these.
     Without(&'a [&'a str]),
+    /// This one with a value in place of its own, and each other one but these.
+    With(&'a str, &'a str, &'a [&'a str]),
 }
 
-/// An array of a table file.
+/// An array of a file.
 #[derive(Clone, Copy)]
 pub enum Level {
-    /// The services of the file.
-    Services,
+    /// That of the root: the services of a table file, the entries of a key file.
+    Elements,
     /// The includes of its last service.
     Includes,
     /// The characteristics of its last service.
@@ -30,10 +34,10 @@ pub enum Level {
 }
 
 impl Level {
-    /// The key of the array.
-    pub fn key(self) -> &'static str {
+    /// The key of the array, of a file whose root has this one.
+    fn key(self, root: &'static str) -> &'static str {
         match self {
-            Level::Services => "service",
+            Level::Elements => root,
             Level::Includes => "include",
             Level::Characteristics => "characteristic",
             Level::Descriptors => "descriptor",
@@ -42,12 +46,14 @@ impl Level {
     }
 }
 
-/// A front of a table file: so many services, so many includes and characteristics of the last of
-/// them, and so on. The last element is the deepest one of a table that is kept.
+/// A front of a file: so many elements of the root, so many includes and characteristics of the last of
+/// them, and so on. The last element is the deepest one that is kept.
 #[derive(Clone, Copy)]
 pub struct Front<'a> {
-    /// How many services are kept.
-    pub services: usize,
+    /// The key of the root's array.
+    pub root: &'static str,
+    /// How many elements of the root are kept.
+    pub elements: usize,
     /// How many includes of the last service.
     pub includes: usize,
     /// How many characteristics of the last service.
@@ -58,34 +64,44 @@ pub struct Front<'a> {
     pub properties: usize,
     /// Which keys of the last element.
     pub keys: Kept<'a>,
+    /// The key of a table in the last element that is then the last table.
+    pub inner: Option<&'a str>,
+    /// Which keys of that table.
+    pub inner_keys: Kept<'a>,
 }
 
 impl<'a> Front<'a> {
-    /// The whole file.
-    pub const WHOLE: Front<'static> = Front {
-        services: usize::MAX,
-        includes: usize::MAX,
-        characteristics: usize::MAX,
-        descriptors: usize::MAX,
-        properties: usize::MAX,
-        keys: Kept::All,
-    };
+    /// The root of a file with this array, without its elements.
+    pub fn of_root(root: &'static str) -> Front<'static> {
+        Front {
+            root,
+            elements: 0,
+            includes: 0,
+            characteristics: 0,
+            descriptors: 0,
+            properties: usize::MAX,
+            keys: Kept::All,
+            inner: None,
+            inner_keys: Kept::All,
+        }
+    }
 
-    /// The root without its services.
-    pub const ROOT: Front<'static> = Front {
-        services: 0,
-        includes: 0,
-        characteristics: 0,
-        descriptors: 0,
-        properties: usize::MAX,
-        keys: Kept::All,
-    };
+    /// The whole file.
+    pub fn whole(root: &'static str) -> Front<'static> {
+        Front {
+            elements: usize::MAX,
+            includes: usize::MAX,
+            characteristics: usize::MAX,
+            descriptors: usize::MAX,
+            ..Front::of_root(root)
+        }
+    }
 
     /// The front with another count at a level.
     pub fn with(self, level: Level, count: usize) -> Front<'a> {
         let mut front = self;
         match level {
-            Level::Services => front.services = count,
+            Level::Elements => front.elements = count,
             Level::Includes => front.includes = count,
             Level::Characteristics => front.characteristics = count,
             Level::Descriptors => front.descriptors = count,
@@ -94,42 +110,62 @@ impl<'a> Front<'a> {
         front
     }
 
-    /// The front with other keys.
-    pub fn with_keys<'k>(self, keys: Kept<'k>) -> Front<'k> {
+    /// The front with other keys of its last table.
+    pub fn with_keys<'k>(&'k self, keys: Kept<'k>) -> Front<'k> {
+        let (keys, inner_keys) = match self.inner {
+            Some(_) => (self.keys, keys),
+            None => (keys, self.inner_keys),
+        };
         Front {
-            services: self.services,
-            includes: self.includes,
-            characteristics: self.characteristics,
-            descriptors: self.descriptors,
-            properties: self.properties,
             keys,
+            inner_keys,
+            ..*self
+        }
+    }
+
+    /// The front whose last table is that at a key of its last element.
+    pub fn with_inner<'k>(&'k self, inner: &'k str) -> Front<'k> {
+        Front {
+            inner: Some(inner),
+            inner_keys: Kept::All,
+            ..*self
         }
     }
 
     /// The front of a document.
-    pub fn of(&self, document: &Table) -> Result<Table, AllocError> {
+    pub fn of(&self, alloc: Global, document: &Table) -> Result<Table, AllocError> {
         let mut kept = document.clone()?;
         self.cut(&mut kept);
         if let Some(element) = self.last_element(&mut kept) {
             cut_array(element, "properties", self.properties);
-            keep_keys(element, self.keys)?;
+            keep_keys(alloc, element, self.keys)?;
+        }
+        if self.inner.is_some() {
+            if let Some(table) = self.last_table(&mut kept) {
+                keep_keys(alloc, table, self.inner_keys)?;
+            }
         }
         Ok(kept)
     }
 
     /// How many elements a document has at a level, of the last element in which that array stands.
-    pub fn count(&self, document: &Table, level: Level) -> Result<usize, AllocError> {
-        let mut kept = self.with(level, usize::MAX).of(document)?;
+    pub fn count(
+        &self,
+        alloc: Global,
+        document: &Table,
+        level: Level,
+    ) -> Result<usize, AllocError> {
+        let mut kept = self.with(level, usize::MAX).of(alloc, document)?;
         Ok(match self.with(level, 0).last_element(&mut kept) {
-            Some(element) => toml_tables::items(element, level.key()).len(),
+            Some(element) => toml_tables::items(element, level.key(self.root)).len(),
             None => 0,
         })
     }
 
     /// Cuts the arrays of a document.
     fn cut(&self, document: &mut Table) {
-        cut_array(document, "service", self.services);
-        let Some(service) = last_table(document, "service") else {
+        cut_array(document, self.root, self.elements);
+        let Some(service) = last_table(document, self.root) else {
             return;
         };
         cut_array(service, "include", self.includes);
@@ -142,10 +178,10 @@ impl<'a> Front<'a> {
 
     /// The last element of a document that is cut so: none where that is no table.
     pub fn last_element<'t>(&self, document: &'t mut Table) -> Option<&'t mut Table> {
-        if self.services == 0 {
+        if self.elements == 0 {
             return Some(document);
         }
-        let service = last_table(document, "service")?;
+        let service = last_table(document, self.root)?;
         if self.characteristics == 0 {
             return Some(service);
         }
@@ -155,10 +191,19 @@ impl<'a> Front<'a> {
         }
         last_table(characteristic, "descriptor")
     }
+
+    /// The last table: that in the last element, where one is chosen, and else the element.
+    pub fn last_table<'t>(&self, document: &'t mut Table) -> Option<&'t mut Table> {
+        let element = self.last_element(document)?;
+        match self.inner {
+            Some(key) => element.get_mut(key)?.as_table_mut(),
+            None => Some(element),
+        }
+    }
 }
 
 /// Leaves so many elements of the array at a key, if there is one.
-pub fn cut_array(table: &mut Table, key: &str, count: usize) {
+fn cut_array(table: &mut Table, key: &str, count: usize) {
     if let Some(array) = array_at(table, key) {
         array.truncate(count);
     }
@@ -170,12 +215,12 @@ fn last_table<'t>(table: &'t mut Table, key: &str) -> Option<&'t mut Table> {
 }
 
 /// The array at a key.
-pub fn array_at<'t>(table: &'t mut Table, key: &str) -> Option<&'t mut Vec<Value>> {
+fn array_at<'t>(table: &'t mut Table, key: &str) -> Option<&'t mut Vec<Value>> {
     table.get_mut(key)?.as_array_mut()
 }
 
 /// Leaves some keys of a table.
-pub fn keep_keys(table: &mut Table, keys: Kept<'_>) -> Result<(), AllocError> {
+fn keep_keys(alloc: Global, table: &mut Table, keys: Kept<'_>) -> Result<(), AllocError> {
     match keys {
         Kept::All => {}
         Kept::Alone(key) => {
@@ -184,11 +229,31 @@ pub fn keep_keys(table: &mut Table, keys: Kept<'_>) -> Result<(), AllocError> {
                 table.insert(name, value)?;
             }
         }
-        Kept::Without(left_out) => {
-            for key in left_out {
-                table.remove(*key);
-            }
+        Kept::AloneAs(key, value) => {
+            table.clear();
+            put(alloc, table, key, value)?;
+        }
+        Kept::Without(left_out) => remove_all(table, left_out),
+        Kept::With(key, value, left_out) => {
+            remove_all(table, left_out);
+            put(alloc, table, key, value)?;
         }
     }
     Ok(())
+}
+
+/// Puts a value at a key, as TOML writes it.
+fn put(alloc: Global, table: &mut Table, key: &str, value: &str) -> Result<(), AllocError> {
+    let Ok(value) = Value::from_str(alloc, value) else {
+        return Err(AllocError);
+    };
+    table.insert(String::from_str(alloc, key)?, value)?;
+    Ok(())
+}
+
+/// Takes some keys out of a table.
+fn remove_all(table: &mut Table, keys: &[&str]) {
+    for key in keys {
+        table.remove(*key);
+    }
 }

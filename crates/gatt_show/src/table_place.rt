@@ -1,170 +1,101 @@
 //! Where a table file has its fault, and what it is, in words.
-//!
-//! The reader of table files tells which fault is the first, and not where it is. So the same reader
-//! is asked for fronts of the file: the shortest one that it refuses ends with what is at fault. Then
-//! it is asked which key of that element it is. No rule of the format is written here again.
 
 use crate::cells::add_number;
 use crate::front::{Front, Kept, Level};
-use crate::position::{add_no_text, add_no_toml};
+use crate::quoted::add_quoted;
+use crate::refused::Refused;
+use crate::wrong_key::{Others, add_name, add_range, add_words, add_wrong_key};
 use att_table::{TableFault, TableKey};
-use std::alloc::{AllocError, Global};
-use std::str;
-use toml::Table;
+use std::alloc::AllocError;
 
-/// A document that is refused.
-#[derive(Clone, Copy)]
-struct Refused<'a> {
-    alloc: Global,
-    document: &'a Table,
-    /// Its first fault.
-    fault: TableFault,
-}
-
-/// Adds where a table file with these octets has its first fault, and what it is. Of a file without a
-/// fault nothing is added. Lines, columns and elements count from 1. On `Err` memory was refused, and
-/// the text means nothing.
-pub fn add_table_fault(alloc: Global, text: &mut Vec<u8>, octets: &[u8]) -> Result<(), AllocError> {
-    let file = match str::from_utf8(octets) {
-        Ok(file) => file,
-        Err(error) => return add_no_text(text, octets, error.valid_up_to()),
-    };
-    match toml::table_from_str(alloc, file) {
-        Ok(document) => add_fault(alloc, text, &document),
-        Err(error) => add_no_toml(text, octets, &error),
-    }
-}
+/// Words of properties, each as the only one of an array.
+const PROPERTIES: [(&str, &str); 5] = [
+    ("read", "[\"read\"]"),
+    ("command", "[\"command\"]"),
+    ("write", "[\"write\"]"),
+    ("notify", "[\"notify\"]"),
+    ("indicate", "[\"indicate\"]"),
+];
 
 /// Adds where a document has its first fault, and what it is.
-fn add_fault(alloc: Global, text: &mut Vec<u8>, document: &Table) -> Result<(), AllocError> {
-    let Some(fault) = fault_of(alloc, document)? else {
-        return Ok(());
-    };
-    let refused = Refused {
-        alloc,
-        document,
-        fault,
-    };
-    let front = shortest(&refused)?;
-    let has_element = add_element(text, &front)?;
-    add_key(text, &refused, &front, has_element)?;
-    text.extend_from_slice(b": ")?;
-    text.extend_from_slice(format!(in alloc; "{fault}")?.as_bytes())
-}
-
-/// The first fault of a document.
-fn fault_of(alloc: Global, document: &Table) -> Result<Option<TableFault>, AllocError> {
-    let Ok(file) = toml::table_to_string(alloc, document) else {
-        return Err(AllocError);
-    };
-    match att_table::Table::read(alloc, file.as_str()) {
-        Ok(_) => Ok(None),
-        Err(TableFault::OutOfMemory) => Err(AllocError),
-        Err(fault) => Ok(Some(fault)),
+pub fn add_table_place(
+    text: &mut Vec<u8>,
+    refused: &Refused<'_>,
+    fault: TableFault,
+) -> Result<(), AllocError> {
+    let front = shortest(refused)?;
+    add_element(text, &front, fault)?;
+    match fault {
+        TableFault::Shape => add_wrong_key(text, refused, &front),
+        TableFault::Missing(key) => {
+            add_name(text, &front, key_name(key))?;
+            text.extend_from_slice(b": the key is missing")
+        }
+        TableFault::TooLong => add_too_long(text, refused, &front),
+        TableFault::BadSecurity => add_need(text, refused, &front),
+        TableFault::BadProperty => add_property(text, refused, &front),
+        TableFault::BadUuid => {
+            add_name(text, &front, "uuid")?;
+            add_words(text, refused)
+        }
+        TableFault::BadHex => {
+            add_name(text, &front, "value")?;
+            add_words(text, refused)
+        }
+        TableFault::NotToml
+        | TableFault::TooMany
+        | TableFault::BadInclude
+        | TableFault::OutOfMemory => add_words(text, refused),
     }
-}
-
-/// Whether a front of a document has its first fault.
-fn has_fault(refused: &Refused<'_>, front: &Front<'_>) -> Result<bool, AllocError> {
-    let kept = front.of(refused.document)?;
-    Ok(fault_of(refused.alloc, &kept)? == Some(refused.fault))
 }
 
 /// The shortest front of a document that has its first fault.
 fn shortest(refused: &Refused<'_>) -> Result<Front<'static>, AllocError> {
-    if has_fault(refused, &Front::ROOT)? {
-        return Ok(Front::ROOT);
+    let root = Front::of_root("service");
+    if refused.has_fault(&root)? {
+        return Ok(root);
     }
-    let services = least(refused, &Front::WHOLE, Level::Services)?;
-    let service = Front::ROOT.with(Level::Services, services);
-    if has_fault(refused, &service)? {
+    let services = refused.least(&Front::whole("service"), Level::Elements)?;
+    let service = root.with(Level::Elements, services);
+    if refused.has_fault(&service)? {
         return Ok(service);
     }
     let included = service.with(Level::Includes, usize::MAX);
-    if has_fault(refused, &included)? {
-        let includes = least(refused, &service, Level::Includes)?;
+    if refused.has_fault(&included)? {
+        let includes = refused.least(&service, Level::Includes)?;
         return Ok(service.with(Level::Includes, includes));
     }
     let whole = included.with(Level::Descriptors, usize::MAX);
-    let characteristics = least(refused, &whole, Level::Characteristics)?;
+    let characteristics = refused.least(&whole, Level::Characteristics)?;
     let characteristic = included.with(Level::Characteristics, characteristics);
-    if has_fault(refused, &characteristic)? {
+    if refused.has_fault(&characteristic)? {
         return Ok(characteristic);
     }
-    let descriptors = least(refused, &characteristic, Level::Descriptors)?;
+    let descriptors = refused.least(&characteristic, Level::Descriptors)?;
     Ok(characteristic.with(Level::Descriptors, descriptors))
 }
 
-/// The least count at a level with which a front has the first fault of its document, where it has
-/// not with 0, and has with all elements.
-fn least(refused: &Refused<'_>, front: &Front<'_>, level: Level) -> Result<usize, AllocError> {
-    let mut without = 0;
-    let mut with = front.count(refused.document, level)?;
-    for _halving in 0..usize::BITS {
-        let middle = usize::midpoint(without, with);
-        if middle == without {
-            return Ok(with);
-        }
-        if has_fault(refused, &front.with(level, middle))? {
-            with = middle;
-        } else {
-            without = middle;
-        }
+/// Adds which element is the last one of a front, if it is another than the root. Of an include it is
+/// told only where it is no key that is at fault.
+fn add_element(text: &mut Vec<u8>, front: &Front<'_>, fault: TableFault) -> Result<(), AllocError> {
+    if front.elements == 0 {
+        return Ok(());
     }
-    Ok(with)
-}
-
-/// Adds which element is the last one of a front, and gives whether it is another than the root.
-fn add_element(text: &mut Vec<u8>, front: &Front<'_>) -> Result<bool, AllocError> {
-    if front.services == 0 {
-        return Ok(false);
-    }
-    add_counted(text, b"service ", front.services)?;
+    add_counted(text, b"service ", front.elements)?;
     if front.characteristics > 0 {
         add_counted(text, b", characteristic ", front.characteristics)?;
         if front.descriptors > 0 {
             add_counted(text, b", descriptor ", front.descriptors)?;
         }
-    } else if front.includes > 0 {
+    } else if front.includes > 0 && fault != TableFault::Shape {
         add_counted(text, b", include ", front.includes)?;
     }
-    Ok(true)
+    Ok(())
 }
 
 fn add_counted(text: &mut Vec<u8>, name: &[u8], count: usize) -> Result<(), AllocError> {
     text.extend_from_slice(name)?;
     add_number(text, count as u64)
-}
-
-/// Adds which key of the last element of a front has the fault, if it is that of a key.
-fn add_key(
-    text: &mut Vec<u8>,
-    refused: &Refused<'_>,
-    front: &Front<'_>,
-    has_element: bool,
-) -> Result<(), AllocError> {
-    let key = match refused.fault {
-        TableFault::Missing(key) => key_name(key),
-        TableFault::BadUuid => "uuid",
-        TableFault::BadHex => "value",
-        TableFault::TooLong => too_long(refused, front)?,
-        TableFault::BadSecurity => insecure(refused, front)?,
-        TableFault::BadProperty => return add_property(text, refused, front),
-        TableFault::Shape => return add_shapeless(text, refused, front, has_element),
-        TableFault::NotToml
-        | TableFault::TooMany
-        | TableFault::BadInclude
-        | TableFault::OutOfMemory => return Ok(()),
-    };
-    add_name(text, key, has_element)
-}
-
-/// Adds the name of a key, behind the element that has it.
-fn add_name(text: &mut Vec<u8>, key: &str, has_element: bool) -> Result<(), AllocError> {
-    if has_element {
-        text.extend_from_slice(b", ")?;
-    }
-    text.extend_from_slice(key.as_bytes())
 }
 
 /// The name of a key that has to be there.
@@ -177,80 +108,107 @@ fn key_name(key: TableKey) -> &'static str {
     }
 }
 
-/// Which key has a length out of its range.
-fn too_long(refused: &Refused<'_>, front: &Front<'_>) -> Result<&'static str, AllocError> {
-    Ok(if has_fault_without(refused, front, &["max"])? {
-        "value"
-    } else {
-        "max"
-    })
-}
-
-/// Which key has a bad need.
-fn insecure(refused: &Refused<'_>, front: &Front<'_>) -> Result<&'static str, AllocError> {
-    if !has_fault_without(refused, front, &["config"])? {
-        return Ok("config");
-    }
-    Ok(if has_fault_without(refused, front, &["config", "write"])? {
-        "read"
-    } else {
-        "write"
-    })
-}
-
-/// Whether the front has the fault without some keys of its last element.
-fn has_fault_without(
+/// Adds whether a value is too long, or which numbers its largest length may be.
+fn add_too_long(
+    text: &mut Vec<u8>,
     refused: &Refused<'_>,
     front: &Front<'_>,
-    keys: &[&str],
-) -> Result<bool, AllocError> {
-    has_fault(refused, &front.with_keys(Kept::Without(keys)))
+) -> Result<(), AllocError> {
+    if refused.has_fault_without(front, &["max"])? {
+        add_name(text, front, "value")?;
+        return text.extend_from_slice(b": it has more than 512 octets");
+    }
+    add_name(text, front, "max")?;
+    let mut kept = front.of(refused.alloc, refused.document)?;
+    let Some(element) = front.last_element(&mut kept) else {
+        return Ok(());
+    };
+    let length = toml_tables::text(element, "value").map_or(0, |value| value.len() / 2);
+    add_range(text, refused, front, Others::Kept, "max", length)
 }
 
-/// Adds the property that is bad, or that there is a client configuration with nothing to configure.
+/// Adds which key of a bad need is at fault, and why.
+fn add_need(
+    text: &mut Vec<u8>,
+    refused: &Refused<'_>,
+    front: &Front<'_>,
+) -> Result<(), AllocError> {
+    if !refused.has_fault_without(front, &["config"])? {
+        return add_in_need(text, refused, front, &["read", "write"], "config");
+    }
+    if refused.has_fault_without(front, &["config", "write"])? {
+        add_in_need(text, refused, front, &["config", "write"], "read")
+    } else {
+        add_in_need(text, refused, front, &["config", "read"], "write")
+    }
+}
+
+/// Adds which key of a need is at fault, and why, where the others are left out.
+fn add_in_need(
+    text: &mut Vec<u8>,
+    refused: &Refused<'_>,
+    front: &Front<'_>,
+    others: &[&str],
+    need: &str,
+) -> Result<(), AllocError> {
+    let alone = front.with_keys(Kept::Without(others));
+    add_wrong_key(text, refused, &alone.with_inner(need))
+}
+
+/// Adds the property that is bad and those that it may be, or that there is a client configuration
+/// with nothing to configure.
 fn add_property(
     text: &mut Vec<u8>,
     refused: &Refused<'_>,
     front: &Front<'_>,
 ) -> Result<(), AllocError> {
     let without = front.with_keys(Kept::Without(&["config"]));
-    if !has_fault(refused, &without)? {
-        return text.extend_from_slice(b", config");
+    if !refused.has_fault(&without)? {
+        return text.extend_from_slice(
+            b", config: there is nothing to configure without notify or indicate",
+        );
     }
-    let count = least(refused, &without, Level::Properties)?;
-    text.extend_from_slice(b", properties")?;
+    let count = refused.least(&without, Level::Properties)?;
     let bad = without.with(Level::Properties, count);
-    let mut kept = bad.of(refused.document)?;
-    let Some(element) = bad.last_element(&mut kept) else {
-        return Ok(());
-    };
-    match toml_tables::items(element, "properties").last() {
-        Some(word) => add_word(text, word.as_str().unwrap_or("")),
-        None => Ok(()),
-    }
+    add_name(text, front, "properties")?;
+    add_last_property(text, refused, &bad)?;
+    text.extend_from_slice(b": it is none of ")?;
+    add_allowed(text, refused, front)
 }
 
-fn add_word(text: &mut Vec<u8>, word: &str) -> Result<(), AllocError> {
-    text.extend_from_slice(b" \"")?;
-    text.extend_from_slice(word.as_bytes())?;
-    text.extend_from_slice(b"\"")
-}
-
-/// Adds the first key that is refused for its shape where it stands alone.
-fn add_shapeless(
+/// Adds the last property of an element, in quotes.
+fn add_last_property(
     text: &mut Vec<u8>,
     refused: &Refused<'_>,
     front: &Front<'_>,
-    has_element: bool,
 ) -> Result<(), AllocError> {
-    let mut kept = front.of(refused.document)?;
+    let mut kept = front.of(refused.alloc, refused.document)?;
     let Some(element) = front.last_element(&mut kept) else {
         return Ok(());
     };
-    for (name, _) in element.iter() {
-        let alone = front.with_keys(Kept::Alone(name.as_str()));
-        if has_fault(refused, &alone)? {
-            return add_name(text, name.as_str(), has_element);
+    let Some(word) = toml_tables::items(element, "properties").last() else {
+        return Ok(());
+    };
+    text.extend_from_slice(b" \"")?;
+    add_quoted(text, word.as_str().unwrap_or(""))?;
+    text.extend_from_slice(b"\"")
+}
+
+/// Adds the properties that the last element of a front may have.
+fn add_allowed(
+    text: &mut Vec<u8>,
+    refused: &Refused<'_>,
+    front: &Front<'_>,
+) -> Result<(), AllocError> {
+    let mut is_first = true;
+    for (word, alone) in &PROPERTIES {
+        let with = front.with_keys(Kept::With("properties", alone, &["config"]));
+        if !refused.has_fault(&with)? {
+            if !is_first {
+                text.extend_from_slice(b", ")?;
+            }
+            is_first = false;
+            text.extend_from_slice(word.as_bytes())?;
         }
     }
     Ok(())

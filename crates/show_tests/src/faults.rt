@@ -17,18 +17,12 @@ const TABLES: &[(&str, &str)] = &[
         "service = []\na = \"é\" b",
         "line 2, column 9: unexpected key or value, expected newline, `#`",
     ),
-    ("", "service: a key that has to be there is not: service"),
-    (
-        "services = []",
-        "services: a key that is unknown, or of another TOML type than its own",
-    ),
-    (
-        "service = 1",
-        "service: a key that is unknown, or of another TOML type than its own",
-    ),
+    ("", "service: the key is missing"),
+    ("services = []", "services: there is no such key"),
+    ("service = 1", "service: it has to be an array of tables"),
     (
         "service = [{ uuid = \"1800\" }, 1]",
-        "service 2: a key that is unknown, or of another TOML type than its own",
+        "service 2: it has to be a table",
     ),
     (
         "[[service]]\nuuid = \"18zz\"",
@@ -36,7 +30,7 @@ const TABLES: &[(&str, &str)] = &[
     ),
     (
         "[[service]]\nuuid = 1",
-        "service 1, uuid: a key that is unknown, or of another TOML type than its own",
+        "service 1, uuid: it has to be a string",
     ),
     (
         "[[service]]\nuuid = \"1800\"\n[[service]]\nuuid = \"1801\"\ninclude = [0, 1]",
@@ -53,7 +47,7 @@ const TABLES: &[(&str, &str)] = &[
         value = "64"
         properties = ["read", "notfy", "write"]
         "#,
-        "service 2, characteristic 1, properties \"notfy\": a property that is unknown or not allowed there, or a config with nothing to configure",
+        "service 2, characteristic 1, properties \"notfy\": it is none of read, command, write, notify, indicate",
     ),
     (
         r#"
@@ -65,7 +59,7 @@ const TABLES: &[(&str, &str)] = &[
         properties = ["read"]
         config = { encrypted = true }
         "#,
-        "service 1, characteristic 1, config: a property that is unknown or not allowed there, or a config with nothing to configure",
+        "service 1, characteristic 1, config: there is nothing to configure without notify or indicate",
     ),
     (
         r#"
@@ -80,7 +74,7 @@ const TABLES: &[(&str, &str)] = &[
         value = "64"
         propertise = ["read"]
         "#,
-        "service 1, characteristic 2, propertise: a key that is unknown, or of another TOML type than its own",
+        "service 1, characteristic 2, propertise: there is no such key",
     ),
     (
         r#"
@@ -90,7 +84,7 @@ const TABLES: &[(&str, &str)] = &[
         uuid = "2a19"
         properties = ["read"]
         "#,
-        "service 1, characteristic 1, value: a key that has to be there is not: value",
+        "service 1, characteristic 1, value: the key is missing",
     ),
     (
         r#"
@@ -113,7 +107,7 @@ const TABLES: &[(&str, &str)] = &[
         max = 3
         properties = ["read"]
         "#,
-        "service 1, characteristic 1, max: a value of more than 512 octets, or a max out of its range",
+        "service 1, characteristic 1, max: it has to be from 4 to 512",
     ),
     (
         r#"
@@ -127,7 +121,7 @@ const TABLES: &[(&str, &str)] = &[
         write = { key_size = 6 }
         config = { key_size = 6 }
         "#,
-        "service 1, characteristic 1, read: a need with a key_size out of its range, or with another key",
+        "service 1, characteristic 1, read, key_size: it has to be from 7 to 16",
     ),
     (
         r#"
@@ -140,7 +134,7 @@ const TABLES: &[(&str, &str)] = &[
         write = { encrypt = true }
         config = { key_size = 6 }
         "#,
-        "service 1, characteristic 1, write: a need with a key_size out of its range, or with another key",
+        "service 1, characteristic 1, write, encrypt: there is no such key",
     ),
     (
         r#"
@@ -152,7 +146,7 @@ const TABLES: &[(&str, &str)] = &[
         properties = ["read", "notify"]
         config = { key_size = 17 }
         "#,
-        "service 1, characteristic 1, config: a need with a key_size out of its range, or with another key",
+        "service 1, characteristic 1, config, key_size: it has to be from 7 to 16",
     ),
     (
         r#"
@@ -177,6 +171,109 @@ const TABLES: &[(&str, &str)] = &[
     ),
 ];
 
+/// A table file up to the end of a characteristic without a fault.
+const CHARACTERISTIC: &str = r#"
+[[service]]
+uuid = "180f"
+[[service.characteristic]]
+uuid = "2a19"
+value = "64"
+properties = ["read"]
+"#;
+
+/// Table files with a characteristic that has a fault at a key, by what stands there, and what is told
+/// of it behind the characteristic.
+const FIELDS: &[(&str, &str)] = &[
+    (
+        "write = { encrypted = 1 }",
+        "write, encrypted: it has to be a boolean",
+    ),
+    ("read = 1", "read: it has to be a table"),
+    (
+        "read = { key_size = 6, more = 1 }",
+        "read, key_size: it has to be from 7 to 16",
+    ),
+    (
+        "write = { key_size = \"7\" }",
+        "write, key_size: it has to be an integer",
+    ),
+    ("max = 513", "max: it has to be from 1 to 512"),
+    ("max = -1", "max: it has to be from 1 to 512"),
+    ("fixed = true\nmax = 2", "max: it has to be 1"),
+    ("max = 2.5", "max: it has to be an integer"),
+    ("fixed = \"no\"", "fixed: it has to be a boolean"),
+    (
+        "descriptor = {}",
+        "descriptor: it has to be an array of tables",
+    ),
+    ("\"\\u001b[2J\" = 1", "\\u{1b}[2J: there is no such key"),
+    (
+        "\"\\u009b\\u202e\" = 1",
+        "\\u{9b}\\u{202e}: there is no such key",
+    ),
+    ("\"a\\nb\\\\\" = 1", "a\\nb\\\\: there is no such key"),
+    ("\"\u{e9}\" = 1", "\\u{e9}: there is no such key"),
+    (
+        "write = { \"\\u001b\" = 1 }",
+        "write, \\u{1b}: there is no such key",
+    ),
+    (
+        "a23456789b123456789c123456789d123456789e123456789f123456789 = 1",
+        "a23456789b123456789c123456789d123456789e123456789f123456789: there is no such key",
+    ),
+    (
+        "a23456789b123456789c123456789d123456789e123456789f123456789g = 1",
+        "a23456789b123456789c123456789d123456789e123456789f123456789g: there is no such key",
+    ),
+    (
+        "a23456789b123456789c123456789d123456789e123456789f123456789gh = 1",
+        "a23456789b123456789c123456789d123456789e123456789f123456789g..: there is no such key",
+    ),
+];
+
+/// Further table files, and what is told of their first faults.
+const MORE_TABLES: &[(&str, &str)] = &[
+    (
+        "[[service]]\nuuid = \"1800\"\ninclude = [\"0\"]",
+        "service 1, include: it has to be an array of integers",
+    ),
+    (
+        "[[service]]\nuuid = \"1800\"\ninclude = 0",
+        "service 1, include: it has to be an array of integers",
+    ),
+    (
+        "[[service]]\nuuid = \"1800\"\ncharacteristic = [1]",
+        "service 1, characteristic 1: it has to be a table",
+    ),
+    ("[[service]]", "service 1, uuid: the key is missing"),
+    (
+        r#"
+        [[service]]
+        uuid = "180f"
+        [[service.characteristic]]
+        uuid = "2a19"
+        value = "64"
+        properties = ["read", "\u001b\u202e\n"]
+        "#,
+        "service 1, characteristic 1, properties \"\\u{1b}\\u{202e}\\n\": it is none of read, command, write, notify, indicate",
+    ),
+    (
+        r#"
+        [[service]]
+        uuid = "180f"
+        [[service.characteristic]]
+        uuid = "2a19"
+        value = "64"
+        properties = ["read"]
+        [[service.characteristic.descriptor]]
+        uuid = "2901"
+        value = "62"
+        properties = ["read", "notify"]
+        "#,
+        "service 1, characteristic 1, descriptor 1, properties \"notify\": it is none of read, write",
+    ),
+];
+
 /// An entry of a key file without a fault.
 const ENTRY: &str = r#"
 [[key]]
@@ -196,10 +293,7 @@ const KEYS: &[(&str, &str)] = &[
         "[[key]]\nsize =",
         "line 11, column 7: invalid value, expected a string, number, boolean, date-time, array or inline table",
     ),
-    (
-        "[keys]",
-        "keys: a key that is unknown, or of another TOML type than its own",
-    ),
+    ("[keys]", "keys: there is no such key"),
     (
         r#"
         [[key]]
@@ -223,7 +317,7 @@ const KEYS: &[(&str, &str)] = &[
         size = 16
         authenticated = true
         "#,
-        "key 2, ltk: a key that has to be there is not",
+        "key 2, ltk: the key is missing",
     ),
     (
         r#"
@@ -234,7 +328,7 @@ const KEYS: &[(&str, &str)] = &[
         size = 16
         authenticated = true
         "#,
-        "key 2, address: a key that has to be there is not",
+        "key 2, address: the key is missing",
     ),
     (
         r#"
@@ -247,7 +341,7 @@ const KEYS: &[(&str, &str)] = &[
         size = 16
         authenticated = true
         "#,
-        "key 2, address: an address or a kind is none",
+        "key 2, address: it is not six pairs of hexadecimal digits joined by colons",
     ),
     (
         r#"
@@ -260,7 +354,7 @@ const KEYS: &[(&str, &str)] = &[
         size = 16
         authenticated = true
         "#,
-        "key 2, kind: an address or a kind is none",
+        "key 2, kind: it is neither public nor random",
     ),
     (
         r#"
@@ -273,7 +367,7 @@ const KEYS: &[(&str, &str)] = &[
         size = 16
         authenticated = true
         "#,
-        "key 2, rand: a rand or an ltk is not that many hexadecimal digits",
+        "key 2, rand: it is not 16 hexadecimal digits",
     ),
     (
         r#"
@@ -286,7 +380,7 @@ const KEYS: &[(&str, &str)] = &[
         size = 16
         authenticated = true
         "#,
-        "key 2, ltk: a rand or an ltk is not that many hexadecimal digits",
+        "key 2, ltk: it is not 32 hexadecimal digits",
     ),
     (
         r#"
@@ -299,7 +393,7 @@ const KEYS: &[(&str, &str)] = &[
         size = 16
         authenticated = true
         "#,
-        "key 2, ediv: a key that is unknown, or of another TOML type than its own",
+        "key 2, ediv: it has to be from 0 to 65535",
     ),
     (
         r#"
@@ -312,7 +406,7 @@ const KEYS: &[(&str, &str)] = &[
         size = 6
         authenticated = true
         "#,
-        "key 2, size: a size is out of its range",
+        "key 2, size: it has to be from 7 to 16",
     ),
     (
         r#"
@@ -327,6 +421,22 @@ const KEYS: &[(&str, &str)] = &[
         secure = true
         "#,
         "key 2: a secure key with another rand or ediv than 0",
+    ),
+    (
+        "[[key]]\nediv = \"1\"",
+        "key 2, ediv: it has to be an integer",
+    ),
+    (
+        "[[key]]\nediv = 65536\nmore = 1",
+        "key 2, ediv: it has to be from 0 to 65535",
+    ),
+    (
+        "[[key]]\nediv = -1",
+        "key 2, ediv: it has to be from 0 to 65535",
+    ),
+    (
+        "[[key]]\n\"\\u001b\" = 1",
+        "key 2, \\u{1b}: there is no such key",
     ),
 ];
 
@@ -356,6 +466,20 @@ fn tells_where_a_table_file_has_its_fault(rt: HostRuntime) {
 }
 
 #[test]
+fn tells_where_further_table_files_have_their_faults(rt: HostRuntime) {
+    for (file, told) in MORE_TABLES {
+        tells(&rt, told_of_table(rt.alloc(), file.as_bytes(), told), told);
+    }
+}
+
+#[test]
+fn tells_which_key_of_a_characteristic_has_the_fault(rt: HostRuntime) {
+    for (field, told) in FIELDS {
+        tells(&rt, told_of_field(rt.alloc(), field, told), told);
+    }
+}
+
+#[test]
 fn tells_where_a_key_file_has_its_fault(rt: HostRuntime) {
     for (file, told) in KEYS {
         tells(&rt, told_of_keys(rt.alloc(), file, told), told);
@@ -376,6 +500,16 @@ fn tells(rt: &impl Abort, is_told: bool, told: &str) {
 fn told_of_table(alloc: Global, file: &[u8], told: &str) -> bool {
     let mut text: Vec<u8> = Vec::new(alloc);
     add_table_fault(alloc, &mut text, file).is_ok() && text.as_slice() == told.as_bytes()
+}
+
+fn told_of_field(alloc: Global, field: &str, told: &str) -> bool {
+    let Ok(file) = format!(in alloc; "{CHARACTERISTIC}{field}") else {
+        return false;
+    };
+    let Ok(told) = format!(in alloc; "service 1, characteristic 1, {told}") else {
+        return false;
+    };
+    told_of_table(alloc, file.as_bytes(), told.as_str())
 }
 
 fn told_of_keys(alloc: Global, file: &str, told: &str) -> bool {
