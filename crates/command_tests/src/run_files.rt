@@ -3,7 +3,7 @@
 use crate::closed::Closed;
 use crate::remembering::Remembering;
 use att_table::examples::{DOOR, PORCH, PORCH_NEXT};
-use gatt_commands::{RowsOut, RowsStore, ShellFault, run_script};
+use gatt_commands::{RowsOut, RowsStore, ShellFault, Shows, run_script};
 use le_security::examples::KEYS;
 use std::alloc::Global;
 use std::io::Write;
@@ -27,6 +27,12 @@ pub struct Outcome {
     pub ended: Result<(), ShellFault>,
 }
 
+/// Nothing is printed beside what the phones hear.
+pub const UNASKED: Shows = Shows {
+    notices: false,
+    lines: false,
+};
+
 /// Runs over inputs, and writes the rows and what is printed to two writers.
 pub fn run<V: Write, W: Write>(
     alloc: Global,
@@ -34,15 +40,15 @@ pub fn run<V: Write, W: Write>(
     rows: &mut V,
     printed: &mut W,
 ) -> Result<(), ShellFault> {
-    run_showing(alloc, inputs, rows, false, printed)
+    run_showing(alloc, inputs, rows, UNASKED, printed)
 }
 
-/// Runs over inputs, and prints notices too where `shows` is set.
+/// Runs over inputs, and prints what `shows` asks for too.
 pub fn run_showing<V: Write, W: Write>(
     alloc: Global,
     inputs: &Inputs<'_>,
     rows: &mut V,
-    shows: bool,
+    shows: Shows,
     printed: &mut W,
 ) -> Result<(), ShellFault> {
     run_saving(alloc, inputs, &mut RowsOut::new(rows), shows, printed)
@@ -53,7 +59,7 @@ fn run_saving<S: RowsStore, W: Write>(
     alloc: Global,
     inputs: &Inputs<'_>,
     store: &mut S,
-    shows: bool,
+    shows: Shows,
     printed: &mut W,
 ) -> Result<(), ShellFault> {
     run_script(
@@ -289,7 +295,7 @@ fn saves_the_rows_once_where_the_output_fails(rt: HostRuntime) {
 /// Whether a run whose output fails has asked once for this text of the rows to be saved.
 fn is_saved_once(alloc: Global, inputs: &Inputs<'_>, text: &str) -> bool {
     let mut store = Remembering::new();
-    run_saving(alloc, inputs, &mut store, false, &mut Closed) == Err(ShellFault::Unwritten)
+    run_saving(alloc, inputs, &mut store, UNASKED, &mut Closed) == Err(ShellFault::Unwritten)
         && store.has_saved(1, text)
 }
 
@@ -301,6 +307,6 @@ fn saves_no_rows_where_a_file_is_refused(rt: HostRuntime) {
 /// Whether a run is refused for its script, and no rows are to be saved.
 fn is_unsaved(alloc: Global, inputs: &Inputs<'_>) -> bool {
     let mut store = Remembering::new();
-    run_saving(alloc, inputs, &mut store, false, &mut Closed) == Err(ShellFault::Script(2))
+    run_saving(alloc, inputs, &mut store, UNASKED, &mut Closed) == Err(ShellFault::Script(2))
         && store.has_saved(0, "")
 }

@@ -1,15 +1,33 @@
-//! The command `run` with notices.
+//! The command `run` with notices, and with the lines of its script.
 
 use crate::run_files;
 use crate::run_files::Inputs;
 use att_table::examples::{BELL, DOOR};
+use gatt_commands::Shows;
 use le_security::examples::KEYS;
 use std::alloc::Global;
 use std::process::Abort;
 
-/// A script over a table, and what it prints with notices.
+/// Notices alone, lines alone, and both.
+const NOTICES: Shows = Shows {
+    notices: true,
+    lines: false,
+};
+
+const LINES: Shows = Shows {
+    notices: false,
+    lines: true,
+};
+
+const ALL: Shows = Shows {
+    notices: true,
+    lines: true,
+};
+
+/// A script over a table, and what it prints with what is asked for.
 #[derive(Clone, Copy)]
 struct Run {
+    shows: Shows,
     table: &'static str,
     script: &'static str,
     printed: &'static str,
@@ -36,11 +54,12 @@ fn is_run(alloc: Global, run: &Run, printed: &mut Vec<u8>) -> bool {
         rows: "",
         script: run.script,
     };
-    run_files::run_showing(alloc, &inputs, &mut Vec::new(alloc), true, printed).is_ok()
+    run_files::run_showing(alloc, &inputs, &mut Vec::new(alloc), run.shows, printed).is_ok()
 }
 
 /// A key is gained and lost, which ends the connection.
 const KEY: Run = Run {
+    shows: NOTICES,
     table: DOOR,
     script: "\
 connect Q 0 00:11:22:33:44:55
@@ -65,6 +84,7 @@ Q ended 05
 
 /// Prepared writes are told once they are executed, and a value of no octets as a hyphen.
 const WRITES: Run = Run {
+    shows: NOTICES,
     table: DOOR,
     script: "\
 connect U 1 c0:00:00:00:00:0a
@@ -93,6 +113,7 @@ U refused 1
 
 /// An indication is confirmed, and another one is not in time.
 const INDICATIONS: Run = Run {
+    shows: NOTICES,
     table: BELL,
     script: "\
 connect U 1 c0:00:00:00:00:0a
@@ -119,6 +140,7 @@ fault 2
 
 /// What two phones do is told by their handles, and of a phone that acts alone nothing is told again.
 const TWO: Run = Run {
+    shows: NOTICES,
     table: DOOR,
     script: "\
 connect P 1 c0:00:00:00:00:01
@@ -138,6 +160,7 @@ done P 1
 
 /// Where there is no room for an answer the connection is ended.
 const FULL_QUEUE: Run = Run {
+    shows: NOTICES,
     table: DOOR,
     script: "\
 connect U 1 c0:00:00:00:00:0a
@@ -171,6 +194,49 @@ U ended 13
 + disconnected 64
 ",
 };
+
+/// A comment and a blank line stand in front of the line behind them, and what stands behind the last
+/// line brings nothing.
+const ECHOED: Run = Run {
+    shows: LINES,
+    table: DOOR,
+    script: "\
+# A stranger reads the name.
+connect U 1 c0:00:00:00:00:0a
+
+U < 0a0300
+U < 520300ff
+# That was all.
+",
+    printed: "\
+# A stranger reads the name.
+connect U 1 c0:00:00:00:00:0a
+
+U < 0a0300
+U > 0b4c6f636b
+U < 520300ff
+",
+};
+
+/// A line is printed before its notices, and the last one may lack its line feed.
+const ECHOED_WITH_NOTICES: Run = Run {
+    shows: ALL,
+    table: DOOR,
+    script: "\
+connect U 1 c0:00:00:00:00:0a
+drop U",
+    printed: "\
+connect U 1 c0:00:00:00:00:0a
++ connected 64 1 c0:00:00:00:00:0a
+drop U
++ disconnected 64
+",
+};
+
+#[test]
+fn a_script_prints_its_lines_before_what_they_bring(rt: HostRuntime) {
+    prints(&rt, rt.alloc(), &[ECHOED, ECHOED_WITH_NOTICES]);
+}
 
 #[test]
 fn a_script_prints_what_the_application_is_told(rt: HostRuntime) {

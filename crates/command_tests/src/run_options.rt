@@ -1,6 +1,7 @@
 //! The command `run` over files at paths: which files are opened.
 
 use crate::machine::Machine;
+use crate::run_files::UNASKED;
 use att_table::examples::{PORCH, PORCH_NEXT};
 use gatt_commands::{
     KeysPath, NextPath, RowsPath, RunPaths, ScriptPath, ShellFault, TablePath, run_paths,
@@ -121,7 +122,7 @@ fn is_run(rt: &(impl AllocGlobal + Files), case: &Case) -> bool {
         keys: KeysPath(PEERS),
         rows: RowsPath(case.rows),
         script: ScriptPath(SCRIPT),
-        shows: false,
+        shows: UNASKED,
     };
     let mut printed: Vec<u8> = Vec::new(rt.alloc());
     run_paths(rt.alloc(), &machine, paths, &mut printed) == case.ended

@@ -1,5 +1,6 @@
 //! The command `run` over files at paths.
 
+use crate::run_files::UNASKED;
 use att_table::examples::DOOR;
 use gatt_commands::{
     KeysPath, NextPath, RowsPath, RunPaths, ScriptPath, ShellFault, TablePath, run_paths,
@@ -41,7 +42,7 @@ fn run(rt: &(impl AllocGlobal + Files)) -> Result<(), ShellFault> {
         keys: KeysPath(PEERS),
         rows: RowsPath(Some(ROWS)),
         script: ScriptPath(SCRIPT),
-        shows: false,
+        shows: UNASKED,
     };
     let mut printed: Vec<u8> = Vec::new(rt.alloc());
     run_paths(rt.alloc(), rt, paths, &mut printed)

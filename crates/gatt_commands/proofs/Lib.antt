@@ -1,5 +1,6 @@
 pub mod Appending
 pub mod Doing
+pub mod Echoing
 pub mod Exchanging
 pub mod Fronts
 pub mod Hearing

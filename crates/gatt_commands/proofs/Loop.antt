@@ -40,11 +40,12 @@ use Rattle.gatt_commands.specs.declared.acts.Refused.{Refused}
 use Rattle.gatt_commands.specs.declared.fault.ShellFault.{ShellFault}
 use Rattle.gatt_commands.specs.declared.notes.Notes.{Notes}
 use Rattle.gatt_commands.specs.Doing.{ByCall, Does, ReplacesBy, Stage, refused_call, sim_act, stage_of}
+use Rattle.gatt_commands.specs.Echo.{Shown, shown_after, shown_behind}
 use Rattle.gatt_commands.specs.Exchange.{ControllerGives, ControllerTakes, Exchanges, ExchangesAll, HandsOver, HostTakes, Pair, TakesFirst, pair_of}
 use Rattle.gatt_commands.specs.Lines.{with_told_phones}
 use Rattle.gatt_commands.specs.Loop.{ClosesTheLoop, IsJoined, IsJoinedUpTo, SoFar, acts_in, after_doing, after_line, after_lines, after_printing, asked_unless, nothing, nothing_yet, other_in, others_in, packet_in, packets_in, packets_taken, printed_of, read_of, replacement_of, taken_by}
 use Rattle.gatt_commands.specs.Opening.{IsOpened, configuration}
-use Rattle.gatt_commands.specs.Runs.{EndsAmong, EndsAtLine, Runs, RunsAll, RunsLine, simulated}
+use Rattle.gatt_commands.specs.Runs.{EndsAmong, EndsAtNext, Runs, RunsAll, RunsLine, simulated}
 
 -- joined, by what was heard
 record Joins (start : Start) (host : Whole) (sim : Simulated) (so_far : SoFar) : Type 0 where
@@ -299,13 +300,13 @@ joins-line start so_far shows names act old new held holds runs was =
     (pair_of new.host runs.quiet runs.last) runs.exchanges.exchanges done in
     tells start (after_doing old act so_far) (length names) new.host runs.quiet new.sim runs.told handed
 
-joins-lines : (start : Start) (so_far : SoFar) (shows : Bool) (names : List Octets) (lines : List Act) (old new : Stage) (held holds : Option Octets)
-    (runs : Runs shows names lines old new held holds) → Joins start old.host old.sim so_far
-    → Joins start new.host new.sim (after_lines shows names lines old new held holds runs so_far)
-joins-lines start so_far shows names [] old new held holds runs was = subst (λ (stage : Stage). Joins start stage.host stage.sim so_far) (sym runs.0) was
-joins-lines start so_far shows names (act ∷ lines) old new held holds (middle, between, first, rest) was =
-    joins-lines start (after_line first so_far) shows names lines middle new between holds rest
-    (joins-line start so_far shows names act old middle held between first was)
+joins-lines : (start : Start) (so_far : SoFar) (shown : Shown) (names : List Octets) (lines : List Act) (old new : Stage) (held holds : Option Octets)
+    (runs : Runs shown names lines old new held holds) → Joins start old.host old.sim so_far
+    → Joins start new.host new.sim (after_lines shown names lines old new held holds runs so_far)
+joins-lines start so_far shown names [] old new held holds runs was = subst (λ (stage : Stage). Joins start stage.host stage.sim so_far) (sym runs.0) was
+joins-lines start so_far shown names (act ∷ lines) old new held holds (middle, between, first, rest) was =
+    joins-lines start (after_line first.runs so_far) (shown_behind shown) names lines middle new between holds rest
+    (joins-line start so_far shown.notices names act old middle first.echoed between first.runs was)
 
 joins-opened : (table : Contents) (keys : List Entry) (rows : Subscriptions) (host : Whole) → IsOpened table keys rows host
     → Joins (start_of table keys rows configuration) host (at_start simulated) nothing_yet
@@ -329,23 +330,23 @@ joins-begun table keys rows host opened begun silent last is =
     is.exchanges (joins-opened table keys rows host opened)
 
 -- the lines before the one that ends a run
-record HasLast (fault : ShellFault) (shows : Bool) (names : List Octets) (lines : List Act) (old new : Stage) (held holds : Option Octets) : Type 0 where
+record HasLast (fault : ShellFault) (shown : Shown) (names : List Octets) (lines : List Act) (old new : Stage) (held holds : Option Octets) : Type 0 where
   earlier : List Act
   last : Act
   left : List Act
   in_order : lines ≡ earlier ++ last ∷ left
   middle : Stage
   between : Option Octets
-  runs : Runs shows names earlier old middle held between
-  ends : EndsAtLine fault shows names last middle new between holds
+  runs : Runs shown names earlier old middle held between
+  ends : EndsAtNext fault (shown_after earlier shown) names last middle new between holds
 
-has-last : (fault : ShellFault) (shows : Bool) (names : List Octets) (lines : List Act) (old new : Stage) (held holds : Option Octets)
-    → EndsAmong fault shows names lines old new held holds → HasLast fault shows names lines old new held holds
-has-last fault shows names [] old new held holds ends = absurd ends
-has-last fault shows names (act ∷ lines) old new held holds (inl ends) =
+has-last : (fault : ShellFault) (shown : Shown) (names : List Octets) (lines : List Act) (old new : Stage) (held holds : Option Octets)
+    → EndsAmong fault shown names lines old new held holds → HasLast fault shown names lines old new held holds
+has-last fault shown names [] old new held holds ends = absurd ends
+has-last fault shown names (act ∷ lines) old new held holds (inl ends) =
     record { earlier = []; last = act; left = lines; in_order = refl; middle = old; between = held; runs = (refl, keeps_all held); ends = ends }
-has-last fault shows names (act ∷ lines) old new held holds (inr (middle, between, first, rest)) =
-    let has = has-last fault shows names lines middle new between holds rest in
+has-last fault shown names (act ∷ lines) old new held holds (inr (middle, between, first, rest)) =
+    let has = has-last fault (shown_behind shown) names lines middle new between holds rest in
     record {
       earlier = act ∷ has.earlier;
       last = has.last;
@@ -357,11 +358,11 @@ has-last fault shows names (act ∷ lines) old new held holds (inr (middle, betw
       ends = has.ends;
     }
 
-joined-up-to : (start : Start) (fault : ShellFault) (shows : Bool) (names : List Octets) (lines : List Act) (old new : Stage) (held holds : Option Octets)
-    → EndsAmong fault shows names lines old new held holds → Joins start old.host old.sim nothing_yet
-    → IsJoinedUpTo start fault shows names lines old new held holds
-joined-up-to start fault shows names lines old new held holds ends was =
-    let has = has-last fault shows names lines old new held holds ends in
+joined-up-to : (start : Start) (fault : ShellFault) (shown : Shown) (names : List Octets) (lines : List Act) (old new : Stage) (held holds : Option Octets)
+    → EndsAmong fault shown names lines old new held holds → Joins start old.host old.sim nothing_yet
+    → IsJoinedUpTo start fault shown names lines old new held holds
+joined-up-to start fault shown names lines old new held holds ends was =
+    let has = has-last fault shown names lines old new held holds ends in
     record {
       earlier = has.earlier;
       last = has.last;
@@ -371,8 +372,8 @@ joined-up-to start fault shows names lines old new held holds ends was =
       between = has.between;
       runs = has.runs;
       ends = has.ends;
-      joined = is-joined start has.middle.host has.middle.sim (after_lines shows names has.earlier old has.middle held has.between has.runs nothing_yet)
-          (joins-lines start nothing_yet shows names has.earlier old has.middle held has.between has.runs was);
+      joined = is-joined start has.middle.host has.middle.sim (after_lines shown names has.earlier old has.middle held has.between has.runs nothing_yet)
+          (joins-lines start nothing_yet shown names has.earlier old has.middle held has.between has.runs was);
     }
 
 pub closes_the_loop : ClosesTheLoop
@@ -385,18 +386,18 @@ closes_the_loop = record {
       is-joined start after.host after.sim so_far (exchanges start so_far count before after is (joins start before.host before.sim so_far was));
   all_gone = λ start so_far host sim joined none out.
       all_gone (course start joined.input) (packets_taken simulated joined.calls) host.held host.frames joined.stands.stands (drained_where host none out);
-  each_line = λ start so_far shows names act old new held holds runs was.
+  each_line = λ start so_far shown names act old new held holds runs was.
       is-joined start new.host new.sim (after_line runs so_far)
-      (joins-line start so_far shows names act old new held holds runs (joins start old.host old.sim so_far was));
-  all_lines = λ start so_far shows names lines old new held holds runs was.
-      is-joined start new.host new.sim (after_lines shows names lines old new held holds runs so_far)
-      (joins-lines start so_far shows names lines old new held holds runs (joins start old.host old.sim so_far was));
-  whole_run = λ table keys rows shows script host next new held holds opened runs.
+      (joins-line start so_far shown names act old new held holds runs (joins start old.host old.sim so_far was));
+  all_lines = λ start so_far shown names lines old new held holds runs was.
+      is-joined start new.host new.sim (after_lines shown names lines old new held holds runs so_far)
+      (joins-lines start so_far shown names lines old new held holds runs (joins start old.host old.sim so_far was));
+  whole_run = λ table keys rows shown script host next new held holds opened runs.
       is-joined (start_of table keys rows configuration) new.host new.sim
-      (after_lines shows script.names script.acts runs.begun new held holds runs.lines nothing_yet)
-      (joins-lines (start_of table keys rows configuration) nothing_yet shows script.names script.acts runs.begun new held holds runs.lines
+      (after_lines shown script.names script.acts runs.begun new held holds runs.lines nothing_yet)
+      (joins-lines (start_of table keys rows configuration) nothing_yet shown script.names script.acts runs.begun new held holds runs.lines
       (joins-begun table keys rows host opened runs.begun runs.silent runs.last runs.exchanges));
-  early_end = λ table keys rows fault shows script host next new held holds opened ends.
-      joined-up-to (start_of table keys rows configuration) fault shows script.names script.acts ends.begun new held holds ends.lines
+  early_end = λ table keys rows fault shown script host next new held holds opened ends.
+      joined-up-to (start_of table keys rows configuration) fault shown script.names script.acts ends.begun new held holds ends.lines
       (joins-begun table keys rows host opened ends.begun ends.silent ends.last ends.exchanges);
 }

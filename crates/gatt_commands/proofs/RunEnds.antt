@@ -11,21 +11,22 @@ use Rattle.sim_controller.specs.Simulated.{Simulated, at_start}
 use Rattle.gatt_commands.specs.declared.fault.ShellFault.{ShellFault}
 use Rattle.gatt_commands.specs.declared.fault.ShellFault.TheVariants.{Unwritten}
 use Rattle.gatt_commands.specs.Doing.{stage_of}
+use Rattle.gatt_commands.specs.Echo.{Shown}
 use Rattle.gatt_commands.specs.Runs.{simulated, EndsEarly, HostRuns, RunsAll}
 use Rattle.gatt_commands.specs.Saving.{Save, Saves, SavesAfter}
 
-module _ (shows : Bool) (script : Acts) (old new : Whole) (next next_then : Option Contents) (last : Simulated) (held holds : Option Octets) (saves saves_then : Option (List Save)) where
+module _ (shown : Shown) (script : Acts) (old new : Whole) (next next_then : Option Contents) (last : Simulated) (held holds : Option Octets) (saves saves_then : Option (List Save)) where
   abbrev Runs-all : Type 0
-  Runs-all = RunsAll shows script (stage_of old (at_start simulated) next) (stage_of new last next_then) held holds
+  Runs-all = RunsAll shown script (stage_of old (at_start simulated) next) (stage_of new last next_then) held holds
 
   abbrev Ends-early : ShellFault → Type 0
-  Ends-early fault = EndsEarly fault shows script (stage_of old (at_start simulated) next) (stage_of new last next_then) held holds
+  Ends-early fault = EndsEarly fault shown script (stage_of old (at_start simulated) next) (stage_of new last next_then) held holds
 
   abbrev Saves-rows : Bool → Type 0
   Saves-rows is_done = Saves (text_of new.held.rows) is_done saves saves_then
 
   abbrev Host-runs : Result (Unit {0}) ShellFault → Type 0
-  Host-runs result = HostRuns result shows script old new next next_then held holds saves saves_then
+  Host-runs result = HostRuns result shown script old new next next_then held holds saves saves_then
 
   by-results : (ran result : Result (Unit {0}) ShellFault)
       → ((fault : ShellFault) → ran ≡ Err fault → result ≡ Err fault) → (ran ≡ Ok tt → IfErr result (λ fault. fault ≡ Unwritten))
@@ -39,13 +40,13 @@ module _ (shows : Bool) (script : Acts) (old new : Whole) (next next_then : Opti
 
   pub host_runs : (fresh : Simulated) (rows : Subscriptions) (ran result : Result (Unit {0}) ShellFault) → fresh ≡ at_start simulated → rows ≡ new.held.rows
       → ((fault : ShellFault) → ran ≡ Err fault → result ≡ Err fault) → (ran ≡ Ok tt → IfErr result (λ fault. fault ≡ Unwritten))
-      → OnOk ran (RunsAll shows script (stage_of old fresh next) (stage_of new last next_then) held holds)
-      → IfErr ran (λ fault. EndsEarly fault shows script (stage_of old fresh next) (stage_of new last next_then) held holds)
+      → OnOk ran (RunsAll shown script (stage_of old fresh next) (stage_of new last next_then) held holds)
+      → IfErr ran (λ fault. EndsEarly fault shown script (stage_of old fresh next) (stage_of new last next_then) held holds)
       → SavesAfter ran result (text_of rows) saves saves_then → Host-runs result
   host_runs fresh rows ran result starts same failed unwritten runs ends saved =
       by-results ran result failed unwritten
-      (subst (λ (sim : Simulated). OnOk ran (RunsAll shows script (stage_of old sim next) (stage_of new last next_then) held holds)) starts runs)
-      (subst (λ (sim : Simulated). IfErr ran (λ fault. EndsEarly fault shows script (stage_of old sim next) (stage_of new last next_then) held holds)) starts ends)
+      (subst (λ (sim : Simulated). OnOk ran (RunsAll shown script (stage_of old sim next) (stage_of new last next_then) held holds)) starts runs)
+      (subst (λ (sim : Simulated). IfErr ran (λ fault. EndsEarly fault shown script (stage_of old sim next) (stage_of new last next_then) held holds)) starts ends)
       (subst (λ (rows : Subscriptions). SavesAfter ran result (text_of rows) saves saves_then) same saved)
 
 -- what is run of a script is run of its files too

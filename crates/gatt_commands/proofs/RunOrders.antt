@@ -1,11 +1,12 @@
 -- The order in which the files of a run are judged.
-use Rattle.std.proofs.Common.{◌≡◌, ◌<◌, ℕ, Bool, List, Option, Some, None, rules, subst, ◌∙◌, arith}
+use Rattle.std.proofs.Common.{◌≡◌, ◌<◌, ℕ, Bool, List, Option, Some, None, rules, ap, subst, ◌∙◌, arith}
 use Rattle.std.specs.Prelude.{IfSome, IsOk, IsErrAnd, Result, Ok, Err}
 use Rattle.scripts.specs.declared.script_fault.ScriptFault.{ScriptFault}
 use Rattle.scripts.specs.declared.script_fault.ScriptFault.TheVariants.{BadLine}
 use Rattle.scripts.specs.Script.{Acts}
 use Rattle.gatt_commands.specs.declared.fault.ShellFault.{ShellFault}
 use Rattle.gatt_commands.specs.declared.fault.ShellFault.TheVariants.{Table, Keys, Rows, Next, Script, Host, Controller, TooLong, NotHex, Unreadable, Unwritten, Listen, Memory}
+use Rattle.gatt_commands.specs.Echo.{lines_shown}
 use Rattle.gatt_commands.specs.ScriptFile.{script_in, IsScriptRefusal}
 use Rattle.gatt_commands.specs.Turns.{IsPast, OfScript, place_of, place_of_fault}
 
@@ -22,6 +23,12 @@ pub judged_all : (known : Option (List ℕ)) (items text : List ℕ) (judged giv
 judged_all None items text judged given wanted all same has is = tt
 judged_all (Some input) items text judged given wanted all same has is =
     subst (λ (octets : List ℕ). script_in given octets ≡ wanted) (same ∙ all) (subst (λ (next : Bool). script_in next text ≡ wanted) has is)
+
+-- what is shown is of all of the input
+pub shown_all : (known : Option (List ℕ)) (items text : List ℕ) (shows : Bool) (lines : List (List ℕ)) → IfSome known (λ input. items ≡ input) → text ≡ items
+    → lines ≡ lines_shown shows text → IfSome known (λ octets. lines ≡ lines_shown shows octets)
+shown_all None items text shows lines all same is = tt
+shown_all (Some input) items text shows lines all same is = is ∙ ap (lines_shown shows) (same ∙ all)
 
 -- a script is refused for the line that is told
 pub refused_at : (has_next : Bool) (text : List ℕ) (outer : Result Unit ShellFault) (fault : ShellFault) (line : ℕ)

@@ -13,16 +13,17 @@ use Rattle.gatt_commands.specs.declared.fault.ShellFault.{ShellFault}
 use Rattle.gatt_commands.specs.declared.fault.ShellFault.TheVariants.{Table, Keys, Rows, Next, Script, Host, Controller, TooLong, NotHex, Unreadable, Unwritten, Listen, Memory}
 use Rattle.gatt_commands.specs.declared.notes.Notes.{Notes}
 use Rattle.gatt_commands.specs.Doing.{Stage}
+use Rattle.gatt_commands.specs.Echo.{Shown, behind, echo_of, shown_of}
 use Rattle.gatt_commands.specs.Exchange.{ExchangesAll, pair_of}
 use Rattle.gatt_commands.specs.Lines.{IsExchangeFault, with_told_phones}
-use Rattle.gatt_commands.specs.Runs.{EndsAmong, EndsAtLine, EndsEarly, Fails, FailsToExchange, FailsToNote, IsDone, Runs, RunsAll, RunsLine, line_text}
+use Rattle.gatt_commands.specs.Runs.{EndsAmong, EndsAtLine, EndsAtNext, EndsEarly, Fails, FailsToExchange, FailsToNote, IsDone, Runs, RunsAll, RunsLine, RunsNext, line_text}
 
 pub keeps_all : (held : Option Octets) → Keeps held held
 keeps_all None = tt
 keeps_all (Some octets) = refl
 
 -- what is so of a fault is so of it where it is passed on
-pub passed_on : (result : Result (Unit {0}) ShellFault) (fault : ShellFault) (P : ShellFault → Type 0)
+pub passed_on : {T : Type 0} (result : Result T ShellFault) (fault : ShellFault) (P : ShellFault → Type 0)
     → IsErrAnd result (λ passed. passed ≡ fault) → P fault → IfErr result P
 passed_on (Ok done) fault P was is = absurd was
 passed_on (Err passed) fault P was is = subst P (sym was) is
@@ -89,47 +90,66 @@ module _ (shows : Bool) (names : List Octets) (act : Act) (refused : Option Refu
         fails = record { quiet = quiet; last = last; exchanges = exchanges; next = next; printed = front };
       })
 
--- some lines are run, and of those these are left: whoever runs them has run all, and a fault among them ends the run
-pub record HasRun (shows : Bool) (names : List Octets) (acts rest : List Act) (old now : Stage) (held holds : Option Octets) : Type 0 where
-  pub all : (new : Stage) (last : Option Octets) → Runs shows names rest now new holds last → Runs shows names acts old new held last
-  pub ends : (fault : ShellFault) (new : Stage) (last : Option Octets) → EndsAmong fault shows names rest now new holds last → EndsAmong fault shows names acts old new held last
+-- a line that is shown, or whose front is
+pub runs_next : (shown : Shown) (names : List Octets) (act : Act) (old new : Stage) (held echoed holds : Option Octets) → Appends held echoed (echo_of shown.lines)
+    → RunsLine shown.notices names act old new echoed holds → RunsNext shown names act old new held holds
+runs_next shown names act old new held echoed holds echo runs = record { echoed = echoed; echo = echo; runs = runs }
 
-pub run_none : (shows : Bool) (names : List Octets) (acts : List Act) (old : Stage) (held : Option Octets) → HasRun shows names acts acts old old held held
-run_none shows names acts old held = record { all = λ new last runs. runs; ends = λ fault new last ends. ends }
+module _ (shown : Shown) (names : List Octets) (act : Act) (old new : Stage) (held holds : Option Octets) where
+  abbrev Ends : ShellFault → Type 0
+  Ends fault = EndsAtNext fault shown names act old new held holds
 
-module _ (shows : Bool) (names : List Octets) (acts : List Act) (index : ℕ) (act : Act) (below : index < length acts) (same : act ≡ get_or acts index act) (old now : Stage)
-    (held between : Option Octets)
-    (so_far : HasRun shows names acts (drop index acts) old now held between) where
+  pub ends_echoing : {T : Type 0} (result : Result T ShellFault) (fault : ShellFault) → IsErrAnd result (λ passed. passed ≡ fault) → fault ≡ Unwritten
+      → new ≡ old → WritesFront (echo_of shown.lines) held holds → IfErr result (λ fault. EndsAtNext fault shown names act old new held holds)
+  ends_echoing result fault was is kept front = passed_on result fault Ends was (inl (record { is_unwritten = is; kept = kept; printed = front }))
+
+  pub ends_in_next : {T : Type 0} (echoed : Option Octets) (result : Result T ShellFault) (fault : ShellFault) → IsErrAnd result (λ passed. passed ≡ fault)
+      → Appends held echoed (echo_of shown.lines) → EndsAtLine fault shown.notices names act old new echoed holds
+      → IfErr result (λ fault. EndsAtNext fault shown names act old new held holds)
+  ends_in_next echoed result fault was echo ends = passed_on result fault Ends was (inr (record { echoed = echoed; echo = echo; ends = ends }))
+
+-- some lines are run, and of those these are left, with what is left to show: whoever runs them has run all, and a fault among them ends the run
+pub record HasRun (shown left : Shown) (names : List Octets) (acts rest : List Act) (old now : Stage) (held holds : Option Octets) : Type 0 where
+  pub all : (new : Stage) (last : Option Octets) → Runs left names rest now new holds last → Runs shown names acts old new held last
+  pub ends : (fault : ShellFault) (new : Stage) (last : Option Octets) → EndsAmong fault left names rest now new holds last
+      → EndsAmong fault shown names acts old new held last
+
+pub run_none : (shown : Shown) (names : List Octets) (acts : List Act) (old : Stage) (held : Option Octets) → HasRun shown shown names acts acts old old held held
+run_none shown names acts old held = record { all = λ new last runs. runs; ends = λ fault new last ends. ends }
+
+module _ (shown left : Shown) (names : List Octets) (acts : List Act) (index : ℕ) (act : Act) (below : index < length acts) (same : act ≡ get_or acts index act)
+    (old now : Stage) (held between : Option Octets) (so_far : HasRun shown left names acts (drop index acts) old now held between) where
   next-line : act ∷ drop (index + 1) acts ≡ drop index acts
   next-line = ap (λ (first : Act). first ∷ drop (index + 1) acts) same ∙ sym (drop_more acts index act below)
 
-  pub run_more : (next : Stage) (holds : Option Octets) → RunsLine shows names act now next between holds
-      → HasRun shows names acts (drop (index + 1) acts) old next held holds
-  run_more next holds line = record {
-    all = λ new last runs.
-        so_far.all new last (subst (λ (left : List Act). Runs shows names left now new between last) next-line (next, holds, line, runs));
-    ends = λ fault new last ends.
-        so_far.ends fault new last
-        (subst (λ (left : List Act). EndsAmong fault shows names left now new between last) next-line (inr (next, holds, line, ends)));
-  }
+  pub run_more : (lines : List Octets) → lines ≡ behind left.lines → (next : Stage) (holds : Option Octets) → RunsNext left names act now next between holds
+      → HasRun shown (shown_of left.notices lines) names acts (drop (index + 1) acts) old next held holds
+  run_more lines are_left next holds line = subst (λ (lines : List Octets). HasRun shown (shown_of left.notices lines) names acts (drop (index + 1) acts) old next held holds)
+      (sym are_left) (record {
+        all = λ new last runs.
+            so_far.all new last (subst (λ (rest : List Act). Runs left names rest now new between last) next-line (next, holds, line, runs));
+        ends = λ fault new last ends.
+            so_far.ends fault new last
+            (subst (λ (rest : List Act). EndsAmong fault left names rest now new between last) next-line (inr (next, holds, line, ends)));
+      })
 
   pub run_ends : (result : Result (Unit {0}) ShellFault) (fault : ShellFault) (new : Stage) (holds : Option Octets) → IsErrAnd result (λ passed. passed ≡ fault)
-      → EndsAtLine fault shows names act now new between holds → IfErr result (λ fault. EndsAmong fault shows names acts old new held holds)
+      → EndsAtNext fault left names act now new between holds → IfErr result (λ fault. EndsAmong fault shown names acts old new held holds)
   run_ends result fault new holds was line =
-      passed_on result fault (λ fault. EndsAmong fault shows names acts old new held holds) was
+      passed_on result fault (λ fault. EndsAmong fault shown names acts old new held holds) was
       (so_far.ends fault new holds
-      (subst (λ (left : List Act). EndsAmong fault shows names left now new between holds) next-line (inl line)))
+      (subst (λ (rest : List Act). EndsAmong fault left names rest now new between holds) next-line (inl line)))
 
-pub run_all : (shows : Bool) (names : List Octets) (acts rest : List Act) (old now : Stage) (held holds : Option Octets) → HasRun shows names acts rest old now held holds
-    → rest ≡ [] → Runs shows names acts old now held holds
-run_all shows names acts rest old now held holds so_far none =
-    so_far.all now holds (subst (λ (left : List Act). Runs shows names left now now holds holds) (sym none) (refl, keeps_all holds))
+pub run_all : (shown left : Shown) (names : List Octets) (acts rest : List Act) (old now : Stage) (held holds : Option Octets)
+    → HasRun shown left names acts rest old now held holds → rest ≡ [] → Runs shown names acts old now held holds
+run_all shown left names acts rest old now held holds so_far none =
+    so_far.all now holds (subst (λ (rest : List Act). Runs left names rest now now holds holds) (sym none) (refl, keeps_all holds))
 
 -- a script is its lines
-module _ (shows : Bool) (script : Acts) (names : List Octets) (acts : List Act) (same_names : names ≡ script.names) (same_acts : acts ≡ script.acts)
+module _ (shown : Shown) (script : Acts) (names : List Octets) (acts : List Act) (same_names : names ≡ script.names) (same_acts : acts ≡ script.acts)
     (old begun new : Stage) (held holds : Option Octets) (silent last : Notes) (exchanges : ExchangesAll (pair_of old.host old.sim silent) (pair_of begun.host begun.sim last))
     (next : begun.next ≡ old.next) where
-  pub runs_script : (result : Result (Unit {0}) ShellFault) → OnOk result (Runs shows names acts begun new held holds) → OnOk result (RunsAll shows script old new held holds)
+  pub runs_script : (result : Result (Unit {0}) ShellFault) → OnOk result (Runs shown names acts begun new held holds) → OnOk result (RunsAll shown script old new held holds)
   runs_script (Err fault) runs = tt
   runs_script (Ok done) runs = record {
     begun = begun;
@@ -137,12 +157,12 @@ module _ (shows : Bool) (script : Acts) (names : List Octets) (acts : List Act) 
     last = last;
     exchanges = exchanges;
     next = next;
-    lines = subst (λ (names : List Octets). Runs shows names script.acts begun new held holds) same_names
-        (subst (λ (acts : List Act). Runs shows names acts begun new held holds) same_acts runs);
+    lines = subst (λ (names : List Octets). Runs shown names script.acts begun new held holds) same_names
+        (subst (λ (acts : List Act). Runs shown names acts begun new held holds) same_acts runs);
   }
 
-  pub script_ends : (result : Result (Unit {0}) ShellFault) → IfErr result (λ fault. EndsAmong fault shows names acts begun new held holds)
-      → IfErr result (λ fault. EndsEarly fault shows script old new held holds)
+  pub script_ends : (result : Result (Unit {0}) ShellFault) → IfErr result (λ fault. EndsAmong fault shown names acts begun new held holds)
+      → IfErr result (λ fault. EndsEarly fault shown script old new held holds)
   script_ends (Ok done) ends = tt
   script_ends (Err fault) ends = inr (record {
     begun = begun;
@@ -150,6 +170,6 @@ module _ (shows : Bool) (script : Acts) (names : List Octets) (acts : List Act) 
     last = last;
     exchanges = exchanges;
     next = next;
-    lines = subst (λ (names : List Octets). EndsAmong fault shows names script.acts begun new held holds) same_names
-        (subst (λ (acts : List Act). EndsAmong fault shows names acts begun new held holds) same_acts ends);
+    lines = subst (λ (names : List Octets). EndsAmong fault shown names script.acts begun new held holds) same_names
+        (subst (λ (acts : List Act). EndsAmong fault shown names acts begun new held holds) same_acts ends);
   })

@@ -92,10 +92,10 @@ pub record HasToldPhones (count : ℕ) (names : List Octets) (old new : Simulate
   pub after : new ≡ with_told_phones old count
 
 -- whatever stands past the end
-pub any_default : (names : List Octets) (place : ℕ) (first second : Octets) → place < length names → slice_index_or names place first ≡ slice_index_or names place second
+pub any_default : {X : Type 0} (items : List X) (place : ℕ) (first second : X) → place < length items → slice_index_or items place first ≡ slice_index_or items place second
 any_default [] place first second below = absurd (omega arith)
-any_default (name ∷ names) zero first second below = refl
-any_default (name ∷ names) (suc place) first second below = any_default names place first second (omega arith)
+any_default (item ∷ items) zero first second below = refl
+any_default (item ∷ items) (suc place) first second below = any_default items place first second (omega arith)
 
 pub phones_more : (count : ℕ) (names : List Octets) (name : Octets) (old mid new : Simulated) (held between holds : Option Octets) → count < length names
     → name ≡ slice_index_or names count name → HasToldPhones count names old mid held between

@@ -1,6 +1,7 @@
 pub mod Att
 pub mod Check
 pub mod Doing
+pub mod Echo
 pub mod Exchange
 pub mod Fault
 pub mod Input

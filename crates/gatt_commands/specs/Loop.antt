@@ -29,9 +29,10 @@ use Rattle.sim_controller.specs.Told.{octets_of, sent_of}
 use Rattle.gatt_commands.specs.declared.acts.Refused.{Refused}
 use Rattle.gatt_commands.specs.declared.fault.ShellFault.{ShellFault}
 use Rattle.gatt_commands.specs.Doing.{Does, Stage, sim_act, stage_of}
+use Rattle.gatt_commands.specs.Echo.{Shown, shown_after, shown_behind}
 use Rattle.gatt_commands.specs.Exchange.{Exchanges, Pair}
 use Rattle.gatt_commands.specs.Opening.{IsOpened, configuration}
-use Rattle.gatt_commands.specs.Runs.{EndsAtLine, EndsInLines, Runs, RunsAll, RunsLine, simulated}
+use Rattle.gatt_commands.specs.Runs.{EndsAtNext, EndsInLines, Runs, RunsAll, RunsLine, simulated}
 
 -- the packets that a controller took from its host, in their order: a packet that it refused is none of them
 abbrev pub taken_by : Simulated → Call → List Octets
@@ -133,14 +134,14 @@ abbrev pub after_line : {shows : Bool} {names : List Octets} {act : Act} {old ne
     → RunsLine shows names act old new held holds → SoFar → SoFar
 after_line {names = names} {act = act} {old = old} runs so_far = after_printing (length names) runs.quiet (after_doing old act so_far)
 
-abbrev pub after_lines : (shows : Bool) (names : List Octets) (lines : List Act) (old new : Stage) (held holds : Option Octets)
-    → Runs shows names lines old new held holds → SoFar → SoFar
-after_lines shows names [] old new held holds runs so_far = so_far
-after_lines shows names (act ∷ lines) old new held holds (middle, between, first, rest) so_far =
-    after_lines shows names lines middle new between holds rest (after_line first so_far)
+abbrev pub after_lines : (shown : Shown) (names : List Octets) (lines : List Act) (old new : Stage) (held holds : Option Octets)
+    → Runs shown names lines old new held holds → SoFar → SoFar
+after_lines shown names [] old new held holds runs so_far = so_far
+after_lines shown names (act ∷ lines) old new held holds (middle, between, first, rest) so_far =
+    after_lines (shown_behind shown) names lines middle new between holds rest (after_line first.runs so_far)
 
 -- where a line ends the run, they are joined before it
-pub record IsJoinedUpTo (start : Start) (fault : ShellFault) (shows : Bool) (names : List Octets) (lines : List Act) (old new : Stage) (held holds : Option Octets)
+pub record IsJoinedUpTo (start : Start) (fault : ShellFault) (shown : Shown) (names : List Octets) (lines : List Act) (old new : Stage) (held holds : Option Octets)
     : Type 0 where
   pub earlier : List Act
   pub last : Act
@@ -148,9 +149,9 @@ pub record IsJoinedUpTo (start : Start) (fault : ShellFault) (shows : Bool) (nam
   pub in_order : lines ≡ earlier ++ last ∷ left
   pub middle : Stage
   pub between : Option Octets
-  pub runs : Runs shows names earlier old middle held between
-  pub ends : EndsAtLine fault shows names last middle new between holds
-  pub joined : IsJoined start middle.host middle.sim (after_lines shows names earlier old middle held between runs nothing_yet)
+  pub runs : Runs shown names earlier old middle held between
+  pub ends : EndsAtNext fault (shown_after earlier shown) names last middle new between holds
+  pub joined : IsJoined start middle.host middle.sim (after_lines shown names earlier old middle held between runs nothing_yet)
 
 -- Host and controller are joined when they are opened, and stay so when a line does what it says, while they hand each
 -- other packets, and when what was heard is printed: so they are after each line and at the end of a run, and before a
@@ -167,15 +168,15 @@ pub record ClosesTheLoop : Type 0 where
   pub each_line : (start : Start) (so_far : SoFar) (shows : Bool) (names : List Octets) (act : Act) (old new : Stage) (held holds : Option Octets)
       (runs : RunsLine shows names act old new held holds) → IsJoined start old.host old.sim so_far
       → IsJoined start new.host new.sim (after_line runs so_far)
-  pub all_lines : (start : Start) (so_far : SoFar) (shows : Bool) (names : List Octets) (lines : List Act) (old new : Stage) (held holds : Option Octets)
-      (runs : Runs shows names lines old new held holds) → IsJoined start old.host old.sim so_far
-      → IsJoined start new.host new.sim (after_lines shows names lines old new held holds runs so_far)
-  pub whole_run : (table : Contents) (keys : List Entry) (rows : Subscriptions) (shows : Bool) (script : scripts.Acts) (host : Whole) (next : Option Contents)
+  pub all_lines : (start : Start) (so_far : SoFar) (shown : Shown) (names : List Octets) (lines : List Act) (old new : Stage) (held holds : Option Octets)
+      (runs : Runs shown names lines old new held holds) → IsJoined start old.host old.sim so_far
+      → IsJoined start new.host new.sim (after_lines shown names lines old new held holds runs so_far)
+  pub whole_run : (table : Contents) (keys : List Entry) (rows : Subscriptions) (shown : Shown) (script : scripts.Acts) (host : Whole) (next : Option Contents)
       (new : Stage) (held holds : Option Octets) → IsOpened table keys rows host
-      → (runs : RunsAll shows script (stage_of host (at_start simulated) next) new held holds)
+      → (runs : RunsAll shown script (stage_of host (at_start simulated) next) new held holds)
       → IsJoined (start_of table keys rows configuration) new.host new.sim
-      (after_lines shows script.names script.acts runs.begun new held holds runs.lines nothing_yet)
-  pub early_end : (table : Contents) (keys : List Entry) (rows : Subscriptions) (fault : ShellFault) (shows : Bool) (script : scripts.Acts) (host : Whole)
+      (after_lines shown script.names script.acts runs.begun new held holds runs.lines nothing_yet)
+  pub early_end : (table : Contents) (keys : List Entry) (rows : Subscriptions) (fault : ShellFault) (shown : Shown) (script : scripts.Acts) (host : Whole)
       (next : Option Contents) (new : Stage) (held holds : Option Octets) → IsOpened table keys rows host
-      → (ends : EndsInLines fault shows script (stage_of host (at_start simulated) next) new held holds)
-      → IsJoinedUpTo (start_of table keys rows configuration) fault shows script.names script.acts ends.begun new held holds
+      → (ends : EndsInLines fault shown script (stage_of host (at_start simulated) next) new held holds)
+      → IsJoinedUpTo (start_of table keys rows configuration) fault shown script.names script.acts ends.begun new held holds

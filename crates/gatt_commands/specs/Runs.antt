@@ -16,7 +16,9 @@ use Rattle.gatt_commands.specs.declared.acts.Refused.{Refused}
 use Rattle.gatt_commands.specs.declared.fault.ShellFault.{ShellFault}
 use Rattle.gatt_commands.specs.declared.fault.ShellFault.TheVariants.{Memory, Unwritten}
 use Rattle.gatt_commands.specs.declared.notes.Notes.{Notes}
+use Rattle.gatt_commands.specs.declared.echo.Shows.{Shows}
 use Rattle.gatt_commands.specs.Doing.{Does, NotesAct, Stage, stage_of}
+use Rattle.gatt_commands.specs.Echo.{Shown, echo_of, lines_shown, shown_behind, shown_of}
 use Rattle.gatt_commands.specs.Exchange.{ExchangesAll, ExchangesUntil, pair_of}
 use Rattle.gatt_commands.specs.KeyFile.{keys_in}
 use Rattle.gatt_commands.specs.Lines.{outcome_text, with_told_phones}
@@ -97,70 +99,95 @@ pub record EndsAtLine (fault : ShellFault) (shows : Bool) (names : List Octets) 
   pub done : IsDone shows act refused old acted heard
   pub fails : Fails fault shows names refused heard acted new held holds
 
+-- where the lines of the script are shown, the next one that says something is printed before it is done
+pub record RunsNext (shown : Shown) (names : List Octets) (act : Act) (old new : Stage) (held holds : Option Octets) : Type 0 where
+  pub echoed : Option Octets
+  pub echo : Appends held echoed (echo_of shown.lines)
+  pub runs : RunsLine shown.notices names act old new echoed holds
+
+-- or the writer fails, and the front of what is shown of the script is printed
+pub record FailsToEcho (fault : ShellFault) (shown : Shown) (old new : Stage) (held holds : Option Octets) : Type 0 where
+  pub is_unwritten : fault ≡ Unwritten
+  pub kept : new ≡ old
+  pub printed : WritesFront (echo_of shown.lines) held holds
+
+-- or the line ends the run
+pub record EndsInNext (fault : ShellFault) (shown : Shown) (names : List Octets) (act : Act) (old new : Stage) (held holds : Option Octets) : Type 0 where
+  pub echoed : Option Octets
+  pub echo : Appends held echoed (echo_of shown.lines)
+  pub ends : EndsAtLine fault shown.notices names act old new echoed holds
+
+abbrev pub EndsAtNext : ShellFault → Shown → List Octets → Act → Stage → Stage → Option Octets → Option Octets → Type 0
+EndsAtNext fault shown names act old new held holds = FailsToEcho fault shown old new held holds ⊎ EndsInNext fault shown names act old new held holds
+
 -- all of some lines
-abbrev pub Runs : Bool → List Octets → List Act → Stage → Stage → Option Octets → Option Octets → Type 0
-Runs shows names [] old new held holds = (new ≡ old) × Keeps held holds
-Runs shows names (act ∷ acts) old new held holds =
-    (middle : Stage) × (between : Option Octets) × RunsLine shows names act old middle held between × Runs shows names acts middle new between holds
+abbrev pub Runs : Shown → List Octets → List Act → Stage → Stage → Option Octets → Option Octets → Type 0
+Runs shown names [] old new held holds = (new ≡ old) × Keeps held holds
+Runs shown names (act ∷ acts) old new held holds =
+    (middle : Stage) × (between : Option Octets) × RunsNext shown names act old middle held between
+    × Runs (shown_behind shown) names acts middle new between holds
 
 -- or those before one that ends the run
-abbrev pub EndsAmong : ShellFault → Bool → List Octets → List Act → Stage → Stage → Option Octets → Option Octets → Type 0
-EndsAmong fault shows names [] old new held holds = ⊥
-EndsAmong fault shows names (act ∷ acts) old new held holds =
-    EndsAtLine fault shows names act old new held holds
-    ⊎ ((middle : Stage) × (between : Option Octets) × RunsLine shows names act old middle held between × EndsAmong fault shows names acts middle new between holds)
+abbrev pub EndsAmong : ShellFault → Shown → List Octets → List Act → Stage → Stage → Option Octets → Option Octets → Type 0
+EndsAmong fault shown names [] old new held holds = ⊥
+EndsAmong fault shown names (act ∷ acts) old new held holds =
+    EndsAtNext fault shown names act old new held holds
+    ⊎ ((middle : Stage) × (between : Option Octets) × RunsNext shown names act old middle held between
+    × EndsAmong fault (shown_behind shown) names acts middle new between holds)
 
 -- all of a script: before the first line host and controller hand each other all that they have
-pub record RunsAll (shows : Bool) (script : Acts) (old new : Stage) (held holds : Option Octets) : Type 0 where
+pub record RunsAll (shown : Shown) (script : Acts) (old new : Stage) (held holds : Option Octets) : Type 0 where
   pub begun : Stage
   pub silent : Notes
   pub last : Notes
   pub exchanges : ExchangesAll (pair_of old.host old.sim silent) (pair_of begun.host begun.sim last)
   pub next : begun.next ≡ old.next
-  pub lines : Runs shows script.names script.acts begun new held holds
+  pub lines : Runs shown script.names script.acts begun new held holds
 
 -- or what stands before the fault that ends the run
-pub record EndsInLines (fault : ShellFault) (shows : Bool) (script : Acts) (old new : Stage) (held holds : Option Octets) : Type 0 where
+pub record EndsInLines (fault : ShellFault) (shown : Shown) (script : Acts) (old new : Stage) (held holds : Option Octets) : Type 0 where
   pub begun : Stage
   pub silent : Notes
   pub last : Notes
   pub exchanges : ExchangesAll (pair_of old.host old.sim silent) (pair_of begun.host begun.sim last)
   pub next : begun.next ≡ old.next
-  pub lines : EndsAmong fault shows script.names script.acts begun new held holds
+  pub lines : EndsAmong fault shown script.names script.acts begun new held holds
 
-abbrev pub EndsEarly : ShellFault → Bool → Acts → Stage → Stage → Option Octets → Option Octets → Type 0
-EndsEarly fault shows script old new held holds = ((silent : Notes) × FailsToExchange fault silent old new held holds) ⊎ EndsInLines fault shows script old new held holds
+abbrev pub EndsEarly : ShellFault → Shown → Acts → Stage → Stage → Option Octets → Option Octets → Type 0
+EndsEarly fault shown script old new held holds = ((silent : Notes) × FailsToExchange fault silent old new held holds) ⊎ EndsInLines fault shown script old new held holds
 
 -- with a new controller; and then a store is asked to save the rows that stand, and does
-pub record RunsHost (shows : Bool) (script : Acts) (old new : Whole) (next next_then : Option Contents) (held holds : Option Octets) (saves saves_then : Option (List Save)) : Type 0 where
+pub record RunsHost (shown : Shown) (script : Acts) (old new : Whole) (next next_then : Option Contents) (held holds : Option Octets) (saves saves_then : Option (List Save)) : Type 0 where
   pub sim : Simulated
-  pub runs : RunsAll shows script (stage_of old (at_start simulated) next) (stage_of new sim next_then) held holds
+  pub runs : RunsAll shown script (stage_of old (at_start simulated) next) (stage_of new sim next_then) held holds
   pub saved : Saves (text_of new.held.rows) true saves saves_then
 
 -- or the run ends early, and the store is asked then; or it does not save the rows
-pub record EndsHost (fault : ShellFault) (shows : Bool) (script : Acts) (old new : Whole) (next next_then : Option Contents) (held holds : Option Octets) (saves saves_then : Option (List Save)) : Type 0 where
+pub record EndsHost (fault : ShellFault) (shown : Shown) (script : Acts) (old new : Whole) (next next_then : Option Contents) (held holds : Option Octets) (saves saves_then : Option (List Save)) : Type 0 where
   pub sim : Simulated
   pub is_saved : Bool
   pub ends :
-      EndsEarly fault shows script (stage_of old (at_start simulated) next) (stage_of new sim next_then) held holds
-      ⊎ ((fault ≡ Unwritten) × (is_saved ≡ false) × RunsAll shows script (stage_of old (at_start simulated) next) (stage_of new sim next_then) held holds)
+      EndsEarly fault shown script (stage_of old (at_start simulated) next) (stage_of new sim next_then) held holds
+      ⊎ ((fault ≡ Unwritten) × (is_saved ≡ false) × RunsAll shown script (stage_of old (at_start simulated) next) (stage_of new sim next_then) held holds)
   pub saved : Saves (text_of new.held.rows) is_saved saves saves_then
 
 -- by what is answered
-abbrev pub HostRuns : Result (Unit {0}) ShellFault → Bool → Acts → Whole → Whole → Option Contents → Option Contents
+abbrev pub HostRuns : Result (Unit {0}) ShellFault → Shown → Acts → Whole → Whole → Option Contents → Option Contents
     → Option Octets → Option Octets → Option (List Save) → Option (List Save) → Type 0
-HostRuns (Ok done) shows script old new next next_then held holds saves saves_then = RunsHost shows script old new next next_then held holds saves saves_then
-HostRuns (Err fault) shows script old new next next_then held holds saves saves_then = EndsHost fault shows script old new next next_then held holds saves saves_then
+HostRuns (Ok done) shown script old new next next_then held holds saves saves_then = RunsHost shown script old new next next_then held holds saves saves_then
+HostRuns (Err fault) shown script old new next next_then held holds saves saves_then = EndsHost fault shown script old new next next_then held holds saves saves_then
 
 -- with a new host, and the script of a file, as far as its octets are known
-pub record RunsFile (result : Result (Unit {0}) ShellFault) (shows : Bool) (table : Contents) (next : Option Contents) (keys : List Entry) (rows : Subscriptions) (script_file held holds : Option Octets) (saves saves_then : Option (List Save)) : Type 0 where
+pub record RunsFile (result : Result (Unit {0}) ShellFault) (shows : Shows) (table : Contents) (next : Option Contents) (keys : List Entry) (rows : Subscriptions) (script_file held holds : Option Octets) (saves saves_then : Option (List Save)) : Type 0 where
   pub script : Acts
   pub has_script : IfSome script_file (λ octets. script_in (is_some next) octets ≡ Ok script)
+  pub lines : List Octets
+  pub has_lines : IfSome script_file (λ octets. lines ≡ lines_shown shows.lines octets)
   pub host : Whole
   pub opened : IsOpened table keys rows host
   pub last : Whole
   pub next_then : Option Contents
-  pub runs : HostRuns result shows script host last next next_then held holds saves saves_then
+  pub runs : HostRuns result (shown_of shows.notices lines) script host last next next_then held holds saves saves_then
 
 -- the files of a run by their octets, where those are known
 pub record Files : Type 0 where
@@ -174,7 +201,7 @@ abbrev pub files_of : Option Octets → Option (Option Octets) → Option Octets
 files_of table next keys rows script = record { table_file = table; next_file = next; key_file = keys; rows_file = rows; script_file = script }
 
 -- what the files say is run
-pub record RunsFiles (result : Result (Unit {0}) ShellFault) (shows : Bool) (files : Files) (held holds : Option Octets) (saves saves_then : Option (List Save)) : Type 0 where
+pub record RunsFiles (result : Result (Unit {0}) ShellFault) (shows : Shows) (files : Files) (held holds : Option Octets) (saves saves_then : Option (List Save)) : Type 0 where
   pub table : Contents
   pub next : Option Contents
   pub keys : List Entry

@@ -12,6 +12,10 @@ pub const READS: u64 = 1_000_000;
 /// How many octets of an input are read at a time, at most.
 pub const CHUNK: usize = 512;
 
+/// How many octets a file of TOML may have: a table at all its limits, with each octet of its values
+/// written as an escape, has fewer.
+pub const TOML_OCTETS: usize = 2_097_152;
+
 /// All octets of an input.
 pub(crate) fn read_all<R: Read>(alloc: Global, reader: &mut R) -> Result<Vec<u8>, ShellFault>
     ensures all { IfOk result

@@ -24,11 +24,14 @@ pub fn read_keys<R: Read>(alloc: Global, reader: &mut R) -> Result<Keys, ShellFa
 }
 
 /// The keys of a file with these octets, or the number of the fault for which it is refused: refused
-/// memory is a fault of the file like any other.
+/// memory is a fault of the file like any other. A file that is too large is given no memory.
 pub(crate) fn judged_keys(alloc: Global, octets: &[u8]) -> Result<Keys, ShellFault>
     ensures keys { IfOk result (λ keys. keys_in octets.now ≡ Ok keys) }
     ensures refused { IfErr result (IsKeyRefusal octets.now) }
 {
+    if octets.len() > input::TOML_OCTETS {
+        return Err(ShellFault::Keys(KeyFault::OutOfMemory.number()));
+    }
     match keys_in(alloc, octets) {
         Ok(keys) => Ok(keys),
         Err(fault) => Err(ShellFault::Keys(fault.number())),

@@ -4,6 +4,7 @@
 mod acts;
 mod att;
 mod check;
+mod echo;
 mod exchange;
 mod fault;
 mod input;
@@ -28,8 +29,9 @@ mod told;
 
 pub use att::att_lines;
 pub use check::{KeysPath, TablePath, check_files, check_paths};
+pub use echo::Shows;
 pub use fault::{ShellFault, status, text};
-pub use input::{CHUNK, READS};
+pub use input::{CHUNK, READS, TOML_OCTETS};
 pub use key_file::read_keys;
 pub use lazy_file::LazyFile;
 pub use notice_text::{add_line, add_number, add_value};

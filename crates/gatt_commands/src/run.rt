@@ -8,17 +8,19 @@ ghost use Rattle.scripts.specs.Phones.{HasNamedPhones, IsOfPhoneBelow};
 ghost use Rattle.scripts.specs.declared.script_fault.ScriptFault.TheVariants.{BadLine};
 ghost use Rattle.sim_controller.specs.Simulated.{at_start};
 ghost use Rattle.gatt_commands.specs.Doing.{stage_of};
+ghost use Rattle.gatt_commands.specs.Echo.{behind, lines_left, shown_of};
 ghost use Rattle.gatt_commands.specs.KeyFile.{keys_in, AreRefusedAs as KeysAreRefusedAs};
 ghost use Rattle.gatt_commands.specs.Lines.{IsRunCommandFault, IsRunFault, IsScriptRunFault};
 ghost use Rattle.gatt_commands.specs.Loop.{ClosesTheLoop};
 ghost use Rattle.gatt_commands.specs.RowsFile.{rows_in, AreRefusedAs};
-ghost use Rattle.gatt_commands.specs.Runs.{EndsAmong, EndsAtLine, EndsEarly, HostRuns, Runs, RunsAll, RunsFile, RunsFiles, RunsLine, ShowsNothingUnasked, files_of, simulated};
+ghost use Rattle.gatt_commands.specs.Runs.{EndsAmong, EndsAtLine, EndsAtNext, EndsEarly, HostRuns, Runs, RunsAll, RunsFile, RunsFiles, RunsLine, RunsNext, ShowsNothingUnasked, files_of, simulated};
 ghost use Rattle.gatt_commands.specs.ScriptFile.{script_in};
 ghost use Rattle.gatt_commands.specs.TableFile.{table_in, IsRefusedAs};
 ghost use Rattle.gatt_commands.specs.Turns.{IsPast, OfTable, OfNext, OfKeys, OfRows, OfScript};
 
 use crate::acts::do_act;
 use crate::check::{KeysPath, TablePath};
+use crate::echo::{Shows, echo, shown_text};
 use crate::exchange::exchange;
 use crate::fault::ShellFault;
 use crate::input::read_all;
@@ -53,8 +55,8 @@ const SIMULATED: SimConfig = SimConfig {
 
 /// Reads a table, a table to replace it by, keys, rows and a script, and runs the script with a host
 /// over a simulated controller. At the end the rows that then stand are saved. Each file is read
-/// only once those in front of it have been accepted. Where `shows` is set, what the application is
-/// told is printed behind what each line brings.
+/// only once those in front of it have been accepted. What is printed beside what the phones hear is
+/// what `shows` asks for.
 pub fn run_script<T: Read, N: Read, K: Read, R: Read, S: Read, V: RowsStore, W: Write>(
     alloc: Global,
     table: &mut T,
@@ -63,7 +65,7 @@ pub fn run_script<T: Read, N: Read, K: Read, R: Read, S: Read, V: RowsStore, W: 
     rows: &mut R,
     script: &mut S,
     store: &mut V,
-    shows: bool,
+    shows: Shows,
     writer: &mut W,
 ) -> Result<(), ShellFault>
     // A file is refused for its first fault, or for want of memory.
@@ -124,7 +126,7 @@ fn run_files<S: Read, V: RowsStore, W: Write>(
     rows: Rows,
     script: &mut S,
     store: &mut V,
-    shows: bool,
+    shows: Shows,
     writer: &mut W,
 ) -> Result<(), ShellFault>
     ensures runs { IsPast OfScript result → RunsFile result shows table next keys rows
@@ -141,11 +143,20 @@ fn run_files<S: Read, V: RowsStore, W: Write>(
     ensures faults { IfErr result IsScriptRunFault }
 {
     let octets = read_all(alloc, script)?;
-    let script = judged_script(alloc, octets.as_slice(), next.is_some())?;
+    let text = octets.as_slice();
+    let script = judged_script(alloc, text, next.is_some())?;
     let mut host = open_host(alloc, table, keys, rows)?;
     let mut sim = open_sim(alloc)?;
     run_host(
-        alloc, &mut host, &mut sim, &mut next, &script, store, shows, writer,
+        alloc,
+        &mut host,
+        &mut sim,
+        &mut next,
+        &script,
+        store,
+        shows.notices,
+        shown_text(text, shows.lines),
+        writer,
     )
 }
 
@@ -158,17 +169,18 @@ fn run_host<V: RowsStore, W: Write>(
     next: &mut Option<Table>,
     script: &Script<'_>,
     store: &mut V,
-    shows: bool,
+    notices: bool,
+    lines: Option<&[u8]>,
     writer: &mut W,
 ) -> Result<(), ShellFault>
     requires named { HasNamedPhones script.now }
     requires fresh { sim.old ≡ at_start simulated }
-    ensures runs { HostRuns result shows script.now host.old host.new next.old next.new
+    ensures runs { HostRuns result (shown_of notices (lines_left lines.entry)) script.now host.old host.new next.old next.new
         (W.contents writer.old) (W.contents writer.new)
         (V.saves store.old) (V.saves store.new) }
     ensures faults { IfErr result IsRunFault }
 {
-    let ran = run_lines(alloc, host, sim, next, script, shows, writer);
+    let ran = run_lines(alloc, host, sim, next, script, notices, lines, writer);
     save_after(ran, host.rows(), store)
 }
 
@@ -188,14 +200,15 @@ fn run_lines<W: Write>(
     sim: &mut Sim,
     next: &mut Option<Table>,
     script: &Script<'_>,
-    shows: bool,
+    notices: bool,
+    lines: Option<&[u8]>,
     writer: &mut W,
 ) -> Result<(), ShellFault>
     requires { HasNamedPhones script.now }
-    ensures runs { OnOk result (RunsAll shows script.now (stage_of host.old sim.old next.old)
+    ensures runs { OnOk result (RunsAll (shown_of notices (lines_left lines.entry)) script.now (stage_of host.old sim.old next.old)
         (stage_of host.new sim.new next.new)
         (W.contents writer.old) (W.contents writer.new)) }
-    ensures ends { IfErr result (λ fault. EndsEarly fault shows script.now
+    ensures ends { IfErr result (λ fault. EndsEarly fault (shown_of notices (lines_left lines.entry)) script.now
         (stage_of host.old sim.old next.old) (stage_of host.new sim.new next.new)
         (W.contents writer.old) (W.contents writer.new)) }
     ensures faults { IfErr result IsRunFault }
@@ -209,7 +222,8 @@ fn run_lines<W: Write>(
         next,
         script.names(),
         script.acts(),
-        shows,
+        notices,
+        lines,
         writer,
     )
 }
@@ -222,24 +236,57 @@ fn run_acts<W: Write>(
     next: &mut Option<Table>,
     names: &[Name<'_>],
     acts: &[Act<'_>],
-    shows: bool,
+    notices: bool,
+    lines: Option<&[u8]>,
     writer: &mut W,
 ) -> Result<(), ShellFault>
     requires few { length names.now ≤ 8 }
     requires named { All (IsOfPhoneBelow (length names.now)) acts.now }
     requires drained { all_out host.old ≡ true }
-    ensures runs { OnOk result (Runs shows names.now acts.now (stage_of host.old sim.old next.old)
+    ensures runs { OnOk result (Runs (shown_of notices (lines_left lines.entry)) names.now acts.now (stage_of host.old sim.old next.old)
         (stage_of host.new sim.new next.new)
         (W.contents writer.old) (W.contents writer.new)) }
-    ensures ends { IfErr result (λ fault. EndsAmong fault shows names.now acts.now
+    ensures ends { IfErr result (λ fault. EndsAmong fault (shown_of notices (lines_left lines.entry)) names.now acts.now
         (stage_of host.old sim.old next.old) (stage_of host.new sim.new next.new)
         (W.contents writer.old) (W.contents writer.new)) }
     ensures faults { IfErr result IsRunFault }
 {
+    let mut left = lines;
     for act in acts {
-        run_line(alloc, host, sim, next, names, act, shows, writer)?;
+        left = run_next(alloc, host, sim, next, names, act, notices, left, writer)?;
     }
     Ok(())
+}
+
+/// Runs a line, and prints it before, where lines are shown. Gives the lines that are left to show.
+fn run_next<'a, W: Write>(
+    alloc: Global,
+    host: &mut Host,
+    sim: &mut Sim,
+    next: &mut Option<Table>,
+    names: &[Name<'_>],
+    act: &Act<'_>,
+    notices: bool,
+    lines: Option<&'a [u8]>,
+    writer: &mut W,
+) -> Result<Option<&'a [u8]>, ShellFault>
+    requires few { length names.now ≤ 8 }
+    requires named { IsOfPhoneBelow (length names.now) act.now }
+    requires drained { all_out host.old ≡ true }
+    ensures runs { OnOk result (RunsNext (shown_of notices (lines_left lines.entry)) names.now
+        act.now (stage_of host.old sim.old next.old) (stage_of host.new sim.new next.new)
+        (W.contents writer.old) (W.contents writer.new)) }
+    ensures left { IfOk result (λ left. lines_left left ≡ behind (lines_left lines.entry)) }
+    ensures ends { IfErr result (λ fault. EndsAtNext fault
+        (shown_of notices (lines_left lines.entry)) names.now act.now
+        (stage_of host.old sim.old next.old) (stage_of host.new sim.new next.new)
+        (W.contents writer.old) (W.contents writer.new)) }
+    ensures drained { IsOk result → all_out host.new ≡ true }
+    ensures faults { IfErr result IsRunFault }
+{
+    let left = echo(lines, writer)?;
+    run_line(alloc, host, sim, next, names, act, notices, writer)?;
+    Ok(left)
 }
 
 /// Runs a line: does what it says, has host and controller hand each other all that they have, and
@@ -251,22 +298,22 @@ fn run_line<W: Write>(
     next: &mut Option<Table>,
     names: &[Name<'_>],
     act: &Act<'_>,
-    shows: bool,
+    notices: bool,
     writer: &mut W,
 ) -> Result<(), ShellFault>
     requires few { length names.now ≤ 8 }
     requires named { IsOfPhoneBelow (length names.now) act.now }
     requires drained { all_out host.old ≡ true }
-    ensures runs { OnOk result (RunsLine shows names.now act.now
+    ensures runs { OnOk result (RunsLine notices names.now act.now
         (stage_of host.old sim.old next.old) (stage_of host.new sim.new next.new)
         (W.contents writer.old) (W.contents writer.new)) }
-    ensures ends { IfErr result (λ fault. EndsAtLine fault shows names.now act.now
+    ensures ends { IfErr result (λ fault. EndsAtLine fault notices names.now act.now
         (stage_of host.old sim.old next.old) (stage_of host.new sim.new next.new)
         (W.contents writer.old) (W.contents writer.new)) }
     ensures drained { IsOk result → all_out host.new ≡ true }
     ensures faults { IfErr result IsRunFault }
 {
-    let mut notes = Notes::new(alloc, shows);
+    let mut notes = Notes::new(alloc, notices);
     let refused = do_act(host, sim, next, act, &mut notes);
     exchange(host, sim, &mut notes)?;
     if notes.is_refused {
@@ -296,8 +343,8 @@ pub struct RunPaths<'a> {
     pub rows: RowsPath<'a>,
     /// The script.
     pub script: ScriptPath<'a>,
-    /// Whether what the application is told is printed too.
-    pub shows: bool,
+    /// What is printed beside what the phones hear.
+    pub shows: Shows,
 }
 
 /// Runs a script by the files at these paths. None is opened before its turn.

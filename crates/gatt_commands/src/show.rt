@@ -11,7 +11,7 @@ ghost use Rattle.gatt_commands.specs.Turns.{IsPast, OfKeys, OfRows, OfTable};
 
 use crate::check::{KeysPath, TablePath};
 use crate::fault::ShellFault;
-use crate::input::read_all;
+use crate::input::{TOML_OCTETS, read_all};
 use crate::key_file::judged_keys;
 use crate::lazy_file::LazyFile;
 use crate::output::print;
@@ -19,10 +19,13 @@ use crate::rows_file::judged_rows;
 use crate::rows_path::{RowsPath, RowsReader};
 use crate::table_file::judged_table;
 use att_table::Table;
-use std::alloc::Global;
+use std::alloc::{AllocError, Global};
 use std::fs::Files;
 use std::io::{Read, Write};
 use std::str;
+
+/// What is told of a file that is too large.
+const TOO_LARGE: &[u8] = b"more than 2,097,152 octets";
 
 /// Judges a table file, a key file, if there is one, and a rows file, and prints what the table says,
 /// and who may do what where there are keys. Each file is read only once those in front of it have
@@ -93,12 +96,28 @@ fn read_table_at<R: Read>(
     match judged_table(alloc, octets.as_slice()) {
         Ok(table) => Ok(table),
         Err(fault) => {
-            if gatt_show::add_table_fault(alloc, place, octets.as_slice()).is_err() {
+            if tell_table_fault(alloc, place, octets.as_slice()).is_err() {
                 place.clear();
             }
             Err(fault)
         }
     }
+}
+
+/// Tells where a refused table file has its fault. One that is too large was not read.
+fn tell_table_fault(alloc: Global, place: &mut Vec<u8>, octets: &[u8]) -> Result<(), AllocError> {
+    if octets.len() > TOML_OCTETS {
+        return Ok(place.extend_from_slice(TOO_LARGE)?);
+    }
+    gatt_show::add_table_fault(alloc, place, octets)
+}
+
+/// Tells where a refused key file has its fault. One that is too large was not read.
+fn tell_keys_fault(alloc: Global, place: &mut Vec<u8>, octets: &[u8]) -> Result<(), AllocError> {
+    if octets.len() > TOML_OCTETS {
+        return Ok(place.extend_from_slice(TOO_LARGE)?);
+    }
+    gatt_show::add_keys_fault(alloc, place, octets)
 }
 
 /// Reads a key file, if there is one, and adds who has which key and what he may do.
@@ -168,7 +187,7 @@ fn judge_keys_at(alloc: Global, octets: &[u8], place: &mut Vec<u8>) -> Result<()
     match judged_keys(alloc, octets) {
         Ok(_) => Ok(()),
         Err(fault) => {
-            if gatt_show::add_keys_fault(alloc, place, octets).is_err() {
+            if tell_keys_fault(alloc, place, octets).is_err() {
                 place.clear();
             }
             Err(fault)

@@ -57,11 +57,14 @@ fn next_fault(fault: ShellFault) -> ShellFault
 }
 
 /// The table of a file with these octets, or the number of the fault for which it is refused: refused
-/// memory is a fault of the file like any other.
+/// memory is a fault of the file like any other. A file that is too large is given no memory.
 pub(crate) fn judged_table(alloc: Global, octets: &[u8]) -> Result<Table, ShellFault>
     ensures table { IfOk result (λ table. table_in octets.now ≡ Ok table) }
     ensures refused { IfErr result (IsTableRefusal octets.now) }
 {
+    if octets.len() > input::TOML_OCTETS {
+        return Err(ShellFault::Table(TableFault::OutOfMemory.number()));
+    }
     match table_in(alloc, octets) {
         Ok(table) => Ok(table),
         Err(fault) => Err(ShellFault::Table(fault.number())),

@@ -11,11 +11,11 @@ use arrayvec::ArrayVec;
 use device_host::{HostWords, Stop};
 use gatt_commands::{
     Address, KeysPath, NextPath, RowsPath, RunPaths, ScriptPath, ServePaths, ShellFault, ShowPaths,
-    TablePath,
+    Shows, TablePath,
 };
 use gatt_words::{Choice, HostChoice, Refusal};
 use std::fs::{File, Files};
-use std::io::{LineWriter, Write};
+use std::io::{BufWriter, LineWriter, Write};
 use std::net::{Net, TcpListener, TcpStream};
 use std::process::ExitCode;
 use std::rt::Env;
@@ -120,13 +120,13 @@ fn run_show(rt: &(impl Files + Print + Eprint + AllocGlobal), paths: ShowPaths<'
     exit_status(rt, ran)
 }
 
-/// Runs a script, and prints what its lines bring, which is written out at each line feed and at
-/// the end. None of the files is opened before its turn.
+/// Runs a script, and prints what its lines bring, which is written out as often as a buffer is full
+/// and at the end, whatever that is. None of the files is opened before its turn.
 fn run_script(
     rt: &(impl Files + Print + AllocGlobal),
     paths: RunPaths<'_>,
 ) -> Result<(), ShellFault> {
-    let Ok(mut writer) = LineWriter::new(rt.alloc(), io::writer(rt)) else {
+    let Ok(mut writer) = BufWriter::new(rt.alloc(), io::writer(rt)) else {
         return Err(ShellFault::Memory);
     };
     let ran = gatt_commands::run_paths(rt.alloc(), rt, paths, &mut writer);
@@ -205,6 +205,7 @@ fn carry_out(
             rows,
             script,
             notices,
+            echo,
         } => {
             let paths = RunPaths {
                 table: TablePath(table),
@@ -212,7 +213,10 @@ fn carry_out(
                 keys: KeysPath(keys),
                 rows: RowsPath(rows),
                 script: ScriptPath(script),
-                shows: notices,
+                shows: Shows {
+                    notices,
+                    lines: echo,
+                },
             };
             exit_status(rt, run_script(rt, paths))
         }

@@ -38,14 +38,14 @@ show_shape = (with_rule (with_rule (with_rule (new_app (codes "show"))
 abbrev pub flag_rule : Text → Rule
 flag_rule name = record (new_rule name) { long = Some name; action = Some SetTrue }
 
--- the command `run`, of a table file, a key file and a script; and with its options and its flag
+-- the command `run`, of a table file, a key file and a script; and with its options and its flags
 abbrev pub run_files : App
 run_files = with_rule (with_rule (with_rule (new_app (codes "run"))
     (file_rule (codes "TABLE"))) (file_rule (codes "KEYS"))) (file_rule (codes "SCRIPT"))
 
 abbrev pub run_shape : Shape
-run_shape = (with_rule (with_rule (with_rule run_files
-    (option_rule (codes "rows"))) (option_rule (codes "next"))) (flag_rule (codes "notices"))).top
+run_shape = (with_rule (with_rule (with_rule (with_rule run_files
+    (option_rule (codes "rows"))) (option_rule (codes "next"))) (flag_rule (codes "notices"))) (flag_rule (codes "echo"))).top
 
 -- the command `serve`, of a table file, a key file and an address
 abbrev pub serve_shape : Shape
@@ -96,7 +96,7 @@ abbrev pub name_of : Choice → List ℕ
 name_of Att = codes "att"
 name_of (Check table keys) = codes "check"
 name_of (Show table keys rows) = codes "show"
-name_of (Run table next keys rows script notices) = codes "run"
+name_of (Run table next keys rows script notices echo) = codes "run"
 name_of (Serve table keys rows address) = codes "serve"
 name_of (Host words) = codes "host"
 
@@ -125,12 +125,13 @@ HasFilesOf arguments (Show table keys rows) =
     IsGiven (codes "TABLE") arguments table.now
     × IsGivenIfAny (codes "KEYS") arguments (option_map (λ path. path.now) keys)
     × IsGivenIfAny (codes "rows") arguments (option_map (λ path. path.now) rows)
-HasFilesOf arguments (Run table next keys rows script notices) =
+HasFilesOf arguments (Run table next keys rows script notices echo) =
     IsGiven (codes "TABLE") arguments table.now × IsGiven (codes "KEYS") arguments keys.now
     × IsGiven (codes "SCRIPT") arguments script.now
     × IsGivenIfAny (codes "rows") arguments (option_map (λ path. path.now) rows)
     × IsGivenIfAny (codes "next") arguments (option_map (λ path. path.now) next)
     × IsSetIfGiven (codes "notices") arguments notices
+    × IsSetIfGiven (codes "echo") arguments echo
 HasFilesOf arguments (Serve table keys rows address) =
     IsGiven (codes "TABLE") arguments table.now × IsGiven (codes "KEYS") arguments keys.now
     × IsGiven (codes "ADDRESS") arguments address.now

@@ -97,7 +97,8 @@ Run a script of phones against a host and a simulated controller, in memory.
 Each line of a script says what a phone or the application does: a phone connects, sends a PDU,
 encrypts its connection or leaves; the application updates a value, authorizes a phone, tells
 the time or replaces the table. After each line is printed what was refused, what each phone has
-heard, and which connection the host has ended; with --notices also what the application is told.
+heard, and which connection the host has ended; with --notices also what the application is told,
+and with --echo the line itself before all that.
 docs/FORMATS.md has all lines and what they print.
 The rows file keeps what the phones have configured: it is read first and written at the end, and
 one that is not there is empty.
@@ -150,6 +151,12 @@ pub const NOTICES: &str = "notices";
 
 /// What the flag does.
 pub const NOTICES_ABOUT: &str = "Print what the application is told too, one line a notice";
+
+/// The name of the flag that has the lines of a script printed.
+pub const ECHO: &str = "echo";
+
+/// What the flag does.
+pub const ECHO_ABOUT: &str = "Print each line of the script too, before what it brings";
 
 /// What stands for the value of an option that gives a service.
 pub const UUID: &str = "UUID";

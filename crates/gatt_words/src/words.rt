@@ -51,6 +51,8 @@ pub enum Choice<'a> {
         script: &'a str,
         /// Whether what the application is told is printed too.
         notices: bool,
+        /// Whether each line of the script is.
+        echo: bool,
     },
     /// Serves a controller over a connection.
     Serve {
@@ -126,7 +128,7 @@ fn checking<'a>(arguments: &ArgMatches<'a>) -> Option<Choice<'a>>
     })
 }
 
-/// The choice of `run`, with its files and its flag.
+/// The choice of `run`, with its files and its flags.
 #[tactic(auto, using(crate::proofs::CommandLines::first_in_rows, crate::proofs::CommandLines::flag_in_rows))]
 fn running<'a>(arguments: &ArgMatches<'a>) -> Option<Choice<'a>>
     ensures name { IfSome result (λ choice. name_of choice ≡ codes "run") }
@@ -139,6 +141,7 @@ fn running<'a>(arguments: &ArgMatches<'a>) -> Option<Choice<'a>>
         rows: arguments.get_str(help::ROWS),
         script: arguments.get_str(help::SCRIPT)?,
         notices: arguments.get_flag(help::NOTICES),
+        echo: arguments.get_flag(help::ECHO),
     })
 }
 
@@ -325,7 +328,8 @@ fn run_command<'a>(alloc: Global) -> Result<Command<'a>, AllocError>
     let command = run_files_command(alloc)?;
     let command = with_option(alloc, command, help::ROWS, help::FILE, help::ROWS_ABOUT)?;
     let command = with_option(alloc, command, help::NEXT, help::FILE, help::NEXT_ABOUT)?;
-    with_flag(alloc, command, help::NOTICES, help::NOTICES_ABOUT)
+    let command = with_flag(alloc, command, help::NOTICES, help::NOTICES_ABOUT)?;
+    with_flag(alloc, command, help::ECHO, help::ECHO_ABOUT)
 }
 
 /// The command `serve`.

@@ -10,7 +10,7 @@ print_line-requires-clause-named g c = c.do_act-refused.ensures.named (length c.
 
 pub returns-in_err-exchange-clause-ends : goal.returns-in_err-exchange-clause-ends
 returns-in_err-exchange-clause-ends g c =
-    ends_exchanging c.args.shows c.args.names.now c.args.act.now c.do_act-refused.result c.do_act-refused.new.notes
+    ends_exchanging c.args.notices c.args.names.now c.args.act.now c.do_act-refused.result c.do_act-refused.new.notes
     (stage_of c.args.host.now c.args.sim.now c.args.next.now)
     (stage_of c.do_act-refused.new.host c.do_act-refused.new.sim c.do_act-refused.new.next) (stage_of c.exchange.new.host c.exchange.new.sim c.do_act-refused.new.next) _ _
     (record { begun = c.new-notes.result; fresh = c.new-notes.ensures.begun; does = c.do_act-refused.ensures.does; noted = c.do_act-refused.ensures.noted })
@@ -25,12 +25,12 @@ returns-in_err-exchange-clause-ends g c =
 pub returns-then-notes-clause-ends : goal.returns-then-notes-clause-ends
 returns-then-notes-clause-ends g c =
     let shown =
-    shown_where c.args.shows c.args.act.now c.args.next.now c.do_act-refused.result c.new-notes.result c.do_act-refused.new.notes
+    shown_where c.args.notices c.args.act.now c.args.next.now c.do_act-refused.result c.new-notes.result c.do_act-refused.new.notes
     (pair_of c.do_act-refused.new.host c.do_act-refused.new.sim c.do_act-refused.new.notes)
     (pair_of c.exchange.new.host c.exchange.new.sim c.exchange.new.notes) c.new-notes.ensures.begun c.do_act-refused.ensures.noted refl
     c.in_ok-exchange.ensures.exchanges c.if-notes.true
     in
-    ends_noting c.args.shows c.args.names.now c.args.act.now c.do_act-refused.result c.do_act-refused.new.notes
+    ends_noting c.args.notices c.args.names.now c.args.act.now c.do_act-refused.result c.do_act-refused.new.notes
     (stage_of c.args.host.now c.args.sim.now c.args.next.now)
     (stage_of c.do_act-refused.new.host c.do_act-refused.new.sim c.do_act-refused.new.next) (stage_of c.exchange.new.host c.exchange.new.sim c.do_act-refused.new.next) _ _
     (record { begun = c.new-notes.result; fresh = c.new-notes.ensures.begun; does = c.do_act-refused.ensures.does; noted = c.do_act-refused.ensures.noted })
@@ -45,7 +45,7 @@ returns-then-notes-clause-ends g c =
 
 pub returns-clause-runs : goal.returns-clause-runs
 returns-clause-runs g c =
-    runs_line c.args.shows c.args.names.now c.args.act.now c.do_act-refused.result c.do_act-refused.new.notes
+    runs_line c.args.notices c.args.names.now c.args.act.now c.do_act-refused.result c.do_act-refused.new.notes
     (stage_of c.args.host.now c.args.sim.now c.args.next.now)
     (stage_of c.do_act-refused.new.host c.do_act-refused.new.sim c.do_act-refused.new.next) (stage_of c.exchange.new.host c.print_line.new.sim c.do_act-refused.new.next) _ _
     (record { begun = c.new-notes.result; fresh = c.new-notes.ensures.begun; does = c.do_act-refused.ensures.does; noted = c.do_act-refused.ensures.noted })
@@ -54,7 +54,7 @@ returns-clause-runs g c =
 
 pub returns-clause-ends : goal.returns-clause-ends
 returns-clause-ends g c =
-    ends_printing c.args.shows c.args.names.now c.args.act.now c.do_act-refused.result c.do_act-refused.new.notes
+    ends_printing c.args.notices c.args.names.now c.args.act.now c.do_act-refused.result c.do_act-refused.new.notes
     (stage_of c.args.host.now c.args.sim.now c.args.next.now)
     (stage_of c.do_act-refused.new.host c.do_act-refused.new.sim c.do_act-refused.new.next) (stage_of c.exchange.new.host c.print_line.new.sim c.do_act-refused.new.next) _ _
     (record { begun = c.new-notes.result; fresh = c.new-notes.ensures.begun; does = c.do_act-refused.ensures.does; noted = c.do_act-refused.ensures.noted })
