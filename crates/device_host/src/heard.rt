@@ -1,8 +1,8 @@
 //! What is heard of the host while a turn is taken.
 
 use crate::places::Places;
-use gatt_commands::{add_line, add_number};
 use gatt_host::{Listener, Notice};
+use notice_lines::{add_line, add_number};
 use std::alloc::{AllocError, Global};
 
 /// The notices of a turn, as the application hears them and as they are logged.

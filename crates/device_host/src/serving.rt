@@ -14,8 +14,8 @@ use crate::waiting::{Source, Waiting};
 use crate::way::Way;
 use crate::words::HostWords;
 use device_lines::{Outbox, Told};
-use gatt_commands::{LazyFile, RowsPath, RowsReader, ShellFault};
 use gatt_device::{End, serve_happenings};
+use gatt_files::{LazyFile, RowsPath, RowsReader, ShellFault};
 use gatt_host::{Host, HostFault, Keys, Rows, Table};
 use std::alloc::Global;
 use std::fs::{File, Files};
@@ -71,10 +71,10 @@ pub fn serve_devices<
 fn prepare_and_serve<
     R: Files<File = File> + Net<Listener = TcpListener, Stream = TcpStream> + Clock + Eprint,
 >(rt: &R, alloc: Global, words: &HostWords<'_>, settings: &Settings<'_>) -> Result<(), Stop> {
-    let table = gatt_commands::read_table(alloc, &mut LazyFile::new(rt, words.table))?;
-    let keys = gatt_commands::read_keys(alloc, &mut LazyFile::new(rt, words.keys))?;
+    let table = gatt_files::read_table(alloc, &mut LazyFile::new(rt, words.table))?;
+    let keys = gatt_files::read_keys(alloc, &mut LazyFile::new(rt, words.keys))?;
     let mut reader = RowsReader::new(rt, RowsPath(words.rows));
-    let rows = gatt_commands::read_rows(alloc, &mut reader)?;
+    let rows = gatt_files::read_rows(alloc, &mut reader)?;
     if !words.drop_unknown {
         refuse_unknown(rt, alloc, &rows, &keys)?;
     }

@@ -1,7 +1,7 @@
 -- The lines of what the application is answered: this profile's own.
 use Rattle.std.specs.Prelude.{◌++◌, [], ◌∷◌, codes}
 use Rattle.std.specs.Fmt.{decimal}
-use Rattle.gatt_commands.specs.Notices.{value_text}
+use Rattle.notice_lines.specs.NoticeText.{value_text}
 use Rattle.gatt_host.specs.Numbers.{number_of_refusal}
 use Rattle.octets.specs.Number.{Octets}
 use Rattle.device_lines.specs.declared.reply.Reply.{Reply}

@@ -1,7 +1,7 @@
 -- The lines of what the application is told beside notices: this profile's own.
 use Rattle.std.specs.Prelude.{◌++◌, [], ◌∷◌, codes, Option, Some, None}
 use Rattle.att_policy.specs.declared.standing.KeyFacts.{KeyFacts}
-use Rattle.gatt_commands.specs.Notices.{notice_line}
+use Rattle.notice_lines.specs.NoticeText.{notice_line}
 use Rattle.gatt_host.specs.declared.notice.Notice.TheVariants.{Connected, Secured}
 use Rattle.gatt_slots.specs.declared.connection.Connection.{Connection}
 use Rattle.octets.specs.Number.{Octets}

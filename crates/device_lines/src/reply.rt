@@ -3,8 +3,8 @@
 ghost use Rattle.std.specs.Prelude.{◌≡◌, ◌++◌, OnOk};
 ghost use Rattle.device_lines.specs.Reply.{reply_line, reply_text};
 
-use gatt_commands::{add_number, add_value};
 use gatt_host::AppFault;
+use notice_lines::{add_number, add_value};
 use std::alloc::AllocError;
 
 /// What one line of the application is answered.

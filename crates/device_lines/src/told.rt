@@ -5,8 +5,8 @@ ghost use Rattle.std.specs.List.{flat_map};
 ghost use Rattle.gatt_slots.specs.Connections.{connections_in};
 ghost use Rattle.device_lines.specs.Told.{connection_lines, told_line};
 
-use gatt_commands::add_line;
 use gatt_host::{Connection, Host, Notice};
+use notice_lines::add_line;
 use std::alloc::AllocError;
 
 /// What the application is told beside the notices of a host.

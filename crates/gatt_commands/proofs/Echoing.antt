@@ -1,5 +1,5 @@
 -- The lines of a script are printed one after the other.
-use Rattle.std.proofs.Common.{◌≡◌, ℕ, ◌+◌, ◌<◌, ◌==◌, Bool, true, false, List, [], ◌∷◌, ◌++◌, length, take, drop, Option, Some, None, refl, sym, ap, subst, ◌∙◌, append-nil, arith}
+use Rattle.std.proofs.Common.{◌≡◌, ℕ, ◌+◌, ◌<◌, ◌==◌, Bool, true, false, List, [], ◌∷◌, ◌++◌, length, take, drop, Option, Some, None, refl, sym, ap, subst, ◌∙◌, arith}
 use Rattle.std.specs.Prelude.{if◌then◌else◌, slice_index}
 use Rattle.std.specs.List.{position_or_len, slice_split}
 use Rattle.memchr.specs.Find.{IsFirstByte, is_byte}
@@ -10,8 +10,8 @@ use Rattle.std.proofs.lemmas.List.Splits.{slice_split_first, slice_split_none}
 use Rattle.std.proofs.lemmas.List.Sums.{position_or_len_is}
 use Rattle.octets.specs.Number.{Octets}
 use Rattle.octets.specs.Stream.{WritesFront}
-use Rattle.gatt_commands.proofs.Appending.{appends-append, appends-nothing}
-use Rattle.gatt_commands.proofs.Fronts.{front_first, front_then}
+use Rattle.gatt_files.proofs.Appending.{appends-append}
+use Rattle.gatt_files.proofs.Fronts.{front_then}
 use Rattle.gatt_commands.specs.Echo.{behind, echo_of, says}
 use Rattle.gatt_commands.specs.Lines.{line_feed}
 

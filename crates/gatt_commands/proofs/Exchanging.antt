@@ -15,8 +15,8 @@ use Rattle.le_h4.specs.Deframer.{Deframing, at_start, marks, still}
 use Rattle.le_h4.specs.Division.{Division, before, division, lost}
 use Rattle.le_h4.specs.Packet.{Packet}
 use Rattle.octets.specs.Number.{Octets}
-use Rattle.gatt_commands.specs.declared.fault.ShellFault.{ShellFault}
-use Rattle.gatt_commands.specs.declared.fault.ShellFault.TheVariants as shell
+use Rattle.gatt_files.specs.declared.fault.ShellFault.{ShellFault}
+use Rattle.gatt_files.specs.declared.fault.ShellFault.TheVariants as shell
 use Rattle.gatt_commands.specs.Exchange.{ControllerAnswers, ExchangesTooMany, ExchangesUntil, Exchanges, HandsNext, HandsOver, HostGives, HostHears, HostStops, IsQuiet, NotesFirst, NotesTaken, Pair, StopsAtFirst, TakesFirst}
 use Rattle.gatt_commands.specs.declared.notes.Notes.{Notes}
 use Rattle.gatt_commands.specs.Notices.{Hears}

@@ -1,5 +1,5 @@
 -- Host and controller stay joined.
-use Rattle.std.proofs.Common.{◌≡◌, ℕ, zero, suc, ◌<◌, List, [], ◌∷◌, ◌++◌, take, drop, length, slice_get, Option, Some, None, refl, sym, ap, subst, inl, inr, ◌∙◌, append_assoc, append-nil}
+use Rattle.std.proofs.Common.{◌≡◌, ℕ, zero, suc, ◌<◌, List, [], ◌∷◌, ◌++◌, take, drop, length, slice_get, Option, Some, None, refl, sym, ap, subst, inl, inr, ◌∙◌, append-nil}
 use Rattle.std.specs.Prelude.{Bool, is_some, IsSome}
 use Rattle.std.specs.List.{flat_map}
 use Rattle.std.specs.Option.{option_map}
@@ -22,7 +22,6 @@ use Rattle.le_security.specs.declared.entry.Entry.{Entry}
 use Rattle.octets.specs.Number.{Octets}
 use Rattle.scripts.specs.declared.act.Act.{Act}
 use Rattle.scripts.specs.declared.act.Act.TheVariants as line
-use Rattle.scripts.specs.Script as scripts
 use Rattle.sim_controller.proofs.HeardFrames.{hears_its_frames}
 use Rattle.sim_controller.specs.Acts as by_phone
 use Rattle.sim_controller.specs.Answers.{after_host, host_fault}
@@ -37,15 +36,15 @@ use Rattle.sim_controller.specs.Told.{octets_of, sent_of}
 use Rattle.gatt_commands.proofs.Hearing.{Adds, adds_none, adds_one, tells_all}
 use Rattle.gatt_commands.proofs.Running.{keeps_all}
 use Rattle.gatt_commands.specs.declared.acts.Refused.{Refused}
-use Rattle.gatt_commands.specs.declared.fault.ShellFault.{ShellFault}
+use Rattle.gatt_files.specs.declared.fault.ShellFault.{ShellFault}
 use Rattle.gatt_commands.specs.declared.notes.Notes.{Notes}
-use Rattle.gatt_commands.specs.Doing.{ByCall, Does, ReplacesBy, Stage, refused_call, sim_act, stage_of}
+use Rattle.gatt_commands.specs.Doing.{ByCall, Does, ReplacesBy, Stage, refused_call, sim_act}
 use Rattle.gatt_commands.specs.Echo.{Shown, shown_after, shown_behind}
 use Rattle.gatt_commands.specs.Exchange.{ControllerGives, ControllerTakes, Exchanges, ExchangesAll, HandsOver, HostTakes, Pair, TakesFirst, pair_of}
 use Rattle.gatt_commands.specs.Lines.{with_told_phones}
 use Rattle.gatt_commands.specs.Loop.{ClosesTheLoop, IsJoined, IsJoinedUpTo, SoFar, acts_in, after_doing, after_line, after_lines, after_printing, asked_unless, nothing, nothing_yet, other_in, others_in, packet_in, packets_in, packets_taken, printed_of, read_of, replacement_of, taken_by}
 use Rattle.gatt_commands.specs.Opening.{IsOpened, configuration}
-use Rattle.gatt_commands.specs.Runs.{EndsAmong, EndsAtNext, Runs, RunsAll, RunsLine, simulated}
+use Rattle.gatt_commands.specs.Runs.{EndsAmong, EndsAtNext, Runs, RunsLine, simulated}
 
 -- joined, by what was heard
 record Joins (start : Start) (host : Whole) (sim : Simulated) (so_far : SoFar) : Type 0 where

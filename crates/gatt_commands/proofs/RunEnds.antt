@@ -8,12 +8,12 @@ use Rattle.gatt_subs.specs.RowsText.{text_of}
 use Rattle.octets.specs.Number.{Octets}
 use Rattle.scripts.specs.Script.{Acts}
 use Rattle.sim_controller.specs.Simulated.{Simulated, at_start}
-use Rattle.gatt_commands.specs.declared.fault.ShellFault.{ShellFault}
-use Rattle.gatt_commands.specs.declared.fault.ShellFault.TheVariants.{Unwritten}
+use Rattle.gatt_files.specs.declared.fault.ShellFault.{ShellFault}
+use Rattle.gatt_files.specs.declared.fault.ShellFault.TheVariants.{Unwritten}
 use Rattle.gatt_commands.specs.Doing.{stage_of}
 use Rattle.gatt_commands.specs.Echo.{Shown}
 use Rattle.gatt_commands.specs.Runs.{simulated, EndsEarly, HostRuns, RunsAll}
-use Rattle.gatt_commands.specs.Saving.{Save, Saves, SavesAfter}
+use Rattle.gatt_files.specs.Saving.{Save, Saves, SavesAfter}
 
 module _ (shown : Shown) (script : Acts) (old new : Whole) (next next_then : Option Contents) (last : Simulated) (held holds : Option Octets) (saves saves_then : Option (List Save)) where
   abbrev Runs-all : Type 0

@@ -1,20 +1,14 @@
 -- The order in which the files of a run are judged.
-use Rattle.std.proofs.Common.{◌≡◌, ◌<◌, ℕ, Bool, List, Option, Some, None, rules, ap, subst, ◌∙◌, arith}
+use Rattle.std.proofs.Common.{◌≡◌, ◌<◌, ℕ, Bool, List, Option, Some, None, ap, subst, ◌∙◌, arith}
 use Rattle.std.specs.Prelude.{IfSome, IsOk, IsErrAnd, Result, Ok, Err}
 use Rattle.scripts.specs.declared.script_fault.ScriptFault.{ScriptFault}
 use Rattle.scripts.specs.declared.script_fault.ScriptFault.TheVariants.{BadLine}
 use Rattle.scripts.specs.Script.{Acts}
-use Rattle.gatt_commands.specs.declared.fault.ShellFault.{ShellFault}
-use Rattle.gatt_commands.specs.declared.fault.ShellFault.TheVariants.{Table, Keys, Rows, Next, Script, Host, Controller, TooLong, NotHex, Unreadable, Unwritten, Listen, Memory}
+use Rattle.gatt_files.specs.declared.fault.ShellFault.{ShellFault}
+use Rattle.gatt_files.specs.declared.fault.ShellFault.TheVariants.{Table, Keys, Rows, Next, Script, Host, Controller, TooLong, NotHex, Unreadable, Unwritten, Listen, Memory}
 use Rattle.gatt_commands.specs.Echo.{lines_shown}
-use Rattle.gatt_commands.specs.ScriptFile.{script_in, IsScriptRefusal}
-use Rattle.gatt_commands.specs.Turns.{IsPast, OfScript, place_of, place_of_fault}
-
--- what gave a value was accepted
-pub accepted : {A E : Type 0} (known : Option (List ℕ)) (read : List ℕ → Result A E) (value : A)
-    → IfSome known (λ octets. read octets ≡ Ok value) → IfSome known (λ octets. IsOk (read octets))
-accepted None read value is = tt
-accepted (Some octets) read value is = rw is (search rules)
+use Rattle.gatt_files.specs.ScriptFile.{script_in, IsScriptRefusal}
+use Rattle.gatt_files.specs.Turns.{IsPast, OfScript, place_of, place_of_fault}
 
 -- what is judged is all of the input
 pub judged_all : (known : Option (List ℕ)) (items text : List ℕ) (judged given : Bool) (wanted : Result Acts ScriptFault)

@@ -6,9 +6,9 @@ use Rattle.gatt_host.specs.Numbers.{number_of_fault}
 use Rattle.gatt_subs.specs.Rows.{Subscriptions}
 use Rattle.gatt_subs.specs.RowsText.{text_of}
 use Rattle.octets.specs.Number.{Octets}
-use Rattle.gatt_commands.specs.declared.fault.ShellFault.{ShellFault}
-use Rattle.gatt_commands.specs.declared.fault.ShellFault.TheVariants.{Host, Unwritten}
-use Rattle.gatt_commands.specs.Saving.{Save, Saves, SavesAfter}
+use Rattle.gatt_files.specs.declared.fault.ShellFault.{ShellFault}
+use Rattle.gatt_files.specs.declared.fault.ShellFault.TheVariants.{Host, Unwritten}
+use Rattle.gatt_files.specs.Saving.{Save, Saves, SavesAfter}
 use Rattle.gatt_commands.specs.Serving.{told_of, SavesBy}
 
 module _ (text : Octets) (saves saves_then : Option (List Save)) where

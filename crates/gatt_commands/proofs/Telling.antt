@@ -3,7 +3,7 @@ use Rattle.std.proofs.Common.{◌≡◌, ℕ, zero, suc, ◌+◌, ◌<◌, List,
 use Rattle.std.specs.Io.KnownBytes.{Appends}
 use Rattle.std.proofs.lemmas.Grind.{common_steps}
 use Rattle.std.proofs.lemmas.List.{append-nil}
-use Rattle.gatt_commands.proofs.Appending.{appends-append}
+use Rattle.gatt_files.proofs.Appending.{appends-append}
 use Rattle.gatt_commands.specs.Lines.{heard_line, heard_text, phone_text, phones_text, told_phone, told_phones, with_told_phone, with_told_phones}
 use Rattle.octets.specs.Number.{Octets}
 use Rattle.sim_controller.specs.Phone.{Phone, absent, after_hearing}

@@ -1,5 +1,5 @@
 -- The lines of a script that are printed before what they bring, where that is asked for: this profile's own.
-use Rattle.std.specs.Prelude.{◌≡◌, ◌==◌, ◌++◌, Bool, true, false, not, if◌then◌else◌, List, [], ◌∷◌, Option}
+use Rattle.std.specs.Prelude.{◌==◌, ◌++◌, Bool, false, not, if◌then◌else◌, List, [], ◌∷◌, Option}
 use Rattle.std.specs.Borrow.{Bor}
 use Rattle.std.specs.Option.{option_map_or}
 use Rattle.octets.specs.Number.{Octets}

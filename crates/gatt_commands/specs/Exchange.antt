@@ -14,10 +14,10 @@ use Rattle.sim_controller.specs.FromHost.{host_packet_of}
 use Rattle.sim_controller.specs.SimFault.{number_of}
 use Rattle.sim_controller.specs.Simulated.{Simulated}
 use Rattle.sim_controller.specs.Told.{octets_of, sent_of}
-use Rattle.gatt_commands.specs.declared.fault.ShellFault.{ShellFault}
+use Rattle.gatt_files.specs.declared.fault.ShellFault.{ShellFault}
 use Rattle.gatt_commands.specs.declared.notes.Notes.{Notes}
 use Rattle.gatt_commands.specs.Notices.{Hears}
-use Rattle.gatt_commands.specs.declared.fault.ShellFault.TheVariants.{Host, Controller, TooLong}
+use Rattle.gatt_files.specs.declared.fault.ShellFault.TheVariants.{Host, Controller, TooLong}
 
 -- a host and its controller, and what is noted of what the host tells
 pub record Pair : Type 0 where

@@ -11,8 +11,8 @@ use Rattle.sim_controller.specs.Simulated.{Simulated, phone_at, with_phone}
 use Rattle.hex.specs.Hex.{encode_lower}
 use Rattle.gatt_commands.specs.declared.acts.Refused.{Refused}
 use Rattle.gatt_commands.specs.declared.acts.Refused.TheVariants.{Call, Act}
-use Rattle.gatt_commands.specs.declared.fault.ShellFault.{ShellFault}
-use Rattle.gatt_commands.specs.declared.fault.ShellFault.TheVariants.{Table, Next, Keys, Rows, Script, Host, Controller, TooLong, Unreadable, Unwritten, Memory}
+use Rattle.gatt_files.specs.declared.fault.ShellFault.{ShellFault}
+use Rattle.gatt_files.specs.declared.fault.ShellFault.TheVariants.{Table, Next, Keys, Rows, Script, Host, Controller, TooLong, Unreadable, Unwritten, Memory}
 use Rattle.octets.specs.Number.{Octets}
 
 -- a refusal is of one of so many phones, or of none

@@ -27,7 +27,7 @@ use Rattle.sim_controller.specs.Phones.{handle_of_phone}
 use Rattle.sim_controller.specs.Simulated.{Simulated, at_start, phone_at}
 use Rattle.sim_controller.specs.Told.{octets_of, sent_of}
 use Rattle.gatt_commands.specs.declared.acts.Refused.{Refused}
-use Rattle.gatt_commands.specs.declared.fault.ShellFault.{ShellFault}
+use Rattle.gatt_files.specs.declared.fault.ShellFault.{ShellFault}
 use Rattle.gatt_commands.specs.Doing.{Does, Stage, sim_act, stage_of}
 use Rattle.gatt_commands.specs.Echo.{Shown, shown_after, shown_behind}
 use Rattle.gatt_commands.specs.Exchange.{Exchanges, Pair}

@@ -9,9 +9,9 @@ use Rattle.gatt_laws.specs.machine.Input.{course}
 use Rattle.gatt_subs.specs.Rows.{Subscriptions}
 use Rattle.le_security.specs.declared.entry.Entry.{Entry}
 use Rattle.octets.specs.Number.{Octets}
-use Rattle.gatt_commands.specs.KeyFile.{keys_in}
-use Rattle.gatt_commands.specs.RowsFile.{rows_in}
-use Rattle.gatt_commands.specs.TableFile.{table_in}
+use Rattle.gatt_files.specs.KeyFile.{keys_in}
+use Rattle.gatt_files.specs.RowsFile.{rows_in}
+use Rattle.gatt_files.specs.TableFile.{table_in}
 
 -- everybody may find it, and it has no BR/EDR: Core Specification Supplement 7, Part A, 1.3
 abbrev pub flags : ArrayVec ℕ

@@ -13,21 +13,21 @@ use Rattle.scripts.specs.Script.{Acts}
 use Rattle.sim_controller.specs.declared.config.SimConfig.{SimConfig}
 use Rattle.sim_controller.specs.Simulated.{Simulated, at_start}
 use Rattle.gatt_commands.specs.declared.acts.Refused.{Refused}
-use Rattle.gatt_commands.specs.declared.fault.ShellFault.{ShellFault}
-use Rattle.gatt_commands.specs.declared.fault.ShellFault.TheVariants.{Memory, Unwritten}
+use Rattle.gatt_files.specs.declared.fault.ShellFault.{ShellFault}
+use Rattle.gatt_files.specs.declared.fault.ShellFault.TheVariants.{Memory, Unwritten}
 use Rattle.gatt_commands.specs.declared.notes.Notes.{Notes}
 use Rattle.gatt_commands.specs.declared.echo.Shows.{Shows}
 use Rattle.gatt_commands.specs.Doing.{Does, NotesAct, Stage, stage_of}
 use Rattle.gatt_commands.specs.Echo.{Shown, echo_of, lines_shown, shown_behind, shown_of}
 use Rattle.gatt_commands.specs.Exchange.{ExchangesAll, ExchangesUntil, pair_of}
-use Rattle.gatt_commands.specs.KeyFile.{keys_in}
+use Rattle.gatt_files.specs.KeyFile.{keys_in}
 use Rattle.gatt_commands.specs.Lines.{outcome_text, with_told_phones}
 use Rattle.gatt_commands.specs.Notices.{IsBegun}
 use Rattle.gatt_commands.specs.Opening.{IsOpened}
-use Rattle.gatt_commands.specs.RowsFile.{rows_in}
-use Rattle.gatt_commands.specs.Saving.{Save, Saves}
-use Rattle.gatt_commands.specs.ScriptFile.{script_in}
-use Rattle.gatt_commands.specs.TableFile.{table_in, HasNext}
+use Rattle.gatt_files.specs.RowsFile.{rows_in}
+use Rattle.gatt_files.specs.Saving.{Save, Saves}
+use Rattle.gatt_files.specs.ScriptFile.{script_in}
+use Rattle.gatt_files.specs.TableFile.{table_in, HasNext}
 
 -- the controller has buffers for LE connections alone, 8 of 27 octets, and cuts data for the host into pieces of 27 octets
 abbrev pub simulated : SimConfig

@@ -7,9 +7,9 @@ use Rattle.gatt_host.specs.Feeding.{Serves}
 use Rattle.gatt_host.specs.Numbers.{number_of_fault}
 use Rattle.gatt_host.specs.Whole.{Whole}
 use Rattle.octets.specs.Number.{Octets}
-use Rattle.gatt_commands.specs.declared.fault.ShellFault.{ShellFault}
-use Rattle.gatt_commands.specs.declared.fault.ShellFault.TheVariants.{Table, Keys, Rows, Host, Unreadable, Unwritten, Listen, Memory}
-use Rattle.gatt_commands.specs.Saving.{Save, Saves}
+use Rattle.gatt_files.specs.declared.fault.ShellFault.{ShellFault}
+use Rattle.gatt_files.specs.declared.fault.ShellFault.TheVariants.{Table, Keys, Rows, Host, Unreadable, Unwritten, Listen, Memory}
+use Rattle.gatt_files.specs.Saving.{Save, Saves}
 
 -- so many reads may be made of a connection
 abbrev pub turns : ℕ

@@ -7,8 +7,7 @@ ghost use Rattle.scripts.specs.Script.{lines_of};
 ghost use Rattle.gatt_commands.specs.Echo.{behind, echo_of, lines_left, lines_shown, says};
 ghost use Rattle.gatt_commands.specs.Lines.{line_feed};
 
-use crate::fault::ShellFault;
-use crate::output::print;
+use gatt_files::{ShellFault, print};
 use memchr::memchr;
 use std::io::Write;
 
@@ -54,7 +53,7 @@ pub(crate) fn echo<'a, W: Write>(
 }
 
 /// Prints a line with its line feed.
-#[tactic(auto, using(crate::proofs::Fronts::at_error, crate::proofs::Fronts::front_first, crate::proofs::Fronts::front_rest))]
+#[tactic(auto, using(gatt_files::proofs::Fronts::at_error, gatt_files::proofs::Fronts::front_first, gatt_files::proofs::Fronts::front_rest))]
 fn print_line<W: Write>(line: &[u8], writer: &mut W) -> Result<(), ShellFault>
     ensures ok { OnOk result
         (Appends (W.contents writer.old) (W.contents writer.new) (line.now ++ line_feed)) }

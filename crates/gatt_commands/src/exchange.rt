@@ -10,9 +10,9 @@ ghost use Rattle.gatt_commands.specs.Notices.{Hears};
 ghost use Rattle.gatt_commands.specs.Exchange.{ControllerAnswers, ExchangesUntil, HandsNext, HostAnswers, HostHears, IsQuiet, NotesTaken, pair_of};
 ghost use Rattle.gatt_commands.specs.Lines.{IsExchangeFault};
 
-use crate::fault::ShellFault;
 use crate::notes::Notes;
 use arrayvec::ArrayVec;
+use gatt_files::ShellFault;
 use gatt_host::{Host, HostFault};
 use le_h4::{Deframer, H4Fault, PacketRef};
 use sim_controller::Sim;

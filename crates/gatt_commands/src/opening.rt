@@ -3,9 +3,9 @@
 ghost use Rattle.std.specs.Prelude.{◌≡◌, IfErr, IfOk};
 ghost use Rattle.gatt_commands.specs.Opening.{configuration, IsOpened};
 
-use crate::fault::ShellFault;
 use arrayvec::ArrayVec;
 use att_table::Table;
+use gatt_files::ShellFault;
 use gatt_host::{Config, Host};
 use gatt_subs::Rows;
 use le_security::Keys;

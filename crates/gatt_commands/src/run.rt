@@ -9,33 +9,26 @@ ghost use Rattle.scripts.specs.declared.script_fault.ScriptFault.TheVariants.{Ba
 ghost use Rattle.sim_controller.specs.Simulated.{at_start};
 ghost use Rattle.gatt_commands.specs.Doing.{stage_of};
 ghost use Rattle.gatt_commands.specs.Echo.{behind, lines_left, shown_of};
-ghost use Rattle.gatt_commands.specs.KeyFile.{keys_in, AreRefusedAs as KeysAreRefusedAs};
+ghost use Rattle.gatt_files.specs.KeyFile.{keys_in, AreRefusedAs as KeysAreRefusedAs};
 ghost use Rattle.gatt_commands.specs.Lines.{IsRunCommandFault, IsRunFault, IsScriptRunFault};
 ghost use Rattle.gatt_commands.specs.Loop.{ClosesTheLoop};
-ghost use Rattle.gatt_commands.specs.RowsFile.{rows_in, AreRefusedAs};
+ghost use Rattle.gatt_files.specs.RowsFile.{rows_in, AreRefusedAs};
 ghost use Rattle.gatt_commands.specs.Runs.{EndsAmong, EndsAtLine, EndsAtNext, EndsEarly, HostRuns, Runs, RunsAll, RunsFile, RunsFiles, RunsLine, RunsNext, ShowsNothingUnasked, files_of, simulated};
-ghost use Rattle.gatt_commands.specs.ScriptFile.{script_in};
-ghost use Rattle.gatt_commands.specs.TableFile.{table_in, IsRefusedAs};
-ghost use Rattle.gatt_commands.specs.Turns.{IsPast, OfTable, OfNext, OfKeys, OfRows, OfScript};
+ghost use Rattle.gatt_files.specs.ScriptFile.{script_in};
+ghost use Rattle.gatt_files.specs.TableFile.{table_in, IsRefusedAs};
+ghost use Rattle.gatt_files.specs.Turns.{IsPast, OfTable, OfNext, OfKeys, OfRows, OfScript};
 
 use crate::acts::do_act;
-use crate::check::{KeysPath, TablePath};
 use crate::echo::{Shows, echo, shown_text};
 use crate::exchange::exchange;
-use crate::fault::ShellFault;
-use crate::input::read_all;
-use crate::key_file::read_keys;
-use crate::lazy_file::LazyFile;
 use crate::notes::Notes;
 use crate::opening::open_host;
-use crate::rows_file::read_rows;
-use crate::rows_out::RowsOut;
-use crate::rows_path::{RowsPath, RowsReader, RowsWriter};
-use crate::rows_store::{RowsStore, save_after};
-use crate::script_file::judged_script;
-use crate::table_file::{read_next, read_table};
 use crate::told::print_line;
 use att_table::Table;
+use gatt_files::{
+    KeysPath, LazyFile, RowsOut, RowsPath, RowsReader, RowsStore, RowsWriter, ShellFault,
+    TablePath, judged_script, read_all, read_keys, read_next, read_rows, read_table, save_after,
+};
 use gatt_host::Host;
 use gatt_subs::Rows;
 use le_security::Keys;

@@ -3,22 +3,17 @@
 ghost use Rattle.std.specs.Prelude.{◌≡◌, ◌≢◌, ℕ, None, Err, IfErr, IfOk, IfSome, OnOk};
 ghost use Rattle.gatt_host.specs.Numbers.{number_of_fault};
 ghost use Rattle.gatt_subs.specs.RowsText.{text_of};
-ghost use Rattle.gatt_commands.specs.KeyFile.{keys_in, AreRefusedAs as KeysAreRefusedAs};
+ghost use Rattle.gatt_files.specs.KeyFile.{keys_in, AreRefusedAs as KeysAreRefusedAs};
 ghost use Rattle.gatt_commands.specs.Opening.{IsOpenedWith};
-ghost use Rattle.gatt_commands.specs.RowsFile.{rows_in, AreRefusedAs};
+ghost use Rattle.gatt_files.specs.RowsFile.{rows_in, AreRefusedAs};
 ghost use Rattle.gatt_commands.specs.Serving.{told_of, IsOpeningFault, IsServeFault, IsServedFault, SavesBy, ServesBy, ServesStream};
-ghost use Rattle.gatt_commands.specs.TableFile.{table_in, IsRefusedAs};
+ghost use Rattle.gatt_files.specs.TableFile.{table_in, IsRefusedAs};
 
-use crate::check::{KeysPath, TablePath};
-use crate::fault::ShellFault;
-use crate::key_file::read_keys;
-use crate::lazy_file::LazyFile;
 use crate::opening::open_host;
-use crate::rows_file::read_rows;
-use crate::rows_out::RowsOut;
-use crate::rows_path::{RowsPath, RowsReader, RowsWriter};
-use crate::rows_store::{RowsStore, save_after};
-use crate::table_file::read_table;
+use gatt_files::{
+    KeysPath, LazyFile, RowsOut, RowsPath, RowsReader, RowsStore, RowsWriter, ShellFault,
+    TablePath, read_keys, read_rows, read_table, save_after,
+};
 use gatt_host::{Host, serve};
 use octets::{Reader, Writer};
 use std::alloc::Global;

@@ -10,17 +10,16 @@ ghost use Rattle.gatt_commands.specs.Runs.{line_text};
 ghost use Rattle.gatt_commands.specs.Lines.{IsOfPhone, ended_line, frame_line, heard_line, outcome_text, phone_text, phones_text, refused_line, sign_of, with_told_phone, with_told_phones};
 
 use crate::acts::Refused;
-use crate::fault::ShellFault;
 use crate::notes::Notes;
-use crate::output::{print, print_hex_line, print_number_line};
 use arrayvec::ArrayVec;
+use gatt_files::{ShellFault, print, print_hex_line, print_number_line};
 use le_l2cap::{channel, read_frame};
 use scripts::{MAX_PHONES, Name};
 use sim_controller::Sim;
 use std::io::Write;
 
 /// Prints what a line has brought, and then what was noted.
-#[tactic(auto, using(crate::proofs::Fronts::at_error, crate::proofs::Fronts::front_first, crate::proofs::Fronts::front_then, crate::proofs::Fronts::front_rest))]
+#[tactic(auto, using(gatt_files::proofs::Fronts::at_error, gatt_files::proofs::Fronts::front_first, gatt_files::proofs::Fronts::front_then, gatt_files::proofs::Fronts::front_rest))]
 pub(crate) fn print_line<W: Write>(
     sim: &mut Sim,
     names: &[Name<'_>],
@@ -44,7 +43,7 @@ pub(crate) fn print_line<W: Write>(
 
 /// Prints what a line has brought of phones: what was refused of it, and then for each phone the frames that it
 /// has heard, and whether the host has ended its connection.
-#[tactic(auto, using(crate::proofs::Fronts::at_error, crate::proofs::Fronts::front_first, crate::proofs::Fronts::front_then, crate::proofs::Fronts::front_rest))]
+#[tactic(auto, using(gatt_files::proofs::Fronts::at_error, gatt_files::proofs::Fronts::front_first, gatt_files::proofs::Fronts::front_then, gatt_files::proofs::Fronts::front_rest))]
 fn print_outcome<W: Write>(
     sim: &mut Sim,
     names: &[Name<'_>],
@@ -90,7 +89,7 @@ fn print_phones<W: Write>(
 
 /// Prints the number of the fault for which a call of the application, or an act of a phone, was
 /// refused.
-#[tactic(auto, using(crate::proofs::Fronts::at_error, crate::proofs::Fronts::front_first, crate::proofs::Fronts::front_then, crate::proofs::Fronts::front_rest))]
+#[tactic(auto, using(gatt_files::proofs::Fronts::at_error, gatt_files::proofs::Fronts::front_first, gatt_files::proofs::Fronts::front_then, gatt_files::proofs::Fronts::front_rest))]
 fn print_refused<W: Write>(
     names: &[Name<'_>],
     refused: Refused,
@@ -143,7 +142,7 @@ fn print_phone<W: Write>(
 }
 
 /// Prints a frame that a phone has heard: its channel and its payload.
-#[tactic(auto, using(crate::proofs::Fronts::at_error, crate::proofs::Fronts::front_first, crate::proofs::Fronts::front_then, crate::proofs::Fronts::front_rest))]
+#[tactic(auto, using(gatt_files::proofs::Fronts::at_error, gatt_files::proofs::Fronts::front_first, gatt_files::proofs::Fronts::front_then, gatt_files::proofs::Fronts::front_rest))]
 fn print_frame<W: Write>(name: &Name<'_>, octets: &[u8], writer: &mut W) -> Result<(), ShellFault>
     requires { length octets.now ≤ 521 }
     ensures ok { (frame : BasicFrame) → frame_of octets.now ≡ Ok frame
@@ -176,7 +175,7 @@ fn sign_of(cid: u16) -> &'static [u8]
 }
 
 /// Prints that the host has ended the connection of a phone, for a reason.
-#[tactic(auto, using(crate::proofs::Fronts::at_error, crate::proofs::Fronts::front_first, crate::proofs::Fronts::front_then, crate::proofs::Fronts::front_rest))]
+#[tactic(auto, using(gatt_files::proofs::Fronts::at_error, gatt_files::proofs::Fronts::front_first, gatt_files::proofs::Fronts::front_then, gatt_files::proofs::Fronts::front_rest))]
 fn print_ended<W: Write>(name: &Name<'_>, reason: u8, writer: &mut W) -> Result<(), ShellFault>
     ensures ok { OnOk result
         (Appends (W.contents writer.old) (W.contents writer.new) (ended_line name.now reason)) }

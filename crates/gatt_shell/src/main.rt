@@ -4,8 +4,8 @@
 #![tactic(auto)]
 
 ghost use Rattle.std.specs.Prelude.{◌≡◌, Ok, Err, IfErr, true, false};
-ghost use Rattle.gatt_commands.specs.Check.{IsCheckFault};
-ghost use Rattle.gatt_commands.specs.Fault.{status_of};
+ghost use Rattle.gatt_files.specs.Check.{IsCheckFault};
+ghost use Rattle.gatt_files.specs.Fault.{status_of};
 
 use arrayvec::ArrayVec;
 use device_host::{HostWords, Stop};

@@ -1,4 +1,4 @@
-use Rattle.std.proofs.Common.{◌≡◌, ◌∷◌, ◌+◌, ◌∙◌, ap, ◌-◌, sym, length, drop, take, arith}
+use Rattle.std.proofs.Common.{◌∷◌, ◌+◌, ◌∙◌, ap, ◌-◌, sym, length, drop, take, arith}
 use Rattle.std.proofs.lemmas.List.{length-drop, take_all}
 use Rattle.octets.specs.Number.{Octets}
 use Rattle.scripts.specs.Script.{lines_of}

@@ -2,9 +2,10 @@ use Rattle.std.proofs.Common.{inr}
 use Rattle.std.specs.Prelude.{is_some, Ok, Err}
 use Rattle.scripts.specs.declared.script_fault.ScriptFault.TheVariants.{BadLine}
 use Rattle.gatt_commands.specs.Echo.{lines_left}
-use Rattle.gatt_commands.specs.ScriptFile.{script_in}
+use Rattle.gatt_files.specs.ScriptFile.{script_in}
 use Rattle.gatt_commands.proofs.RunFaults.{judged_at_all, memory_at_all, ran_at_all}
-use Rattle.gatt_commands.proofs.RunOrders.{accepted, judged_all, shown_all, refused_at, refused_never_past, never_past}
+use Rattle.gatt_files.proofs.Turns.{accepted}
+use Rattle.gatt_commands.proofs.RunOrders.{judged_all, shown_all, refused_at, refused_never_past, never_past}
 use Rattle.gatt_commands.proofs.run.run_files.Goals as goal
 
 pub returns-in_err-script-clause-runs : goal.returns-in_err-script-clause-runs

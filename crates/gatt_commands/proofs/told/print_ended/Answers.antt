@@ -1,7 +1,7 @@
 use Rattle.std.proofs.Common.{[], ◌∷◌, ◌++◌, refl, ◌∙◌}
 use Rattle.std.specs.Prelude.{codes}
 use Rattle.hex.specs.Hex.{encode_lower}
-use Rattle.gatt_commands.proofs.Fronts.{first_of, four_parts, then_of}
+use Rattle.gatt_files.proofs.Fronts.{first_of, four_parts, then_of}
 use Rattle.gatt_commands.specs.Lines.{line_feed}
 use Rattle.gatt_commands.proofs.told.print_ended.Goals as goal
 

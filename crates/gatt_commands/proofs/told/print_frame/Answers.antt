@@ -1,7 +1,8 @@
 use Rattle.std.proofs.Common.{◌++◌, sym, ◌∙◌}
 use Rattle.hex.specs.Hex.{encode_lower}
 use Rattle.le_l2cap.specs.Frame.{contents}
-use Rattle.gatt_commands.proofs.Fronts.{first_of, four_parts, frame_line_front, then_of}
+use Rattle.gatt_files.proofs.Fronts.{first_of, four_parts, then_of}
+use Rattle.gatt_commands.proofs.Fronts.{frame_line_front}
 use Rattle.gatt_commands.specs.Lines.{line_feed, sign_of}
 use Rattle.gatt_commands.proofs.told.print_frame.Goals as goal
 

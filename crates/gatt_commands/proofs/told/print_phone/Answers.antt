@@ -1,5 +1,6 @@
 use Rattle.std.proofs.Common.{Some, ap, sym, ◌∙◌}
-use Rattle.gatt_commands.proofs.Fronts.{at_error, end_front, frame_front}
+use Rattle.gatt_files.proofs.Fronts.{at_error}
+use Rattle.gatt_commands.proofs.Fronts.{end_front, frame_front}
 use Rattle.gatt_commands.proofs.Telling.{told_more}
 use Rattle.octets.specs.Number.{Octets}
 use Rattle.sim_controller.specs.Simulated.{Simulated}

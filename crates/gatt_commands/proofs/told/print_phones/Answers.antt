@@ -1,5 +1,6 @@
 use Rattle.std.proofs.Common.{rules, ◌<◌, length, ◌∙◌}
-use Rattle.gatt_commands.proofs.Fronts.{at_error, phones_front}
+use Rattle.gatt_files.proofs.Fronts.{at_error}
+use Rattle.gatt_commands.proofs.Fronts.{phones_front}
 use Rattle.gatt_commands.proofs.Telling.{phones_more}
 use Rattle.gatt_commands.proofs.told.print_phones.Goals as goal
 

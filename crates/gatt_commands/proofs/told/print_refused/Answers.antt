@@ -2,7 +2,8 @@ use Rattle.std.proofs.Common.{◌++◌, [], slice_index_or, refl, subst, ◌∙�
 use Rattle.std.specs.Fmt.{decimal}
 use Rattle.std.specs.Prelude.{codes, OnErr}
 use Rattle.octets.specs.Stream.{WritesFront}
-use Rattle.gatt_commands.proofs.Fronts.{first_of, four_parts, name_of_act, refused_act_front, refused_call_front, then_of, three_parts}
+use Rattle.gatt_files.proofs.Fronts.{first_of, four_parts, then_of, three_parts}
+use Rattle.gatt_commands.proofs.Fronts.{name_of_act, refused_act_front, refused_call_front}
 use Rattle.gatt_commands.specs.Lines.{line_feed}
 use Rattle.gatt_commands.proofs.told.print_refused.Goals as goal
 

@@ -1,0 +1,106 @@
+-- What is printed for the lines of an input, where each is an Attribute PDU of one connection.
+use Rattle.std.specs.Prelude.{ℕ, ◌+◌, ◌==◌, Bool, false, is_none, nat_lt, if◌then◌else◌, List, [], ◌∷◌, ◌++◌, length, filter_map, Option, Some, None, Result}
+use Rattle.std.specs.List.{list_any, flat_map, slice_split}
+use Rattle.std.specs.Result.{result_ok, result_unwrap_or}
+use Rattle.hex.specs.Hex.{decode_of, encode_lower}
+use Rattle.gatt_files.specs.declared.fault.ShellFault.{ShellFault}
+use Rattle.gatt_files.specs.declared.fault.ShellFault.TheVariants.{Table, NotHex, Unreadable, Unwritten, Memory}
+use Rattle.att_numbers.specs.Types.{Row}
+use Rattle.att_pdu.specs.Grammar.{request_of}
+use Rattle.att_pdu.specs.Response.{Response, sent}
+use Rattle.att_table.specs.declared.examples.TheConstants.{DOOR}
+use Rattle.att_table.specs.declared.table_fault.TableFault.{TableFault}
+use Rattle.att_table.specs.Table.{Contents}
+use Rattle.att_table.specs.file.TableFile.{table_read, no_attributes}
+use Rattle.gatt_conn.specs.Answer.{Question, answer_to, stored_by, conn_after}
+use Rattle.gatt_conn.specs.Connection.{Connection, new_connection}
+use Rattle.octets.specs.Number.{Octets}
+
+-- the lines of an input, without their line feeds: what stands behind the last one is a line too, which may be blank
+abbrev pub lines_of : Octets → List Octets
+lines_of input = slice_split (λ octet. octet == 10) input
+
+-- the PDU that digits spell in hexadecimal, of at most 520 octets
+abbrev pub pdu_of : Octets → Option Octets
+pdu_of digits = if nat_lt 1040 (length digits) then None else result_ok (decode_of digits)
+
+-- the PDU of a line; a blank line has none
+abbrev pub pdu_in : Octets → Option Octets
+pdu_in [] = None
+pdu_in (digit ∷ digits) = pdu_of (digit ∷ digits)
+
+-- a line is not hexadecimal
+abbrev pub is_bad : Octets → Bool
+is_bad [] = false
+is_bad (digit ∷ digits) = is_none (pdu_of (digit ∷ digits))
+
+-- the lines before the first one that is not
+abbrev pub good_lines : List Octets → List Octets
+good_lines [] = []
+good_lines (line ∷ lines) = if is_bad line then [] else line ∷ good_lines lines
+
+-- the number of that one, if there is one: lines count from 1
+abbrev pub bad_line_from : ℕ → List Octets → Option ℕ
+bad_line_from number lines = if list_any is_bad lines then Some (number + length (good_lines lines)) else None
+
+abbrev pub bad_line_of : Octets → Option ℕ
+bad_line_of input = bad_line_from 1 (lines_of input)
+
+-- a table, and the one connection that is served from it, with what its client has configured
+pub record Server : Type 0 where
+  pub table : Contents
+  pub row : Row
+  pub conn : Connection
+
+abbrev pub server_with : Contents → Row → Connection → Server
+server_with table row conn = record { table = table; row = row; conn = conn }
+
+-- the answer to a PDU, if one is due, and the server afterwards
+abbrev pub asked_of : Server → Octets → Question
+asked_of server pdu = request_of pdu server.conn.mtu
+
+abbrev pub answer_from : Server → Octets → Option Response
+answer_from server pdu = answer_to server.table server.row server.conn (asked_of server pdu)
+
+abbrev pub server_after : Server → Octets → Server
+server_after server pdu =
+    let asked = asked_of server pdu in
+    let stored = stored_by server.table server.row server.conn asked in
+    record { table = record server.table { values = stored.values }; row = stored.row; conn = conn_after server.table.attributes server.conn asked }
+
+-- the answers to PDUs, one after the other
+abbrev pub answers_from : Server → List Octets → List (Option Response)
+answers_from server [] = []
+answers_from server (pdu ∷ pdus) = answer_from server pdu ∷ answers_from (server_after server pdu) pdus
+
+-- what is printed for an answer: its octets in hexadecimal, or a dash where none is due
+abbrev pub printed_answer : Option Response → Octets
+printed_answer None = 45 ∷ 10 ∷ []
+printed_answer (Some answer) = encode_lower (sent answer) ++ 10 ∷ []
+
+-- the table of the example door lock, which its table file gives
+abbrev pub door_read : Result Contents TableFault
+door_read = table_read DOOR.now
+
+unfoldable pub door : Contents
+door = result_unwrap_or door_read no_attributes
+
+-- that table, and a connection that has done nothing yet
+abbrev pub door_server : Server
+door_server = record { table = door; row = []; conn = new_connection 247 }
+
+-- what is printed for lines: the answers to the PDUs before the first bad one
+abbrev pub printed_by : Server → List Octets → Octets
+printed_by server lines = flat_map printed_answer (answers_from server (filter_map pdu_in (good_lines lines)))
+
+unfoldable pub printed_for : Octets → Octets
+printed_for input = printed_by door_server (lines_of input)
+
+-- what may end the command before the end of its input
+abbrev pub IsAttFault : ShellFault → Type 0
+IsAttFault (Table _) = Unit {0}
+IsAttFault Memory = Unit {0}
+IsAttFault Unreadable = Unit {0}
+IsAttFault Unwritten = Unit {0}
+IsAttFault (NotHex _) = Unit {0}
+IsAttFault _ = ⊥

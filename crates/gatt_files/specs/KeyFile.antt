@@ -1,0 +1,32 @@
+-- Key files, as octets.
+use Rattle.std.specs.Prelude.{◌≡◌, ◌≢◌, ℕ, if◌then◌else◌, List, Result, Ok, Err}
+use Rattle.std.specs.Str.{is_utf8}
+use Rattle.le_security.specs.declared.entry.Entry.{Entry}
+use Rattle.le_security.specs.declared.key_fault.KeyFault.{KeyFault}
+use Rattle.le_security.specs.declared.key_fault.KeyFault.TheVariants.{NotToml}
+use Rattle.le_security.specs.KeyFault.{number_of}
+use Rattle.le_security.specs.KeyFile.{keys_read}
+use Rattle.octets.specs.Number.{Octets}
+use Rattle.gatt_files.specs.declared.fault.ShellFault.{ShellFault}
+use Rattle.gatt_files.specs.declared.fault.ShellFault.TheVariants.{Keys, Unreadable, Memory}
+
+-- the keys that a file gives, or its first fault: one that is not UTF-8 is not TOML
+unfoldable pub keys_in : Octets → Result (List Entry) KeyFault
+keys_in octets = if is_utf8 octets then keys_read octets else Err NotToml
+
+-- keys were refused for the fault of this number
+abbrev pub AreRefusedAs : ℕ → Result (List Entry) KeyFault → Type 0
+AreRefusedAs number (Ok keys) = ⊥
+AreRefusedAs number (Err fault) = number ≡ number_of fault
+
+-- a file with these octets is refused as keys: for its first fault, or for want of memory, which is 8
+abbrev pub IsKeyRefusal : Octets → ShellFault → Type 0
+IsKeyRefusal octets (Keys number) = number ≢ 8 → AreRefusedAs number (keys_in octets)
+IsKeyRefusal octets _ = ⊥
+
+-- what may end the reading of a key file
+abbrev pub IsKeyFileFault : ShellFault → Type 0
+IsKeyFileFault (Keys number) = Unit {0}
+IsKeyFileFault Unreadable = Unit {0}
+IsKeyFileFault Memory = Unit {0}
+IsKeyFileFault _ = ⊥

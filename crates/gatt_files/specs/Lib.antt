@@ -1,0 +1,13 @@
+pub mod Att
+pub mod Check
+pub mod Fault
+pub mod Input
+pub mod KeyFile
+pub mod RowsFile
+pub mod RowsOut
+pub mod Saving
+pub mod ScriptFile
+pub mod Session
+pub mod Show
+pub mod TableFile
+pub mod Turns

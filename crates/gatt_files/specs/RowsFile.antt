@@ -1,0 +1,31 @@
+-- Rows files, as octets.
+use Rattle.std.specs.Prelude.{◌≡◌, ◌≢◌, ℕ, if◌then◌else◌, Result, Ok, Err}
+use Rattle.std.specs.Str.{is_utf8}
+use Rattle.gatt_subs.specs.declared.rows_fault.RowsFault.{RowsFault}
+use Rattle.gatt_subs.specs.declared.rows_fault.RowsFault.TheVariants.{BadLine}
+use Rattle.gatt_subs.specs.Rows.{Subscriptions, subscriptions_read}
+use Rattle.gatt_subs.specs.RowsFault.{number_of}
+use Rattle.octets.specs.Number.{Octets}
+use Rattle.gatt_files.specs.declared.fault.ShellFault.{ShellFault}
+use Rattle.gatt_files.specs.declared.fault.ShellFault.TheVariants.{Rows, Unreadable, Memory}
+
+-- the rows that a file gives, or its first fault: in one that is not UTF-8 the first line is bad
+unfoldable pub rows_in : Octets → Result Subscriptions RowsFault
+rows_in octets = if is_utf8 octets then subscriptions_read octets else Err (BadLine 1)
+
+-- rows were refused for the fault of this number
+abbrev pub AreRefusedAs : ℕ → Result Subscriptions RowsFault → Type 0
+AreRefusedAs number (Ok rows) = ⊥
+AreRefusedAs number (Err fault) = number ≡ number_of fault
+
+-- a file with these octets is refused as rows: for its first fault, or for want of memory, which is 4
+abbrev pub IsRowsRefusal : Octets → ShellFault → Type 0
+IsRowsRefusal octets (Rows number) = number ≢ 4 → AreRefusedAs number (rows_in octets)
+IsRowsRefusal octets _ = ⊥
+
+-- what may end the reading of a rows file
+abbrev pub IsRowsFileFault : ShellFault → Type 0
+IsRowsFileFault (Rows number) = Unit {0}
+IsRowsFileFault Unreadable = Unit {0}
+IsRowsFileFault Memory = Unit {0}
+IsRowsFileFault _ = ⊥

@@ -1,0 +1,6 @@
+-- What a contract sees of a store that writes rows out.
+use Rattle.gatt_files.specs.declared.rows_out.RowsOut.{RowsOut}
+
+-- the writer that it writes to
+abbrev pub writer_of : {W : Type 0} → RowsOut W → W
+writer_of out = out.writer

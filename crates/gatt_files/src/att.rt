@@ -1,0 +1,52 @@
+ghost use Rattle.std.specs.Prelude.{◌≡◌, ℕ, OnOk, IfErr, IfSome, None};
+ghost use Rattle.std.specs.Io.KnownBytes.{Appends, Keeps};
+ghost use Rattle.octets.specs.Stream.{WritesFront};
+ghost use Rattle.gatt_files.specs.Att.{door_read, printed_for, bad_line_of, IsAttFault};
+ghost use Rattle.gatt_files.specs.TableFile.{IsRefusedAs};
+
+use crate::fault::ShellFault;
+use crate::input::{CHUNK, READS};
+use crate::session::Session;
+use std::alloc::Global;
+use std::io::{ErrorKind, Read, Write};
+
+/// Reads ATT PDUs as lines of hexadecimal from one connection of an unknown, unencrypted peer to
+/// the table of the example door lock, and prints each answer as a line, `-` for none. Blank lines
+/// are skipped. It takes memory before the first read, and none after it.
+pub fn att_lines<R: Read, W: Write>(
+    alloc: Global,
+    reader: &mut R,
+    writer: &mut W,
+) -> Result<(), ShellFault>
+    // Where the input is known, all of it was answered, or what stands before the first bad line.
+    ensures ok { OnOk result (IfSome (R.remaining reader.old) (λ input.
+        (bad_line_of input ≡ None) × Appends (W.contents writer.old) (W.contents writer.new) (printed_for input))) }
+    ensures not_hex { (number : ℕ) → result ≡ Err (ShellFault.NotHex number)
+        → IfSome (R.remaining reader.old) (λ input.
+        (bad_line_of input ≡ Some number) × Appends (W.contents writer.old) (W.contents writer.new) (printed_for input)) }
+    // An input that cannot be read on, and an output that fails, leave the front of that printed, and
+    // refused memory nothing.
+    ensures unreadable { result ≡ Err ShellFault.Unreadable
+        → IfSome (R.remaining reader.old) (λ input.
+        WritesFront (printed_for input) (W.contents writer.old) (W.contents writer.new)) }
+    ensures unwritten { result ≡ Err ShellFault.Unwritten
+        → IfSome (R.remaining reader.old) (λ input.
+        WritesFront (printed_for input) (W.contents writer.old) (W.contents writer.new)) }
+    ensures memory { result ≡ Err ShellFault.Memory
+        → Keeps (W.contents writer.old) (W.contents writer.new) }
+    ensures table { (number : ℕ) → result ≡ Err (ShellFault.Table number)
+        → IsRefusedAs number door_read }
+    ensures faults { IfErr result IsAttFault }
+{
+    let mut session = Session::new(alloc)?;
+    let mut chunk = [0; CHUNK];
+    for _read in 0..READS {
+        match reader.read(&mut chunk) {
+            Ok(0) => return session.finish(writer),
+            Ok(count) => session.take(&chunk[..count], writer)?,
+            Err(error) if error.kind() == ErrorKind::Interrupted => {}
+            Err(_) => return Err(ShellFault::Unreadable),
+        }
+    }
+    Err(ShellFault::Unreadable)
+}

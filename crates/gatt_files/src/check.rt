@@ -1,0 +1,93 @@
+//! The command `check`.
+
+ghost use Rattle.std.specs.Prelude.{◌≡◌, ◌≢◌, ◌++◌, ℕ, IfErr, IfSome, IsOk, OnOk};
+ghost use Rattle.std.specs.Io.KnownBytes.{Keeps};
+ghost use Rattle.gatt_files.specs.Check.{AreCounted, IsCheckFault, attributes_line, keys_line};
+ghost use Rattle.gatt_files.specs.KeyFile.{keys_in, AreRefusedAs};
+ghost use Rattle.gatt_files.specs.TableFile.{table_in, IsRefusedAs};
+
+use crate::fault::{ShellFault, push_numbered};
+use crate::key_file::read_keys;
+use crate::lazy_file::LazyFile;
+use crate::output::print;
+use crate::table_file::read_table;
+use arrayvec::ArrayVec;
+use att_table::Table;
+use le_security::Keys;
+use std::alloc::Global;
+use std::fs::Files;
+use std::io::{Read, Write};
+
+/// Judges a table file and then a key file, and prints how many attributes the table has and how
+/// many keys there are. The key file is read only once the table file has been accepted.
+pub fn check_files<T: Read, K: Read, W: Write>(
+    alloc: Global,
+    table: &mut T,
+    keys: &mut K,
+    writer: &mut W,
+) -> Result<(), ShellFault>
+    // Both files were accepted, and their attributes and keys were counted.
+    ensures ok { OnOk result (AreCounted (T.remaining table.old) (K.remaining keys.old)
+        (W.contents writer.old) (W.contents writer.new)) }
+    // The table file was refused for its first fault, or for want of memory, which is 10, and the
+    // key file was not read.
+    ensures table { (number : ℕ) → result ≡ Err (ShellFault.Table number) → number ≢ 10
+        → IfSome (T.remaining table.old) (λ octets. IsRefusedAs number (table_in octets)) }
+    ensures keys_unread { (number : ℕ) → result ≡ Err (ShellFault.Table number)
+        → keys.new ≡ keys.old }
+    // The key file was refused for its first fault, or for want of memory, which is 8, and the
+    // table file was accepted.
+    ensures keys { (number : ℕ) → result ≡ Err (ShellFault.Keys number) → number ≢ 8
+        → IfSome (K.remaining keys.old) (λ octets. AreRefusedAs number (keys_in octets)) }
+    ensures table_first { (number : ℕ) → result ≡ Err (ShellFault.Keys number)
+        → IfSome (T.remaining table.old) (λ octets. IsOk (table_in octets)) }
+    ensures nothing_printed { IfErr result (λ fault. fault ≢ ShellFault.Unwritten
+        → Keeps (W.contents writer.old) (W.contents writer.new)) }
+    // An output is written to only where both files were accepted.
+    ensures unwritten_table { result ≡ Err ShellFault.Unwritten
+        → IfSome (T.remaining table.old) (λ octets. IsOk (table_in octets)) }
+    ensures unwritten_keys { result ≡ Err ShellFault.Unwritten
+        → IfSome (K.remaining keys.old) (λ octets. IsOk (keys_in octets)) }
+    ensures faults { IfErr result IsCheckFault }
+{
+    let table = read_table(alloc, table)?;
+    let keys = read_keys(alloc, keys)?;
+    print(count_lines(&table, &keys).as_slice(), writer)
+}
+
+/// The path of a table file.
+#[derive(Clone, Copy)]
+pub struct TablePath<'a>(pub &'a str);
+
+/// The path of a key file.
+#[derive(Clone, Copy)]
+pub struct KeysPath<'a>(pub &'a str);
+
+/// Judges the files at two paths. Neither is opened before its turn.
+pub fn check_paths<F: Files, W: Write>(
+    alloc: Global,
+    files: &F,
+    table: TablePath<'_>,
+    keys: KeysPath<'_>,
+    writer: &mut W,
+) -> Result<(), ShellFault>
+    ensures nothing_printed { IfErr result (λ fault. fault ≢ ShellFault.Unwritten
+        → Keeps (W.contents writer.old) (W.contents writer.new)) }
+    ensures faults { IfErr result IsCheckFault }
+{
+    let mut table = LazyFile::new(files, table.0);
+    let mut keys = LazyFile::new(files, keys.0);
+    check_files(alloc, &mut table, &mut keys, writer)
+}
+
+/// The lines that say how many attributes a table has, and how many keys there are.
+fn count_lines(table: &Table, keys: &Keys) -> ArrayVec<u8, 60>
+    ensures { result.items ≡ attributes_line table.now ++ keys_line keys.now }
+{
+    let mut lines = ArrayVec::new();
+    push_numbered(&mut lines, "attributes ", table.len() as u64);
+    lines.push(b'\n');
+    push_numbered(&mut lines, "keys ", keys.count() as u64);
+    lines.push(b'\n');
+    lines
+}

@@ -1,0 +1,50 @@
+//! Key files, as octets of an input.
+
+ghost use Rattle.std.specs.Prelude.{◌≡◌, ◌≢◌, ℕ, IfErr, IfOk, IfSome};
+ghost use Rattle.octets.specs.Memory.{Gives};
+ghost use Rattle.gatt_files.specs.KeyFile.{keys_in, AreRefusedAs, IsKeyRefusal, IsKeyFileFault};
+
+use crate::fault::ShellFault;
+use crate::input;
+use le_security::{KeyFault, Keys};
+use std::alloc::Global;
+use std::io::Read;
+use std::str;
+
+/// Reads a key file, and gives its keys.
+pub fn read_keys<R: Read>(alloc: Global, reader: &mut R) -> Result<Keys, ShellFault>
+    ensures keys { IfOk result
+        (λ keys. IfSome (R.remaining reader.old) (λ octets. keys_in octets ≡ Ok keys)) }
+    ensures refused { (number : ℕ) → result ≡ Err (ShellFault.Keys number) → number ≢ 8
+        → IfSome (R.remaining reader.old) (λ octets. AreRefusedAs number (keys_in octets)) }
+    ensures faults { IfErr result IsKeyFileFault }
+{
+    let octets = input::read_all(alloc, reader)?;
+    judged_keys(alloc, octets.as_slice())
+}
+
+/// The keys of a file with these octets, or the number of the fault for which it is refused: refused
+/// memory is a fault of the file like any other. A file that is too large is given no memory.
+pub(crate) fn judged_keys(alloc: Global, octets: &[u8]) -> Result<Keys, ShellFault>
+    ensures keys { IfOk result (λ keys. keys_in octets.now ≡ Ok keys) }
+    ensures refused { IfErr result (IsKeyRefusal octets.now) }
+{
+    if octets.len() > input::TOML_OCTETS {
+        return Err(ShellFault::Keys(KeyFault::OutOfMemory.number()));
+    }
+    match keys_in(alloc, octets) {
+        Ok(keys) => Ok(keys),
+        Err(fault) => Err(ShellFault::Keys(fault.number())),
+    }
+}
+
+/// The keys of a file with these octets: one that is not UTF-8 is not TOML.
+#[tactic(auto, using(crate::proofs::KeyFiles::of_text, crate::proofs::KeyFiles::of_no_text))]
+fn keys_in(alloc: Global, octets: &[u8]) -> Result<Keys, KeyFault>
+    ensures { Gives KeyFault.OutOfMemory (keys_in octets.now) result }
+{
+    match str::from_utf8(octets) {
+        Ok(text) => Keys::read(alloc, text),
+        Err(_) => Err(KeyFault::NotToml),
+    }
+}

@@ -1,0 +1,47 @@
+//! Rows files, as octets of an input.
+
+ghost use Rattle.std.specs.Prelude.{◌≡◌, ◌≢◌, ℕ, IfErr, IfOk, IfSome};
+ghost use Rattle.octets.specs.Memory.{Gives};
+ghost use Rattle.gatt_files.specs.RowsFile.{rows_in, AreRefusedAs, IsRowsRefusal, IsRowsFileFault};
+
+use crate::fault::ShellFault;
+use crate::input;
+use gatt_subs::{Rows, RowsFault};
+use std::alloc::Global;
+use std::io::Read;
+use std::str;
+
+/// Reads a rows file, and gives its rows.
+pub fn read_rows<R: Read>(alloc: Global, reader: &mut R) -> Result<Rows, ShellFault>
+    ensures rows { IfOk result
+        (λ rows. IfSome (R.remaining reader.old) (λ octets. rows_in octets ≡ Ok rows)) }
+    ensures refused { (number : ℕ) → result ≡ Err (ShellFault.Rows number) → number ≢ 4
+        → IfSome (R.remaining reader.old) (λ octets. AreRefusedAs number (rows_in octets)) }
+    ensures faults { IfErr result IsRowsFileFault }
+{
+    let octets = input::read_all(alloc, reader)?;
+    judged_rows(alloc, octets.as_slice())
+}
+
+/// The rows of a file with these octets, or the number of the fault for which it is refused: refused
+/// memory is a fault of the file like any other.
+pub(crate) fn judged_rows(alloc: Global, octets: &[u8]) -> Result<Rows, ShellFault>
+    ensures rows { IfOk result (λ rows. rows_in octets.now ≡ Ok rows) }
+    ensures refused { IfErr result (IsRowsRefusal octets.now) }
+{
+    match rows_in(alloc, octets) {
+        Ok(rows) => Ok(rows),
+        Err(fault) => Err(ShellFault::Rows(fault.number())),
+    }
+}
+
+/// The rows of a file with these octets: in one that is not UTF-8 the first line is bad.
+#[tactic(auto, using(crate::proofs::RowsFiles::of_text, crate::proofs::RowsFiles::of_no_text))]
+fn rows_in(alloc: Global, octets: &[u8]) -> Result<Rows, RowsFault>
+    ensures { Gives RowsFault.OutOfMemory (rows_in octets.now) result }
+{
+    match str::from_utf8(octets) {
+        Ok(text) => Rows::read(alloc, text),
+        Err(_) => Err(RowsFault::BadLine(1)),
+    }
+}

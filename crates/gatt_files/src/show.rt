@@ -1,0 +1,258 @@
+//! The command `show`.
+
+ghost use Rattle.std.specs.Prelude.{◌≡◌, ◌≢◌, ℕ, IfErr, IfOk, IfSome, IsOk, OnOk, is_some};
+ghost use Rattle.std.specs.Io.KnownBytes.{Keeps};
+ghost use Rattle.std.specs.Option.{option_map};
+ghost use Rattle.gatt_files.specs.KeyFile.{keys_in, AreRefusedAs as KeysAreRefusedAs, IsKeyFileFault, IsKeyRefusal};
+ghost use Rattle.gatt_files.specs.RowsFile.{rows_in, AreRefusedAs, IsRowsFileFault};
+ghost use Rattle.gatt_files.specs.Show.{AreShown, HasHolders, IsShowFault, TellsHoldersOf};
+ghost use Rattle.gatt_files.specs.TableFile.{table_in, IsRefusedAs, IsTableFileFault};
+ghost use Rattle.gatt_files.specs.Turns.{IsPast, OfKeys, OfRows, OfTable};
+
+use crate::check::{KeysPath, TablePath};
+use crate::fault::ShellFault;
+use crate::input::{TOML_OCTETS, read_all};
+use crate::key_file::judged_keys;
+use crate::lazy_file::LazyFile;
+use crate::output::print;
+use crate::rows_file::judged_rows;
+use crate::rows_path::{RowsPath, RowsReader};
+use crate::table_file::judged_table;
+use att_table::Table;
+use std::alloc::{AllocError, Global};
+use std::fs::Files;
+use std::io::{Read, Write};
+use std::str;
+
+/// What is told of a file that is too large.
+const TOO_LARGE: &[u8] = b"more than 2,097,152 octets";
+
+/// Judges a table file, a key file, if there is one, and a rows file, and prints what the table says,
+/// and who may do what where there are keys. Each file is read only once those in front of it have
+/// been accepted. Of one that is refused, where it has its fault and what that is is added to `place`;
+/// where memory is refused for that text, `place` is empty.
+pub fn show_files<T: Read, K: Read, R: Read, W: Write>(
+    alloc: Global,
+    table: &mut T,
+    keys: &mut Option<K>,
+    rows: &mut R,
+    writer: &mut W,
+    place: &mut Vec<u8>,
+) -> Result<(), ShellFault>
+    // All files were accepted, and what they say was printed.
+    ensures ok { OnOk result (AreShown (T.remaining table.old) (option_map K.remaining keys.old)
+        (W.contents writer.old) (W.contents writer.new)) }
+    // A file is refused for its first fault, or for want of memory, which is 10 of a table file, 8 of
+    // a key file and 4 of a rows file.
+    ensures table { (number : ℕ) → result ≡ Err (ShellFault.Table number) → number ≢ 10
+        → IfSome (T.remaining table.old) (λ octets. IsRefusedAs number (table_in octets)) }
+    ensures keys { (number : ℕ) → result ≡ Err (ShellFault.Keys number) → number ≢ 8
+        → IfSome keys.old (λ file. IfSome (K.remaining file) (λ octets. KeysAreRefusedAs number (keys_in octets))) }
+    ensures rows { (number : ℕ) → result ≡ Err (ShellFault.Rows number) → number ≢ 4
+        → IfSome (R.remaining rows.old) (λ octets. AreRefusedAs number (rows_in octets)) }
+    // And only where those in front of it are accepted: table, keys, rows. Then the output is written
+    // to.
+    ensures table_first { IsPast OfTable result
+        → IfSome (T.remaining table.old) (λ octets. IsOk (table_in octets)) }
+    ensures keys_second { IsPast OfKeys result
+        → IfSome keys.old (λ file. IfSome (K.remaining file) (λ octets. IsOk (keys_in octets))) }
+    ensures rows_third { IsPast OfRows result
+        → IfSome (R.remaining rows.old) (λ octets. IsOk (rows_in octets)) }
+    // Those behind it are not read.
+    ensures keys_unread { (number : ℕ) → result ≡ Err (ShellFault.Table number)
+        → keys.new ≡ keys.old }
+    ensures rows_unread { (number : ℕ) → result ≡ Err (ShellFault.Table number)
+        → rows.new ≡ rows.old }
+    ensures rows_unread_at_keys { (number : ℕ) → result ≡ Err (ShellFault.Keys number)
+        → rows.new ≡ rows.old }
+    // Nothing is told of files that are all accepted.
+    ensures place { IsOk result → place.new ≡ place.old }
+    ensures nothing_printed { IfErr result (λ fault. fault ≢ ShellFault.Unwritten
+        → Keeps (W.contents writer.old) (W.contents writer.new)) }
+    ensures faults { IfErr result IsShowFault }
+{
+    let table = read_table_at(alloc, table, place)?;
+    let mut text = Vec::new(alloc);
+    gatt_show::add_table(alloc, &mut text, &table)?;
+    add_keys(alloc, &mut text, &table, keys, place)?;
+    judge_rows_at(alloc, rows, place)?;
+    print(text.as_slice(), writer)
+}
+
+/// Reads a table file, and gives its table.
+fn read_table_at<R: Read>(
+    alloc: Global,
+    reader: &mut R,
+    place: &mut Vec<u8>,
+) -> Result<Table, ShellFault>
+    ensures table { IfOk result
+        (λ table. IfSome (R.remaining reader.old) (λ octets. table_in octets ≡ Ok table)) }
+    ensures refused { (number : ℕ) → result ≡ Err (ShellFault.Table number) → number ≢ 10
+        → IfSome (R.remaining reader.old) (λ octets. IsRefusedAs number (table_in octets)) }
+    ensures place { IsOk result → place.new ≡ place.old }
+    ensures faults { IfErr result IsTableFileFault }
+{
+    let octets = read_all(alloc, reader)?;
+    match judged_table(alloc, octets.as_slice()) {
+        Ok(table) => Ok(table),
+        Err(fault) => {
+            if tell_table_fault(alloc, place, octets.as_slice()).is_err() {
+                place.clear();
+            }
+            Err(fault)
+        }
+    }
+}
+
+/// Tells where a refused table file has its fault. One that is too large was not read.
+fn tell_table_fault(alloc: Global, place: &mut Vec<u8>, octets: &[u8]) -> Result<(), AllocError> {
+    if octets.len() > TOML_OCTETS {
+        return Ok(place.extend_from_slice(TOO_LARGE)?);
+    }
+    gatt_show::add_table_fault(alloc, place, octets)
+}
+
+/// Tells where a refused key file has its fault. One that is too large was not read.
+fn tell_keys_fault(alloc: Global, place: &mut Vec<u8>, octets: &[u8]) -> Result<(), AllocError> {
+    if octets.len() > TOML_OCTETS {
+        return Ok(place.extend_from_slice(TOO_LARGE)?);
+    }
+    gatt_show::add_keys_fault(alloc, place, octets)
+}
+
+/// Reads a key file, if there is one, and adds who has which key and what he may do.
+fn add_keys<K: Read>(
+    alloc: Global,
+    text: &mut Vec<u8>,
+    table: &Table,
+    keys: &mut Option<K>,
+    place: &mut Vec<u8>,
+) -> Result<(), ShellFault>
+    ensures ok { OnOk result (HasHolders (option_map K.remaining keys.old)
+        table.now text.old.items text.new.items) }
+    ensures accepted { OnOk result
+        (IfSome keys.old (λ file. IfSome (K.remaining file) (λ octets. IsOk (keys_in octets)))) }
+    ensures refused { (number : ℕ) → result ≡ Err (ShellFault.Keys number) → number ≢ 8
+        → IfSome keys.old (λ file. IfSome (K.remaining file) (λ octets. KeysAreRefusedAs number (keys_in octets))) }
+    ensures place { IsOk result → place.new ≡ place.old }
+    ensures faults { IfErr result IsKeyFileFault }
+{
+    match keys {
+        Some(reader) => add_holders(alloc, text, table, reader, place),
+        None => Ok(()),
+    }
+}
+
+/// Reads a key file, and adds who has which key and what he may do.
+fn add_holders<K: Read>(
+    alloc: Global,
+    text: &mut Vec<u8>,
+    table: &Table,
+    reader: &mut K,
+    place: &mut Vec<u8>,
+) -> Result<(), ShellFault>
+    ensures ok { OnOk result (TellsHoldersOf (K.remaining reader.old)
+        table.now text.old.items text.new.items) }
+    ensures accepted { OnOk result
+        (IfSome (K.remaining reader.old) (λ octets. IsOk (keys_in octets))) }
+    ensures refused { (number : ℕ) → result ≡ Err (ShellFault.Keys number) → number ≢ 8
+        → IfSome (K.remaining reader.old) (λ octets. KeysAreRefusedAs number (keys_in octets)) }
+    ensures place { IsOk result → place.new ≡ place.old }
+    ensures faults { IfErr result IsKeyFileFault }
+{
+    let octets = read_all(alloc, reader)?;
+    judge_keys_at(alloc, octets.as_slice(), place)?;
+    let file = key_text(octets.as_slice())?;
+    Ok(gatt_show::add_holders(alloc, text, table, file)?)
+}
+
+/// The text of a key file: one that is not UTF-8 is not TOML.
+#[tactic(auto, using(crate::proofs::KeyFiles::of_no_text))]
+fn key_text(octets: &[u8]) -> Result<&str, ShellFault>
+    ensures text { IfOk result (λ text. text.now ≡ octets.now) }
+    ensures refused { IfErr result (IsKeyRefusal octets.now) }
+{
+    match str::from_utf8(octets) {
+        Ok(text) => Ok(text),
+        Err(_) => Err(ShellFault::Keys(1)),
+    }
+}
+
+/// Judges the octets of a key file.
+fn judge_keys_at(alloc: Global, octets: &[u8], place: &mut Vec<u8>) -> Result<(), ShellFault>
+    ensures accepted { OnOk result (IsOk (keys_in octets.now)) }
+    ensures refused { IfErr result (IsKeyRefusal octets.now) }
+    ensures place { IsOk result → place.new ≡ place.old }
+{
+    match judged_keys(alloc, octets) {
+        Ok(_) => Ok(()),
+        Err(fault) => {
+            if tell_keys_fault(alloc, place, octets).is_err() {
+                place.clear();
+            }
+            Err(fault)
+        }
+    }
+}
+
+/// Reads and judges a rows file.
+fn judge_rows_at<R: Read>(
+    alloc: Global,
+    reader: &mut R,
+    place: &mut Vec<u8>,
+) -> Result<(), ShellFault>
+    ensures accepted { OnOk result
+        (IfSome (R.remaining reader.old) (λ octets. IsOk (rows_in octets))) }
+    ensures refused { (number : ℕ) → result ≡ Err (ShellFault.Rows number) → number ≢ 4
+        → IfSome (R.remaining reader.old) (λ octets. AreRefusedAs number (rows_in octets)) }
+    ensures place { IsOk result → place.new ≡ place.old }
+    ensures faults { IfErr result IsRowsFileFault }
+{
+    let octets = read_all(alloc, reader)?;
+    match judged_rows(alloc, octets.as_slice()) {
+        Ok(_) => Ok(()),
+        Err(fault) => {
+            if gatt_show::add_rows_fault(alloc, place, octets.as_slice()).is_err() {
+                place.clear();
+            }
+            Err(fault)
+        }
+    }
+}
+
+/// The paths of the files that `show` reads.
+#[derive(Clone, Copy)]
+pub struct ShowPaths<'a> {
+    /// The table file.
+    pub table: TablePath<'a>,
+    /// The key file, where there is one.
+    pub keys: Option<KeysPath<'a>>,
+    /// The rows file.
+    pub rows: RowsPath<'a>,
+}
+
+/// Shows the files at some paths. None is opened before its turn.
+pub fn show_paths<F: Files, W: Write>(
+    alloc: Global,
+    files: &F,
+    paths: ShowPaths<'_>,
+    writer: &mut W,
+    place: &mut Vec<u8>,
+) -> Result<(), ShellFault>
+    ensures place { IsOk result → place.new ≡ place.old }
+    ensures nothing_printed { IfErr result (λ fault. fault ≢ ShellFault.Unwritten
+        → Keeps (W.contents writer.old) (W.contents writer.new)) }
+    ensures faults { IfErr result IsShowFault }
+{
+    let mut table = LazyFile::new(files, paths.table.0);
+    let mut keys = key_file(files, paths.keys);
+    let mut rows = RowsReader::new(files, paths.rows);
+    show_files(alloc, &mut table, &mut keys, &mut rows, writer, place)
+}
+
+/// The key file, where there is one.
+fn key_file<'a, F: Files>(files: &'a F, path: Option<KeysPath<'a>>) -> Option<LazyFile<'a, F>>
+    ensures { is_some result ≡ is_some path.entry }
+{
+    Some(LazyFile::new(files, path?.0))
+}

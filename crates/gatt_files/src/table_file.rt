@@ -1,0 +1,84 @@
+//! Table files, as octets of an input.
+
+ghost use Rattle.std.specs.Prelude.{◌≡◌, ◌≢◌, ℕ, is_some, IfErr, IfOk, IfSome, IsOk};
+ghost use Rattle.std.specs.Option.{option_map};
+ghost use Rattle.octets.specs.Memory.{Gives};
+ghost use Rattle.gatt_files.specs.TableFile.{table_in, HasNext, IsRefusedAs, IsTableRefusal, IsTableFileFault, IsNextFileFault, next_of};
+
+use crate::fault::ShellFault;
+use crate::input;
+use att_table::{Table, TableFault};
+use std::alloc::Global;
+use std::io::Read;
+use std::str;
+
+/// Reads a table file, and gives its table.
+pub fn read_table<R: Read>(alloc: Global, reader: &mut R) -> Result<Table, ShellFault>
+    ensures table { IfOk result
+        (λ table. IfSome (R.remaining reader.old) (λ octets. table_in octets ≡ Ok table)) }
+    ensures refused { (number : ℕ) → result ≡ Err (ShellFault.Table number) → number ≢ 10
+        → IfSome (R.remaining reader.old) (λ octets. IsRefusedAs number (table_in octets)) }
+    ensures faults { IfErr result IsTableFileFault }
+{
+    let octets = input::read_all(alloc, reader)?;
+    judged_table(alloc, octets.as_slice())
+}
+
+/// Reads the table file that replaces another, where there is one. The number of its fault is told
+/// by `Next`, in place of `Table`.
+pub fn read_next<R: Read>(
+    alloc: Global,
+    reader: &mut Option<R>,
+) -> Result<Option<Table>, ShellFault>
+    ensures some { IfOk result (λ next. is_some next ≡ is_some reader.old) }
+    ensures next { IfOk result (HasNext (option_map R.remaining reader.old)) }
+    ensures table { IsOk result
+        → IfSome reader.old (λ file. IfSome (R.remaining file) (λ octets. IsOk (table_in octets))) }
+    ensures refused { (number : ℕ) → result ≡ Err (ShellFault.Next number) → number ≢ 10
+        → IfSome reader.old (λ file. IfSome (R.remaining file) (λ octets. IsRefusedAs number (table_in octets))) }
+    ensures faults { IfErr result IsNextFileFault }
+{
+    let Some(reader) = reader else {
+        return Ok(None);
+    };
+    match read_table(alloc, reader) {
+        Ok(table) => Ok(Some(table)),
+        Err(fault) => Err(next_fault(fault)),
+    }
+}
+
+/// What a fault of a table file is, where the table replaces another.
+fn next_fault(fault: ShellFault) -> ShellFault
+    ensures { result ≡ next_of fault }
+{
+    match fault {
+        ShellFault::Table(number) => ShellFault::Next(number),
+        other => other,
+    }
+}
+
+/// The table of a file with these octets, or the number of the fault for which it is refused: refused
+/// memory is a fault of the file like any other. A file that is too large is given no memory.
+pub(crate) fn judged_table(alloc: Global, octets: &[u8]) -> Result<Table, ShellFault>
+    ensures table { IfOk result (λ table. table_in octets.now ≡ Ok table) }
+    ensures refused { IfErr result (IsTableRefusal octets.now) }
+{
+    if octets.len() > input::TOML_OCTETS {
+        return Err(ShellFault::Table(TableFault::OutOfMemory.number()));
+    }
+    match table_in(alloc, octets) {
+        Ok(table) => Ok(table),
+        Err(fault) => Err(ShellFault::Table(fault.number())),
+    }
+}
+
+/// The table of a file with these octets: one that is not UTF-8 is not TOML.
+#[tactic(auto, using(crate::proofs::TableFiles::of_text, crate::proofs::TableFiles::of_no_text))]
+fn table_in(alloc: Global, octets: &[u8]) -> Result<Table, TableFault>
+    ensures { Gives TableFault.OutOfMemory (table_in octets.now) result }
+{
+    match str::from_utf8(octets) {
+        Ok(text) => Table::read(alloc, text),
+        Err(_) => Err(TableFault::NotToml),
+    }
+}
