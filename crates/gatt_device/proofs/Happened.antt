@@ -54,12 +54,12 @@ pub records_none : (history : Option (List Entry)) → Records [] history histor
 records_none None = tt
 records_none (Some entries) = sym (append-nil entries)
 
-records-then : (one other : List Entry) (before between after : Option (List Entry)) → Records one before between → Records other between after
+pub records_then : (one other : List Entry) (before between after : Option (List Entry)) → Records one before between → Records other between after
     → Records (one ++ other) before after
-records-then one other None between after first second = tt
-records-then one other (Some before) None after first second = absurd first
-records-then one other (Some before) (Some between) None first second = absurd second
-records-then one other (Some before) (Some between) (Some after) first second =
+records_then one other None between after first second = tt
+records_then one other (Some before) None after first second = absurd first
+records_then one other (Some before) (Some between) None first second = absurd second
+records_then one other (Some before) (Some between) (Some after) first second =
     second ∙ ap (λ (entries : List Entry). entries ++ other) first ∙ append_assoc before one other
 
 -- what is recorded of a turn, of turns, and of the last, wherever the host stood
@@ -88,7 +88,7 @@ module _ (until : Option ℕ) (whole : Whole) (before between after : Option (Li
   pub asked_recorded : (call : Call) → Records (Waited until ∷ Happened (Asked call) ∷ []) before between → RecordsTheAnswer call whole between after
       → RecordsTurn (Asked call) whole before after
   asked_recorded call records answers start input gone is =
-      records-then (Waited (deadline (course start input).intake.state) ∷ Happened (Asked call) ∷ []) _ before between after
+      records_then (Waited (deadline (course start input).intake.state) ∷ Happened (Asked call) ∷ []) _ before between after
       (subst (λ (until : Option ℕ). Records (Waited until ∷ Happened (Asked call) ∷ []) before between) (is_deadline start input gone is) records)
       (answers start input gone is)
 
@@ -148,7 +148,7 @@ module _ (count : ℕ) (old mid : Whole) (come between : Known) (before written 
       subst (λ (entries : List Entry). Records entries come.history after)
       (ap (λ (later : Course). entries_in at so_far.happened ++ entries_of later more) (items_append (at_start start) input (items_in so_far.happened))
       ∙ sym (entries-more at so_far.happened more))
-      (records-then (entries_in at so_far.happened) (entries_of later more) come.history between.history after (so_far.has_come.records start input gone is)
+      (records_then (entries_in at so_far.happened) (entries_of later more) come.history between.history after (so_far.has_come.records start input gone is)
       (records start (input ++ items_in so_far.happened) (gone ++ so_far.takes.packets) (so_far.takes.leads start input gone is)))
 
   come-more : (more : Happening) (comes : Known) → Comes more mid between comes → HasCome (count + 1) (so_far.happened ++ more ∷ []) old come comes
@@ -218,7 +218,7 @@ module _ (count : ℕ) (old mid : Whole) (come between : Known) (before written 
       let later : Course = course start (input ++ items_in so_far.happened) in
       subst (λ (later : Course). Records (entries_in at so_far.happened ++ last_entries later (Ok last)) come.history after)
       (items_append (at_start start) input (items_in so_far.happened))
-      (records-then (entries_in at so_far.happened) (last_entries later (Ok last)) come.history between.history after (so_far.has_come.records start input gone is)
+      (records_then (entries_in at so_far.happened) (last_entries later (Ok last)) come.history between.history after (so_far.has_come.records start input gone is)
       (records start (input ++ items_in so_far.happened) (gone ++ so_far.takes.packets) (so_far.takes.leads start input gone is)))
 
   pub serves_ended : (turns : ℕ) (last : End) (comes : Known) → mid.fault ≡ None → IsOver (Ok last) turns count → Consumes between.octets comes.octets [] → Hands between.calls comes.calls []

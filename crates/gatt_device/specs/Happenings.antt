@@ -5,6 +5,7 @@ use Rattle.gatt_host.specs.Asked.{call_of}
 use Rattle.gatt_host.specs.Feeding.{octet_items}
 use Rattle.gatt_laws.specs.machine.Calls.{Call, Refused}
 use Rattle.gatt_laws.specs.machine.Input.{Item, ACall}
+use Rattle.gatt_subs.specs.Rows.{Subscriptions}
 use Rattle.octets.specs.Number.{Octets}
 use Rattle.gatt_device.specs.declared.happenings.Next.{Next}
 use Rattle.gatt_device.specs.declared.happenings.Next.TheVariants as next
@@ -15,13 +16,17 @@ pub data Happening : Type 0 where
   Asked : (call : Call) → Happening
 
 -- what is recorded: up to which deadline it was waited, if there was one; what happened then; what a call was answered, which
--- is why it is refused, if it is; and that the stream of the controller has ended, or cannot be read
+-- is why it is refused, if it is; that the stream of the controller has ended, or cannot be read; that rows were kept as they
+-- stood, or could not be; and which octets were sent
 pub data Entry : Type 0 where
   Waited : (deadline : Option ℕ) → Entry
   Happened : (happening : Happening) → Entry
   Answered : (refusal : Option Refused) → Entry
   Ended : Entry
   Failed : Entry
+  Kept : (rows : Subscriptions) → Entry
+  Unkept : (rows : Subscriptions) → Entry
+  Sent : (octets : Octets) → Entry
 
 -- of what is given: its octets, its calls, and how it is recorded
 abbrev pub next_octets : Next → Octets

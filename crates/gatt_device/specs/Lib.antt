@@ -1,3 +1,5 @@
 pub mod Happenings
+pub mod Outside
 pub mod Serving
 pub mod Time
+pub mod Turn

@@ -1,0 +1,174 @@
+-- Whatever is recorded of a turn, rows were kept right before anything was sent, or could not be.
+use Rattle.std.specs.Prelude.{◌||◌, IsSome}
+use Rattle.std.proofs.Common.{◌≡◌, Bool, true, false, List, [], ◌∷◌, ◌++◌, Option, Some, None, Result, Ok, Err, refl, sym, ap, subst, ◌∙◌, ◌⊎◌, inl, inr, append_assoc}
+use Rattle.std.proofs.lemmas.Bool.{false≢true}
+use Rattle.gatt_device.proofs.Happened.{records_none, records_then}
+use Rattle.gatt_device.specs.declared.outside.Sending.{Sending}
+use Rattle.gatt_device.specs.declared.outside.Sending.TheVariants as sending
+use Rattle.gatt_device.specs.declared.serving.End.{End}
+use Rattle.gatt_device.specs.declared.serving.End.TheVariants as end
+use Rattle.gatt_device.specs.declared.turn.Turn.{Turn}
+use Rattle.gatt_device.specs.Happenings.{Happening, Came, Asked, Entry, Waited, Happened, Answered, Ended, Failed, Kept, Unkept, Sent, Records, items_in, items_of}
+use Rattle.gatt_device.specs.Outside.{Sends, kept_entry, sent_entries}
+use Rattle.gatt_device.specs.Serving.{Known, all_entries, entries_in, entries_of, last_entries}
+use Rattle.gatt_device.specs.Turn.{EndsKept, KeepsTheOrder, KeptBeforeSent, StaysInOrder, TakesATurn}
+use Rattle.gatt_host.specs.declared.host_fault.HostFault.{HostFault}
+use Rattle.gatt_host.specs.Whole.{StandsAt, Whole}
+use Rattle.gatt_laws.specs.machine.Input.{Course, Item, after_items, course}
+use Rattle.gatt_laws.specs.machine.Notice.{Notice}
+use Rattle.gatt_laws.specs.machine.Start.{Start}
+use Rattle.gatt_subs.specs.Rows.{Subscriptions}
+use Rattle.octets.specs.Number.{Octets}
+
+-- one place in two lists, one behind the other, is in the first or in the second
+abbrev SplitsAt : List Entry → List Entry → List Entry → Entry → List Entry → Type 0
+SplitsAt xs ys first entry rest =
+    ((later : List Entry) × (xs ≡ first ++ entry ∷ later)) ⊎ ((between : List Entry) × (first ≡ xs ++ between) × (ys ≡ between ++ entry ∷ rest))
+
+one_further : (x y : Entry) (xs ys first : List Entry) (entry : Entry) (rest : List Entry) → x ≡ y → SplitsAt xs ys first entry rest
+    → SplitsAt (x ∷ xs) ys (y ∷ first) entry rest
+one_further x y xs ys first entry rest same (inl found) = inl (found.0, λ i. same i ∷ found.1 i)
+one_further x y xs ys first entry rest same (inr found) = inr (found.0, λ i. sym same i ∷ found.1 i, found.2)
+
+splits_at : (xs ys first : List Entry) (entry : Entry) (rest : List Entry) → xs ++ ys ≡ first ++ entry ∷ rest → SplitsAt xs ys first entry rest
+splits_at [] ys first entry rest is = inr (first, refl, is)
+splits_at (x ∷ xs) ys [] entry rest is =
+    let same : x ≡ entry = cc in
+    inl (xs, λ i. same i ∷ xs)
+splits_at (x ∷ xs) ys (y ∷ first) entry rest is =
+    let same : x ≡ y = cc in
+    let behind : xs ++ ys ≡ first ++ entry ∷ rest = cc in
+    one_further x y xs ys first entry rest same (splits_at xs ys first entry rest behind)
+
+-- whether octets were sent
+abbrev is_sent : Entry → Bool
+is_sent (Sent octets) = true
+is_sent (Waited deadline) = false
+is_sent (Happened happening) = false
+is_sent (Answered refusal) = false
+is_sent Ended = false
+is_sent Failed = false
+is_sent (Kept rows) = false
+is_sent (Unkept rows) = false
+
+abbrev has_sent : List Entry → Bool
+has_sent [] = false
+has_sent (entry ∷ entries) = is_sent entry || has_sent entries
+
+or_true : (one other : Bool) → other ≡ true → (one || other) ≡ true
+or_true true other is = refl
+or_true false other is = is
+
+sent_there : (first : List Entry) (octets : Octets) (rest : List Entry) → has_sent (first ++ Sent octets ∷ rest) ≡ true
+sent_there [] octets rest = refl
+sent_there (entry ∷ first) octets rest = or_true (is_sent entry) _ (sent_there first octets rest)
+
+-- by what happens nothing is sent
+turn_unsent : (at : Course) (happening : Happening) (entries : List Entry) → has_sent entries ≡ false → has_sent (entries_of at happening ++ entries) ≡ false
+turn_unsent at (Came octets) entries none = none
+turn_unsent at (Asked call) entries none = none
+
+turns_unsent : (at : Course) (happened : List Happening) (entries : List Entry) → has_sent entries ≡ false → has_sent (entries_in at happened ++ entries) ≡ false
+turns_unsent at [] entries none = none
+turns_unsent at (happening ∷ happened) entries none =
+    let next : Course = after_items at (items_of happening) in
+    subst (λ (all : List Entry). has_sent all ≡ false) (sym (append_assoc (entries_of at happening) (entries_in next happened) entries))
+    (turn_unsent at happening (entries_in next happened ++ entries) (turns_unsent next happened entries none))
+
+last_unsent : (at : Course) (result : Result End HostFault) → has_sent (last_entries at result) ≡ false
+last_unsent at (Ok end.Ended) = refl
+last_unsent at (Ok end.Failed) = refl
+last_unsent at (Ok end.Turns) = refl
+last_unsent at (Err fault) = refl
+
+all_unsent : (at : Course) (happened : List Happening) (result : Result End HostFault) → has_sent (all_entries at happened result) ≡ false
+all_unsent at happened result =
+    turns_unsent at happened (last_entries (after_items at (items_in happened)) result) (last_unsent (after_items at (items_in happened)) result)
+
+kept_unsent : (is_kept : Bool) (rows : Subscriptions) → is_sent (kept_entry is_kept rows) ≡ false
+kept_unsent true rows = refl
+kept_unsent false rows = refl
+
+-- behind that rows were kept, octets were sent once, or not at all
+nothing_there : (between : List Entry) (entry : Entry) (rest : List Entry) → [] ≡ between ++ entry ∷ rest → ⊥
+nothing_there [] entry rest is = cc
+nothing_there (other ∷ between) entry rest is = cc
+
+right_behind : (kept : Entry) (sent : Octets) (between : List Entry) (octets : Octets) (rest : List Entry) → is_sent kept ≡ false
+    → kept ∷ sent_entries sent ≡ between ++ Sent octets ∷ rest → between ≡ kept ∷ []
+right_behind kept sent [] octets rest none is =
+    let same : kept ≡ Sent octets = cc in
+    absurd (false≢true (sym none ∙ ap is_sent same))
+right_behind kept [] (entry ∷ between) octets rest none is =
+    let behind : [] ≡ between ++ Sent octets ∷ rest = cc in
+    absurd (nothing_there between (Sent octets) rest behind)
+right_behind kept (octet ∷ sent) (entry ∷ []) octets rest none is =
+    let same : kept ≡ entry = cc in
+    λ i. sym same i ∷ []
+right_behind kept (octet ∷ sent) (entry ∷ other ∷ between) octets rest none is =
+    let behind : [] ≡ between ++ Sent octets ∷ rest = cc in
+    absurd (nothing_there between (Sent octets) rest behind)
+
+module _ (before turn : List Entry) (is_kept : Bool) (rows : Subscriptions) (sent : Octets) (none : has_sent turn ≡ false) (order : KeptBeforeSent before) where
+  abbrev behind : List Entry
+  behind = kept_entry is_kept rows ∷ sent_entries sent
+
+  in_turn : (first between rest : List Entry) (octets : Octets) → first ≡ before ++ between → SplitsAt turn behind between (Sent octets) rest → EndsKept first
+  in_turn first between rest octets at (inl found) = absurd (false≢true (sym none ∙ (ap has_sent found.1 ∙ sent_there between octets found.0)))
+  in_turn first between rest octets at (inr found) = record {
+    earlier = before ++ turn;
+    is_kept = is_kept;
+    rows = rows;
+    parts = at
+        ∙ ap (λ (it : List Entry). before ++ it) (found.1 ∙ ap (λ (it : List Entry). turn ++ it)
+        (right_behind (kept_entry is_kept rows) sent found.0 octets rest (kept_unsent is_kept rows) found.2))
+        ∙ sym (append_assoc before turn (kept_entry is_kept rows ∷ []));
+  }
+
+  in_all : (first rest : List Entry) (octets : Octets) → SplitsAt before (turn ++ behind) first (Sent octets) rest → EndsKept first
+  in_all first rest octets (inl found) = order first found.0 octets found.1
+  in_all first rest octets (inr found) = in_turn first found.0 rest octets found.1 (splits_at turn behind found.0 (Sent octets) rest found.2)
+
+  stays : KeptBeforeSent (before ++ (turn ++ behind))
+  stays first rest octets is = in_all first rest octets (splits_at before (turn ++ behind) first (Sent octets) rest is)
+
+stays_in_order : (turn : List Entry) (is_kept : Bool) (rows : Subscriptions) (sent : Octets) (before after : Option (List Entry)) → has_sent turn ≡ false
+    → Records (turn ++ (kept_entry is_kept rows ∷ sent_entries sent)) before after → KeepsTheOrder before after
+stays_in_order turn is_kept rows sent None after none records = tt
+stays_in_order turn is_kept rows sent (Some before) None none records = records
+stays_in_order turn is_kept rows sent (Some before) (Some after) none records = λ order.
+    subst KeptBeforeSent (sym records) (stays before turn is_kept rows sent none order)
+
+-- and so for each way in which octets are sent
+module _ (rows : Subscriptions) (turn : Turn) (entries : List Entry) (none : has_sent entries ≡ false) (before recorded kept : Option (List Entry))
+    (served : Records entries before recorded) (keeps : Records (kept_entry turn.is_kept rows ∷ []) recorded kept) where
+  sent_in_order : (sent : Octets) (after : Option (List Entry)) → Records (sent_entries sent) kept after → KeepsTheOrder before after
+  sent_in_order sent after sends =
+      stays_in_order entries turn.is_kept rows sent before after none
+      (records_then entries (kept_entry turn.is_kept rows ∷ sent_entries sent) before recorded after served
+      (records_then (kept_entry turn.is_kept rows ∷ []) (sent_entries sent) recorded kept after keeps sends))
+
+  in_order : (sending : Sending) (waiting : Octets) (after : Option (List Entry)) → Sends sending waiting kept after → KeepsTheOrder before after
+  in_order sending.Done waiting after sends = sent_in_order waiting after sends
+  in_order sending.Waits waiting after sends = sent_in_order [] after sends
+  in_order sending.Failed waiting after sends = sent_in_order sends.sent after sends.records
+
+-- a turn keeps the order, whether the host had stopped or not
+keeps_order : (turn : Turn) (old new : Whole) (come comes : Known) (before after : Option Octets) (heard hears : Option (List Notice)) (start : Start) (input : List Item) (gone : List Octets)
+    → StandsAt (course start input) gone old → TakesATurn turn old new come comes before after heard hears → (found : Option HostFault) → old.fault ≡ found
+    → KeepsTheOrder come.history comes.history
+keeps_order turn old new come comes before after heard hears start input gone is takes None stands =
+    let serves = takes.serves stands in
+    in_order new.held.rows turn (all_entries (course start input) serves.happened turn.served) (all_unsent (course start input) serves.happened turn.served)
+    come.history takes.recorded takes.settles.kept (serves.records start input gone is) takes.settles.keeps
+    turn.sending takes.settles.sends.waiting comes.history takes.settles.sends.sends
+keeps_order turn old new come comes before after heard hears start input gone is takes (Some fault) stands =
+    let nothing = takes.stopped (subst IsSome (sym stands) refl) in
+    in_order new.held.rows turn [] refl come.history takes.recorded takes.settles.kept
+    (subst (λ (it : Option (List Entry)). Records [] come.history it) (sym (ap (λ (it : Known). it.history) nothing.happens)) (records_none come.history))
+    takes.settles.keeps turn.sending takes.settles.sends.waiting comes.history takes.settles.sends.sends
+
+pub stays_ordered : (turn : Turn) (old new : Whole) (come comes : Known) (before after : Option Octets) (heard hears : Option (List Notice))
+    → TakesATurn turn old new come comes before after heard hears → StaysInOrder old come.history comes.history
+stays_ordered turn old new come comes before after heard hears takes start input gone is =
+    keeps_order turn old new come comes before after heard hears start input gone is takes old.fault refl
