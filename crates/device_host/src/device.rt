@@ -5,6 +5,7 @@ ghost use Rattle.std.specs.Prelude.{None};
 use crate::application::Application;
 use crate::log::Log;
 use crate::recording::Recording;
+use crate::rows::RowsFile;
 use crate::strangers::Strangers;
 use crate::stream::Stream;
 use crate::waiting::{Ready, Source, Waiting};
@@ -13,6 +14,7 @@ use arrayvec::ArrayVec;
 use device_lines::{Asked, Found, LONGEST, read_line};
 use gatt_device::{Happenings, Next};
 use gatt_host::{App, AppFault};
+use std::alloc::Global;
 use std::fs::{File, Files};
 use std::net::{Net, TcpListener, TcpStream};
 use std::str;
@@ -35,15 +37,19 @@ pub(crate) enum Question {
     TooLong,
 }
 
-/// The controller, the application and the clock of a device.
+/// The controller, the application, the clock and the files of a device.
 #[derive(Drop)]
 pub(crate) struct Device<'a, R> {
+    pub(crate) alloc: Global,
     pub(crate) log: Log<'a, R>,
     pub(crate) way: Way<'a>,
     pub(crate) stream: Option<Stream>,
     pub(crate) application: Application,
     pub(crate) strangers: Strangers,
     pub(crate) recording: Recording,
+    pub(crate) file: RowsFile<'a>,
+    /// Whether the rows that stand are in the file, if there is one.
+    pub(crate) is_kept: bool,
     pub(crate) waiting: Waiting,
     /// Whether a controller has come in this turn.
     pub(crate) is_reached: bool,

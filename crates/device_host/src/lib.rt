@@ -8,6 +8,8 @@ mod application;
 mod device;
 mod heard;
 mod log;
+mod outgoing;
+mod outside;
 mod places;
 mod recording;
 mod rows;

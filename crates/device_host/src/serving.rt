@@ -4,17 +4,18 @@ use crate::application::Application;
 use crate::device::{Device, Question};
 use crate::heard::Heard;
 use crate::log::Log;
+use crate::outgoing::ToController;
 use crate::recording::Recording;
 use crate::rows::RowsFile;
 use crate::settings::{Door, Reached, Settings};
 use crate::strangers::Strangers;
-use crate::telling::{settle, tell};
+use crate::telling::tell;
 use crate::unknown::unknown_peer;
 use crate::waiting::{Source, Waiting};
 use crate::way::Way;
 use crate::words::HostWords;
-use device_lines::{Outbox, Told};
-use gatt_device::{End, serve_happenings};
+use device_lines::Told;
+use gatt_device::{End, Sending, serve_turn};
 use gatt_files::{LazyFile, RowsPath, RowsReader, ShellFault};
 use gatt_host::{Host, HostFault, Keys, Rows, Table};
 use std::alloc::Global;
@@ -22,9 +23,6 @@ use std::fs::{File, Files};
 use std::io;
 use std::net::{Net, TcpListener, TcpStream};
 use std::time::Clock;
-
-/// As many octets may wait for a controller.
-const LIMIT: usize = 1_048_576;
 
 /// Why a device serves no longer.
 #[derive(Clone, Copy, Debug, PartialEq, Eq)]
@@ -83,7 +81,7 @@ fn prepare_and_serve<
     if file.save_first(rt, host.rows()).is_err() {
         return Err(Stop::Fault(ShellFault::Unwritten));
     }
-    let Ok(mut device) = listening(rt, alloc, settings) else {
+    let Ok(mut device) = listening(rt, alloc, settings, file) else {
         return Err(Stop::Fault(ShellFault::Listen));
     };
     // Not before: where another one serves already, its capture is not emptied.
@@ -91,7 +89,7 @@ fn prepare_and_serve<
         device.recording = record_to(rt, alloc, path)?;
     }
     device.log.say("ready");
-    serve_each(alloc, &mut device, host, settings, &mut file, words)?;
+    serve_each(alloc, &mut device, host, settings, words)?;
     Ok(())
 }
 
@@ -143,11 +141,17 @@ fn open(
     }
 }
 
-/// A device that waits for its controller and its application.
+/// A device that waits for its controller and its application, and keeps its rows in a file, if it
+/// has one.
 fn listening<
     'a,
     R: Files<File = File> + Net<Listener = TcpListener, Stream = TcpStream> + Clock + Eprint,
->(rt: &'a R, alloc: Global, settings: &Settings<'a>) -> io::Result<Device<'a, R>> {
+>(
+    rt: &'a R,
+    alloc: Global,
+    settings: &Settings<'a>,
+    file: RowsFile<'a>,
+) -> io::Result<Device<'a, R>> {
     let log = Log::new(rt, alloc)?;
     let waiting = Waiting::new(alloc, rt)?;
     let way = match settings.reached {
@@ -176,12 +180,15 @@ fn listening<
         }
     }
     Ok(Device {
+        alloc,
         log,
         way,
         stream: None,
         application,
         strangers: Strangers::new(settings.idle),
         recording: Recording::none(),
+        file,
+        is_kept: true,
         waiting,
         is_reached: false,
         question: Question::Nothing,
@@ -204,13 +211,12 @@ fn serve_each<
     device: &mut Device<'_, R>,
     host: Host,
     settings: &Settings<'_>,
-    file: &mut RowsFile<'_>,
     words: &HostWords<'_>,
 ) -> Result<(), ShellFault> {
     let mut host = host;
     for _controller in 0..u64::MAX {
         let mut heard = Heard::new(alloc, words.log_values);
-        let over = serve_one(alloc, device, &mut host, &mut heard, file);
+        let over = serve_one(alloc, device, &mut host, &mut heard);
         tell_over(alloc, device, over);
         if words.once {
             return match over {
@@ -243,21 +249,14 @@ fn tell_over<R: Clock + Eprint>(alloc: Global, device: &mut Device<'_, R>, over:
 /// Serves a controller, once it is reached, until it is gone or the host has stopped.
 fn serve_one<
     R: Files<File = File> + Net<Listener = TcpListener, Stream = TcpStream> + Clock + Eprint,
->(
-    alloc: Global,
-    device: &mut Device<'_, R>,
-    host: &mut Host,
-    heard: &mut Heard,
-    file: &mut RowsFile<'_>,
-) -> Over {
-    let mut queue = Outbox::new(alloc, LIMIT);
+>(alloc: Global, device: &mut Device<'_, R>, host: &mut Host, heard: &mut Heard) -> Over {
+    let mut out = ToController::new(alloc);
     for _turn in 0..u64::MAX {
-        let turn = serve_happenings(host, device, &mut queue, heard, 1);
-        settle(alloc, device, host, heard, file);
-        if write_out(device, &mut queue).is_err() {
+        let turn = serve_turn(host, device, &mut out, heard);
+        if matches!(turn.sending, Sending::Failed) {
             return Over::Gone("gone: it cannot be written");
         }
-        match turn {
+        match turn.served {
             Ok(End::Turns) => {}
             Ok(End::Ended) => return Over::Gone("gone"),
             Ok(End::Failed) => return Over::Gone("gone: it cannot be read"),
@@ -265,17 +264,4 @@ fn serve_one<
         }
     }
     Over::Gone("gone")
-}
-
-/// Writes to the controller what waits for it, if it is there.
-fn write_out<R: Clock + Eprint>(device: &mut Device<'_, R>, queue: &mut Outbox) -> io::Result<()> {
-    if queue.waiting().is_empty() {
-        return Ok(());
-    }
-    if let Some(stream) = &mut device.stream {
-        stream.write(queue.waiting(), &device.log)?;
-        device.recording.went(queue.waiting(), &device.log);
-        queue.clear();
-    }
-    Ok(())
 }

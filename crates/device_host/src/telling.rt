@@ -3,7 +3,6 @@
 
 use crate::device::{Device, Question};
 use crate::heard::Heard;
-use crate::rows::RowsFile;
 use device_lines::{Reply, Told, add_connections, add_reply, add_told};
 use gatt_host::{AppFault, Host};
 use std::alloc::{AllocError, Global};
@@ -13,12 +12,11 @@ use std::time::Clock;
 
 /// Answers and tells the application what a turn has brought, logs it, and saves the rows.
 pub(crate) fn settle<R: Files<File = File> + Clock + Eprint>(
-    alloc: Global,
     device: &mut Device<'_, R>,
     host: &Host,
     heard: &mut Heard,
-    file: &mut RowsFile<'_>,
 ) {
+    let alloc = device.alloc;
     if device.is_reached {
         device.is_reached = false;
         device.log.say("controller");
@@ -26,7 +24,7 @@ pub(crate) fn settle<R: Files<File = File> + Clock + Eprint>(
     }
     answer(alloc, device, host);
     if !heard.is_nothing() {
-        hear(device, host, heard, file);
+        hear(device, host, heard);
     }
     if device.application.is_new {
         device.application.is_new = false;
@@ -41,7 +39,6 @@ fn hear<R: Files<File = File> + Clock + Eprint>(
     device: &mut Device<'_, R>,
     host: &Host,
     heard: &mut Heard,
-    file: &mut RowsFile<'_>,
 ) {
     if heard.is_refused {
         device.log.say("memory: refused for notices");
@@ -51,8 +48,11 @@ fn hear<R: Files<File = File> + Clock + Eprint>(
         say(device, heard.text.as_slice());
     }
     log_lines(device, heard.log.as_slice());
-    if heard.may_change_rows && file.save(device.log.rt, host.rows()).is_err() {
-        device.log.say("rows: not saved");
+    if heard.may_change_rows {
+        device.is_kept = device.file.save(device.log.rt, host.rows()).is_ok();
+        if !device.is_kept {
+            device.log.say("rows: not saved");
+        }
     }
     heard.clear();
 }

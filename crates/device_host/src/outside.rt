@@ -1,0 +1,34 @@
+//! What a device does outside of its host, with its log, its files and its sockets.
+
+use crate::device::Device;
+use crate::heard::Heard;
+use crate::telling::settle;
+use gatt_device::{Outside, Sending};
+use gatt_host::Host;
+use std::fs::{File, Files};
+use std::net::{Net, TcpListener, TcpStream};
+use std::time::Clock;
+
+impl<
+    R: Files<File = File> + Net<Listener = TcpListener, Stream = TcpStream> + Clock + Eprint,
+> Outside<Heard> for Device<'_, R> {
+    fn keep(&mut self, host: &Host, heard: &mut Heard) -> bool {
+        settle(self, host, heard);
+        self.is_kept
+    }
+
+    #[tactic(auto, using(gatt_device::proofs::Unknown::sends_unknown))]
+    fn send(&mut self, octets: &[u8]) -> Sending {
+        if octets.is_empty() {
+            return Sending::Done;
+        }
+        let Some(stream) = &mut self.stream else {
+            return Sending::Waits;
+        };
+        if stream.write(octets, &self.log).is_err() {
+            return Sending::Failed;
+        }
+        self.recording.went(octets, &self.log);
+        Sending::Done
+    }
+}
