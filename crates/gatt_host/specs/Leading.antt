@@ -23,15 +23,14 @@ KnowsTheSame = (state : State) (held : Held) → IsSound state → Stands state 
 
 -- so the same happens there
 abbrev pub EventsLeadOn : Type 0
-EventsLeadOn = (state : State) (held new : Held) (event : Event) → IsSound state
-    → Stands state [] held →
-    IsMeant (λ table. Unit) state event → IsAfter (renamed (place_of state) event) held new
-    → LeadsTo state event new
+EventsLeadOn = (state : State) (held new : Held) (event : Event) → IsSound state →
+    Stands state [] held → IsMeant (λ table. Unit) state event →
+    IsAfter (renamed (place_of state) event) held new → LeadsTo state event new
 
 -- the frames that are put together at the slots are those of their connections' fragments
 abbrev pub HoldsFrames : State → Fragments → Frames → Type 0
-HoldsFrames state fragments frames = (place : ℕ) (ordinal : Ordinal)
-    → slice_get state.slots place ≡ Some (Some ordinal) →
+HoldsFrames state fragments frames =
+    (place : ℕ) (ordinal : Ordinal) → slice_get state.slots place ≡ Some (Some ordinal) →
     get_or frames place nothing ≡ once_heard (assembly_after (fragments ordinal))
 
 -- and so they are after an ACL packet, with the fragments and its own
@@ -39,8 +38,8 @@ abbrev pub FramesFollow : Type 0
 FramesFollow =
     (state : State) (held : Held) (fragments : Fragments) (frames : Frames)
     (handle boundary broadcast : ℕ) (octets : Octets) →
-    IsSound state → Stands state [] held → length state.slots ≤ length frames
-    → HoldsFrames state fragments frames →
+    IsSound state → Stands state [] held → length state.slots ≤ length frames →
+    HoldsFrames state fragments frames →
     HoldsFrames state
     (with_arrival fragments (arrival state (AclPacket handle boundary broadcast octets)))
     (frames_after_acl held handle boundary broadcast octets frames)

@@ -1,38 +1,32 @@
 -- Where a host stands: what it holds is what a state of the whole machine says, but for what is still to go out.
-use Rattle.std.specs.Prelude.{◌≡◌, ℕ, suc, ◌≤◌, true, false, is_some, if◌then◌else◌, unwrap_or, List, [], ◌∷◌, length, map, replicate, slice_get, Option, Some, None}
+use Rattle.std.specs.Prelude.{◌≡◌, ℕ, suc, true, false, is_some, if◌then◌else◌, unwrap_or, List, [], ◌∷◌, length, replicate, slice_get, Option, Some, None}
 use Rattle.std.specs.Option.{option_map_or}
-use Rattle.att_numbers.specs.Types.{Handle}
 use Rattle.att_table.specs.Changer.{changer_of}
-use Rattle.att_table.specs.Table.{Contents}
-use Rattle.gatt_host.specs.Held.{Held, open_slots, kept_at, after_authorize, after_ask_key, after_coming, after_completing, after_credit, after_disconnect, after_going, after_link, after_nothing, after_replacing, after_signals, after_tick, after_update, Serves}
+use Rattle.gatt_host.specs.Held.{Held, open_slots}
 use Rattle.gatt_host.specs.Notices.{last_notices}
 use Rattle.gatt_host.specs.Owing.{IsOwing}
-use Rattle.gatt_laws.specs.machine.Controller.{Slots, has_free, is_ready, with_taken}
-use Rattle.gatt_laws.specs.machine.Event.{Ordinal, Event, Nothing, Tick, Update, Of, Connected, Gone, Authorized, Ended, KeyAsked, Encrypted, Refreshed, Signals, Asks, Completed, Credit, Replaced}
+use Rattle.gatt_laws.specs.machine.Controller.{Slots, is_ready, with_taken}
+use Rattle.gatt_laws.specs.machine.Event.{Ordinal, Event}
 use Rattle.gatt_laws.specs.machine.Input.{Item, course}
 use Rattle.gatt_laws.specs.machine.Notice.{noticed}
 use Rattle.gatt_laws.specs.machine.Part.{Part, is_live, key_of}
 use Rattle.gatt_laws.specs.machine.Room.{Bonds, Owed}
 use Rattle.gatt_laws.specs.laws.Placed.{IsPlaced}
-use Rattle.gatt_laws.specs.laws.Possible.{HaveSlots, Possible, MayBeUpdated}
 use Rattle.gatt_laws.specs.laws.Queued.{HasBoundedQueues}
-use Rattle.gatt_laws.specs.laws.Renaming.{renamed_entry}
 use Rattle.gatt_laws.specs.laws.Settled.{is_slot_of, IsSettled}
 use Rattle.gatt_laws.specs.machine.Start.{Start, new_controller, state_at, first_out}
 use Rattle.gatt_laws.specs.machine.State.{State, step, out}
-use Rattle.gatt_slots.specs.Kept.{Kept}
-use Rattle.gatt_slots.specs.Slots.{Place, place_free}
+use Rattle.gatt_slots.specs.Slots.{Place}
 use Rattle.gatt_subs.specs.declared.bond.Bond.{Bond}
 use Rattle.gatt_subs.specs.Fit.{IsListed, rows_listed}
 use Rattle.gatt_subs.specs.Rows.{Subscriptions, bond_of, row_of}
 use Rattle.le_acl.specs.Shares.{usable}
 use Rattle.le_hci.specs.declared.buffers.Buffers.{Buffers}
-use Rattle.le_hci.specs.declared.init.Init.{Init}
 use Rattle.le_hci.specs.declared.peer.Peer.{Peer}
 use Rattle.le_hci.specs.InitTold.{told_in}
 use Rattle.le_security.specs.declared.entry.Entry.{Entry}
 use Rattle.le_security.specs.Keys.{is_known}
-use Rattle.le_security.specs.Link.{Encryption, Refresh, last_asked}
+use Rattle.le_security.specs.Link.{last_asked}
 use Rattle.octets.specs.Number.{Octets}
 
 -- the rows have a bond of each peer that has a key, and no other is owed or has configured anything that lasts
@@ -79,68 +73,16 @@ pub record IsSound (state : State) : Type 0 where
   pub queued : HasBoundedQueues state
   pub placed : IsPlaced state
 
--- Each event leads a host from where it stands to where it stands next, once what was owed is out.
-
--- And what the application is told of it is what the state machine has.
+-- an event leads a host from where it stands to where it stands next, and what the application is told of it is what the state
+-- machine has
 pub record LeadsTo (state : State) (event : Event) (new : Held) : Type 0 where
   pub stands : Stands (step state event) (out state event) new
   pub told : last_notices new ≡ noticed state event
-
-abbrev pub NothingLeadsOn : Type 0
-NothingLeadsOn = (state : State) (held : Held) → IsSound state → Stands state [] held → LeadsTo state Nothing (after_nothing held)
-
-abbrev pub TimeLeadsOn : Type 0
-TimeLeadsOn = (state : State) (held : Held) (now : ℕ) → IsSound state → Stands state [] held → state.room.time ≤ now →
-    LeadsTo state (Tick now) (after_tick now held)
-
-abbrev pub UpdateLeadsOn : Type 0
-UpdateLeadsOn = (state : State) (held : Held) (handle : Handle) (value : Octets) → IsSound state → Stands state [] held →
-    MayBeUpdated state handle value → LeadsTo state (Update handle value) (after_update handle value held)
 
 -- the connection of a slot, which serves
 pub record IsServing (state : State) (place : ℕ) (ordinal : Ordinal) : Type 0 where
   pub there : slice_get state.slots place ≡ Some (Some ordinal)
   pub live : is_live (state.parts ordinal).mark ≡ true
-
-abbrev pub AuthorizingLeadsOn : Type 0
-AuthorizingLeadsOn = (state : State) (held : Held) (place : ℕ) (ordinal : Ordinal) (until : ℕ) → IsSound state → Stands state [] held →
-    IsServing state place ordinal → LeadsTo state (Of ordinal (Authorized until)) (after_authorize place until held)
-
-abbrev pub DisconnectingLeadsOn : Type 0
-DisconnectingLeadsOn = (state : State) (held : Held) (place : ℕ) (ordinal : Ordinal) → IsSound state → Stands state [] held →
-    IsServing state place ordinal → LeadsTo state (Of ordinal Ended) (after_disconnect place held)
-
-abbrev pub AskingAKeyLeadsOn : Type 0
-AskingAKeyLeadsOn = (state : State) (held : Held) (place : ℕ) (ordinal : Ordinal) (random_number : Octets) (diversifier : ℕ) → IsSound state →
-    Stands state [] held → IsServing state place ordinal →
-    LeadsTo state (Of ordinal (KeyAsked random_number diversifier)) (after_ask_key place random_number diversifier held)
-
-abbrev pub SignalsLeadOn : Type 0
-SignalsLeadOn = (state : State) (held : Held) (place : ℕ) (ordinal : Ordinal) (channel : ℕ) (payload : Octets) → IsSound state →
-    Stands state [] held → IsServing state place ordinal →
-    LeadsTo state (Of ordinal (Signals channel payload)) (after_signals place channel payload held)
-
-abbrev pub EncryptionLeadsOn : Type 0
-EncryptionLeadsOn = (state : State) (held : Held) (place : ℕ) (ordinal : Ordinal) (status enabled : ℕ) → IsSound state → Stands state [] held →
-    IsServing state place ordinal → LeadsTo state (Of ordinal (Encrypted status enabled)) (after_link place (Encryption status enabled) held)
-
-abbrev pub RefreshLeadsOn : Type 0
-RefreshLeadsOn = (state : State) (held : Held) (place : ℕ) (ordinal : Ordinal) (status : ℕ) → IsSound state → Stands state [] held →
-    IsServing state place ordinal → LeadsTo state (Of ordinal (Refreshed status)) (after_link place (Refresh status) held)
-
-abbrev pub RequestLeadsOn : Type 0
-RequestLeadsOn = (state : State) (held new : Held) (place : ℕ) (ordinal : Ordinal) (pdu : Octets) (kept : Kept) → IsSound state → Stands state [] held →
-    IsServing state place ordinal → kept_at held place ≡ Some kept → Serves place pdu kept held new → LeadsTo state (Of ordinal (Asks pdu)) new
-
--- a connection goes, and one comes to the first slot that is free
-abbrev pub GoingLeadsOn : Type 0
-GoingLeadsOn = (state : State) (held : Held) (place : ℕ) (ordinal : Ordinal) → IsSound state → Stands state [] held →
-    slice_get state.slots place ≡ Some (Some ordinal) → LeadsTo state (Of ordinal Gone) (after_going place held)
-
-abbrev pub ComingLeadsOn : Type 0
-ComingLeadsOn = (state : State) (held : Held) (place handle : ℕ) (peer : Peer) → IsSound state → Stands state [] held →
-    has_free state.slots ≡ true → place_free held.slots ≡ Some place →
-    LeadsTo state (Of state.next (Connected handle peer)) (after_coming place handle peer held)
 
 -- a connection is named by the place of its slot, and the one that comes next by that of the slot that it takes
 abbrev pub place_among : Slots → Ordinal → Place
@@ -149,23 +91,6 @@ place_among (slot ∷ slots) ordinal = if is_slot_of ordinal slot then 0 else su
 
 abbrev pub place_of : State → Ordinal → Place
 place_of state ordinal = place_among (with_taken state.next state.slots) ordinal
-
--- packets of connections are completed
-abbrev pub CompletionLeadsOn : Type 0
-CompletionLeadsOn = (state : State) (held : Held) (entries : List (Ordinal × ℕ)) → IsSound state → Stands state [] held →
-    is_ready state.controller ≡ true → HaveSlots state.slots entries →
-    LeadsTo state (Completed entries) (after_completing (map (renamed_entry (place_of state)) entries) held)
-
--- a table replaces another
-abbrev pub ReplacementLeadsOn : Type 0
-ReplacementLeadsOn = (state : State) (held : Held) (table : Contents) → IsSound state → Stands state [] held →
-    LeadsTo state (Replaced table) (after_replacing table held)
-
--- a command is answered: a state of initialisation follows only before the controller is initialised
-abbrev pub AnswerLeadsOn : Type 0
-AnswerLeadsOn = (state : State) (held : Held) (allowed opcode : ℕ) (status : Option ℕ) (following : Option Init) → IsSound state → Stands state [] held →
-    Possible (λ table. Unit) state (Credit allowed opcode status following) →
-    LeadsTo state (Credit allowed opcode status following) (after_credit allowed opcode status following held)
 
 -- what each peer has configured, and whether it is owed, by the bonds of the rows
 abbrev pub bonds_of : Subscriptions → Bonds

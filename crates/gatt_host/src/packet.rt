@@ -160,8 +160,8 @@ fn fragment(
 )
     requires there { IsThere state.old.slots place }
     requires rows { HasRowsOfTheTable state.old }
-    ensures after { IsAfter
-        (fragment_event place (recombination frame.old) (fragment_of pb bc octets.now)) state.old state.new }
+    ensures after { IsAfter (fragment_event place (recombination frame.old)
+        (fragment_of pb bc octets.now)) state.old state.new }
     ensures left { frame.new ≡ fragment_left (fragment_of pb bc octets.now) frame.old }
 {
     if is_whole(pb, bc, octets) {
@@ -184,8 +184,8 @@ fn join_fragment(
 )
     requires there { IsThere state.old.slots place }
     requires rows { HasRowsOfTheTable state.old }
-    ensures after { IsAfter
-        (fragment_event place (recombination frame.old) (fragment_of pb bc octets.now)) state.old state.new }
+    ensures after { IsAfter (fragment_event place (recombination frame.old)
+        (fragment_of pb bc octets.now)) state.old state.new }
     ensures left { frame.new ≡ fragment_left (fragment_of pb bc octets.now) frame.old }
 {
     match join(frame, pb, bc, octets) {

@@ -24,9 +24,10 @@ impl HostState {
     #[inline(always)]
     pub(crate) fn reported(&mut self, frames: &mut [Reassembler; 8], event: &Event<'_>)
         ensures after { IsAfter
-            (connection_event_if_ready (context_in self.old) (report_of event.now)) self.old self.new }
-        ensures frames { frames.new
-            ≡ frames_after (connection_event_if_ready (context_in self.old) (report_of event.now)) frames.old }
+            (connection_event_if_ready (context_in self.old) (report_of event.now))
+            self.old self.new }
+        ensures frames { frames.new ≡ frames_after
+            (connection_event_if_ready (context_in self.old) (report_of event.now)) frames.old }
     {
         if self.controller.is_ready() {
             self.connection_reported(frames, event);
@@ -41,8 +42,8 @@ impl HostState {
         requires { laws.is_ready self.old.controller ≡ true }
         ensures after { IsAfter
             (connection_event (context_in self.old) (report_of event.now)) self.old self.new }
-        ensures frames { frames.new
-            ≡ frames_after (connection_event (context_in self.old) (report_of event.now)) frames.old }
+        ensures frames { frames.new ≡ frames_after
+            (connection_event (context_in self.old) (report_of event.now)) frames.old }
     {
         match *event {
             Event::DisconnectionComplete { status, handle, .. } => self.gone(status, handle),

@@ -40,9 +40,8 @@ use Rattle.gatt_laws.proofs.OwnWrites.{served_turn}
 use Rattle.gatt_laws.specs.laws.AllowedNotices.{is_writing, MayWrite, WasAllowed, TellsWhatWasAllowed}
 use Rattle.gatt_laws.specs.laws.AllowedNotices.{TellsNoRefusals, TellsNothingIgnored, TellsOnlyOfTheLive}
 use Rattle.gatt_laws.specs.machine.Controller.{Slots}
-use Rattle.gatt_laws.specs.machine.Event.{Ordinal, Own, Event, KeyAsked, Encrypted, Refreshed, Asks}
-use Rattle.gatt_laws.specs.machine.Event.{Signals, Authorized, Ended, Of, Completed, Credit, Update, Tick}
-use Rattle.gatt_laws.specs.machine.Event.{Replaced, Nothing}
+use Rattle.gatt_laws.specs.machine.Event.{Ordinal, Own, Encrypted, Refreshed, Asks}
+use Rattle.gatt_laws.specs.machine.Event.{Of, Credit, Tick}
 use Rattle.gatt_laws.specs.machine.Event as event
 use Rattle.gatt_laws.specs.laws.Headline.{Each, MayUse}
 use Rattle.gatt_laws.specs.machine.Notice.{Notice, Connected, Disconnected, Secured, Unsecured, Written}
@@ -220,12 +219,7 @@ module _ (state : State) where
         (key_of turn.part)
     live-allowed bond (Refreshed status) turn = link-allowed its.handle (key_of its)
         (key_of turn.part)
-    live-allowed bond (event.Connected handle peer) turn = none-allowed
-    live-allowed bond event.Gone turn = none-allowed
-    live-allowed bond (KeyAsked random_number diversifier) turn = none-allowed
-    live-allowed bond (Signals channel payload) turn = none-allowed
-    live-allowed bond (Authorized until) turn = none-allowed
-    live-allowed bond Ended turn = none-allowed
+    live-allowed bond own turn = none-allowed
 
   module _ (ordinal : Ordinal) (bond : Row) (turn : Turn) where
     abbrev told-part : Part
@@ -247,19 +241,7 @@ module _ (state : State) where
     own-allowed event.Gone =
         either-allowed (Disconnected told-part.handle ∷ []) [] (is_there told-part.mark)
         (one-allowed (Disconnected told-part.handle) tt) none-allowed
-    own-allowed (KeyAsked random_number diversifier) =
-        if-live-allowed (KeyAsked random_number diversifier) (is_live told-part.mark) refl
-    own-allowed (Encrypted status enabled) = if-live-allowed (Encrypted status enabled)
-        (is_live told-part.mark) refl
-    own-allowed (Refreshed status) = if-live-allowed (Refreshed status)
-        (is_live told-part.mark) refl
-    own-allowed (Asks pdu) = if-live-allowed (Asks pdu) (is_live told-part.mark) refl
-    own-allowed (Signals channel payload) = if-live-allowed (Signals channel payload)
-        (is_live told-part.mark) refl
-    own-allowed (Authorized until) = if-live-allowed (Authorized until)
-        (is_live told-part.mark) refl
-    own-allowed Ended = if-live-allowed Ended
-        (is_live told-part.mark) refl
+    own-allowed own = if-live-allowed own (is_live told-part.mark) refl
 
 pub tells_what_was_allowed : TellsWhatWasAllowed
 unfolding noticed
@@ -267,26 +249,17 @@ tells_what_was_allowed state (Of ordinal own) =
     let part : Part = state.parts ordinal in
     let bond : Row = state.bonds part.peer in
     own-allowed state ordinal bond (turn_of state.room bond (state.owed part.peer) part own) own
-tells_what_was_allowed state (Completed entries) = none-allowed state
 tells_what_was_allowed state (Credit allowed opcode status following) = none-allowed state
-tells_what_was_allowed state (Update handle value) = none-allowed state
 tells_what_was_allowed state (Tick time) = slots-allowed state time state.slots
-tells_what_was_allowed state (Replaced table) = none-allowed state
-tells_what_was_allowed state Nothing = none-allowed state
+tells_what_was_allowed state event = none-allowed state
 
 -- Who does not serve tells nothing.
 
 pub tells_only_of_the_live : TellsOnlyOfTheLive
 unfolding noticed
-tells_only_of_the_live state ordinal (KeyAsked random_number diversifier) is kind = rw is refl
-tells_only_of_the_live state ordinal (Encrypted status enabled) is kind = rw is refl
-tells_only_of_the_live state ordinal (Refreshed status) is kind = rw is refl
-tells_only_of_the_live state ordinal (Asks pdu) is kind = rw is refl
-tells_only_of_the_live state ordinal (Signals channel payload) is kind = rw is refl
-tells_only_of_the_live state ordinal (Authorized until) is kind = rw is refl
-tells_only_of_the_live state ordinal Ended is kind = rw is refl
 tells_only_of_the_live state ordinal (event.Connected handle peer) is kind = cc kind
 tells_only_of_the_live state ordinal event.Gone is kind = cc kind
+tells_only_of_the_live state ordinal own is kind = rw is refl
 
 -- A request that is refused tells nothing, and neither does what is ignored.
 

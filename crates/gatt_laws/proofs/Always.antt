@@ -11,11 +11,8 @@ use Rattle.gatt_laws.specs.machine.State.{State, step}
 
 -- the tables of items are that of the first, if it is one, and the others
 pub first_fine : (Fine : Contents → Type 0) (item : Item) (items : List Item) → AllTables Fine (item ∷ items) → IsFine Fine item × AllTables Fine items
-first_fine Fine (AnOctet octet) items tables = (tt, tables)
-first_fine Fine (APacket packet) items tables = (tt, tables)
-first_fine Fine (ACall call) items tables = (tt, tables)
 first_fine Fine (ATable table) items tables = (tables.0, tables.1)
-first_fine Fine TheEnd items tables = (tt, tables)
+first_fine Fine item items tables = (tt, tables)
 
 module _ (Fine : Contents → Type 0) (P : State → Type 0) (keeps : (state : State) (event : Event) → Possible Fine state event → P state → P (step state event)) where
   if-keeps : (state : State) (found : Option Event) → MeantIfSome Fine state found → P state → P (after_if state found)

@@ -111,13 +111,7 @@ turn-grows : (room : Room) (bond : Row) (owed : Bool) (part : Part) (own : Own) 
     → Grows part (turn_of room bond owed part own).part
 turn-grows room bond owed part (Connected handle peer) there after = rw there (stays part part refl refl refl refl (λ lives. lives))
 turn-grows room bond owed part Gone there after = cc after
-turn-grows room bond owed part (KeyAsked random_number diversifier) there after = if-live-grows room bond owed part (KeyAsked random_number diversifier) (is_live part.mark) refl
-turn-grows room bond owed part (Encrypted status enabled) there after = if-live-grows room bond owed part (Encrypted status enabled) (is_live part.mark) refl
-turn-grows room bond owed part (Refreshed status) there after = if-live-grows room bond owed part (Refreshed status) (is_live part.mark) refl
-turn-grows room bond owed part (Asks pdu) there after = if-live-grows room bond owed part (Asks pdu) (is_live part.mark) refl
-turn-grows room bond owed part (Signals channel payload) there after = if-live-grows room bond owed part (Signals channel payload) (is_live part.mark) refl
-turn-grows room bond owed part (Authorized until) there after = if-live-grows room bond owed part (Authorized until) (is_live part.mark) refl
-turn-grows room bond owed part Ended there after = if-live-grows room bond owed part Ended (is_live part.mark) refl
+turn-grows room bond owed part own there after = if-live-grows room bond owed part own (is_live part.mark) refl
 
 completed-grows : (ordinal : Ordinal) (entries : List (Ordinal × ℕ)) (old part : Part) → Grows old part → Grows old (after_completed ordinal entries part)
 completed-grows ordinal [] old part grows = grows
@@ -249,14 +243,7 @@ module _ (told : Option Buffers) (slots : ℕ) where
 
 absent-turn : (room : Room) (bond : Row) (owed : Bool) (own : Own) → is_there (turn_of room bond owed absent own).part.mark ≡ true → is_live (turn_of room bond owed absent own).part.mark ≡ true
 absent-turn room bond owed (Connected handle peer) there = refl
-absent-turn room bond owed Gone there = cc there
-absent-turn room bond owed (KeyAsked random_number diversifier) there = cc there
-absent-turn room bond owed (Encrypted status enabled) there = cc there
-absent-turn room bond owed (Refreshed status) there = cc there
-absent-turn room bond owed (Asks pdu) there = cc there
-absent-turn room bond owed (Signals channel payload) there = cc there
-absent-turn room bond owed (Authorized until) there = cc there
-absent-turn room bond owed Ended there = cc there
+absent-turn room bond owed own there = cc there
 
 abbrev ServesIfThere : Part → Type 0
 ServesIfThere part = is_there part.mark ≡ true → is_live part.mark ≡ true
@@ -351,14 +338,9 @@ packets-new ordinal state event =
 
 same-slots : (state : State) (event : Event) → (step state event).room.slots ≡ state.room.slots
 unfolding step change_of
-same-slots state (Of at own) = refl
-same-slots state (Completed entries) = refl
 same-slots state (Credit allowed opcode status (Some init)) = refl
 same-slots state (Credit allowed opcode status None) = refl
-same-slots state (Update handle value) = refl
-same-slots state (Tick time) = refl
-same-slots state (Replaced table) = refl
-same-slots state Nothing = refl
+same-slots state event = refl
 
 live-there : (mark : Mark) → is_live mark ≡ true → is_there mark ≡ true
 live-there Absent is = cc is

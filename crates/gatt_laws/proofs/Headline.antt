@@ -292,7 +292,6 @@ multiple-sends table row standing mtu handles =
     (λ none. all-read table row standing mtu handles none)
 
 pub sends_what_may_be_read : SendsWhatMayBeRead
-sends_what_may_be_read table row conn (ExchangeMtuRequest client_rx_mtu) = tt
 sends_what_may_be_read table row conn (FindInformationRequest first last) = information-sends table conn.standing conn.mtu first last
 sends_what_may_be_read table row conn (FindByTypeValueRequest first last kind value) = found-sends table row conn.standing conn.mtu first last kind value
 sends_what_may_be_read table row conn (ReadByTypeRequest first last kind) = values-send table row conn.standing conn.mtu first last kind
@@ -307,8 +306,7 @@ sends_what_may_be_read table row conn (PrepareWriteRequest handle offset part) =
 sends_what_may_be_read table row conn (ExecuteWriteRequest flags.Cancel) = tt
 sends_what_may_be_read table row conn (ExecuteWriteRequest flags.Write) =
     sends-none table conn.standing (ExecuteWriteRequest flags.Write) EXECUTE_WRITE_REQUEST ExecuteWriteResponse (applied_to Write table row conn.standing conn.queue) tt (λ at code. tt)
-sends_what_may_be_read table row conn ConfirmationPdu = tt
-sends_what_may_be_read table row conn (WriteCommandPdu handle value) = tt
+sends_what_may_be_read table row conn asked = tt
 
 -- Refusals.
 

@@ -16,9 +16,9 @@ use Rattle.gatt_laws.proofs.Meant.{first-true, last-true}
 use Rattle.gatt_laws.proofs.Ends.{end_keeps}
 use Rattle.gatt_laws.proofs.Notices.{or-first}
 use Rattle.gatt_laws.proofs.Steady.{completed_steady}
-use Rattle.gatt_laws.specs.machine.Event.{Ordinal, Own, Event, Connected, Gone, KeyAsked, Encrypted}
-use Rattle.gatt_laws.specs.machine.Event.{Refreshed, Asks, Signals, Authorized, Ended, Of, Completed, Credit}
-use Rattle.gatt_laws.specs.machine.Event.{Update, Tick, Replaced, Nothing}
+use Rattle.gatt_laws.specs.machine.Event.{Ordinal, Own, Event, Connected, Gone, Encrypted}
+use Rattle.gatt_laws.specs.machine.Event.{Refreshed, Asks, Signals, Of, Completed, Credit}
+use Rattle.gatt_laws.specs.machine.Event.{Replaced}
 use Rattle.gatt_laws.specs.machine.Notice.{Notice, Disconnected, Secured, are_both, are_same_facts}
 use Rattle.gatt_laws.specs.machine.Notice.{link_told}
 use Rattle.gatt_laws.specs.machine.Notice.{end_told, own_told, noticed}
@@ -142,13 +142,10 @@ module _ (room : Room) (bond : Row) (owed : Bool) (part : Part) where
       (either-key part (turn_to room bond owed (after_ending part remote_user_terminated))
       (served room bond owed part pdu asked)
       (is_due asked && is_full room part) refl refl)
-  own-key (KeyAsked random_number diversifier) there none = if-live-keeps
-      (KeyAsked random_number diversifier) refl
   own-key (Signals channel payload) there none =
       if-live-keeps (Signals channel payload)
       (channel-key room part channel (channel_answer channel payload))
-  own-key (Authorized until) there none = if-live-keeps (Authorized until) refl
-  own-key Ended there none = if-live-keeps Ended refl
+  own-key own there none = if-live-keeps own refl
 
 -- And each event.
 
@@ -191,11 +188,9 @@ change-key state (Completed entries) ordinal there none = completed_steady key_o
     (λ part done. refl) ordinal entries (state.parts ordinal)
 change-key state (Credit allowed opcode status (Some init)) ordinal there none = refl
 change-key state (Credit allowed opcode status None) ordinal there none = refl
-change-key state (Update handle value) ordinal there none = refl
-change-key state (Tick time) ordinal there none = refl
 change-key state (Replaced table) ordinal there none = replaced-key state.room.table table
     (state.parts ordinal)
-change-key state Nothing ordinal there none = refl
+change-key state event ordinal there none = refl
 
 pub tells_each_key : TellsEachKey
 tells_each_key state event ordinal there none =

@@ -19,8 +19,7 @@ use Rattle.gatt_laws.specs.machine.Context.{holding}
 use Rattle.gatt_laws.specs.machine.Controller.{with_freed}
 use Rattle.gatt_laws.specs.machine.Event as event
 use Rattle.gatt_laws.specs.machine.Event.{Ordinal, Event, KeyAsked, Encrypted, Refreshed, Asks}
-use Rattle.gatt_laws.specs.machine.Event.{Signals, Authorized, Ended, Of, Completed, Credit, Update, Tick}
-use Rattle.gatt_laws.specs.machine.Event.{Replaced, Nothing}
+use Rattle.gatt_laws.specs.machine.Event.{Signals, Authorized, Ended, Of, Credit, Tick}
 use Rattle.gatt_laws.specs.machine.Input.{Item, Course, after_item, after_items, at_start, course}
 use Rattle.gatt_laws.specs.machine.ItemEvents.{event_at, after_if}
 use Rattle.gatt_laws.specs.machine.Notice.{Notice, Connected, Disconnected, noticed, notices_of, notices_in}
@@ -224,9 +223,6 @@ tells_who_is_there state (Of at Ended) asked is possible unused =
     (if-live-others state.room bond part Ended
     (turn_of state.room bond (state.owed part.peer) part Ended) (peers_in state))
     ∙ still state (Of at Ended) (λ ordinal. and-false (ordinal == at)) asked
-tells_who_is_there state (Completed entries) asked is possible unused = still state
-    (Completed entries)
-    (λ ordinal. refl) asked
 tells_who_is_there state (Credit allowed opcode status (Some init)) asked is possible unused =
     let happens : Event = Credit allowed opcode status (Some init) in
     still state happens (λ ordinal. refl) asked
@@ -234,15 +230,10 @@ tells_who_is_there state (Credit allowed opcode status (Some init)) asked is pos
     (is.settled.early possible))
 tells_who_is_there state (Credit allowed opcode status None) asked is possible unused =
     still state (Credit allowed opcode status None) (λ ordinal. refl) asked
-tells_who_is_there state (Update handle value) asked is possible unused = still state
-    (Update handle value) (λ ordinal. refl) asked
 tells_who_is_there state (Tick time) asked is possible unused =
     ap (λ (present : Present). present asked) (slots-others state time state.slots (peers_in state))
     ∙ still state (Tick time) (λ ordinal. refl) asked
-tells_who_is_there state (Replaced table) asked is possible unused = still state (Replaced table)
-    (λ ordinal. refl) asked
-tells_who_is_there state Nothing asked is possible unused = still state Nothing
-    (λ ordinal. refl) asked
+tells_who_is_there state event asked is possible unused = still state event (λ ordinal. refl) asked
 
 -- No two have one handle.
 
@@ -302,20 +293,12 @@ keeps-alone state (Of at (Authorized until)) possible unused is =
 keeps-alone state (Of at Ended) possible unused is =
     stay-alone state (Of at Ended)
     (λ ordinal has. (has, and-false (ordinal == at))) is.handles
-keeps-alone state (Completed entries) possible unused is = stay-alone state (Completed entries)
-    (λ ordinal has. (has, refl)) is.handles
 keeps-alone state (Credit allowed opcode status (Some init)) possible unused is =
     stay-alone state (Credit allowed opcode status (Some init))
     (λ ordinal has. (init-has state.room.slots init ordinal state.slots has, refl)) is.handles
 keeps-alone state (Credit allowed opcode status None) possible unused is =
     stay-alone state (Credit allowed opcode status None) (λ ordinal has. (has, refl)) is.handles
-keeps-alone state (Update handle value) possible unused is = stay-alone state (Update handle value)
-    (λ ordinal has. (has, refl)) is.handles
-keeps-alone state (Tick time) possible unused is = stay-alone state (Tick time)
-    (λ ordinal has. (has, refl)) is.handles
-keeps-alone state (Replaced table) possible unused is = stay-alone state (Replaced table)
-    (λ ordinal has. (has, refl)) is.handles
-keeps-alone state Nothing possible unused is = stay-alone state Nothing
+keeps-alone state event possible unused is = stay-alone state event
     (λ ordinal has. (has, refl)) is.handles
 
 stays-knowing : (state : State) (happens : Event) → Possible (λ table. Unit) state happens

@@ -21,8 +21,8 @@ use Rattle.gatt_laws.specs.machine.Calls.{replacement_event}
 use Rattle.gatt_laws.specs.machine.Context.{context_of, holding, ordinal_where, serving}
 use Rattle.gatt_laws.specs.machine.Controller.{Controller, Slots, has_free, is_ready}
 use Rattle.gatt_laws.specs.machine.Event.{Ordinal, Own, Event, Connected, Gone, KeyAsked, Encrypted}
-use Rattle.gatt_laws.specs.machine.Event.{Refreshed, Asks, Signals, Authorized, Ended, Of}
-use Rattle.gatt_laws.specs.machine.Event.{Completed, Credit, Update, Tick, Replaced, Nothing}
+use Rattle.gatt_laws.specs.machine.Event.{Refreshed, Asks, Signals, Of}
+use Rattle.gatt_laws.specs.machine.Event.{Credit, Update, Tick, Replaced, Nothing}
 use Rattle.gatt_laws.specs.machine.Packets.{Fault, following_of, is_awaited, answered, own_event}
 use Rattle.gatt_laws.specs.machine.Packets.{peripheral, last_connection_handle, completed_entries}
 use Rattle.gatt_laws.specs.machine.Packets.{connection_event, connection_event_if_ready}
@@ -186,9 +186,6 @@ module _ (Fine : Contents → Type 0) where
   connection-meant state (event.EncryptionChange status handle enabled) ready =
       own-meant state (serving state handle) (Encrypted status enabled)
       (serves_in_a_slot state handle)
-  connection-meant state (event.CommandComplete allowed opcode returned) ready = tt
-  connection-meant state (event.CommandStatus status allowed opcode) ready = tt
-  connection-meant state (event.HardwareError code) ready = tt
   connection-meant state (event.NumberOfCompletedPackets entries) ready =
       (ready, have-slots state.slots (holding state) (holds-a-slot state) entries)
   connection-meant state (event.EncryptionKeyRefreshComplete status handle) ready =
@@ -204,7 +201,7 @@ module _ (Fine : Contents → Type 0) where
   connection-meant state (event.LongTermKeyRequest handle random_number diversifier) ready =
       own-meant state (serving state handle) (KeyAsked random_number diversifier)
       (serves_in_a_slot state handle)
-  connection-meant state event.Other ready = tt
+  connection-meant state reported ready = tt
 
   if-ready : (state : State) (reported : Reported)
       → IsMeant Fine state (connection_event_if_ready (context_of state) reported)
@@ -225,21 +222,7 @@ module _ (Fine : Contents → Type 0) where
       (following_of (outcome_of state.controller.init (status ∷ []))) init
       (λ so. first-true (is_awaited state.controller opcode) (not (status == 0)) so) is)
   reported-meant state (event.HardwareError code) = tt
-  reported-meant state (event.DisconnectionComplete status handle reason) =
-      if-ready state (event.DisconnectionComplete status handle reason)
-  reported-meant state (event.EncryptionChange status handle enabled) =
-      if-ready state (event.EncryptionChange status handle enabled)
-  reported-meant state (event.NumberOfCompletedPackets entries) =
-      if-ready state (event.NumberOfCompletedPackets entries)
-  reported-meant state (event.EncryptionKeyRefreshComplete status handle) =
-      if-ready state (event.EncryptionKeyRefreshComplete status handle)
-  reported-meant state (event.ConnectionComplete status handle role peer interval latency timeout
-      clock_accuracy) =
-      if-ready state (event.ConnectionComplete status handle role peer interval latency timeout
-      clock_accuracy)
-  reported-meant state (event.LongTermKeyRequest handle random_number diversifier) =
-      if-ready state (event.LongTermKeyRequest handle random_number diversifier)
-  reported-meant state event.Other = if-ready state event.Other
+  reported-meant state reported = if-ready state reported
 
   bad-or-meant : (state : State) (read : Result Reported BadEvent)
       → MeantIfAny state (event_or_bad (context_of state) read)
@@ -341,35 +324,13 @@ module _ (Fine : Contents → Type 0) where
   pub possible_where_meant : (state : State) (event : Event) → IsMeant Fine state event
       → Possible Fine state event
   possible_where_meant state (Of ordinal (Connected handle peer)) is = is.may
-  possible_where_meant state (Of ordinal Gone) is = tt
-  possible_where_meant state (Of ordinal (KeyAsked random_number diversifier)) is = tt
-  possible_where_meant state (Of ordinal (Encrypted status enabled)) is = tt
-  possible_where_meant state (Of ordinal (Refreshed status)) is = tt
-  possible_where_meant state (Of ordinal (Asks pdu)) is = tt
-  possible_where_meant state (Of ordinal (Signals channel payload)) is = tt
-  possible_where_meant state (Of ordinal (Authorized until)) is = tt
-  possible_where_meant state (Of ordinal Ended) is = tt
-  possible_where_meant state (Completed entries) is = tt
   possible_where_meant state (Credit allowed opcode status following) is = is
   possible_where_meant state (Update handle value) is = is
   possible_where_meant state (Tick time) is = is
   possible_where_meant state (Replaced table) is = is
-  possible_where_meant state Nothing is = tt
+  possible_where_meant state event is = tt
 
   pub unused_where_meant : (state : State) (event : Event) → IsMeant Fine state event
       → ComesUnused state event
   unused_where_meant state (Of ordinal (Connected handle peer)) is = is.unused
-  unused_where_meant state (Of ordinal Gone) is = tt
-  unused_where_meant state (Of ordinal (KeyAsked random_number diversifier)) is = tt
-  unused_where_meant state (Of ordinal (Encrypted status enabled)) is = tt
-  unused_where_meant state (Of ordinal (Refreshed status)) is = tt
-  unused_where_meant state (Of ordinal (Asks pdu)) is = tt
-  unused_where_meant state (Of ordinal (Signals channel payload)) is = tt
-  unused_where_meant state (Of ordinal (Authorized until)) is = tt
-  unused_where_meant state (Of ordinal Ended) is = tt
-  unused_where_meant state (Completed entries) is = tt
-  unused_where_meant state (Credit allowed opcode status following) is = tt
-  unused_where_meant state (Update handle value) is = tt
-  unused_where_meant state (Tick time) is = tt
-  unused_where_meant state (Replaced table) is = tt
-  unused_where_meant state Nothing is = tt
+  unused_where_meant state event is = tt

@@ -11,8 +11,8 @@ use Rattle.gatt_conn.specs.Answer.{Question}
 use Rattle.gatt_conn.specs.Transcript.{Dropped}
 use Rattle.gatt_laws.proofs.Ends.{end_keeps}
 use Rattle.gatt_laws.proofs.Steady.{is_asking, live_steady, completed_steady}
-use Rattle.gatt_laws.specs.machine.Event.{Ordinal, Own, Event, Connected, Gone, KeyAsked, Encrypted}
-use Rattle.gatt_laws.specs.machine.Event.{Refreshed, Asks, Signals, Authorized, Ended, Of, Completed, Credit}
+use Rattle.gatt_laws.specs.machine.Event.{Ordinal, Own, Event, Connected, Gone}
+use Rattle.gatt_laws.specs.machine.Event.{Asks, Of, Completed, Credit}
 use Rattle.gatt_laws.specs.machine.Event.{Update, Tick, Replaced, Nothing}
 use Rattle.gatt_laws.specs.machine.Part.{Part, is_live, mtu_of, after_ending}
 use Rattle.gatt_laws.specs.machine.Room.{Room}
@@ -58,20 +58,9 @@ live-named room bond owed part (Asks pdu) =
     either-turn part (turn_to room bond owed (after_ending part remote_user_terminated))
     (served room bond owed part pdu asked) (is_due asked && is_full room part)
     (record { handle = refl; peer = refl }) (record { handle = refl; peer = refl })
-live-named room bond owed part (KeyAsked random_number diversifier) =
-    steady-named room bond owed part (KeyAsked random_number diversifier) refl
-live-named room bond owed part (Encrypted status enabled) =
-    steady-named room bond owed part (Encrypted status enabled) refl
-live-named room bond owed part (Refreshed status) = steady-named room bond owed part
-    (Refreshed status) refl
-live-named room bond owed part (Signals channel payload) =
-    steady-named room bond owed part (Signals channel payload) refl
-live-named room bond owed part (Authorized until) = steady-named room bond owed part
-    (Authorized until) refl
-live-named room bond owed part Ended = steady-named room bond owed part
-    Ended refl
 live-named room bond owed part (Connected handle peer) = itself part
 live-named room bond owed part Gone = itself part
+live-named room bond owed part own = steady-named room bond owed part own refl
 
 pub if-live-named : (room : Room) (bond : Row) (owed : Bool) (part : Part) (own : Own)
     → IsNamedAs part (if is_live part.mark then live_turn room bond owed part own
@@ -86,19 +75,7 @@ turn-named : (room : Room) (bond : Row) (owed : Bool) (part : Part) (own : Own) 
     → IsNamedAs part (turn_of room bond owed part own).part
 turn-named room bond owed part (Connected handle peer) kind = cc kind
 turn-named room bond owed part Gone kind = cc kind
-turn-named room bond owed part (Asks pdu) kind = if-live-named room bond owed part (Asks pdu)
-turn-named room bond owed part (KeyAsked random_number diversifier) kind =
-    if-live-named room bond owed part (KeyAsked random_number diversifier)
-turn-named room bond owed part (Encrypted status enabled) kind =
-    if-live-named room bond owed part (Encrypted status enabled)
-turn-named room bond owed part (Refreshed status) kind = if-live-named room bond owed part
-    (Refreshed status)
-turn-named room bond owed part (Signals channel payload) kind =
-    if-live-named room bond owed part (Signals channel payload)
-turn-named room bond owed part (Authorized until) kind = if-live-named room bond owed part
-    (Authorized until)
-turn-named room bond owed part Ended kind = if-live-named room bond owed part
-    Ended
+turn-named room bond owed part own kind = if-live-named room bond owed part own
 
 of-named : (state : State) (at ordinal : Ordinal) (own : Own) (same : Bool) → (ordinal == at) ≡ same
     → (same && is_for_all own) ≡ false

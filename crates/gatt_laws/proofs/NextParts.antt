@@ -96,13 +96,7 @@ turn-becomes : (room : Room) (bond : Row) (owed : Bool) (part : Part) (own : Own
     → (let turn = turn_of room bond owed part own in Becomes part turn.part turn.raised_here)
 turn-becomes room bond owed part (Connected handle peer) = comes-or-stays part handle peer (is_there part.mark) refl
 turn-becomes room bond owed part Gone = Went refl
-turn-becomes room bond owed part (KeyAsked random_number diversifier) = Stayed (live-or-stays room bond owed part (KeyAsked random_number diversifier))
-turn-becomes room bond owed part (Encrypted status enabled) = Stayed (live-or-stays room bond owed part (Encrypted status enabled))
-turn-becomes room bond owed part (Refreshed status) = Stayed (live-or-stays room bond owed part (Refreshed status))
-turn-becomes room bond owed part (Asks pdu) = Stayed (live-or-stays room bond owed part (Asks pdu))
-turn-becomes room bond owed part (Signals channel payload) = Stayed (live-or-stays room bond owed part (Signals channel payload))
-turn-becomes room bond owed part (Authorized until) = Stayed (live-or-stays room bond owed part (Authorized until))
-turn-becomes room bond owed part Ended = Stayed (live-or-stays room bond owed part Ended)
+turn-becomes room bond owed part own = Stayed (live-or-stays room bond owed part own)
 
 completed-stays : (ordinal : Ordinal) (entries : List (Ordinal × ℕ)) (old part : Part) → Stays old part → Stays old (after_completed ordinal entries part)
 completed-stays ordinal [] old part is = is

@@ -18,7 +18,7 @@ use Rattle.gatt_laws.specs.laws.Alike.{is_of, Alike, Hides, may_read_at}
 use Rattle.gatt_laws.specs.machine.Calls.{Refused, NoServiceChanged, same_changer}
 use Rattle.gatt_laws.specs.machine.Context.{context_of, ordinal_where}
 use Rattle.gatt_laws.specs.machine.Controller.{has_free}
-use Rattle.gatt_laws.specs.machine.Event.{Ordinal, Event, Of, Completed, Credit, Update, Tick, Replaced, Nothing}
+use Rattle.gatt_laws.specs.machine.Event.{Ordinal, Event, Replaced}
 use Rattle.gatt_laws.specs.machine.Input.{Item, AnOctet, APacket, ACall, ATable, TheEnd, Course, after_item, after_items, at_start, course}
 use Rattle.gatt_laws.specs.machine.ItemEvents.{event_if, event_at, after_if}
 use Rattle.gatt_laws.specs.laws.NothingCrosses.{Agree, knows, knows_in, is_known, is_replaced, known_while, hidden_while, StartsAgree, ItemsAgree, InputsAgree, SparedIf, SparedIn, given_by, NothingCrosses, LeavesConnectionsTheSame}
@@ -159,13 +159,8 @@ same-table hidden table = record {
 }
 
 matched-itself : (hidden : Handle → Bool) (event its : Event) → event ≡ its → Matched hidden hidden event its
-matched-itself hidden (Of ordinal own) its is = (is, refl)
-matched-itself hidden (Completed entries) its is = (is, refl)
-matched-itself hidden (Credit allowed opcode status following) its is = (is, refl)
-matched-itself hidden (Update handle value) its is = (is, refl)
-matched-itself hidden (Tick time) its is = (is, refl)
 matched-itself hidden (Replaced table) its is = record { its = table; is = sym is; same = same-table hidden table }
-matched-itself hidden Nothing its is = (is, refl)
+matched-itself hidden event its is = (is, refl)
 
 record AfterBoth (peer : Peer) (hidden : Handle → Bool) (one other : State) (event its : Option Event) : Type 0 where
   alike : Alike peer hidden (after_if one event) (after_if other its)
@@ -322,23 +317,14 @@ next-item : (peer : Peer) (ordinal : Ordinal) (one other : Course) (item : Item)
     → AllTables HasHandles (item ∷ items) → ItemsAgree (hidden_while peer (after_item one item) items) (is_replaced one.intake item) item its
     → SparedIf peer one.intake.state (event_at one.intake item) → SparedIf peer other.intake.state (event_at other.intake its)
     → Next peer ordinal one other item items together its
-next-item peer ordinal one other (AnOctet octet) items together its tables agree spared spared_too =
-    next-equal peer ordinal one other (AnOctet octet) items together its agree refl spared spared_too
-next-item peer ordinal one other (APacket packet) items together its tables agree spared spared_too =
-    next-equal peer ordinal one other (APacket packet) items together its agree refl spared spared_too
-next-item peer ordinal one other (ACall call) items together its tables agree spared spared_too =
-    next-equal peer ordinal one other (ACall call) items together its agree refl spared spared_too
 next-item peer ordinal one other (ATable table) items together its tables agree spared spared_too =
     next-table peer ordinal one other table items together its (is_replaced one.intake (ATable table)) refl tables.0 agree spared spared_too
-next-item peer ordinal one other TheEnd items together its tables agree spared spared_too =
-    next-equal peer ordinal one other TheEnd items together its agree refl spared spared_too
+next-item peer ordinal one other item items together its tables agree spared spared_too =
+    next-equal peer ordinal one other item items together its agree refl spared spared_too
 
 other-tables : (item : Item) (items : List Item) → AllTables HasHandles (item ∷ items) → AllTables HasHandles items
-other-tables (AnOctet octet) items tables = tables
-other-tables (APacket packet) items tables = tables
-other-tables (ACall call) items tables = tables
 other-tables (ATable table) items tables = tables.1
-other-tables TheEnd items tables = tables
+other-tables item items tables = tables
 
 given-same : (peer : Peer) (ordinal : Ordinal) (items others : List Item) (one other : Course) → Together peer one other items → AllTables HasHandles items
     → InputsAgree peer one items others → SparedIn peer one items → SparedIn peer other others → given_by peer ordinal one items ≡ given_by peer ordinal other others

@@ -22,9 +22,9 @@ use Rattle.att_writes.specs.SameBut.{is_touched}
 use Rattle.gatt_conn.specs.Answer.{Question, Writing, writing_asked, stored_after, handles_after}
 use Rattle.gatt_conn.specs.Answer.{handles_by, is_confirmation}
 use Rattle.gatt_laws.proofs.Stores.{leaves-configurations, other-value}
-use Rattle.gatt_laws.specs.machine.Event.{Own, Event, Connected, Gone, KeyAsked, Encrypted, Refreshed, Asks}
-use Rattle.gatt_laws.specs.machine.Event.{Signals, Authorized, Ended, Of, Completed, Credit, Update, Tick}
-use Rattle.gatt_laws.specs.machine.Event.{Replaced, Nothing}
+use Rattle.gatt_laws.specs.machine.Event.{Own, Event, Connected, Gone, Asks}
+use Rattle.gatt_laws.specs.machine.Event.{Of, Credit, Update}
+use Rattle.gatt_laws.specs.machine.Event.{Replaced}
 use Rattle.gatt_laws.specs.machine.Notice.{Notice, Configured, Written, write_told, end_told, live_told}
 use Rattle.gatt_laws.specs.machine.Notice.{confirmation_told, own_told, noticed}
 use Rattle.gatt_laws.specs.laws.Notices.{tells_value, is_value_told, sets_value, TellsEachValue}
@@ -251,21 +251,9 @@ own-values room bond owed part (Connected handle peer) attribute used none = ref
 own-values room bond owed part Gone attribute used none = refl
 own-values room bond owed part (Asks pdu) attribute used none =
     asks-values room bond owed part pdu attribute (is_live part.mark) refl used none
-own-values room bond owed part (KeyAsked random_number diversifier) attribute used none =
+own-values room bond owed part own attribute used none =
     ap (λ (of : Values). value_at of attribute)
-    (leaves room bond owed part (KeyAsked random_number diversifier) refl)
-own-values room bond owed part (Encrypted status enabled) attribute used none =
-    ap (λ (of : Values). value_at of attribute)
-    (leaves room bond owed part (Encrypted status enabled) refl)
-own-values room bond owed part (Refreshed status) attribute used none =
-    ap (λ (of : Values). value_at of attribute) (leaves room bond owed part (Refreshed status) refl)
-own-values room bond owed part (Signals channel payload) attribute used none =
-    ap (λ (of : Values). value_at of attribute)
-    (leaves room bond owed part (Signals channel payload) refl)
-own-values room bond owed part (Authorized until) attribute used none =
-    ap (λ (of : Values). value_at of attribute) (leaves room bond owed part (Authorized until) refl)
-own-values room bond owed part Ended attribute used none =
-    ap (λ (of : Values). value_at of attribute) (leaves room bond owed part Ended refl)
+    (leaves room bond owed part own refl)
 
 -- And each event.
 
@@ -285,16 +273,14 @@ change-values state (Of ordinal own) attribute used possible sets none =
     let part : Part = state.parts ordinal in
     own-values state.room (state.bonds part.peer)
     (state.owed part.peer) part own attribute used none
-change-values state (Completed entries) attribute used possible sets none = refl
 change-values state (Credit allowed opcode status
     (Some init)) attribute used possible sets none = refl
 change-values state (Credit allowed opcode status None) attribute used possible sets none = refl
 change-values state (Update handle value) attribute used possible sets none =
     other-value state.room.table.values handle attribute value
     (used-there state.room.table.attributes handle possible.attr possible.there) used sets
-change-values state (Tick time) attribute used possible sets none = refl
 change-values state (Replaced table) attribute used possible sets none = cc sets
-change-values state Nothing attribute used possible sets none = refl
+change-values state event attribute used possible sets none = refl
 
 pub tells_each_value : TellsEachValue
 unfolding step

@@ -25,7 +25,7 @@ use Rattle.gatt_subs.specs.Indications.{after_replacement}
 use Rattle.le_acl.specs.History.{packets_allowed}
 use Rattle.le_acl.specs.Shares.{usable}
 use Rattle.le_hci.specs.declared.init.Init.{Init}
-use Rattle.le_hci.specs.declared.init.Init.TheVariants.{Resetting, Masking, LeMasking, Sizing, SharedSizing, Addressing, Describing, Filling, Enabling, Ready}
+use Rattle.le_hci.specs.declared.init.Init.TheVariants.{Ready}
 use Rattle.le_security.specs.Link.{Step, Encryption, Refresh}
 use Rattle.octets.specs.Number.{Octets}
 
@@ -181,15 +181,7 @@ all-free ordinal (suc count) = all-free ordinal count
 
 pub init-has : (count : ℕ) (init : Init) (ordinal : Ordinal) (slots : Slots) → has_slot ordinal (slots_for count init slots) ≡ true → has_slot ordinal slots ≡ true
 init-has count (Ready length packets) ordinal slots has = cc (has, all-free ordinal (usable count packets))
-init-has count (Resetting settings) ordinal slots has = has
-init-has count (Masking settings) ordinal slots has = has
-init-has count (LeMasking settings) ordinal slots has = has
-init-has count (Sizing settings) ordinal slots has = has
-init-has count (SharedSizing settings) ordinal slots has = has
-init-has count (Addressing address advertising buffers) ordinal slots has = has
-init-has count (Describing own_address_type advertising buffers) ordinal slots has = has
-init-has count (Filling advertising buffers) ordinal slots has = has
-init-has count (Enabling buffers) ordinal slots has = has
+init-has count init ordinal slots has = has
 
 same-too : (one other : Ordinal) → (one == other) ≡ false → (other == one) ≡ false
 same-too one other is =
@@ -203,13 +195,7 @@ turn-once : (room : Room) (bond : Row) (owed : Bool) (part : Part) (own : Own) �
 turn-once room bond owed part (Connected handle peer) once =
     elim (is_there part.mark) as (λ (there : Bool). WaitsOnce (if there then part else come handle peer)) [ true ↦ once | false ↦ come-once handle peer ]
 turn-once room bond owed part Gone once = absent-once
-turn-once room bond owed part (KeyAsked random_number diversifier) once = (if-live room bond owed part (KeyAsked random_number diversifier) (is_live part.mark) refl).once once
-turn-once room bond owed part (Encrypted status enabled) once = (if-live room bond owed part (Encrypted status enabled) (is_live part.mark) refl).once once
-turn-once room bond owed part (Refreshed status) once = (if-live room bond owed part (Refreshed status) (is_live part.mark) refl).once once
-turn-once room bond owed part (Asks pdu) once = (if-live room bond owed part (Asks pdu) (is_live part.mark) refl).once once
-turn-once room bond owed part (Signals channel payload) once = (if-live room bond owed part (Signals channel payload) (is_live part.mark) refl).once once
-turn-once room bond owed part (Authorized until) once = (if-live room bond owed part (Authorized until) (is_live part.mark) refl).once once
-turn-once room bond owed part Ended once = (if-live room bond owed part Ended (is_live part.mark) refl).once once
+turn-once room bond owed part own once = (if-live room bond owed part own (is_live part.mark) refl).once once
 
 -- who has a slot then
 come-there : (part : Part) (handle : ℕ) (peer : _) (there : Bool) → is_there part.mark ≡ there → is_there (if there then part else come handle peer).mark ≡ true
@@ -220,25 +206,13 @@ turn-there : (room : Room) (bond : Row) (owed : Bool) (part : Part) (own : Own) 
     → (has_slot at slots ≡ true → is_there part.mark ≡ true) → has_slot at (slots_after own at slots) ≡ true → is_there (turn_of room bond owed part own).part.mark ≡ true
 turn-there room bond owed part (Connected handle peer) at slots there has = come-there part handle peer (is_there part.mark) refl
 turn-there room bond owed part Gone at slots there has = cc (has, freed_lacks at slots)
-turn-there room bond owed part (KeyAsked random_number diversifier) at slots there has =
-    (if-live room bond owed part (KeyAsked random_number diversifier) (is_live part.mark) refl).there (there has)
-turn-there room bond owed part (Encrypted status enabled) at slots there has = (if-live room bond owed part (Encrypted status enabled) (is_live part.mark) refl).there (there has)
-turn-there room bond owed part (Refreshed status) at slots there has = (if-live room bond owed part (Refreshed status) (is_live part.mark) refl).there (there has)
-turn-there room bond owed part (Asks pdu) at slots there has = (if-live room bond owed part (Asks pdu) (is_live part.mark) refl).there (there has)
-turn-there room bond owed part (Signals channel payload) at slots there has = (if-live room bond owed part (Signals channel payload) (is_live part.mark) refl).there (there has)
-turn-there room bond owed part (Authorized until) at slots there has = (if-live room bond owed part (Authorized until) (is_live part.mark) refl).there (there has)
-turn-there room bond owed part Ended at slots there has = (if-live room bond owed part Ended (is_live part.mark) refl).there (there has)
+turn-there room bond owed part own at slots there has =
+    (if-live room bond owed part own (is_live part.mark) refl).there (there has)
 
 other-has : (own : Own) (at other : Ordinal) (slots : Slots) → (other == at) ≡ false → has_slot other (slots_after own at slots) ≡ true → has_slot other slots ≡ true
 other-has (Connected handle peer) at other slots differs has = taken-has at other slots differs (same-too other at differs) has
 other-has Gone at other slots differs has = freed-has at other slots has
-other-has (KeyAsked random_number diversifier) at other slots differs has = has
-other-has (Encrypted status enabled) at other slots differs has = has
-other-has (Refreshed status) at other slots differs has = has
-other-has (Asks pdu) at other slots differs has = has
-other-has (Signals channel payload) at other slots differs has = has
-other-has (Authorized until) at other slots differs has = has
-other-has Ended at other slots differs has = has
+other-has own at other slots differs has = has
 
 own-placed : (state : State) (at : Ordinal) (own : Own) → IsPlaced state → IsPlaced (own_change state at own).state
 own-placed state at own placed =

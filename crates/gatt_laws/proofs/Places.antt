@@ -124,13 +124,7 @@ turn-place : (peer : Peer) (room : Room) (bond : Row) (owed : Bool) (part : Part
     → HasPlace peer (turn_of room bond owed part own).part
 turn-place peer room bond owed part (Connected handle other) from place = if-there-place peer other part handle (is_there part.mark) (from other refl) place
 turn-place peer room bond owed part Gone from place = absent_place peer
-turn-place peer room bond owed part (KeyAsked random_number diversifier) from place = if-live-place peer room bond owed part (KeyAsked random_number diversifier) (is_live part.mark) refl place
-turn-place peer room bond owed part (Encrypted status enabled) from place = if-live-place peer room bond owed part (Encrypted status enabled) (is_live part.mark) refl place
-turn-place peer room bond owed part (Refreshed status) from place = if-live-place peer room bond owed part (Refreshed status) (is_live part.mark) refl place
-turn-place peer room bond owed part (Asks pdu) from place = if-live-place peer room bond owed part (Asks pdu) (is_live part.mark) refl place
-turn-place peer room bond owed part (Signals channel payload) from place = if-live-place peer room bond owed part (Signals channel payload) (is_live part.mark) refl place
-turn-place peer room bond owed part (Authorized until) from place = if-live-place peer room bond owed part (Authorized until) (is_live part.mark) refl place
-turn-place peer room bond owed part Ended from place = if-live-place peer room bond owed part Ended (is_live part.mark) refl place
+turn-place peer room bond owed part own from place = if-live-place peer room bond owed part own (is_live part.mark) refl place
 
 completed-stays : (ordinal : Ordinal) (entries : List (Ordinal × ℕ)) (old part : Part) → StaysWith old part → StaysWith old (after_completed ordinal entries part)
 completed-stays ordinal [] old part stays = stays
@@ -220,14 +214,7 @@ record StaysTold (old new : State) : Type 0 where
 
 told-ready : (own : Own) (controller : Controller) → is_ready (told_of own controller) ≡ is_ready controller
 told-ready (Connected handle peer) controller = refl
-told-ready Gone controller = refl
-told-ready (KeyAsked random_number diversifier) controller = refl
-told-ready (Encrypted status enabled) controller = refl
-told-ready (Refreshed status) controller = refl
-told-ready (Asks pdu) controller = refl
-told-ready (Signals channel payload) controller = refl
-told-ready (Authorized until) controller = refl
-told-ready Ended controller = refl
+told-ready own controller = refl
 
 refused-ready : (controller : Controller) (allowed : ℕ) (refused : Bool)
     → is_ready (if refused then record controller { credit = allowed; advertising = false; refused = true } else record controller { credit = allowed }) ≡ is_ready controller
@@ -237,14 +224,10 @@ refused-ready controller allowed false = refl
 change-told : (state : State) (event : Event) → Possible IsAny state event → is_ready state.controller ≡ true → StaysTold state (change_of state event).state
 unfolding change_of
 change-told state (Of at own) possible ready = record { told = refl; ready = told-ready own state.controller ∙ ready }
-change-told state (Completed entries) possible ready = record { told = refl; ready = ready }
 change-told state (Credit allowed opcode status (Some init)) possible ready = absurd (cc (possible, ready))
 change-told state (Credit allowed opcode status None) possible ready =
     record { told = refl; ready = refused-ready state.controller allowed (is_ready state.controller && is_refusal opcode status) ∙ ready }
-change-told state (Update handle value) possible ready = record { told = refl; ready = ready }
-change-told state (Tick time) possible ready = record { told = refl; ready = ready }
-change-told state (Replaced table) possible ready = record { told = refl; ready = ready }
-change-told state Nothing possible ready = record { told = refl; ready = ready }
+change-told state event possible ready = record { told = refl; ready = ready }
 
 step-told : (state : State) (event : Event) → Possible IsAny state event → is_ready state.controller ≡ true → StaysTold state (step state event)
 unfolding step
@@ -268,25 +251,14 @@ ready_at state ordinal false is settled there =
 
 next-own : (own : Own) (ordinal next : Ordinal) → ordinal < next → ordinal < next_after own next
 next-own (Connected handle peer) ordinal next below = omega (arith, below)
-next-own Gone ordinal next below = below
-next-own (KeyAsked random_number diversifier) ordinal next below = below
-next-own (Encrypted status enabled) ordinal next below = below
-next-own (Refreshed status) ordinal next below = below
-next-own (Asks pdu) ordinal next below = below
-next-own (Signals channel payload) ordinal next below = below
-next-own (Authorized until) ordinal next below = below
-next-own Ended ordinal next below = below
+next-own own ordinal next below = below
 
 pub next_grows : (state : State) (event : Event) (ordinal : Ordinal) → ordinal < state.next → ordinal < (step state event).next
 unfolding step change_of
 next_grows state (Of at own) ordinal below = next-own own ordinal state.next below
-next_grows state (Completed entries) ordinal below = below
 next_grows state (Credit allowed opcode status (Some init)) ordinal below = below
 next_grows state (Credit allowed opcode status None) ordinal below = below
-next_grows state (Update handle value) ordinal below = below
-next_grows state (Tick time) ordinal below = below
-next_grows state (Replaced table) ordinal below = below
-next_grows state Nothing ordinal below = below
+next_grows state event ordinal below = below
 
 -- who comes is the next one
 came-own : (state : State) (at ordinal : Ordinal) (own : Own) (peer : Peer) (same : Bool) → (ordinal == at) ≡ same → Possible IsAny state (Of at own)
@@ -310,12 +282,7 @@ came : (state : State) (event : Event) (ordinal : Ordinal) (peer : Peer) → Pos
 unfolding step change_of
 came state (Of at own) ordinal peer may found =
     let both = came-own state at ordinal own peer (ordinal == at) refl may found in record { itself = both.0; next = both.1 }
-came state (Completed entries) ordinal peer may found = cc found
-came state (Credit allowed opcode status following) ordinal peer may found = cc found
-came state (Update handle value) ordinal peer may found = cc found
-came state (Tick time) ordinal peer may found = cc found
-came state (Replaced table) ordinal peer may found = cc found
-came state Nothing ordinal peer may found = cc found
+came state event ordinal peer may found = cc found
 
 abbrev pub ComesOnlyFrom : Peer → Ordinal → List Event → Type 0
 ComesOnlyFrom peer ordinal [] = Unit

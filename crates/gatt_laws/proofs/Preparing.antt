@@ -14,15 +14,15 @@ use Rattle.gatt_conn.specs.Answer.{Question, answer_to}
 use Rattle.gatt_conn.specs.Connection.{Connection}
 use Rattle.gatt_conn.specs.Transcript.{is_exchange, exchange_asked, first_exchange, prepared_in}
 use Rattle.gatt_laws.proofs.Ends.{end_keeps}
-use Rattle.gatt_laws.specs.machine.Event.{Ordinal, Own, Event, Connected, Gone, KeyAsked, Encrypted, Refreshed, Asks, Signals, Authorized, Ended, Of, Completed, Credit, Update, Tick, Replaced, Nothing}
-use Rattle.gatt_laws.specs.machine.Part.{Mark, Absent, Live, Ending, Part, absent, come, is_live, is_there, key_of, row_of, mtu_of, connection_of, prepared_of, after_ending}
+use Rattle.gatt_laws.specs.machine.Event.{Ordinal, Own, Event, Connected, Gone, Encrypted, Refreshed, Asks, Signals, Ended, Of, Completed, Credit, Replaced}
+use Rattle.gatt_laws.specs.machine.Part.{Live, Part, absent, come, is_live, is_there, key_of, row_of, mtu_of, connection_of, prepared_of, after_ending}
 use Rattle.gatt_laws.specs.laws.Preparing.{Preparing, preparing, preparing_in, Concern, Happens, concern_of, after_asking, while_serving, prepares_nothing, after_own, after_concern, after_any, is_ending, concerns_of, IsNeverEnded, PreparesByItself, PreparesTheSame}
 use Rattle.gatt_laws.proofs.Runs.{is_where_events_lead}
 use Rattle.gatt_laws.specs.machine.Controller.{command_of_init, count_before, without_command}
 use Rattle.gatt_laws.specs.machine.Room.{Room}
 use Rattle.gatt_laws.specs.laws.Runs.{after_events, events_of}
 use Rattle.gatt_laws.specs.machine.Start.{Start, new_room, before_first_command, state_at}
-use Rattle.gatt_laws.specs.machine.State.{State, own_change, after_credit, after_completed, with_completed, announced, part_replaced, change_of, step}
+use Rattle.gatt_laws.specs.machine.State.{State, after_completed, with_completed, announced, part_replaced, change_of, step}
 use Rattle.gatt_laws.specs.machine.Turn.{turn_to, served, is_full, request_turn, after_channel, channel_answer, with_step, lost_encryption, live_turn, turn_of, remote_user_terminated, authentication_failure}
 use Rattle.le_security.specs.Link.{Step, Encryption, Refresh}
 use Rattle.octets.specs.Number.{Octets}
@@ -100,15 +100,12 @@ live-next : (room : Room) (bond : Row) (owed : Bool) (part : Part) (own : Own) �
 unfolding live_turn
 live-next room bond owed part (Asks pdu) lasts = request-next room bond owed part pdu lasts
 live-next room bond owed part (Signals channel payload) lasts = channel-next room part channel (channel_answer channel payload) lasts
-live-next room bond owed part (KeyAsked random_number diversifier) lasts = refl
 live-next room bond owed part (Encrypted status enabled) lasts =
     link-next room part (Encryption status enabled) (lost_encryption (key_of part) (key_of (with_step part (Encryption status enabled)))) lasts
 live-next room bond owed part (Refreshed status) lasts =
     link-next room part (Refresh status) (lost_encryption (key_of part) (key_of (with_step part (Refresh status)))) lasts
-live-next room bond owed part (Authorized until) lasts = refl
 live-next room bond owed part Ended lasts = absurd (cc lasts)
-live-next room bond owed part (Connected handle peer) lasts = refl
-live-next room bond owed part Gone lasts = refl
+live-next room bond owed part own lasts = refl
 
 if-live : (room : Room) (bond : Row) (owed : Bool) (part : Part) (own : Own) (live : Bool)
     → NotEnded (if live then live_turn room bond owed part own else turn_to room bond owed part).part
@@ -123,13 +120,7 @@ own-next room bond owed part (Connected handle peer) lasts =
     elim (is_there part.mark) as (λ (there : Bool). preparing room (if there then part else come handle peer)
     ≡ (if there then preparing room part else prepares_nothing (preparing room part) Live peer)) [ true ↦ refl | false ↦ refl ]
 own-next room bond owed part Gone lasts = refl
-own-next room bond owed part (KeyAsked random_number diversifier) lasts = if-live room bond owed part (KeyAsked random_number diversifier) (is_live part.mark) lasts
-own-next room bond owed part (Encrypted status enabled) lasts = if-live room bond owed part (Encrypted status enabled) (is_live part.mark) lasts
-own-next room bond owed part (Refreshed status) lasts = if-live room bond owed part (Refreshed status) (is_live part.mark) lasts
-own-next room bond owed part (Asks pdu) lasts = if-live room bond owed part (Asks pdu) (is_live part.mark) lasts
-own-next room bond owed part (Signals channel payload) lasts = if-live room bond owed part (Signals channel payload) (is_live part.mark) lasts
-own-next room bond owed part (Authorized until) lasts = if-live room bond owed part (Authorized until) (is_live part.mark) lasts
-own-next room bond owed part Ended lasts = if-live room bond owed part Ended (is_live part.mark) lasts
+own-next room bond owed part own lasts = if-live room bond owed part own (is_live part.mark) lasts
 
 -- and each event
 
@@ -173,10 +164,8 @@ change-next state (Of at own) ordinal lasts = of-other state at ordinal own (ord
 change-next state (Completed entries) ordinal lasts = completed-next state.room ordinal entries (state.parts ordinal)
 change-next state (Credit allowed opcode status (Some init)) ordinal lasts = refl
 change-next state (Credit allowed opcode status None) ordinal lasts = refl
-change-next state (Update handle value) ordinal lasts = refl
-change-next state (Tick time) ordinal lasts = refl
 change-next state (Replaced table) ordinal lasts = replaced-next state table (state.parts ordinal) (is_live (state.parts ordinal).mark) refl
-change-next state Nothing ordinal lasts = refl
+change-next state event ordinal lasts = refl
 
 pub prepares_by_itself : PreparesByItself
 unfolding step

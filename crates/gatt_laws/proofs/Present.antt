@@ -15,9 +15,7 @@ use Rattle.gatt_conn.specs.Answer.{is_confirmation}
 use Rattle.gatt_laws.proofs.Named.{IsNamedAs}
 use Rattle.gatt_laws.specs.machine.Context.{ordinal_where}
 use Rattle.gatt_laws.specs.machine.Controller.{Slots, has_free, with_taken, with_freed}
-use Rattle.gatt_laws.specs.machine.Event as event
-use Rattle.gatt_laws.specs.machine.Event.{Ordinal, Own, KeyAsked, Encrypted, Refreshed, Asks}
-use Rattle.gatt_laws.specs.machine.Event.{Signals, Authorized, Ended}
+use Rattle.gatt_laws.specs.machine.Event.{Ordinal, Own, Encrypted, Refreshed, Asks}
 use Rattle.gatt_laws.specs.machine.Notice.{Notice, Secured, Written}
 use Rattle.gatt_laws.specs.machine.Notice.{Configured, Confirmed, TimedOut, Ending, are_same_facts}
 use Rattle.gatt_laws.specs.machine.Notice.{link_told, write_told, confirmation_told, end_told, live_told}
@@ -31,9 +29,7 @@ use Rattle.gatt_laws.specs.machine.Turn.{Turn, handles_written}
 use Rattle.gatt_subs.specs.declared.pending.Unconfirmed.{Unconfirmed}
 use Rattle.le_acl.specs.Shares.{usable}
 use Rattle.le_hci.specs.declared.init.Init.{Init}
-use Rattle.le_hci.specs.declared.init.Init.TheVariants.{Resetting, Masking, LeMasking, Sizing}
-use Rattle.le_hci.specs.declared.init.Init.TheVariants.{SharedSizing, Addressing, Describing}
-use Rattle.le_hci.specs.declared.init.Init.TheVariants.{Filling, Enabling, Ready}
+use Rattle.le_hci.specs.declared.init.Init.TheVariants.{Ready}
 use Rattle.le_hci.specs.declared.peer.Peer.{Peer}
 
 -- Notices of neither a connection that comes nor one that goes leave who is there.
@@ -113,12 +109,7 @@ live-others room bond part (Encrypted status enabled) turn =
     link-others part.handle (key_of part) (key_of turn.part)
 live-others room bond part (Refreshed status) turn =
     link-others part.handle (key_of part) (key_of turn.part)
-live-others room bond part (KeyAsked random_number diversifier) turn = λ present. refl
-live-others room bond part (Signals channel payload) turn = λ present. refl
-live-others room bond part (Authorized until) turn = λ present. refl
-live-others room bond part Ended turn = λ present. refl
-live-others room bond part (event.Connected handle peer) turn = λ present. refl
-live-others room bond part event.Gone turn = λ present. refl
+live-others room bond part own turn = λ present. refl
 
 pub if-live-others : (room : Room) (bond : Row) (part : Part) (own : Own) (turn : Turn)
     → AreOthers (if is_live part.mark
@@ -338,12 +329,4 @@ pub init-peers : (parts : Parts) (count : ℕ) (init : Init) (slots : Slots) (ha
 init-peers parts count (Ready length packets) slots handle none =
     free-peers parts (usable count packets) handle
     ∙ ap (λ (of : Slots). peer_at parts of handle) (sym none)
-init-peers parts count (Resetting settings) slots handle none = refl
-init-peers parts count (Masking settings) slots handle none = refl
-init-peers parts count (LeMasking settings) slots handle none = refl
-init-peers parts count (Sizing settings) slots handle none = refl
-init-peers parts count (SharedSizing settings) slots handle none = refl
-init-peers parts count (Addressing address advertising buffers) slots handle none = refl
-init-peers parts count (Describing own_address_type advertising buffers) slots handle none = refl
-init-peers parts count (Filling advertising buffers) slots handle none = refl
-init-peers parts count (Enabling buffers) slots handle none = refl
+init-peers parts count init slots handle none = refl

@@ -29,7 +29,7 @@ use Rattle.gatt_subs.specs.Indications.{after_replacement}
 use Rattle.le_acl.specs.History.{packets_allowed}
 use Rattle.le_security.specs.Link.{Step, Encryption, Refresh}
 use Rattle.octets.specs.Number.{Octets}
-use Rattle.gatt_laws.specs.machine.Event.{Ordinal, Own, Event, Connected, Gone, KeyAsked, Encrypted, Refreshed, Asks, Signals, Authorized, Ended, Of, Completed, Credit, Update, Tick, Replaced, Nothing}
+use Rattle.gatt_laws.specs.machine.Event.{Ordinal, Own, Event, Connected, Gone, Encrypted, Refreshed, Asks, Signals, Of, Completed, Credit, Update, Tick, Replaced, Nothing}
 use Rattle.gatt_laws.specs.machine.Heard.{Heard, hearer_of, after_hearing, heard_raised, hearer_after, heard_in_turn, att_pdu}
 use Rattle.gatt_laws.specs.machine.Part.{Part, absent, come, is_live, is_there, key_of, row_of, mtu_of, connection_of, backlog_of, with_pdus, after_ending}
 use Rattle.gatt_laws.specs.laws.Queued.{IsWithinBounds, HasBoundedQueues, AlwaysHasBoundedQueues}
@@ -224,15 +224,13 @@ module _ (share size : ℕ) where
     unfolding live_turn
     live-within bond owed part (Asks pdu) is = request-within bond owed part pdu is
     live-within bond owed part (Signals channel payload) is = channel-within part channel (channel_answer channel payload) is
-    live-within bond owed part (KeyAsked random_number diversifier) is = record { few = is.few; given = is.given; within = is.within; done = is.done }
     live-within bond owed part (Encrypted status enabled) is =
         link-within part (Encryption status enabled) (lost_encryption (key_of part) (key_of (with_step part (Encryption status enabled)))) is
     live-within bond owed part (Refreshed status) is =
         link-within part (Refresh status) (lost_encryption (key_of part) (key_of (with_step part (Refresh status)))) is
-    live-within bond owed part (Authorized until) is = record { few = is.few; given = is.given; within = is.within; done = is.done }
-    live-within bond owed part Ended is = record { few = is.few; given = is.given; within = is.within; done = is.done }
     live-within bond owed part (Connected handle peer) is = is
     live-within bond owed part Gone is = is
+    live-within bond owed part own is = record { few = is.few; given = is.given; within = is.within; done = is.done }
 
     if-live : (bond : Row) (owed : Bool) (part : Part) (own : Own) (live : Bool) → Within part
         → Within (if live then live_turn room bond owed part own else turn_to room bond owed part).part
@@ -243,13 +241,7 @@ module _ (share size : ℕ) where
     turn-within bond owed part (Connected handle peer) is =
         elim (is_there part.mark) as (λ (there : Bool). Within (if there then part else come handle peer)) [ true ↦ is | false ↦ nothing-queued (come handle peer) refl refl refl ]
     turn-within bond owed part Gone is = nothing-queued absent refl refl refl
-    turn-within bond owed part (KeyAsked random_number diversifier) is = if-live bond owed part (KeyAsked random_number diversifier) (is_live part.mark) is
-    turn-within bond owed part (Encrypted status enabled) is = if-live bond owed part (Encrypted status enabled) (is_live part.mark) is
-    turn-within bond owed part (Refreshed status) is = if-live bond owed part (Refreshed status) (is_live part.mark) is
-    turn-within bond owed part (Asks pdu) is = if-live bond owed part (Asks pdu) (is_live part.mark) is
-    turn-within bond owed part (Signals channel payload) is = if-live bond owed part (Signals channel payload) (is_live part.mark) is
-    turn-within bond owed part (Authorized until) is = if-live bond owed part (Authorized until) (is_live part.mark) is
-    turn-within bond owed part Ended is = if-live bond owed part Ended (is_live part.mark) is
+    turn-within bond owed part own is = if-live bond owed part own (is_live part.mark) is
 
     -- and at the end of an event
     pub heard-within : (bond : Row) (handles : List Handle) (part : Part) → Within part → Within (after_hearing room bond handles part)

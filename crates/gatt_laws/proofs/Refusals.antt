@@ -3,7 +3,7 @@ use Rattle.std.proofs.Common.{◌≡◌, List, [], ◌∷◌, ◌++◌, length, 
 use Rattle.std.specs.Prelude.{Result, Ok}
 use Rattle.att_numbers.specs.declared.opcode.TheConstants.{READ_BY_TYPE_REQUEST, READ_MULTIPLE_REQUEST}
 use Rattle.att_numbers.specs.Types.{Handle, Code, Mtu, Row}
-use Rattle.att_pdu.specs.Request.{ExchangeMtuRequest, FindInformationRequest, FindByTypeValueRequest, ReadByTypeRequest, ReadRequest, ReadBlobRequest, ReadMultipleRequest, ReadByGroupTypeRequest, WriteRequest, PrepareWriteRequest, ExecuteWriteRequest, ConfirmationPdu, WriteCommandPdu}
+use Rattle.att_pdu.specs.Request.{ReadRequest, ReadBlobRequest, WriteRequest, PrepareWriteRequest}
 use Rattle.att_pdu.specs.Response.{Response, ErrorResponse, ReadByTypeResponse}
 use Rattle.att_policy.specs.declared.policy.Access.TheVariants.{Read}
 use Rattle.att_policy.specs.declared.policy.Rule.{Rule}
@@ -34,15 +34,7 @@ refuses_by_the_first_broken_rule table row conn (ReadRequest handle) rule = λ i
 refuses_by_the_first_broken_rule table row conn (ReadBlobRequest handle offset) rule = λ is. rw is refl
 refuses_by_the_first_broken_rule table row conn (WriteRequest handle value) rule = λ is. rw is refl
 refuses_by_the_first_broken_rule table row conn (PrepareWriteRequest handle offset part) rule = λ is. rw is refl
-refuses_by_the_first_broken_rule table row conn (ExchangeMtuRequest client_rx_mtu) rule = tt
-refuses_by_the_first_broken_rule table row conn (FindInformationRequest first last) rule = tt
-refuses_by_the_first_broken_rule table row conn (FindByTypeValueRequest first last kind value) rule = tt
-refuses_by_the_first_broken_rule table row conn (ReadByTypeRequest first last kind) rule = tt
-refuses_by_the_first_broken_rule table row conn (ReadMultipleRequest handles) rule = tt
-refuses_by_the_first_broken_rule table row conn (ReadByGroupTypeRequest first last kind) rule = tt
-refuses_by_the_first_broken_rule table row conn (ExecuteWriteRequest flags) rule = tt
-refuses_by_the_first_broken_rule table row conn ConfirmationPdu rule = tt
-refuses_by_the_first_broken_rule table row conn (WriteCommandPdu handle value) rule = tt
+refuses_by_the_first_broken_rule table row conn asked rule = tt
 
 -- the first of a list
 first-listed : (table : Contents) (row : Row) (standing : Standing) (mtu : Mtu) (first last handle : Handle) (handles rest : List Handle) (code : Code)

@@ -1,4 +1,4 @@
--- What happens is the same whatever the names of connections are.
+-- What a packet and a call mean is the same whatever the names of connections are.
 use Rattle.std.proofs.Common.{◌≡◌, ℕ, Bool, true, false, List, [], ◌∷◌, ◌++◌, length, map, Option}
 use Rattle.std.proofs.Common.{Some, None, refl, ap, ◌∙◌}
 use Rattle.std.specs.Prelude.{Result, Ok, Err, is_none, nat_le, nat_lt, ◌==◌, ◌&&◌, not}
@@ -184,9 +184,6 @@ module _ (C D : Type 0) (names : C → D) where
           (own_event (one.holding handle) Gone) Nothing (holding-renamed handle Gone) refl
       connection-renamed (event.EncryptionChange status handle enabled) =
           serving-renamed handle (Encrypted status enabled)
-      connection-renamed (event.CommandComplete allowed opcode returned) = refl
-      connection-renamed (event.CommandStatus status allowed opcode) = refl
-      connection-renamed (event.HardwareError code) = refl
       connection-renamed (event.NumberOfCompletedPackets entries) =
           ap Completed (entries-renamed entries)
       connection-renamed (event.EncryptionKeyRefreshComplete status handle) =
@@ -195,7 +192,7 @@ module _ (C D : Type 0) (names : C → D) where
           clock_accuracy) = coming-renamed status handle role peer
       connection-renamed (event.LongTermKeyRequest handle random_number diversifier) =
           serving-renamed handle (KeyAsked random_number diversifier)
-      connection-renamed event.Other = refl
+      connection-renamed reported = refl
 
     by-ready : (reported : Reported) (ready : Bool) → is_ready one.controller ≡ ready
         → (if ready then connection_event other reported else Nothing)
@@ -226,21 +223,7 @@ module _ (C D : Type 0) (names : C → D) where
         ∙ answered-renamed allowed opcode (Some status)
         (if is_awaited one.controller opcode && not (status == 0) then following_of (outcome_of one.controller.init (status ∷ [])) else Ok None)
     reported-renamed (event.HardwareError code) = refl
-    reported-renamed (event.DisconnectionComplete status handle reason) =
-        ap Ok (initialised-renamed (event.DisconnectionComplete status handle reason))
-    reported-renamed (event.EncryptionChange status handle enabled) =
-        ap Ok (initialised-renamed (event.EncryptionChange status handle enabled))
-    reported-renamed (event.NumberOfCompletedPackets entries) =
-        ap Ok (initialised-renamed (event.NumberOfCompletedPackets entries))
-    reported-renamed (event.EncryptionKeyRefreshComplete status handle) =
-        ap Ok (initialised-renamed (event.EncryptionKeyRefreshComplete status handle))
-    reported-renamed (event.ConnectionComplete status handle role peer interval latency timeout
-        clock_accuracy) =
-        ap Ok (initialised-renamed
-        (event.ConnectionComplete status handle role peer interval latency timeout clock_accuracy))
-    reported-renamed (event.LongTermKeyRequest handle random_number diversifier) =
-        ap Ok (initialised-renamed (event.LongTermKeyRequest handle random_number diversifier))
-    reported-renamed event.Other = ap Ok (initialised-renamed event.Other)
+    reported-renamed reported = ap Ok (initialised-renamed reported)
 
     read-renamed : (read : Result Reported BadEvent)
         → event_or_bad other read ≡ other_names (event_or_bad one read)

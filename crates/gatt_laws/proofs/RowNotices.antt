@@ -26,7 +26,7 @@ use Rattle.gatt_laws.proofs.Steady.{is_asking, live_steady, completed_steady}
 use Rattle.gatt_laws.proofs.Stores.{set_bits, sets_written}
 use Rattle.gatt_laws.specs.machine.Event.{Ordinal, Own, Event, Connected, Gone, KeyAsked, Encrypted}
 use Rattle.gatt_laws.specs.machine.Event.{Refreshed, Asks, Signals, Authorized, Ended, Of, Completed, Credit}
-use Rattle.gatt_laws.specs.machine.Event.{Update, Tick, Replaced, Nothing}
+use Rattle.gatt_laws.specs.machine.Event.{Replaced}
 use Rattle.gatt_laws.specs.machine.Notice.{Notice, Configured, Written, write_told, confirmation_told}
 use Rattle.gatt_laws.specs.machine.Notice.{end_told, own_told, noticed}
 use Rattle.gatt_laws.specs.machine.Part.{Part, is_live, key_of, mtu_of, row_of, connection_of, after_ending}
@@ -314,13 +314,7 @@ module _ (room : Room) (bond : Row) (owed : Bool) (part : Part) (attribute : Han
   own-bond (Asks pdu) untold =
       asks-bond room bond owed part pdu attribute (turn_of room bond owed part (Asks pdu))
       (is_live part.mark) refl untold
-  own-bond (KeyAsked random_number diversifier) untold = other-bond
-      (KeyAsked random_number diversifier) refl
-  own-bond (Encrypted status enabled) untold = other-bond (Encrypted status enabled) refl
-  own-bond (Refreshed status) untold = other-bond (Refreshed status) refl
-  own-bond (Signals channel payload) untold = other-bond (Signals channel payload) refl
-  own-bond (Authorized until) untold = other-bond (Authorized until) refl
-  own-bond Ended untold = other-bond Ended refl
+  own-bond own untold = other-bond own refl
 
 -- And each event.
 
@@ -360,10 +354,8 @@ change-own-row state (Completed entries) ordinal attribute kind stays untold =
 change-own-row state (Credit allowed opcode status
     (Some init)) ordinal attribute kind stays untold = refl
 change-own-row state (Credit allowed opcode status None) ordinal attribute kind stays untold = refl
-change-own-row state (Update handle value) ordinal attribute kind stays untold = refl
-change-own-row state (Tick time) ordinal attribute kind stays untold = refl
 change-own-row state (Replaced table) ordinal attribute kind stays untold = cc kind
-change-own-row state Nothing ordinal attribute kind stays untold = refl
+change-own-row state event ordinal attribute kind stays untold = refl
 
 pub tells_each_own_row : TellsEachOwnRow
 tells_each_own_row state event ordinal attribute kind stays untold =
@@ -397,10 +389,7 @@ pub tells_each_bond : TellsEachBond
 unfolding step change_of
 tells_each_bond state (Of at own) peer attribute kind untold =
     of-bond state at own peer attribute (same_peer peer (state.parts at).peer) refl untold
-tells_each_bond state (Completed entries) peer attribute kind untold = refl
 tells_each_bond state (Credit allowed opcode status (Some init)) peer attribute kind untold = refl
 tells_each_bond state (Credit allowed opcode status None) peer attribute kind untold = refl
-tells_each_bond state (Update handle value) peer attribute kind untold = refl
-tells_each_bond state (Tick time) peer attribute kind untold = refl
 tells_each_bond state (Replaced table) peer attribute kind untold = cc kind
-tells_each_bond state Nothing peer attribute kind untold = refl
+tells_each_bond state event peer attribute kind untold = refl

@@ -143,13 +143,7 @@ turn-rows : (room : Room) (bond : Row) (owed : Bool) (part : Part) (own : Own) �
     → TurnRows room.table.attributes (turn_of room bond owed part own)
 turn-rows room bond owed part (Connected handle peer) rows = come-rows room bond part handle peer (is_there part.mark) rows
 turn-rows room bond owed part Gone rows = record { bond = rows.bond; own = no-row room.table.attributes }
-turn-rows room bond owed part (KeyAsked random_number diversifier) rows = if-live room bond owed part (KeyAsked random_number diversifier) (is_live part.mark) rows
-turn-rows room bond owed part (Encrypted status enabled) rows = if-live room bond owed part (Encrypted status enabled) (is_live part.mark) rows
-turn-rows room bond owed part (Refreshed status) rows = if-live room bond owed part (Refreshed status) (is_live part.mark) rows
-turn-rows room bond owed part (Asks pdu) rows = if-live room bond owed part (Asks pdu) (is_live part.mark) rows
-turn-rows room bond owed part (Signals channel payload) rows = if-live room bond owed part (Signals channel payload) (is_live part.mark) rows
-turn-rows room bond owed part (Authorized until) rows = if-live room bond owed part (Authorized until) (is_live part.mark) rows
-turn-rows room bond owed part Ended rows = if-live room bond owed part Ended (is_live part.mark) rows
+turn-rows room bond owed part own rows = if-live room bond owed part own (is_live part.mark) rows
 
 -- what an event changes
 either-row : (attributes : List Attr) (test : Bool) (one other : Row) → IsRowOf attributes one → IsRowOf attributes other → IsRowOf attributes (if test then one else other)

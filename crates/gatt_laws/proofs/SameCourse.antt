@@ -8,7 +8,7 @@ use Rattle.gatt_laws.proofs.Settled.{stays_settled, settled_at_first}
 use Rattle.gatt_laws.proofs.Silence.{gives_all_that_it_may}
 use Rattle.gatt_laws.proofs.Always.{any_tables}
 use Rattle.gatt_laws.specs.machine.Controller.{is_ready}
-use Rattle.gatt_laws.specs.machine.Event.{Ordinal, Event, Of, Completed, Credit, Update, Tick, Replaced, Nothing}
+use Rattle.gatt_laws.specs.machine.Event.{Ordinal, Event, Of, Completed}
 use Rattle.gatt_laws.specs.machine.Input.{Item, course}
 use Rattle.gatt_laws.specs.machine.Part.{Part, nobody}
 use Rattle.gatt_laws.specs.laws.Runs.{after_events, events_of, ArePossible}
@@ -56,11 +56,7 @@ shown-peer peer ordinal state (Completed entries) =
       | true ↦ refl
       | false ↦ refl
     ]
-shown-peer peer ordinal state (Credit allowed opcode status following) = refl
-shown-peer peer ordinal state (Update handle value) = refl
-shown-peer peer ordinal state (Tick time) = refl
-shown-peer peer ordinal state (Replaced table) = refl
-shown-peer peer ordinal state Nothing = refl
+shown-peer peer ordinal state event = refl
 
 first-peer : (found : Option Shown) (items : List Shown) → items_peer (option_to_list found ++ items) ≡ option_map_or (λ peer. peer) (peer_shown found) (items_peer items)
 unfolding items_peer peer_shown

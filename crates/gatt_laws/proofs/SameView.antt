@@ -214,17 +214,13 @@ unfolding live_turn silent
 live-silent room bond owed part (Asks pdu) = request-silent room bond owed part pdu
 live-silent room bond owed part (Signals channel payload) =
     let same = channel-silent room part channel (channel_answer channel payload) in λ i. turn_to room bond owed (same i)
-live-silent room bond owed part (KeyAsked random_number diversifier) = refl
 live-silent room bond owed part (Encrypted status enabled) =
     let same = link-silent part (Encryption status enabled) (lost_encryption (key_of part) (key_of (with_step part (Encryption status enabled)))) in
     λ i. record (link_turn room bond owed part (Encryption status enabled)) { part = same i }
 live-silent room bond owed part (Refreshed status) =
     let same = link-silent part (Refresh status) (lost_encryption (key_of part) (key_of (with_step part (Refresh status)))) in
     λ i. record (link_turn room bond owed part (Refresh status)) { part = same i }
-live-silent room bond owed part (Authorized until) = refl
-live-silent room bond owed part Ended = refl
-live-silent room bond owed part (Connected handle peer) = refl
-live-silent room bond owed part Gone = refl
+live-silent room bond owed part own = refl
 
 if-live-silent : (room : Room) (bond : Row) (owed : Bool) (part : Part) (own : Own) (live : Bool)
     → silent (if live then live_turn room bond owed (without_commands part) own else turn_to room bond owed (without_commands part))
@@ -240,13 +236,7 @@ turn-silent room bond owed part (Connected handle peer) =
     elim (is_there part.mark) as (λ (there : Bool). silent (turn_to room bond owed (if there then without_commands part else come handle peer))
     ≡ silent (turn_to room bond owed (if there then part else come handle peer))) [ true ↦ refl | false ↦ refl ]
 turn-silent room bond owed part Gone = refl
-turn-silent room bond owed part (KeyAsked random_number diversifier) = if-live-silent room bond owed part (KeyAsked random_number diversifier) (is_live part.mark)
-turn-silent room bond owed part (Encrypted status enabled) = if-live-silent room bond owed part (Encrypted status enabled) (is_live part.mark)
-turn-silent room bond owed part (Refreshed status) = if-live-silent room bond owed part (Refreshed status) (is_live part.mark)
-turn-silent room bond owed part (Asks pdu) = if-live-silent room bond owed part (Asks pdu) (is_live part.mark)
-turn-silent room bond owed part (Signals channel payload) = if-live-silent room bond owed part (Signals channel payload) (is_live part.mark)
-turn-silent room bond owed part (Authorized until) = if-live-silent room bond owed part (Authorized until) (is_live part.mark)
-turn-silent room bond owed part Ended = if-live-silent room bond owed part Ended (is_live part.mark)
+turn-silent room bond owed part own = if-live-silent room bond owed part own (is_live part.mark)
 
 -- who does not serve comes or goes, and else stays
 idle_part : Part → Own → Part
@@ -259,13 +249,7 @@ turn-idle : (room : Room) (bond : Row) (owed : Bool) (part : Part) (own : Own) �
 unfolding idle_part
 turn-idle room bond owed part (Connected handle peer) is = refl
 turn-idle room bond owed part Gone is = refl
-turn-idle room bond owed part (KeyAsked random_number diversifier) is = rw is refl
-turn-idle room bond owed part (Encrypted status enabled) is = rw is refl
-turn-idle room bond owed part (Refreshed status) is = rw is refl
-turn-idle room bond owed part (Asks pdu) is = rw is refl
-turn-idle room bond owed part (Signals channel payload) is = rw is refl
-turn-idle room bond owed part (Authorized until) is = rw is refl
-turn-idle room bond owed part Ended is = rw is refl
+turn-idle room bond owed part own is = rw is refl
 
 -- what a turn leaves to be seen, where it is the connection's own
 seen_turn : Room → Turn → Seen

@@ -7,7 +7,7 @@ use Rattle.att_numbers.specs.Types.{Handle}
 use Rattle.gatt_laws.proofs.Always.{always, any_tables}
 use Rattle.gatt_laws.proofs.Silence.{only_serves_the_live}
 use Rattle.gatt_laws.specs.machine.Controller.{Controller, Slots, has_free, with_taken, with_freed, command_of_init, count_before, without_command, is_ready}
-use Rattle.gatt_laws.specs.machine.Event.{Ordinal, Own, Event, Connected, Gone, KeyAsked, Encrypted, Refreshed, Asks, Signals, Authorized, Ended, Of, Completed, Credit, Update, Tick, Replaced, Nothing}
+use Rattle.gatt_laws.specs.machine.Event.{Ordinal, Own, Event, Connected, Gone, Of, Completed, Credit, Update, Tick, Replaced, Nothing}
 use Rattle.gatt_laws.specs.machine.Input.{at_start, course}
 use Rattle.gatt_laws.specs.machine.Part.{Part, absent}
 use Rattle.gatt_laws.specs.laws.Possible.{Possible}
@@ -20,7 +20,7 @@ use Rattle.gatt_subs.specs.Indications.{after_tick}
 use Rattle.le_acl.specs.Shares.{usable}
 use Rattle.le_hci.specs.Init.{command_awaited}
 use Rattle.le_hci.specs.declared.init.Init.{Init}
-use Rattle.le_hci.specs.declared.init.Init.TheVariants.{Resetting, Masking, LeMasking, Sizing, SharedSizing, Addressing, Describing, Filling, Enabling, Ready}
+use Rattle.le_hci.specs.declared.init.Init.TheVariants.{Ready}
 
 left-false : (one other : Bool) → (one || other) ≡ false → one ≡ false
 left-false false other is = refl
@@ -177,13 +177,7 @@ own-gone state at ordinal (Connected handle peer) settled may =
     (λ lacks differs. taken-other at ordinal state.slots lacks)
 own-gone state at ordinal Gone settled may =
     other-gone state at ordinal Gone settled (λ same lacks. rw same (rw (eq-eqb at at refl) refl)) (λ lacks differs. freed-other at ordinal state.slots differs lacks)
-own-gone state at ordinal (KeyAsked random_number diversifier) settled may = same-slots state at ordinal (KeyAsked random_number diversifier) settled refl refl
-own-gone state at ordinal (Encrypted status enabled) settled may = same-slots state at ordinal (Encrypted status enabled) settled refl refl
-own-gone state at ordinal (Refreshed status) settled may = same-slots state at ordinal (Refreshed status) settled refl refl
-own-gone state at ordinal (Asks pdu) settled may = same-slots state at ordinal (Asks pdu) settled refl refl
-own-gone state at ordinal (Signals channel payload) settled may = same-slots state at ordinal (Signals channel payload) settled refl refl
-own-gone state at ordinal (Authorized until) settled may = same-slots state at ordinal (Authorized until) settled refl refl
-own-gone state at ordinal Ended settled may = same-slots state at ordinal Ended settled refl refl
+own-gone state at ordinal own settled may = same-slots state at ordinal own settled refl refl
 
 credit-gone : (state : State) (allowed opcode : ℕ) (status : Option ℕ) (init : Init) (ordinal : Ordinal) → IsSettled state → is_ready state.controller ≡ false
     → IsGone (after_credit state allowed opcode status (Some init)) ordinal
@@ -205,62 +199,27 @@ change-gone state Nothing ordinal possible settled lacks = settled.gone ordinal 
 early-own : (own : Own) (at : Ordinal) (slots : Slots) → slots ≡ [] → slots_after own at slots ≡ []
 early-own (Connected handle peer) at slots is = ap (with_taken at) is
 early-own Gone at slots is = ap (with_freed at) is
-early-own (KeyAsked random_number diversifier) at slots is = is
-early-own (Encrypted status enabled) at slots is = is
-early-own (Refreshed status) at slots is = is
-early-own (Asks pdu) at slots is = is
-early-own (Signals channel payload) at slots is = is
-early-own (Authorized until) at slots is = is
-early-own Ended at slots is = is
+early-own own at slots is = is
 
 own-slots : (state : State) (at : Ordinal) (own : Own) → HaveOneSlotEach state.next state.slots → Possible (λ table. Unit) state (Of at own)
     → HaveOneSlotEach (own_change state at own).state.next (slots_after own at state.slots)
 own-slots state at (Connected handle peer) each may =
     subst (λ (one : Ordinal). HaveOneSlotEach (state.next + 1) (with_taken one state.slots)) (sym may.next) (with-next state.next state.slots each)
 own-slots state at Gone each may = without-one state.next at state.slots each
-own-slots state at (KeyAsked random_number diversifier) each may = each
-own-slots state at (Encrypted status enabled) each may = each
-own-slots state at (Refreshed status) each may = each
-own-slots state at (Asks pdu) each may = each
-own-slots state at (Signals channel payload) each may = each
-own-slots state at (Authorized until) each may = each
-own-slots state at Ended each may = each
+own-slots state at own each may = each
 
 init-slots : (next count : ℕ) (init : Init) (slots : Slots) → HaveOneSlotEach next slots → HaveOneSlotEach next (slots_for count init slots)
 init-slots next count (Ready length packets) slots each = all-free next (usable count packets)
-init-slots next count (Resetting settings) slots each = each
-init-slots next count (Masking settings) slots each = each
-init-slots next count (LeMasking settings) slots each = each
-init-slots next count (Sizing settings) slots each = each
-init-slots next count (SharedSizing settings) slots each = each
-init-slots next count (Addressing address advertising buffers) slots each = each
-init-slots next count (Describing own_address_type advertising buffers) slots each = each
-init-slots next count (Filling advertising buffers) slots each = each
-init-slots next count (Enabling buffers) slots each = each
+init-slots next count init slots each = each
 
 init-early : (count : ℕ) (init : Init) (slots : Slots) → slots ≡ [] → is_none (command_awaited init) ≡ false → slots_for count init slots ≡ []
 init-early count (Ready length packets) slots none early = cc early
-init-early count (Resetting settings) slots none early = none
-init-early count (Masking settings) slots none early = none
-init-early count (LeMasking settings) slots none early = none
-init-early count (Sizing settings) slots none early = none
-init-early count (SharedSizing settings) slots none early = none
-init-early count (Addressing address advertising buffers) slots none early = none
-init-early count (Describing own_address_type advertising buffers) slots none early = none
-init-early count (Filling advertising buffers) slots none early = none
-init-early count (Enabling buffers) slots none early = none
+init-early count init slots none early = none
 
 -- initialisation stays where it is, but for the answer to its command
 told-early : (own : Own) (controller : Controller) → is_ready (told_of own controller) ≡ is_ready controller
 told-early (Connected handle peer) controller = refl
-told-early Gone controller = refl
-told-early (KeyAsked random_number diversifier) controller = refl
-told-early (Encrypted status enabled) controller = refl
-told-early (Refreshed status) controller = refl
-told-early (Asks pdu) controller = refl
-told-early (Signals channel payload) controller = refl
-told-early (Authorized until) controller = refl
-told-early Ended controller = refl
+told-early own controller = refl
 
 refused-early : (controller : Controller) (allowed : ℕ) (refused : Bool)
     → is_ready (if refused then record controller { credit = allowed; advertising = false; refused = true } else record controller { credit = allowed }) ≡ is_ready controller

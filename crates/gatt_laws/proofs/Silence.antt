@@ -7,7 +7,7 @@ use Rattle.gatt_laws.specs.machine.Controller.{command_of_init, count_before, wi
 use Rattle.gatt_laws.specs.machine.Heard.{Heard, heard_in_turn, hearer_of, with_heard, after_hearing}
 use Rattle.gatt_laws.specs.machine.Part.{Part, is_live, after_giving}
 use Rattle.gatt_laws.specs.machine.Room.{Room, share_of, size_of}
-use Rattle.gatt_laws.specs.machine.Event.{Connected, Gone, KeyAsked, Encrypted, Refreshed, Asks, Signals, Authorized, Ended}
+use Rattle.gatt_laws.specs.machine.Event.{Connected, Gone}
 use Rattle.gatt_laws.specs.laws.Silence.{OnlyServesTheLive, OnlyTheLiveAct, IsAllGiven, GivesAllThatItMay}
 use Rattle.gatt_laws.specs.machine.State.{Change, parts_finished, step, change_of}
 use Rattle.gatt_subs.specs.Told.{Hearer}
@@ -60,12 +60,6 @@ gives_all_that_it_may state event ordinal =
     (all-given room heard (is_live heard.mark) refl)
 
 pub only_the_live_act : OnlyTheLiveAct
-only_the_live_act room bond owed part (KeyAsked random_number diversifier) is kind = rw is refl
-only_the_live_act room bond owed part (Encrypted status enabled) is kind = rw is refl
-only_the_live_act room bond owed part (Refreshed status) is kind = rw is refl
-only_the_live_act room bond owed part (Asks pdu) is kind = rw is refl
-only_the_live_act room bond owed part (Signals channel payload) is kind = rw is refl
-only_the_live_act room bond owed part (Authorized until) is kind = rw is refl
-only_the_live_act room bond owed part Ended is kind = rw is refl
 only_the_live_act room bond owed part (Connected handle peer) is kind = cc kind
 only_the_live_act room bond owed part Gone is kind = cc kind
+only_the_live_act room bond owed part own is kind = rw is refl

@@ -16,9 +16,8 @@ use Rattle.gatt_laws.proofs.Ends.{end_keeps}
 use Rattle.gatt_laws.proofs.Named.{IsNamedAs, if-live-named, end_named}
 use Rattle.gatt_laws.specs.machine.Controller.{Slots}
 use Rattle.gatt_laws.specs.machine.Event as event
-use Rattle.gatt_laws.specs.machine.Event.{Ordinal, Own, Event, KeyAsked, Encrypted, Refreshed, Asks}
-use Rattle.gatt_laws.specs.machine.Event.{Signals, Authorized, Ended, Of, Completed, Credit, Update, Tick}
-use Rattle.gatt_laws.specs.machine.Event.{Replaced, Nothing}
+use Rattle.gatt_laws.specs.machine.Event.{Ordinal, Own, KeyAsked, Encrypted, Refreshed, Asks}
+use Rattle.gatt_laws.specs.machine.Event.{Signals, Authorized, Ended, Of, Tick}
 use Rattle.gatt_laws.specs.machine.Notice.{Notice, Connected, Disconnected, Secured, Unsecured, Written}
 use Rattle.gatt_laws.specs.machine.Notice.{Configured, Confirmed, TimedOut, Ending, are_same_facts}
 use Rattle.gatt_laws.specs.machine.Notice.{link_told, write_told, confirmation_told, end_told, live_told}
@@ -260,10 +259,5 @@ tells_what_is_so state (Of at (Authorized until)) =
 tells_what_is_so state (Of at Ended) =
     let own : Own = Ended in
     told-so state at own (stays-named state at own) (none-so (step state (Of at own)))
-tells_what_is_so state (Completed entries) = none-so (step state (Completed entries))
-tells_what_is_so state (Credit allowed opcode status following) =
-    none-so (step state (Credit allowed opcode status following))
-tells_what_is_so state (Update handle value) = none-so (step state (Update handle value))
 tells_what_is_so state (Tick time) = slots-so (step state (Tick time)) state time state.slots
-tells_what_is_so state (Replaced table) = none-so (step state (Replaced table))
-tells_what_is_so state Nothing = none-so (step state Nothing)
+tells_what_is_so state event = none-so (step state event)

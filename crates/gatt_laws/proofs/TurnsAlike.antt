@@ -1,7 +1,6 @@
 -- What happens to one connection by itself, over values that differ in hidden ones alone.
 use Rattle.std.proofs.Common.{◌≡◌, ℕ, Bool, true, false, ◌&&◌, [], ◌∷◌, Option, Some, None, refl, sym, ap, subst, ◌∙◌}
 use Rattle.std.specs.Prelude.{is_some, if◌then◌else◌}
-use Rattle.std.specs.Option.{option_map, option_to_list}
 use Rattle.att_numbers.specs.Types.{Handle, Values, Row}
 use Rattle.att_pdu.specs.Grammar.{request_of, is_due}
 use Rattle.att_reads.specs.Access.{IsAlike}
@@ -166,13 +165,7 @@ module _ (hidden : Handle → Bool) (room : Room) (ys : Values) (same : SameBut 
       → OwnTurn hidden (turn_of room bond owed part own) (turn_of there bond owed part own)
   own_turn bond owed part (Connected handle peer) readable = nothing-changed bond owed (if is_there part.mark then part else come handle peer)
   own_turn bond owed part Gone readable = nothing-changed bond owed absent
-  own_turn bond owed part (KeyAsked random_number diversifier) readable = live-or-not bond owed part (KeyAsked random_number diversifier) readable
-  own_turn bond owed part (Encrypted status enabled) readable = live-or-not bond owed part (Encrypted status enabled) readable
-  own_turn bond owed part (Refreshed status) readable = live-or-not bond owed part (Refreshed status) readable
-  own_turn bond owed part (Asks pdu) readable = live-or-not bond owed part (Asks pdu) readable
-  own_turn bond owed part (Signals channel payload) readable = live-or-not bond owed part (Signals channel payload) readable
-  own_turn bond owed part (Authorized until) readable = live-or-not bond owed part (Authorized until) readable
-  own_turn bond owed part Ended readable = live-or-not bond owed part Ended readable
+  own_turn bond owed part own readable = live-or-not bond owed part own readable
 
   -- Connections of other peers.
   module _ (peer : Peer) (bond : Row) (owed its : Bool) (part other : Part) (parts : erased part ≡ erased other) (foreign : is_of peer part ≡ false) where

@@ -28,7 +28,7 @@ use Rattle.att_pdu.specs.Grammar.{request_of, is_due}
 use Rattle.att_table.proofs.ServiceBefore.{of_a_changer}
 use Rattle.att_table.specs.Changer.{is_changer}
 use Rattle.gatt_conn.specs.Answer.{writing_asked}
-use Rattle.gatt_laws.specs.machine.Event.{Ordinal, Own, Event, Connected, Gone, KeyAsked, Encrypted, Refreshed, Asks, Signals, Authorized, Ended, Of, Completed, Credit, Update, Tick, Replaced, Nothing}
+use Rattle.gatt_laws.specs.machine.Event.{Ordinal, Own, Event, Connected, Gone, KeyAsked, Encrypted, Refreshed, Asks, Signals, Authorized, Ended, Of, Credit, Update, Replaced}
 use Rattle.gatt_laws.specs.laws.Headline.{MayUse}
 use Rattle.gatt_laws.proofs.Always.{always}
 use Rattle.gatt_laws.specs.machine.Calls.{has_length}
@@ -181,20 +181,8 @@ turn-table room bond owed part own false is = is
 own-table : (state : State) (ordinal : Ordinal) (own : Own) → IsTable state.room.table → IsTable (own_change state ordinal own).state.room.table
 own-table state ordinal (Connected handle peer) is = is
 own-table state ordinal Gone is = is
-own-table state ordinal (KeyAsked random_number diversifier) is =
-    let part = state.parts ordinal in turn-table state.room (state.bonds part.peer) (state.owed part.peer) part (KeyAsked random_number diversifier) (is_live part.mark) is
-own-table state ordinal (Encrypted status enabled) is =
-    let part = state.parts ordinal in turn-table state.room (state.bonds part.peer) (state.owed part.peer) part (Encrypted status enabled) (is_live part.mark) is
-own-table state ordinal (Refreshed status) is =
-    let part = state.parts ordinal in turn-table state.room (state.bonds part.peer) (state.owed part.peer) part (Refreshed status) (is_live part.mark) is
-own-table state ordinal (Asks pdu) is =
-    let part = state.parts ordinal in turn-table state.room (state.bonds part.peer) (state.owed part.peer) part (Asks pdu) (is_live part.mark) is
-own-table state ordinal (Signals channel payload) is =
-    let part = state.parts ordinal in turn-table state.room (state.bonds part.peer) (state.owed part.peer) part (Signals channel payload) (is_live part.mark) is
-own-table state ordinal (Authorized until) is =
-    let part = state.parts ordinal in turn-table state.room (state.bonds part.peer) (state.owed part.peer) part (Authorized until) (is_live part.mark) is
-own-table state ordinal Ended is =
-    let part = state.parts ordinal in turn-table state.room (state.bonds part.peer) (state.owed part.peer) part Ended (is_live part.mark) is
+own-table state ordinal own is =
+    let part = state.parts ordinal in turn-table state.room (state.bonds part.peer) (state.owed part.peer) part own (is_live part.mark) is
 
 -- the changer of a table that replaces another has four octets, as what is written there
 announced-table : (table : Contents) (changer : Option Attr) → find (is_changer table) table.attributes ≡ changer → IsTable table
@@ -228,13 +216,11 @@ updated-table table (suc handle) value attr at has is =
 change-table : (state : State) (event : Event) → Possible IsTable state event → IsTable state.room.table → IsTable (change_of state event).state.room.table
 unfolding change_of
 change-table state (Of ordinal own) fits is = own-table state ordinal own is
-change-table state (Completed entries) fits is = is
 change-table state (Credit allowed opcode status (Some init)) fits is = is
 change-table state (Credit allowed opcode status None) fits is = is
 change-table state (Update handle value) fits is = updated-table state.room.table handle value fits.attr fits.there fits.fits is
-change-table state (Tick time) fits is = is
 change-table state (Replaced table) fits is = announced-table table (find (is_changer table) table.attributes) refl fits
-change-table state Nothing fits is = is
+change-table state event fits is = is
 
 step-table : (state : State) (event : Event) → Possible IsTable state event → IsTable state.room.table → IsTable (step state event).room.table
 unfolding step

@@ -29,9 +29,9 @@ use Rattle.gatt_laws.specs.laws.Possible.{IsMeant}
 use Rattle.gatt_laws.specs.laws.Renaming.{renamed, renamed_if}
 use Rattle.gatt_laws.specs.machine.Context.{context_of, serving}
 use Rattle.gatt_laws.specs.machine.Controller.{is_ready}
-use Rattle.gatt_laws.specs.machine.Event.{Ordinal, Event, Connected, Gone, KeyAsked, Encrypted}
-use Rattle.gatt_laws.specs.machine.Event.{Refreshed, Asks, Signals, Authorized, Ended, Happening}
-use Rattle.gatt_laws.specs.machine.Event.{Of, Completed, Credit, Update, Tick, Replaced, Nothing}
+use Rattle.gatt_laws.specs.machine.Event.{Ordinal, Event, Connected}
+use Rattle.gatt_laws.specs.machine.Event.{Asks, Signals, Happening}
+use Rattle.gatt_laws.specs.machine.Event.{Of, Nothing}
 use Rattle.gatt_laws.specs.machine.Input.{Course, packet_taken}
 use Rattle.gatt_laws.specs.machine.Notice.{noticed}
 use Rattle.gatt_laws.specs.machine.Packets.{Fault, Fragments, answered, arrival, arrival_of}
@@ -83,29 +83,7 @@ module _ (state : State) (held : Held) (sound : IsSound state) (stands : Stands 
 
   pub joined : (event : Event) → IsMeant IsAny state event → JoinsAt event
   joined (Of ordinal (Connected handle peer)) meant = came-joined ordinal handle peer meant
-  joined (Of ordinal Gone) meant = together_then state (Of ordinal Gone) fragments frames refl is
-  joined (Of ordinal (KeyAsked random_number diversifier)) meant =
-      together_then state (Of ordinal (KeyAsked random_number diversifier)) fragments frames refl is
-  joined (Of ordinal (Encrypted status enabled)) meant =
-      together_then state (Of ordinal (Encrypted status enabled)) fragments frames refl is
-  joined (Of ordinal (Refreshed status)) meant =
-      together_then state (Of ordinal (Refreshed status)) fragments frames refl is
-  joined (Of ordinal (Asks pdu)) meant =
-      together_then state (Of ordinal (Asks pdu)) fragments frames refl is
-  joined (Of ordinal (Signals channel payload)) meant =
-      together_then state (Of ordinal (Signals channel payload)) fragments frames refl is
-  joined (Of ordinal (Authorized until)) meant =
-      together_then state (Of ordinal (Authorized until)) fragments frames refl is
-  joined (Of ordinal Ended) meant = together_then state (Of ordinal Ended) fragments frames refl is
-  joined (Completed entries) meant =
-      together_then state (Completed entries) fragments frames refl is
-  joined (Credit allowed opcode status following) meant =
-      together_then state (Credit allowed opcode status following) fragments frames refl is
-  joined (Update handle value) meant =
-      together_then state (Update handle value) fragments frames refl is
-  joined (Tick time) meant = together_then state (Tick time) fragments frames refl is
-  joined (Replaced table) meant = together_then state (Replaced table) fragments frames refl is
-  joined Nothing meant = together_then state Nothing fragments frames refl is
+  joined event meant = together_then state event fragments frames refl is
 
 -- where an event leads a host, and what is told of it
 pub record EventLed (state : State) (event : Event) (fragments : Fragments) (new : Held)
@@ -191,22 +169,7 @@ event-frames held (Ok (event.CommandStatus status allowed opcode)) happening fra
     either-way (is_ready held.controller) frames
     ∙ answered-frames allowed opcode (Some status) _ happening frames is
 event-frames held (Ok (event.HardwareError code)) happening frames is = cc is
-event-frames held (Ok (event.DisconnectionComplete status handle reason)) happening frames is =
-    ap (λ (happening : Happening Place). frames_after happening frames) (ok-is is)
-event-frames held (Ok (event.EncryptionChange status handle enabled)) happening frames is =
-    ap (λ (happening : Happening Place). frames_after happening frames) (ok-is is)
-event-frames held (Ok (event.NumberOfCompletedPackets entries)) happening frames is =
-    ap (λ (happening : Happening Place). frames_after happening frames) (ok-is is)
-event-frames held (Ok (event.EncryptionKeyRefreshComplete status handle)) happening frames is =
-    ap (λ (happening : Happening Place). frames_after happening frames) (ok-is is)
-event-frames held
-    (Ok (event.ConnectionComplete status handle role peer interval latency timeout clock_accuracy))
-    happening frames is =
-    ap (λ (happening : Happening Place). frames_after happening frames) (ok-is is)
-event-frames held (Ok (event.LongTermKeyRequest handle random_number diversifier)) happening frames
-    is =
-    ap (λ (happening : Happening Place). frames_after happening frames) (ok-is is)
-event-frames held (Ok event.Other) happening frames is =
+event-frames held (Ok reported) happening frames is =
     ap (λ (happening : Happening Place). frames_after happening frames) (ok-is is)
 
 -- as many frames as before

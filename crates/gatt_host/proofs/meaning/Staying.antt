@@ -4,8 +4,7 @@ use Rattle.gatt_host.specs.Stands.{IsSound}
 use Rattle.gatt_laws.proofs.Placed.{stays_placed}
 use Rattle.gatt_laws.proofs.Queued.{IsKept, stays-kept}
 use Rattle.gatt_laws.specs.laws.Possible.{Possible}
-use Rattle.gatt_laws.specs.machine.Event.{Event, Of, Completed, Credit, Update, Tick, Replaced}
-use Rattle.gatt_laws.specs.machine.Event.{Nothing}
+use Rattle.gatt_laws.specs.machine.Event.{Event, Credit}
 use Rattle.gatt_laws.specs.machine.State.{State, change_of, step}
 
 pub stays_sound : (state : State) (event : Event) → Possible (λ table. Unit) state event
@@ -24,11 +23,6 @@ stays_sound state event possible sound =
 -- how many slots a host was opened with does not change
 pub rooms_stay : (state : State) (event : Event) → (step state event).room.slots ≡ state.room.slots
 unfolding step change_of
-rooms_stay state (Of ordinal own) = refl
-rooms_stay state (Completed entries) = refl
 rooms_stay state (Credit allowed opcode status (Some init)) = refl
 rooms_stay state (Credit allowed opcode status None) = refl
-rooms_stay state (Update handle value) = refl
-rooms_stay state (Tick time) = refl
-rooms_stay state (Replaced table) = refl
-rooms_stay state Nothing = refl
+rooms_stay state event = refl

@@ -14,7 +14,7 @@ use Rattle.gatt_host.specs.Owing.{all_given, slot_held}
 use Rattle.gatt_host.specs.Standing.{IsPutTogether}
 use Rattle.gatt_host.specs.Stands.{IsSound, Stands, place_among, slots_for as slots_opened}
 use Rattle.gatt_laws.specs.machine.Controller.{Slots, has_free, is_ready, with_freed, with_taken}
-use Rattle.gatt_laws.specs.machine.Event.{Ordinal, Own, Event, Connected, Gone, KeyAsked, Encrypted, Refreshed, Asks, Signals, Authorized, Ended, Of, Completed, Credit, Update, Tick, Replaced, Nothing}
+use Rattle.gatt_laws.specs.machine.Event.{Ordinal, Own, Event, Connected, Gone, Of, Credit}
 use Rattle.gatt_laws.specs.machine.Packets.{Fragments}
 use Rattle.gatt_laws.specs.laws.Settled.{has_slot}
 use Rattle.gatt_laws.specs.machine.State.{State, change_of, slots_for, step}
@@ -25,7 +25,7 @@ use Rattle.le_acl.specs.Fragment.{Fragment}
 use Rattle.le_acl.specs.Reassembler.{nothing, assembly_after}
 use Rattle.le_hci.specs.declared.buffers.Buffers.{Buffers}
 use Rattle.le_hci.specs.declared.init.Init.{Init}
-use Rattle.le_hci.specs.declared.init.Init.TheVariants.{Resetting, Masking, LeMasking, Sizing, SharedSizing, Addressing, Describing, Filling, Enabling, Ready}
+use Rattle.le_hci.specs.declared.init.Init.TheVariants.{Ready}
 use Rattle.le_hci.specs.declared.peer.Peer.{Peer}
 
 -- no more slots are opened than a host was opened with
@@ -81,16 +81,8 @@ none-there (suc count) (suc place) other there = none-there count place other th
 
 opened-before : (count : ℕ) (init : Init) (slots : Slots) (place : ℕ) (other : Ordinal)
     → slice_get (slots_for count init slots) place ≡ Some (Some other) → slice_get slots place ≡ Some (Some other)
-opened-before count (Resetting settings) slots place other there = there
-opened-before count (Masking settings) slots place other there = there
-opened-before count (LeMasking settings) slots place other there = there
-opened-before count (Sizing settings) slots place other there = there
-opened-before count (SharedSizing settings) slots place other there = there
-opened-before count (Addressing address advertising buffers) slots place other there = there
-opened-before count (Describing own_address_type advertising buffers) slots place other there = there
-opened-before count (Filling advertising buffers) slots place other there = there
-opened-before count (Enabling buffers) slots place other there = there
 opened-before count (Ready told packets) slots place other there = absurd (none-there _ place other there)
+opened-before count init slots place other there = there
 
 pub record KeepsOrFrees (old new : State) : Type 0 where
   pub there : (place : ℕ) (ordinal : Ordinal)
@@ -101,21 +93,10 @@ pub keeps_or_frees : (state : State) (event : Event) → is_coming event ≡ fal
 unfolding step change_of
 keeps_or_frees state (Of own (Connected handle peer)) other = absurd (clash (sym other))
 keeps_or_frees state (Of own Gone) other = record { there = λ place ordinal is. freed-before own state.slots place ordinal is; next = refl }
-keeps_or_frees state (Of own (KeyAsked random_number diversifier)) other = record { there = λ place ordinal is. is; next = refl }
-keeps_or_frees state (Of own (Encrypted status enabled)) other = record { there = λ place ordinal is. is; next = refl }
-keeps_or_frees state (Of own (Refreshed status)) other = record { there = λ place ordinal is. is; next = refl }
-keeps_or_frees state (Of own (Asks pdu)) other = record { there = λ place ordinal is. is; next = refl }
-keeps_or_frees state (Of own (Signals channel payload)) other = record { there = λ place ordinal is. is; next = refl }
-keeps_or_frees state (Of own (Authorized until)) other = record { there = λ place ordinal is. is; next = refl }
-keeps_or_frees state (Of own Ended) other = record { there = λ place ordinal is. is; next = refl }
-keeps_or_frees state (Completed entries) other = record { there = λ place ordinal is. is; next = refl }
 keeps_or_frees state (Credit allowed opcode status (Some init)) other =
     record { there = λ place ordinal is. opened-before state.room.slots init state.slots place ordinal is; next = refl }
 keeps_or_frees state (Credit allowed opcode status None) other = record { there = λ place ordinal is. is; next = refl }
-keeps_or_frees state (Update handle value) other = record { there = λ place ordinal is. is; next = refl }
-keeps_or_frees state (Tick time) other = record { there = λ place ordinal is. is; next = refl }
-keeps_or_frees state (Replaced table) other = record { there = λ place ordinal is. is; next = refl }
-keeps_or_frees state Nothing other = record { there = λ place ordinal is. is; next = refl }
+keeps_or_frees state event other = record { there = λ place ordinal is. is; next = refl }
 
 pub together_then : (state : State) (event : Event) (fragments : Fragments) (frames : Frames) → is_coming event ≡ false
     → IsPutTogether state fragments frames → IsPutTogether (step state event) fragments frames

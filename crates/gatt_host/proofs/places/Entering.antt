@@ -14,7 +14,7 @@ use Rattle.gatt_laws.proofs.Placed.{freed_lacks, placed_before_commands}
 use Rattle.gatt_laws.proofs.Queued.{change-queued, heard-within}
 use Rattle.gatt_laws.proofs.Settled.{none_next, settled_before_commands}
 use Rattle.gatt_laws.specs.machine.Controller.{Slots}
-use Rattle.gatt_laws.specs.machine.Event.{Ordinal, Own, Event, Connected, Gone, KeyAsked, Encrypted, Refreshed, Asks, Signals, Authorized, Ended, Of, Completed, Credit, Update, Tick, Replaced, Nothing}
+use Rattle.gatt_laws.specs.machine.Event.{Ordinal, Own, Event, Connected, Gone, Encrypted, Refreshed, Asks, Signals, Of, Completed, Credit, Replaced}
 use Rattle.gatt_laws.specs.machine.Heard.{after_hearing}
 use Rattle.gatt_laws.specs.machine.Part.{Part, come, is_live, is_there, key_of, mtu_of, with_pdus, after_ending}
 use Rattle.gatt_laws.specs.laws.Possible.{Possible}
@@ -52,14 +52,10 @@ live-same : (room : Room) (bond : Row) (owed : Bool) (part : Part) (own : Own) �
 unfolding live_turn
 live-same room bond owed part (Asks pdu) = request-same room bond owed part pdu
 live-same room bond owed part (Signals channel payload) = channel-same room part channel (channel_answer channel payload)
-live-same room bond owed part (KeyAsked random_number diversifier) = refl
 live-same room bond owed part (Encrypted status enabled) =
     link-same part (Encryption status enabled) (lost_encryption (key_of part) (key_of (with_step part (Encryption status enabled))))
 live-same room bond owed part (Refreshed status) = link-same part (Refresh status) (lost_encryption (key_of part) (key_of (with_step part (Refresh status))))
-live-same room bond owed part (Authorized until) = refl
-live-same room bond owed part Ended = refl
-live-same room bond owed part (Connected handle peer) = refl
-live-same room bond owed part Gone = refl
+live-same room bond owed part own = refl
 
 if-live : (room : Room) (bond : Row) (owed : Bool) (part : Part) (own : Own) (live : Bool)
     → Same part (if live then live_turn room bond owed part own else turn_to room bond owed part).part
@@ -75,13 +71,7 @@ own-same state at (Connected handle peer) settled may has =
     let none : 0 ≡ (state.parts at).given = sym (ap (λ (part : Part). part.given) (settled.gone at lacks)) in
     elim (is_there (state.parts at).mark) as (λ (there : Bool). Same (state.parts at) (if there then state.parts at else come handle peer)) [ true ↦ refl | false ↦ none ]
 own-same state at Gone settled may has = absurd (clash (sym (freed_lacks at state.slots) ∙ has))
-own-same state at (KeyAsked random_number diversifier) settled may has = if-live _ _ _ (state.parts at) (KeyAsked random_number diversifier) (is_live (state.parts at).mark)
-own-same state at (Encrypted status enabled) settled may has = if-live _ _ _ (state.parts at) (Encrypted status enabled) (is_live (state.parts at).mark)
-own-same state at (Refreshed status) settled may has = if-live _ _ _ (state.parts at) (Refreshed status) (is_live (state.parts at).mark)
-own-same state at (Asks pdu) settled may has = if-live _ _ _ (state.parts at) (Asks pdu) (is_live (state.parts at).mark)
-own-same state at (Signals channel payload) settled may has = if-live _ _ _ (state.parts at) (Signals channel payload) (is_live (state.parts at).mark)
-own-same state at (Authorized until) settled may has = if-live _ _ _ (state.parts at) (Authorized until) (is_live (state.parts at).mark)
-own-same state at Ended settled may has = if-live _ _ _ (state.parts at) Ended (is_live (state.parts at).mark)
+own-same state at own settled may has = if-live _ _ _ (state.parts at) own (is_live (state.parts at).mark)
 
 completed-same : (ordinal : Ordinal) (entries : List (Ordinal × ℕ)) (part : Part) → Same part (after_completed ordinal entries part)
 completed-same ordinal [] part = refl
@@ -110,10 +100,8 @@ change-same state (Of at own) possible settled ordinal has =
 change-same state (Completed entries) possible settled ordinal has = completed-same ordinal entries (state.parts ordinal)
 change-same state (Credit allowed opcode status (Some init)) possible settled ordinal has = refl
 change-same state (Credit allowed opcode status None) possible settled ordinal has = refl
-change-same state (Update handle value) possible settled ordinal has = refl
-change-same state (Tick time) possible settled ordinal has = refl
 change-same state (Replaced table) possible settled ordinal has = replaced-same state.room.table table (state.parts ordinal)
-change-same state Nothing possible settled ordinal has = refl
+change-same state event possible settled ordinal has = refl
 
 -- at its end it gives what may be given
 given-partway : (room : Room) (part : Part) (handed : ℕ) (live : Bool) → is_live part.mark ≡ live → part.given ≡ handed

@@ -7,14 +7,15 @@ use Rattle.gatt_host.proofs.standing.Holding.{Holds, ends, holds}
 use Rattle.gatt_host.specs.Answers.{answered_by}
 use Rattle.gatt_host.specs.Held.{Held, after_credit, opened}
 use Rattle.gatt_host.specs.Owing.{Handed, all_given, slot_held}
-use Rattle.gatt_host.specs.Stands.{AnswerLeadsOn, LeadsTo, Stands, IsSound}
+use Rattle.gatt_host.specs.Stands.{LeadsTo, Stands, IsSound}
+use Rattle.gatt_laws.specs.laws.Possible.{Possible}
 use Rattle.gatt_laws.specs.machine.Controller.{Controller, Slots, is_ready}
 use Rattle.gatt_laws.specs.machine.Event.{Credit}
 use Rattle.gatt_laws.specs.machine.Notice.{noticed}
 use Rattle.gatt_laws.specs.machine.State.{State, change_of, is_refusal, slots_for}
 use Rattle.le_acl.specs.Shares.{usable}
 use Rattle.le_hci.specs.declared.init.Init.{Init}
-use Rattle.le_hci.specs.declared.init.Init.TheVariants.{Resetting, Masking, LeMasking, Sizing, SharedSizing, Addressing, Describing, Filling, Enabling, Ready}
+use Rattle.le_hci.specs.declared.init.Init.TheVariants.{Ready}
 use Rattle.le_hci.specs.Init.{command_awaited}
 use Rattle.le_hci.specs.InitTold.{told_in}
 
@@ -125,16 +126,8 @@ module _ (state : State) (held : Held) (allowed opcode : ℕ) (status : Option �
         }
 
     next-holds : (init : Init) → Holds (change_of state (Credit allowed opcode status (Some init))).state (all_given state) (answered (Some init))
-    next-holds (Resetting settings) = awaiting-holds (Resetting settings) refl refl refl
-    next-holds (Masking settings) = awaiting-holds (Masking settings) refl refl refl
-    next-holds (LeMasking settings) = awaiting-holds (LeMasking settings) refl refl refl
-    next-holds (Sizing settings) = awaiting-holds (Sizing settings) refl refl refl
-    next-holds (SharedSizing settings) = awaiting-holds (SharedSizing settings) refl refl refl
-    next-holds (Addressing address advertising buffers) = awaiting-holds (Addressing address advertising buffers) refl refl refl
-    next-holds (Describing own_address_type advertising buffers) = awaiting-holds (Describing own_address_type advertising buffers) refl refl refl
-    next-holds (Filling advertising buffers) = awaiting-holds (Filling advertising buffers) refl refl refl
-    next-holds (Enabling buffers) = awaiting-holds (Enabling buffers) refl refl refl
     next-holds (Ready told packets) = ready-holds told packets
+    next-holds init = awaiting-holds init refl refl refl
 
     next-leads : (init : Init)
         → LeadsTo state (Credit allowed opcode status (Some init)) (after_credit allowed opcode status (Some init) held)
@@ -142,6 +135,8 @@ module _ (state : State) (held : Held) (allowed opcode : ℕ) (status : Option �
     next-leads init =
         ends state (Credit allowed opcode status (Some init)) sound early (answered (Some init)) (next-holds init) None [] [] (λ place ordinal there found kept. refl) refl
 
-pub answer_leads_on : AnswerLeadsOn
-answer_leads_on state held allowed opcode status None sound stood possible = other-leads state held allowed opcode status sound stood
-answer_leads_on state held allowed opcode status (Some init) sound stood early = next-leads state held allowed opcode status sound stood early init
+pub answer_leads : (state : State) (held : Held) (allowed opcode : ℕ) (status : Option ℕ) (following : Option Init) → IsSound state
+    → Stands state [] held → Possible (λ table. Unit) state (Credit allowed opcode status following)
+    → LeadsTo state (Credit allowed opcode status following) (after_credit allowed opcode status following held)
+answer_leads state held allowed opcode status None sound stood possible = other-leads state held allowed opcode status sound stood
+answer_leads state held allowed opcode status (Some init) sound stood early = next-leads state held allowed opcode status sound stood early init

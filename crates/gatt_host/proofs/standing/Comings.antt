@@ -12,7 +12,7 @@ use Rattle.gatt_host.proofs.standing.Turned.{at_own_peer, bonds_alike}
 use Rattle.gatt_host.specs.declared.last_event.LastEvent.TheVariants as last
 use Rattle.gatt_host.specs.Held.{Held, kept_at, gone_event, after_coming, after_going, share_in, size_in}
 use Rattle.gatt_host.specs.Owing.{all_given, slot_held}
-use Rattle.gatt_host.specs.Stands.{GoingLeadsOn, ComingLeadsOn, HasKeysOfItsPeer, slots_for, LeadsTo, Stands, IsSound}
+use Rattle.gatt_host.specs.Stands.{HasKeysOfItsPeer, slots_for, LeadsTo, Stands, IsSound}
 use Rattle.gatt_laws.proofs.Settled.{none_next}
 use Rattle.gatt_laws.specs.machine.Controller.{Controller, Slots, has_free, is_ready, with_freed, with_taken}
 use Rattle.gatt_laws.specs.machine.Event.{Ordinal, Of, Connected, Gone}
@@ -106,15 +106,12 @@ module _ (state : State) (held : Held) (place : ℕ) (ordinal : Ordinal) (sound 
             ap (λ (same : Bool). kept_if_there state.room (if same then absent else state.parts other) (state.parts other).given) (sym differs));
       }
 
-  going-leads : LeadsTo state (Of ordinal Gone) (after_going place held)
+  pub going_leads : LeadsTo state (Of ordinal Gone) (after_going place held)
   unfolding change_of
-  going-leads =
+  going_leads =
       ends_with state (Of ordinal Gone) sound tt without_it going-holds None [] []
       (none_raised_at state.room.table state.room.time (with_freed ordinal state.slots) ordinal [] [] refl refl)
       (option_map_or gone_event (kept_at held place) last.Quiet) (gone_told state held place ordinal sound stands there (after_going place held))
-
-pub going_leads_on : GoingLeadsOn
-going_leads_on state held place ordinal sound stands there = going-leads state held place ordinal sound stands there
 
 -- one comes
 share-kept : (slots : ℕ) (told : Option Buffers) → share_of (slots_for slots told) told ≡ share_of slots told
@@ -227,13 +224,10 @@ module _ (state : State) (held : Held) (place handle : ℕ) (peer : Peer) (sound
             ap (λ (same : Bool). kept_if_there state.room (if same then coming_part else state.parts other) (state.parts other).given) (sym differs));
       }
 
-  coming-leads : LeadsTo state (Of next (Connected handle peer)) (after_coming place handle peer held)
+  pub coming_leads : LeadsTo state (Of next (Connected handle peer)) (after_coming place handle peer held)
   unfolding change_of noticed
-  coming-leads =
+  coming_leads =
       ends_with state (Of next (Connected handle peer)) sound (record { next = refl; free = free }) with_it coming-holds None [] []
       (none_raised_at state.room.table state.room.time (with_taken next state.slots) next [] [] refl refl)
       (last.Connected handle peer)
       (ap (λ (part : Part). if is_there part.mark then [] else notice.Connected handle peer ∷ []) (sym nobody-yet))
-
-pub coming_leads_on : ComingLeadsOn
-coming_leads_on state held place handle peer sound stands free found = coming-leads state held place handle peer sound stands free found

@@ -7,7 +7,7 @@ use Rattle.gatt_host.proofs.standing.Holding.{Holds, SameLink, ends, holds, keye
 use Rattle.gatt_host.proofs.standing.Names.{place_there}
 use Rattle.gatt_host.specs.Held.{Held, after_completing}
 use Rattle.gatt_host.specs.Owing.{all_given, slot_held, slots_held}
-use Rattle.gatt_host.specs.Stands.{CompletionLeadsOn, LeadsTo, Stands, IsSound, place_of}
+use Rattle.gatt_host.specs.Stands.{LeadsTo, Stands, IsSound, place_of}
 use Rattle.gatt_laws.specs.laws.Possible.{HaveSlots}
 use Rattle.gatt_laws.specs.laws.Renaming.{renamed_entry}
 use Rattle.gatt_laws.specs.machine.Controller.{is_ready}
@@ -70,11 +70,8 @@ module _ (state : State) (held : Held) (entries : List (Ordinal × ℕ)) (sound 
         slots = ap (λ (open_now : Bool). if open_now then after_completions counted held.slots else []) (ap is_ready is.controller ∙ ready) ∙ counts;
       }
 
-  completion-leads : LeadsTo state (Completed entries) (after_completing counted held)
+  pub completion_leads : LeadsTo state (Completed entries) (after_completing counted held)
   unfolding change_of noticed
-  completion-leads =
+  completion_leads =
       ends state (Completed entries) sound tt (record held { slots = after_completions counted held.slots }) completion-holds None [] []
       (λ place ordinal there found kept. refl) refl
-
-pub completion_leads_on : CompletionLeadsOn
-completion_leads_on state held entries sound stands ready have = completion-leads state held entries sound stands ready have

@@ -1,5 +1,5 @@
 -- What happens to all connections leads a host on: nothing, time that goes by, and a value that is written.
-use Rattle.std.proofs.Common.{◌≡◌, ℕ, zero, suc, Bool, true, false, List, [], ◌∷◌, map, length, Option, Some, None, refl, sym, ap, ◌∙◌}
+use Rattle.std.proofs.Common.{◌≡◌, ℕ, ◌≤◌, zero, suc, Bool, true, false, List, [], ◌∷◌, map, length, Option, Some, None, refl, sym, ap, ◌∙◌}
 use Rattle.std.specs.Prelude.{replicate, if◌then◌else◌}
 use Rattle.std.specs.Option.{option_map}
 use Rattle.att_numbers.specs.Types.{Handle}
@@ -7,9 +7,11 @@ use Rattle.att_table.specs.Table.{Contents, with_value}
 use Rattle.gatt_host.proofs.standing.Told.{tick_told}
 use Rattle.gatt_host.proofs.standing.Holding.{ends_with, Holds, ends, holds, keyed_alike}
 use Rattle.gatt_host.specs.declared.last_event.LastEvent.TheVariants as last
+use Rattle.gatt_host.specs.Held as host
 use Rattle.gatt_host.specs.Held.{Held}
 use Rattle.gatt_host.specs.Owing.{Handed, all_given, slot_held}
-use Rattle.gatt_host.specs.Stands.{NothingLeadsOn, TimeLeadsOn, UpdateLeadsOn, Stands}
+use Rattle.gatt_host.specs.Stands.{IsSound, LeadsTo, Stands}
+use Rattle.gatt_laws.specs.laws.Possible.{MayBeUpdated}
 use Rattle.gatt_laws.specs.machine.Controller.{Slots, is_ready}
 use Rattle.gatt_laws.specs.machine.Event.{Ordinal, Nothing, Tick, Update}
 use Rattle.gatt_laws.specs.machine.Notice.{noticed}
@@ -56,9 +58,9 @@ nothing-holds : (state : State) (held : Held) → Stands state [] held → Holds
 unfolding change_of
 nothing-holds state held stands = holds state held stands
 
-pub nothing_leads_on : NothingLeadsOn
+pub nothing_leads : (state : State) (held : Held) → IsSound state → Stands state [] held → LeadsTo state Nothing (host.after_nothing held)
 unfolding change_of noticed
-nothing_leads_on state held sound stands =
+nothing_leads state held sound stands =
     ends state Nothing sound tt held (nothing-holds state held stands) None [] [] (λ place ordinal there found kept. refl) refl
 
 -- time goes by
@@ -95,9 +97,10 @@ tick-holds state held now stands =
           ∙ slots_each state new (all_given state) change refl (λ ordinal. timed state.room new.room (state.parts ordinal) now (state.parts ordinal).given refl) state.slots;
     }
 
-pub time_leads_on : TimeLeadsOn
+pub time_leads : (state : State) (held : Held) (now : ℕ) → IsSound state → Stands state [] held → state.room.time ≤ now
+    → LeadsTo state (Tick now) (host.after_tick now held)
 unfolding change_of
-time_leads_on state held now sound stands later =
+time_leads state held now sound stands later =
     ends_with state (Tick now) sound later (with_time now held) (tick-holds state held now stands) None [] [] (λ place ordinal there found kept. refl)
     last.Ticked (tick_told state held now sound stands)
 
@@ -126,8 +129,9 @@ update-holds state held handle value stands =
       slots = is.slots ∙ slots_same state new (all_given state) (λ ordinal. refl) state.slots;
     }
 
-pub update_leads_on : UpdateLeadsOn
+pub update_leads : (state : State) (held : Held) (handle : Handle) (value : Octets) → IsSound state → Stands state [] held
+    → MayBeUpdated state handle value → LeadsTo state (Update handle value) (host.after_update handle value held)
 unfolding change_of noticed
-update_leads_on state held handle value sound stands may =
+update_leads state held handle value sound stands may =
     ends state (Update handle value) sound may (with_update handle value held) (update-holds state held handle value stands) None [] (handle ∷ [])
     (λ place ordinal there found kept. refl) refl

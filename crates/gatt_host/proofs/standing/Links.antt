@@ -11,7 +11,7 @@ use Rattle.gatt_host.proofs.standing.Turned.{holds_alone, kept_here}
 use Rattle.gatt_host.specs.declared.last_event.LastEvent.TheVariants as last
 use Rattle.gatt_host.specs.Held.{Held, kept_at, link_event, owed_here, after_link}
 use Rattle.gatt_host.specs.Owing.{all_given}
-use Rattle.gatt_host.specs.Stands.{bond_in, EncryptionLeadsOn, RefreshLeadsOn, HoldsBonds, HasKeysOfItsPeer, IsServing, LeadsTo, Stands, IsSound}
+use Rattle.gatt_host.specs.Stands.{bond_in, HoldsBonds, HasKeysOfItsPeer, IsServing, LeadsTo, Stands, IsSound}
 use Rattle.gatt_laws.specs.machine.Event.{Ordinal, Own, Of, Encrypted, Refreshed}
 use Rattle.gatt_laws.specs.machine.Part.{Part, is_live, key_of, after_ending}
 use Rattle.gatt_laws.specs.machine.Room.{Bonds, Owed}
@@ -130,10 +130,10 @@ module _ (state : State) (held : Held) (place : ℕ) (ordinal : Ordinal) (sound 
       (encryption-keyed state.room.keys part status enabled is-keyed)))
       (encrypted_kept state.room (state.bonds part.peer) (state.owed part.peer) part serving.live status enabled)
 
-  encryption-leads : (status enabled : ℕ)
+  pub encryption_leads : (status enabled : ℕ)
       → LeadsTo state (Of ordinal (Encrypted status enabled)) (after_link place (Encryption status enabled) held)
   unfolding change_of live_turn
-  encryption-leads status enabled =
+  encryption_leads status enabled =
       let own : Own = Encrypted status enabled in
       let step : Step = Encryption status enabled in
       ends_with state (Of ordinal own) sound tt (record held { slots = slots_at place (after_link_step step) held.slots }) (encryption-holds status enabled)
@@ -156,9 +156,9 @@ module _ (state : State) (held : Held) (place : ℕ) (ordinal : Ordinal) (sound 
       (refresh-keyed state.room.keys part status is-keyed)))
       (refreshed_kept state.room (state.bonds part.peer) (state.owed part.peer) part serving.live status)
 
-  refresh-leads : (status : ℕ) → LeadsTo state (Of ordinal (Refreshed status)) (after_link place (Refresh status) held)
+  pub refresh_leads : (status : ℕ) → LeadsTo state (Of ordinal (Refreshed status)) (after_link place (Refresh status) held)
   unfolding change_of live_turn
-  refresh-leads status =
+  refresh_leads status =
       let own : Own = Refreshed status in
       let step : Step = Refresh status in
       ends_with state (Of ordinal own) sound tt (record held { slots = slots_at place (after_link_step step) held.slots }) (refresh-holds status)
@@ -167,9 +167,3 @@ module _ (state : State) (held : Held) (place : ℕ) (ordinal : Ordinal) (sound 
       (refreshed_raised state.room (state.bonds part.peer) (state.owed part.peer) part serving.live status)
       (ap (λ (turn : Turn). turn.raised) (turn-is own)))
       (option_map_or (link_event step) (kept_at held place) last.Quiet) (refreshed_told state held place ordinal sound stands serving status (after_link place step held))
-
-pub encryption_leads_on : EncryptionLeadsOn
-encryption_leads_on state held place ordinal status enabled sound stands serving = encryption-leads state held place ordinal sound stands serving status enabled
-
-pub refresh_leads_on : RefreshLeadsOn
-refresh_leads_on state held place ordinal status sound stands serving = refresh-leads state held place ordinal sound stands serving status

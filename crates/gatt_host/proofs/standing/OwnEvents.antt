@@ -13,7 +13,7 @@ use Rattle.gatt_host.specs.declared.last_event.LastEvent.TheVariants as last
 use Rattle.gatt_host.specs.Held.{Held, kept_at, end_event, signal_event, after_authorize, after_ask_key, after_disconnect, after_signals}
 use Rattle.gatt_slots.specs.Slots.{slots_at}
 use Rattle.gatt_host.specs.Owing.{all_given}
-use Rattle.gatt_host.specs.Stands.{AuthorizingLeadsOn, DisconnectingLeadsOn, AskingAKeyLeadsOn, SignalsLeadOn, HasKeysOfItsPeer, IsServing, LeadsTo, Stands, IsSound}
+use Rattle.gatt_host.specs.Stands.{HasKeysOfItsPeer, IsServing, LeadsTo, Stands, IsSound}
 use Rattle.gatt_laws.specs.machine.Event.{Ordinal, Own, Of, Authorized, Ended, KeyAsked, Signals}
 use Rattle.gatt_laws.specs.machine.Part.{Part, is_live, is_there, with_pdus, after_ending}
 use Rattle.gatt_laws.specs.machine.State.{State, change_of}
@@ -84,9 +84,9 @@ module _ (state : State) (held : Held) (place : ℕ) (ordinal : Ordinal) (sound 
       (keyed-by own (keyed_alike state.room.keys part (live own).part (refl, refl) is-keyed))
       (authorized_kept state.room (state.bonds part.peer) (state.owed part.peer) part serving.live until)
 
-  authorized-leads : (until : ℕ) → LeadsTo state (Of ordinal (Authorized until)) (after_authorize place until held)
+  pub authorized_leads : (until : ℕ) → LeadsTo state (Of ordinal (Authorized until)) (after_authorize place until held)
   unfolding change_of live_turn
-  authorized-leads until =
+  authorized_leads until =
       let own : Own = Authorized until in
       ends state (Of ordinal own) sound tt (record held { slots = slots_at place (after_authorizing until) held.slots }) (authorized-holds until) None [] []
       (none_raised_at (record state.room.table { values = (turn own).values }) state.room.time state.slots ordinal (turn own).raised_here (turn own).raised
@@ -103,9 +103,9 @@ module _ (state : State) (held : Held) (place : ℕ) (ordinal : Ordinal) (sound 
       (keyed-by own (keyed_alike state.room.keys part (live own).part (refl, refl) is-keyed))
       (disconnected_kept state.room (state.bonds part.peer) (state.owed part.peer) part serving.live)
 
-  disconnected-leads : LeadsTo state (Of ordinal Ended) (after_disconnect place held)
+  pub disconnected_leads : LeadsTo state (Of ordinal Ended) (after_disconnect place held)
   unfolding change_of live_turn
-  disconnected-leads =
+  disconnected_leads =
       let own : Own = Ended in
       ends_with state (Of ordinal own) sound tt (record held { slots = slots_at place (slot_ending remote_user_terminated) held.slots }) disconnected-holds None [] []
       (none_raised_at (record state.room.table { values = (turn own).values }) state.room.time state.slots ordinal (turn own).raised_here (turn own).raised
@@ -146,11 +146,11 @@ module _ (state : State) (held : Held) (place : ℕ) (ordinal : Ordinal) (sound 
       (key_asked_kept state.room (state.bonds part.peer) (state.owed part.peer) part serving.live random_number diversifier
       ∙ asked-kept random_number diversifier held.keys stands.keys)
 
-  key-asked-leads : (random_number : Octets) (diversifier : ℕ)
+  pub key_asked_leads : (random_number : Octets) (diversifier : ℕ)
       → LeadsTo state (Of ordinal (KeyAsked random_number diversifier))
       (after_ask_key place random_number diversifier held)
   unfolding change_of live_turn
-  key-asked-leads random_number diversifier =
+  key_asked_leads random_number diversifier =
       let own : Own = KeyAsked random_number diversifier in
       ends state (Of ordinal own) sound tt (record held { slots = slots_at place (asked_of held.keys random_number diversifier) held.slots })
       (key-asked-holds random_number diversifier) None [] []
@@ -176,25 +176,12 @@ module _ (state : State) (held : Held) (place : ℕ) (ordinal : Ordinal) (sound 
       (keyed-by own (keyed_alike state.room.keys part (live own).part (channel-link channel (channel_answer channel payload)) is-keyed))
       (signal_kept state.room (state.bonds part.peer) (state.owed part.peer) part serving.live (sound.queued ordinal) channel payload)
 
-  signal-leads : (channel : ℕ) (payload : Octets)
+  pub signal_leads : (channel : ℕ) (payload : Octets)
       → LeadsTo state (Of ordinal (Signals channel payload)) (after_signals place channel payload held)
   unfolding change_of live_turn
-  signal-leads channel payload =
+  signal_leads channel payload =
       let own : Own = Signals channel payload in
       ends_with state (Of ordinal own) sound tt (record held { slots = slots_at place (after_signal channel payload) held.slots }) (signal-holds channel payload) None [] []
       (none_raised_at (record state.room.table { values = (turn own).values }) state.room.time state.slots ordinal (turn own).raised_here (turn own).raised
       (ap (λ (turn : Turn). turn.raised_here) (turn-is own)) (ap (λ (turn : Turn). turn.raised) (turn-is own)))
       (option_map_or (signal_event channel payload) (kept_at held place) last.Quiet) (signal_told state held place ordinal sound stands serving channel payload (after_signals place channel payload held))
-
-pub authorizing_leads_on : AuthorizingLeadsOn
-authorizing_leads_on state held place ordinal until sound stands serving = authorized-leads state held place ordinal sound stands serving until
-
-pub disconnecting_leads_on : DisconnectingLeadsOn
-disconnecting_leads_on state held place ordinal sound stands serving = disconnected-leads state held place ordinal sound stands serving
-
-pub asking_a_key_leads_on : AskingAKeyLeadsOn
-asking_a_key_leads_on state held place ordinal random_number diversifier sound stands serving =
-    key-asked-leads state held place ordinal sound stands serving random_number diversifier
-
-pub signals_lead_on : SignalsLeadOn
-signals_lead_on state held place ordinal channel payload sound stands serving = signal-leads state held place ordinal sound stands serving channel payload

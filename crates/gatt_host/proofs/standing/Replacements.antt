@@ -12,7 +12,7 @@ use Rattle.gatt_host.proofs.standing.ForAll.{slots_each, open_each, free_each, e
 use Rattle.gatt_host.proofs.standing.Holding.{Holds, SameLink, ends, holds, keyed_alike}
 use Rattle.gatt_host.specs.Held.{Held, after_replacing}
 use Rattle.gatt_host.specs.Owing.{all_given}
-use Rattle.gatt_host.specs.Stands.{bond_in, HoldsBonds, LeadsTo, ReplacementLeadsOn, Stands, IsSound}
+use Rattle.gatt_host.specs.Stands.{bond_in, HoldsBonds, LeadsTo, Stands, IsSound}
 use Rattle.gatt_laws.specs.machine.Controller.{is_ready}
 use Rattle.gatt_laws.specs.machine.Event.{Replaced}
 use Rattle.gatt_laws.specs.machine.Notice.{noticed}
@@ -116,10 +116,7 @@ module _ (state : State) (held : Held) (table : Contents) (sound : IsSound state
             (λ ordinal. sym (replaced_kept state.room (state.parts ordinal) state.room.table table (state.parts ordinal).given)) state.slots;
       }
 
-  replacement-leads : LeadsTo state (Replaced table) (after_replacing table held)
+  pub replacement_leads : LeadsTo state (Replaced table) (after_replacing table held)
   unfolding change_of noticed
-  replacement-leads =
+  replacement_leads =
       ends state (Replaced table) sound tt with_table replacement-holds None [] (option_to_list (changer_of table)) (λ place ordinal there found kept. refl) refl
-
-pub replacement_leads_on : ReplacementLeadsOn
-replacement_leads_on state held table sound stands = replacement-leads state held table sound stands

@@ -17,7 +17,7 @@ use Rattle.gatt_host.specs.declared.last_event.LastEvent.TheVariants as last
 use Rattle.gatt_host.specs.Held.{Held, brought_by, kept_at, row_at, after_serving, Serves}
 use Rattle.gatt_host.specs.Notices.{row_there, told_by}
 use Rattle.gatt_host.specs.Owing.{all_given, slot_held, slots_held}
-use Rattle.gatt_host.specs.Stands.{bond_in, RequestLeadsOn, HoldsBonds, HasKeysOfItsPeer, IsServing, LeadsTo, Stands, IsSound}
+use Rattle.gatt_host.specs.Stands.{bond_in, HoldsBonds, HasKeysOfItsPeer, IsServing, LeadsTo, Stands, IsSound}
 use Rattle.gatt_laws.specs.machine.Controller.{is_ready}
 use Rattle.gatt_laws.specs.machine.Event.{Ordinal, Of, Asks}
 use Rattle.gatt_laws.specs.machine.Notice.{Confirmed, Ending, confirmation_told, end_told, live_told, noticed, write_told}
@@ -386,7 +386,9 @@ module _ (state : State) (held new : Held) (place : ℕ) (ordinal : Ordinal) (pd
   kept-found : (kept' : Kept) → kept_at held place ≡ Some kept' → kept' ≡ kept
   kept-found kept' at = sym (some-is (sym (kept_here state held is sound.settled place ordinal serving.there turn (λ kept. kept) serving.live) ∙ at))
 
-pub request_leads_on : RequestLeadsOn
-request_leads_on state held new place ordinal pdu kept sound stands serving at serves =
+pub request_leads : (state : State) (held new : Held) (place : ℕ) (ordinal : Ordinal) (pdu : Octets) (kept : Kept) → IsSound state
+    → Stands state [] held → IsServing state place ordinal → kept_at held place ≡ Some kept → Serves place pdu kept held new
+    → LeadsTo state (Of ordinal (Asks pdu)) new
+request_leads state held new place ordinal pdu kept sound stands serving at serves =
     served-leads state held new place ordinal pdu sound stands serving
     (subst (λ (kept : Kept). Serves place pdu kept held new) (kept-found state held new place ordinal pdu sound stands serving kept at) serves)

@@ -4,8 +4,8 @@ use Rattle.att_numbers.specs.Types.{Handle}
 use Rattle.att_attributes.specs.declared.attr.Attr.{Attr}
 use Rattle.att_attributes.specs.Attributes.{attribute_at}
 use Rattle.att_table.specs.Table.{Contents}
-use Rattle.gatt_laws.specs.machine.Calls.{has_length}
 use Rattle.gatt_laws.specs.laws.Settled.{has_slot}
+use Rattle.gatt_laws.specs.machine.Calls.{has_length}
 use Rattle.gatt_laws.specs.machine.Context.{holding}
 use Rattle.gatt_laws.specs.machine.Controller.{Slots, has_free, is_ready}
 use Rattle.gatt_laws.specs.machine.Event.{Ordinal, Own, Event, Connected, Gone, Of, Completed}

@@ -1,4 +1,4 @@
--- What happens is the same whatever the names of connections are.
+-- What a packet and a call mean is the same whatever the names of connections are.
 use Rattle.std.specs.Prelude.{◌≡◌, ℕ, true, map, Some, Result, Ok, Err}
 use Rattle.std.specs.Option.{option_map}
 use Rattle.att_table.specs.Table.{Contents}
@@ -11,6 +11,7 @@ use Rattle.gatt_laws.specs.machine.Packets.{Recombination, packet_meaning}
 use Rattle.le_acl.specs.Fragment.{Fragment}
 use Rattle.le_h4.specs.Packet.{Packet}
 
+-- what happens, by other names
 abbrev pub renamed_entry : {C D : Type 0} → (C → D) → C × ℕ → D × ℕ
 renamed_entry names entry = (names entry.0, entry.1)
 
@@ -29,16 +30,16 @@ renamed_if names (Err fault) = Err fault
 
 -- the same is known, but for the names. Who has a handle, and who comes next, counts once the
 -- controller is initialised
-pub record AreAlike (C D : Type 0) (names : C → D) (one : Context C) (other : Context D) : Type 0
-  where
-    pub controller : other.controller ≡ one.controller
-    pub attributes : other.attributes ≡ one.attributes
-    pub changer : other.changer ≡ one.changer
-    pub time : other.time ≡ one.time
-    pub serving : (handle : ℕ) → other.serving handle ≡ option_map names (one.serving handle)
-    pub holding : is_ready one.controller ≡ true → (handle : ℕ)
-        → other.holding handle ≡ option_map names (one.holding handle)
-    pub coming : is_ready one.controller ≡ true → other.coming ≡ option_map names one.coming
+pub record AreAlike (C D : Type 0) (names : C → D) (one : Context C) (other : Context D)
+    : Type 0 where
+  pub controller : other.controller ≡ one.controller
+  pub attributes : other.attributes ≡ one.attributes
+  pub changer : other.changer ≡ one.changer
+  pub time : other.time ≡ one.time
+  pub serving : (handle : ℕ) → other.serving handle ≡ option_map names (one.serving handle)
+  pub holding : is_ready one.controller ≡ true → (handle : ℕ)
+      → other.holding handle ≡ option_map names (one.holding handle)
+  pub coming : is_ready one.controller ≡ true → other.coming ≡ option_map names one.coming
 
 -- so a call and a table mean the same
 abbrev pub CallsMeanTheSame : Type 1
@@ -48,17 +49,16 @@ CallsMeanTheSame = (C D : Type 0) (names : C → D) (one : Context C) (other : C
 
 abbrev pub ReplacementsMeanTheSame : Type 1
 ReplacementsMeanTheSame = (C D : Type 0) (names : C → D) (one : Context C) (other : Context D)
-    → AreAlike C D names one other
-    → (table : Contents) → replacement_meaning other table
-    ≡ renamed_if names (replacement_meaning one table)
+    → AreAlike C D names one other → (table : Contents)
+    → replacement_meaning other table ≡ renamed_if names (replacement_meaning one table)
 
 -- and so does a packet, where each fragment makes the same frame whole
 abbrev pub RecombineAlike : (C D : Type 0) → (C → D) → Context C → (C → Recombination)
     → (D → Recombination) → Type 0
 RecombineAlike C D names one recombinations others =
     (handle : ℕ) (connection : C) → one.serving handle ≡ Some connection
-    → (fragment : Fragment) → others (names connection) fragment
-    ≡ recombinations connection fragment
+    → (fragment : Fragment)
+    → others (names connection) fragment ≡ recombinations connection fragment
 
 abbrev pub PacketsMeanTheSame : Type 1
 PacketsMeanTheSame = (C D : Type 0) (names : C → D) (one : Context C) (other : Context D)
