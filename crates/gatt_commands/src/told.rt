@@ -41,8 +41,8 @@ pub(crate) fn print_line<W: Write>(
     print(notes.text.as_slice(), writer)
 }
 
-/// Prints what a line has brought of phones: what was refused of it, and then for each phone the frames that it
-/// has heard, and whether the host has ended its connection.
+/// Prints what a line has brought of phones: what was refused of it, and then for each phone the
+/// frames that it has heard, and whether the host has ended its connection.
 #[tactic(auto, using(gatt_files::proofs::Fronts::at_error, gatt_files::proofs::Fronts::front_first, gatt_files::proofs::Fronts::front_then, gatt_files::proofs::Fronts::front_rest))]
 fn print_outcome<W: Write>(
     sim: &mut Sim,
