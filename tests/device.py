@@ -450,6 +450,27 @@ def a_full_disk(folder):
     controller.close()
 
 
+def rows_without_a_folder(folder):
+    """Rows that cannot be written are told of, phones are served, and the next ones are written again."""
+    place = f"{folder}/rows"
+    os.mkdir(place)
+    device = Device(*DOOR, "--listen", "127.0.0.1:0", "--rows", f"{place}/door.rows")
+    controller = controller_at(device)
+    controller.is_advertised()
+    controller.connect(65, OWNER)
+    controller.encrypt(65)
+    check("the first rows", "13", controller.ask(65, "1207000100"))
+    check("are written", "0 00:11:22:33:44:55 7 1\n", text_of(f"{place}/door.rows"))
+    shutil.rmtree(place)
+    check("a phone is answered", "13", controller.ask(65, "120b000100"))
+    check("it is told", "", device.said("rows: not saved"))
+    os.mkdir(place)
+    check("the next rows", "13", controller.ask(65, "1207000000"))
+    check("are written again", "0 00:11:22:33:44:55 11 1\n", text_of(f"{place}/door.rows"))
+    device.end()
+    controller.close()
+
+
 def with_a_stranger(path):
     """A device with a controller, a stranger that has come, and an application at a path that has heard so."""
     device = Device(*DOOR, "--listen", "127.0.0.1:0", "--application", path)
@@ -585,7 +606,7 @@ def main():
         later = a_bell(folder)
         plays = (
             a_day, a_stranger, a_listener, a_serial_line, a_lock, a_visit, a_file_in_the_way, once, words, unknown, values, slots,
-            a_full_disk, floods, a_busy_controller, idle,
+            a_full_disk, rows_without_a_folder, floods, a_busy_controller, idle,
         )
         for play in plays:
             try:
