@@ -100,7 +100,7 @@ the time or replaces the table. After each line is printed what was refused, wha
 heard, and which connection the host has ended; with --notices also what the application is told,
 and with --echo the line itself before all that.
 docs/FORMATS.md has all lines and what they print.
-The rows file keeps what the phones have configured: it is read first and written at the end, and
+The rows file keeps what the phones have configured: it is read first and rewritten at the end, and
 one that is not there is empty.
 
   gatt_shell run examples/door.toml examples/keys.toml examples/first_contact.script";
@@ -122,9 +122,10 @@ pub const SERVE_DETAILS: &str = "\
 Serve a controller over one TCP connection.
 
 The octets of the connection are H4, the UART transport of a Bluetooth controller. The first
-connection that is accepted is served until it ends, and then the program ends. docs/SERVE.md says
-how a controller on a serial line is joined. The rows file keeps what the phones have configured:
-it is read first and written at the end, and one that is not there is empty.
+connection that is accepted is served until it ends, and then the program ends. Four phones may be
+connected at once. docs/SERVE.md says how a controller on a serial line is joined, and
+docs/FORMATS.md with which faults it ends. The rows file keeps what the phones have configured: it
+is read first and rewritten at the end, and one that is not there is empty.
 
   gatt_shell serve examples/door.toml examples/keys.toml 127.0.0.1:5000";
 
