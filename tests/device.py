@@ -485,33 +485,38 @@ def with_a_stranger(path):
 
 def floods(folder):
     """A controller and an application say all that they can at once: each is answered all of it."""
-    count = 10_000
+    count, part = 10_000, 500
     device, controller, application = with_a_stranger(f"{folder}/floods.socket")
     frame = bytes.fromhex("024020 0700 0300 0400 0a0300 0413050140000100")
     answer = bytes.fromhex("024000 0900 0500 0400 0b4c6f636b")
-    heard = {}
+    asked, told = b"value 3\n", b"value 3 4c6f636b\n"
+    heard = {"controller": b"", "application": b""}
 
     def hear(name, stream, wanted):
-        octets = b""
         stream.settimeout(PATIENCE)
         try:
-            while len(octets) < wanted:
-                octets += stream.recv(65_536)
+            while len(heard[name]) < wanted and (octets := stream.recv(65_536)):
+                heard[name] += octets
         except OSError:
             pass
-        heard[name] = octets
+
+    def ask():
+        """Asks on while few answers are unread: an application for which 64 KiB wait is cut off."""
+        for said in range(0, count, part):
+            soon(lambda: len(heard["application"]) >= (said - 2 * part) * len(told))
+            application.stream.sendall(asked * part)
 
     sides = [
-        ("controller", controller.stream, frame * count, answer * count),
-        ("application", application.stream, b"value 3\n" * count, b"value 3 4c6f636b\n" * count),
+        ("controller", controller.stream, answer * count),
+        ("application", application.stream, told * count),
     ]
-    threads = [threading.Thread(target=hear, args=(name, stream, len(wanted))) for name, stream, _, wanted in sides]
-    threads += [threading.Thread(target=stream.sendall, args=(said,)) for _, stream, said, _ in sides]
+    threads = [threading.Thread(target=hear, args=(name, stream, len(wanted))) for name, stream, wanted in sides]
+    threads += [threading.Thread(target=controller.stream.sendall, args=(frame * count,)), threading.Thread(target=ask)]
     for it in threads:
         it.start()
     for it in threads:
         it.join()
-    for name, _, _, wanted in sides:
+    for name, _, wanted in sides:
         check(f"{name}: all is answered", True, heard[name] == wanted)
     device.end()
     controller.close()
