@@ -1,6 +1,6 @@
 -- Whatever is recorded of a turn, rows were kept right before anything was sent, or could not be.
 use Rattle.std.specs.Prelude.{◌||◌, IsSome}
-use Rattle.std.proofs.Common.{◌≡◌, Bool, true, false, List, [], ◌∷◌, ◌++◌, Option, Some, None, Result, Ok, Err, refl, sym, ap, subst, ◌∙◌, ◌⊎◌, inl, inr, append_assoc}
+use Rattle.std.proofs.Common.{◌≡◌, Bool, true, false, List, [], ◌∷◌, ◌++◌, Option, Some, None, Result, Ok, Err, refl, sym, ap, subst, ◌∙◌, ◌⊎◌, inl, inr, append-nil, append_assoc}
 use Rattle.std.proofs.lemmas.Bool.{false≢true}
 use Rattle.gatt_device.proofs.Happened.{records_none, records_then}
 use Rattle.gatt_device.specs.declared.outside.Sending.{Sending}
@@ -8,7 +8,7 @@ use Rattle.gatt_device.specs.declared.outside.Sending.TheVariants as sending
 use Rattle.gatt_device.specs.declared.serving.End.{End}
 use Rattle.gatt_device.specs.declared.serving.End.TheVariants as end
 use Rattle.gatt_device.specs.declared.turn.Turn.{Turn}
-use Rattle.gatt_device.specs.Happenings.{Happening, Came, Asked, Entry, Waited, Happened, Answered, Ended, Failed, Kept, Unkept, Sent, Records, items_in, items_of}
+use Rattle.gatt_device.specs.Happenings.{Happening, Came, Asked, Entry, Waited, Happened, Answered, Ended, Failed, Kept, Unkept, Sent, Unsent, Broken, Records, items_in, items_of}
 use Rattle.gatt_device.specs.Outside.{Sends, kept_entry, sent_entries}
 use Rattle.gatt_device.specs.Serving.{Known, all_entries, entries_in, entries_of, last_entries}
 use Rattle.gatt_device.specs.Turn.{EndsKept, KeepsTheOrder, KeptBeforeSent, StaysInOrder, TakesATurn}
@@ -50,6 +50,8 @@ is_sent Ended = false
 is_sent Failed = false
 is_sent (Kept rows) = false
 is_sent (Unkept rows) = false
+is_sent (Unsent octets) = false
+is_sent (Broken left) = false
 
 abbrev has_sent : List Entry → Bool
 has_sent [] = false
@@ -90,28 +92,28 @@ kept_unsent true rows = refl
 kept_unsent false rows = refl
 
 -- behind that rows were kept, octets were sent once, or not at all
-nothing_there : (between : List Entry) (entry : Entry) (rest : List Entry) → [] ≡ between ++ entry ∷ rest → ⊥
-nothing_there [] entry rest is = cc
-nothing_there (other ∷ between) entry rest is = cc
+never_there : (tail between : List Entry) (octets : Octets) (rest : List Entry) → has_sent tail ≡ false → tail ≡ between ++ Sent octets ∷ rest → ⊥
+never_there tail between octets rest none is = false≢true (sym none ∙ ap has_sent is ∙ sent_there between octets rest)
 
-right_behind : (kept : Entry) (sent : Octets) (between : List Entry) (octets : Octets) (rest : List Entry) → is_sent kept ≡ false
-    → kept ∷ sent_entries sent ≡ between ++ Sent octets ∷ rest → between ≡ kept ∷ []
-right_behind kept sent [] octets rest none is =
+right_behind : (kept : Entry) (sent : Octets) (tail between : List Entry) (octets : Octets) (rest : List Entry) → is_sent kept ≡ false → has_sent tail ≡ false
+    → kept ∷ (sent_entries sent ++ tail) ≡ between ++ Sent octets ∷ rest → between ≡ kept ∷ []
+right_behind kept sent tail [] octets rest none silent is =
     let same : kept ≡ Sent octets = cc in
     absurd (false≢true (sym none ∙ ap is_sent same))
-right_behind kept [] (entry ∷ between) octets rest none is =
-    let behind : [] ≡ between ++ Sent octets ∷ rest = cc in
-    absurd (nothing_there between (Sent octets) rest behind)
-right_behind kept (octet ∷ sent) (entry ∷ []) octets rest none is =
+right_behind kept [] tail (entry ∷ between) octets rest none silent is =
+    let behind : tail ≡ between ++ Sent octets ∷ rest = cc in
+    absurd (never_there tail between octets rest silent behind)
+right_behind kept (octet ∷ sent) tail (entry ∷ []) octets rest none silent is =
     let same : kept ≡ entry = cc in
     λ i. sym same i ∷ []
-right_behind kept (octet ∷ sent) (entry ∷ other ∷ between) octets rest none is =
-    let behind : [] ≡ between ++ Sent octets ∷ rest = cc in
-    absurd (nothing_there between (Sent octets) rest behind)
+right_behind kept (octet ∷ sent) tail (entry ∷ other ∷ between) octets rest none silent is =
+    let behind : tail ≡ between ++ Sent octets ∷ rest = cc in
+    absurd (never_there tail between octets rest silent behind)
 
-module _ (before turn : List Entry) (is_kept : Bool) (rows : Subscriptions) (sent : Octets) (none : has_sent turn ≡ false) (order : KeptBeforeSent before) where
+module _ (before turn : List Entry) (is_kept : Bool) (rows : Subscriptions) (sent : Octets) (tail : List Entry) (none : has_sent turn ≡ false)
+    (silent : has_sent tail ≡ false) (order : KeptBeforeSent before) where
   abbrev behind : List Entry
-  behind = kept_entry is_kept rows ∷ sent_entries sent
+  behind = kept_entry is_kept rows ∷ (sent_entries sent ++ tail)
 
   in_turn : (first between rest : List Entry) (octets : Octets) → first ≡ before ++ between → SplitsAt turn behind between (Sent octets) rest → EndsKept first
   in_turn first between rest octets at (inl found) = absurd (false≢true (sym none ∙ (ap has_sent found.1 ∙ sent_there between octets found.0)))
@@ -121,7 +123,7 @@ module _ (before turn : List Entry) (is_kept : Bool) (rows : Subscriptions) (sen
     rows = rows;
     parts = at
         ∙ ap (λ (it : List Entry). before ++ it) (found.1 ∙ ap (λ (it : List Entry). turn ++ it)
-        (right_behind (kept_entry is_kept rows) sent found.0 octets rest (kept_unsent is_kept rows) found.2))
+        (right_behind (kept_entry is_kept rows) sent tail found.0 octets rest (kept_unsent is_kept rows) silent found.2))
         ∙ sym (append_assoc before turn (kept_entry is_kept rows ∷ []));
   }
 
@@ -132,26 +134,29 @@ module _ (before turn : List Entry) (is_kept : Bool) (rows : Subscriptions) (sen
   stays : KeptBeforeSent (before ++ (turn ++ behind))
   stays first rest octets is = in_all first rest octets (splits_at before (turn ++ behind) first (Sent octets) rest is)
 
-stays_in_order : (turn : List Entry) (is_kept : Bool) (rows : Subscriptions) (sent : Octets) (before after : Option (List Entry)) → has_sent turn ≡ false
-    → Records (turn ++ (kept_entry is_kept rows ∷ sent_entries sent)) before after → KeepsTheOrder before after
-stays_in_order turn is_kept rows sent None after none records = tt
-stays_in_order turn is_kept rows sent (Some before) None none records = records
-stays_in_order turn is_kept rows sent (Some before) (Some after) none records = λ order.
-    subst KeptBeforeSent (sym records) (stays before turn is_kept rows sent none order)
+stays_in_order : (turn : List Entry) (is_kept : Bool) (rows : Subscriptions) (sent : Octets) (tail : List Entry) (before after : Option (List Entry))
+    → has_sent turn ≡ false → has_sent tail ≡ false
+    → Records (turn ++ (kept_entry is_kept rows ∷ (sent_entries sent ++ tail))) before after → KeepsTheOrder before after
+stays_in_order turn is_kept rows sent tail None after none silent records = tt
+stays_in_order turn is_kept rows sent tail (Some before) None none silent records = records
+stays_in_order turn is_kept rows sent tail (Some before) (Some after) none silent records = λ order.
+    subst KeptBeforeSent (sym records) (stays before turn is_kept rows sent tail none silent order)
 
 -- and so for each way in which octets are sent
 module _ (rows : Subscriptions) (turn : Turn) (entries : List Entry) (none : has_sent entries ≡ false) (before recorded kept : Option (List Entry))
     (served : Records entries before recorded) (keeps : Records (kept_entry turn.is_kept rows ∷ []) recorded kept) where
-  sent_in_order : (sent : Octets) (after : Option (List Entry)) → Records (sent_entries sent) kept after → KeepsTheOrder before after
-  sent_in_order sent after sends =
-      stays_in_order entries turn.is_kept rows sent before after none
-      (records_then entries (kept_entry turn.is_kept rows ∷ sent_entries sent) before recorded after served
-      (records_then (kept_entry turn.is_kept rows ∷ []) (sent_entries sent) recorded kept after keeps sends))
+  sent_in_order : (sent : Octets) (tail : List Entry) (after : Option (List Entry)) → has_sent tail ≡ false → Records (sent_entries sent ++ tail) kept after
+      → KeepsTheOrder before after
+  sent_in_order sent tail after silent sends =
+      stays_in_order entries turn.is_kept rows sent tail before after none silent
+      (records_then entries (kept_entry turn.is_kept rows ∷ (sent_entries sent ++ tail)) before recorded after served
+      (records_then (kept_entry turn.is_kept rows ∷ []) (sent_entries sent ++ tail) recorded kept after keeps sends))
 
   in_order : (sending : Sending) (waiting : Octets) (after : Option (List Entry)) → Sends sending waiting kept after → KeepsTheOrder before after
-  in_order sending.Done waiting after sends = sent_in_order waiting after sends
-  in_order sending.Waits waiting after sends = sent_in_order [] after sends
-  in_order sending.Failed waiting after sends = sent_in_order sends.sent after sends.records
+  in_order sending.Done waiting after sends =
+      sent_in_order waiting [] after refl (subst (λ (it : List Entry). Records it kept after) (sym (append-nil (sent_entries waiting))) sends)
+  in_order sending.Waits waiting after sends = sent_in_order [] (Unsent waiting ∷ []) after refl sends
+  in_order sending.Failed waiting after sends = sent_in_order sends.sent (Broken sends.left ∷ []) after refl sends.records
 
 -- a turn keeps the order, whether the host had stopped or not
 keeps_order : (turn : Turn) (old new : Whole) (come comes : Known) (before after : Option Octets) (heard hears : Option (List Notice)) (start : Start) (input : List Item) (gone : List Octets)

@@ -17,7 +17,7 @@ pub data Happening : Type 0 where
 
 -- what is recorded: up to which deadline it was waited, if there was one; what happened then; what a call was answered, which
 -- is why it is refused, if it is; that the stream of the controller has ended, or cannot be read; that rows were kept as they
--- stood, or could not be; and which octets were sent
+-- stood, or could not be; which octets were sent, and which waited on since nobody was there, or were left where sending failed
 pub data Entry : Type 0 where
   Waited : (deadline : Option ℕ) → Entry
   Happened : (happening : Happening) → Entry
@@ -27,6 +27,8 @@ pub data Entry : Type 0 where
   Kept : (rows : Subscriptions) → Entry
   Unkept : (rows : Subscriptions) → Entry
   Sent : (octets : Octets) → Entry
+  Unsent : (octets : Octets) → Entry
+  Broken : (left : Octets) → Entry
 
 -- of what is given: its octets, its calls, and how it is recorded
 abbrev pub next_octets : Next → Octets

@@ -4,7 +4,7 @@ use Rattle.gatt_subs.specs.Rows.{Subscriptions}
 use Rattle.octets.specs.Number.{Octets}
 use Rattle.gatt_device.specs.declared.outside.Sending.{Sending}
 use Rattle.gatt_device.specs.declared.outside.Sending.TheVariants as sending
-use Rattle.gatt_device.specs.Happenings.{Entry, Kept, Unkept, Sent, Records}
+use Rattle.gatt_device.specs.Happenings.{Entry, Kept, Unkept, Sent, Unsent, Broken, Records}
 
 -- rows were kept, or could not be
 abbrev pub kept_entry : Bool → Subscriptions → Entry
@@ -16,17 +16,17 @@ abbrev pub sent_entries : Octets → List Entry
 sent_entries [] = []
 sent_entries (octet ∷ octets) = Sent (octet ∷ octets) ∷ []
 
--- a front of these octets was sent, and nothing else
+-- a front of these octets was sent before it failed, and nothing else
 pub record SendsAFront (octets : Octets) (before after : Option (List Entry)) : Type 0 where
   pub sent : Octets
   pub left : Octets
   pub parts : octets ≡ sent ++ left
-  pub records : Records (sent_entries sent) before after
+  pub records : Records (sent_entries sent ++ Broken left ∷ []) before after
 
--- all of them were sent; none, where nobody is there; or a front, where that failed
+-- all of them were sent; none, since nobody is there; or a front, where that failed: in each case it is recorded
 abbrev pub Sends : Sending → Octets → Option (List Entry) → Option (List Entry) → Type 0
 Sends sending.Done octets before after = Records (sent_entries octets) before after
-Sends sending.Waits octets before after = Records [] before after
+Sends sending.Waits octets before after = Records (Unsent octets ∷ []) before after
 Sends sending.Failed octets before after = SendsAFront octets before after
 
 -- of the octets that waited these wait on

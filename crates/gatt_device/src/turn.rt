@@ -26,10 +26,10 @@ pub struct Turn {
 }
 
 /// Serves a host by what happens in one turn, as `serve_happenings` does. Then its rows are kept as
-/// they stand, and only then is sent what waits: so nobody is told what is not kept. Where rows
-/// cannot be kept, what waits is sent all the same. Where nobody is there, or sending fails, it
-/// waits on; once it has failed, a front may have gone, and no more is to be sent there. After a
-/// fault of the host nothing more happens, but its rows are kept, and what waits is sent.
+/// they stand, and only then is sent what waits. Where rows cannot be kept, what waits is sent all
+/// the same. Where nobody is there, or sending fails, it waits on; once it has failed, a front may
+/// have gone, and no more is to be sent there. After a fault of the host nothing more happens, but
+/// its rows are kept, and what waits is sent.
 pub fn serve_turn<O: Outside<L>, W: Outgoing, L: Listener>(
     host: &mut Host,
     outside: &mut O,
