@@ -1,6 +1,6 @@
 -- The lines of a script are printed one after the other.
 use Rattle.std.proofs.Common.{◌≡◌, ℕ, ◌+◌, ◌<◌, ◌==◌, Bool, true, false, List, [], ◌∷◌, ◌++◌, length, take, drop, Option, Some, None, refl, sym, ap, subst, ◌∙◌, arith}
-use Rattle.std.specs.Prelude.{if◌then◌else◌, slice_index}
+use Rattle.std.specs.Prelude.{◌≢◌, if◌then◌else◌, slice_index}
 use Rattle.std.specs.List.{position_or_len, slice_split}
 use Rattle.memchr.specs.Find.{IsFirstByte, is_byte}
 use Rattle.scripts.specs.Script.{lines_of}
@@ -42,6 +42,10 @@ echo-unsaid line lines silent = ap (λ (said : Bool). (line ++ line_feed) ++ (if
 
 behind-unsaid : (line : Octets) (lines : List Octets) → says line ≡ false → behind (line ∷ lines) ≡ behind lines
 behind-unsaid line lines silent = ap (λ (said : Bool). if said then lines else behind lines) silent
+
+-- where there is a line there are lines
+pub has_line : (lines : List Octets) (line : Octets) (rest : List Octets) → lines ≡ line ∷ rest → lines ≢ []
+has_line lines line rest is none = cc (is, none)
 
 -- of some lines these are left: whoever echoes them has echoed all
 pub record HasEchoed (lines left : List Octets) (held holds : Option Octets) : Type 0 where

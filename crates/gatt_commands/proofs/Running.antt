@@ -90,24 +90,6 @@ module _ (shows : Bool) (names : List Octets) (act : Act) (refused : Option Refu
         fails = record { quiet = quiet; last = last; exchanges = exchanges; next = next; printed = front };
       })
 
--- a line that is shown, or whose front is
-pub runs_next : (shown : Shown) (names : List Octets) (act : Act) (old new : Stage) (held echoed holds : Option Octets) → Appends held echoed (echo_of shown.lines)
-    → RunsLine shown.notices names act old new echoed holds → RunsNext shown names act old new held holds
-runs_next shown names act old new held echoed holds echo runs = record { echoed = echoed; echo = echo; runs = runs }
-
-module _ (shown : Shown) (names : List Octets) (act : Act) (old new : Stage) (held holds : Option Octets) where
-  abbrev Ends : ShellFault → Type 0
-  Ends fault = EndsAtNext fault shown names act old new held holds
-
-  pub ends_echoing : {T : Type 0} (result : Result T ShellFault) (fault : ShellFault) → IsErrAnd result (λ passed. passed ≡ fault) → fault ≡ Unwritten
-      → new ≡ old → WritesFront (echo_of shown.lines) held holds → IfErr result (λ fault. EndsAtNext fault shown names act old new held holds)
-  ends_echoing result fault was is kept front = passed_on result fault Ends was (inl (record { is_unwritten = is; kept = kept; printed = front }))
-
-  pub ends_in_next : {T : Type 0} (echoed : Option Octets) (result : Result T ShellFault) (fault : ShellFault) → IsErrAnd result (λ passed. passed ≡ fault)
-      → Appends held echoed (echo_of shown.lines) → EndsAtLine fault shown.notices names act old new echoed holds
-      → IfErr result (λ fault. EndsAtNext fault shown names act old new held holds)
-  ends_in_next echoed result fault was echo ends = passed_on result fault Ends was (inr (record { echoed = echoed; echo = echo; ends = ends }))
-
 -- some lines are run, and of those these are left, with what is left to show: whoever runs them has run all, and a fault among them ends the run
 pub record HasRun (shown left : Shown) (names : List Octets) (acts rest : List Act) (old now : Stage) (held holds : Option Octets) : Type 0 where
   pub all : (new : Stage) (last : Option Octets) → Runs left names rest now new holds last → Runs shown names acts old new held last

@@ -1,5 +1,5 @@
 -- What a run of a script does, one line after the other: this profile's own.
-use Rattle.std.specs.Prelude.{◌≡◌, ◌⊎◌, ◌++◌, Bool, true, false, is_some, List, [], ◌∷◌, length, Option, Result, Ok, Err, IfSome}
+use Rattle.std.specs.Prelude.{◌≡◌, ◌≢◌, ◌⊎◌, ◌++◌, Bool, true, false, is_some, List, [], ◌∷◌, length, Option, Result, Ok, Err, IfSome}
 use Rattle.std.specs.Io.KnownBytes.{Appends, Keeps}
 use Rattle.att_table.specs.Table.{Contents}
 use Rattle.gatt_host.specs.Whole.{Whole}
@@ -105,9 +105,10 @@ pub record RunsNext (shown : Shown) (names : List Octets) (act : Act) (old new :
   pub echo : Appends held echoed (echo_of shown.lines)
   pub runs : RunsLine shown.notices names act old new echoed holds
 
--- or the writer fails, and the front of what is shown of the script is printed
+-- or the writer fails, and the front of what is shown of the script is printed, where anything is
 pub record FailsToEcho (fault : ShellFault) (shown : Shown) (old new : Stage) (held holds : Option Octets) : Type 0 where
   pub is_unwritten : fault ≡ Unwritten
+  pub shows : shown.lines ≢ []
   pub kept : new ≡ old
   pub printed : WritesFront (echo_of shown.lines) held holds
 

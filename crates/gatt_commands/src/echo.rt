@@ -1,6 +1,6 @@
 //! The lines of a script that are printed before what they bring.
 
-ghost use Rattle.std.specs.Prelude.{◌≡◌, ◌<◌, ◌∷◌, ◌++◌, length, not, IfErr, IfOk, IfSome, OnErr, OnOk};
+ghost use Rattle.std.specs.Prelude.{◌≡◌, ◌≢◌, ◌<◌, [], ◌∷◌, ◌++◌, length, not, IfErr, IfOk, IfSome, OnErr, OnOk};
 ghost use Rattle.std.specs.Io.KnownBytes.{Appends};
 ghost use Rattle.octets.specs.Stream.{WritesFront};
 ghost use Rattle.scripts.specs.Script.{lines_of};
@@ -39,6 +39,7 @@ pub(crate) fn echo<'a, W: Write>(
     ensures front { OnErr result (WritesFront (echo_of (lines_left text.entry))
         (W.contents writer.old) (W.contents writer.new)) }
     ensures faults { IfErr result (λ fault. fault ≡ ShellFault.Unwritten) }
+    ensures shows { IfErr result (λ _. lines_left text.entry ≢ []) }
 {
     let mut left = text;
     while let Some(rest) = left {

@@ -1,4 +1,5 @@
-use Rattle.std.proofs.Common.{◌+◌, length}
+use Rattle.std.proofs.Common.{◌+◌, [], length}
+use Rattle.std.specs.Prelude.{◌≢◌}
 use Rattle.std.specs.Option.{option_map_or}
 use Rattle.gatt_commands.specs.Echo.{lines_left}
 use Rattle.gatt_commands.proofs.Echoing.{HasEchoed}
@@ -8,6 +9,7 @@ use Rattle.gatt_commands.proofs.echo.echo.Given as goal
 abbrev pub invariant-loop-left : goal.invariant-loop-left
 invariant-loop-left g l = record {
   echoed : HasEchoed (lines_left l.fn.text) (lines_left l.left) (g.W.Write.contents l.fn.writer) (g.W.Write.contents l.writer);
+  shows : lines_left l.left ≢ [] → lines_left l.fn.text ≢ [];
 }
 
 abbrev pub decreases-loop-left : goal.decreases-loop-left
