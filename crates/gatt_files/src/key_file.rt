@@ -1,8 +1,9 @@
 //! Key files, as octets of an input.
 
-ghost use Rattle.std.specs.Prelude.{◌≡◌, ◌≢◌, ℕ, IfErr, IfOk, IfSome};
+ghost use Rattle.std.specs.Prelude.{◌≡◌, ◌≢◌, ◌≤◌, ℕ, length, IfErr, IfOk, IfSome};
 ghost use Rattle.octets.specs.Memory.{Gives};
 ghost use Rattle.gatt_files.specs.KeyFile.{keys_in, AreRefusedAs, IsKeyRefusal, IsKeyFileFault};
+ghost use Rattle.gatt_files.specs.declared.input.TheConstants.{TOML_OCTETS};
 
 use crate::fault::ShellFault;
 use crate::input;
@@ -24,10 +25,12 @@ pub fn read_keys<R: Read>(alloc: Global, reader: &mut R) -> Result<Keys, ShellFa
 }
 
 /// The keys of a file with these octets, or the number of the fault for which it is refused: refused
-/// memory is a fault of the file like any other. A file that is too large is given no memory.
+/// memory is a fault of the file like any other. A file of more octets than `TOML_OCTETS` is
+/// refused so before it is read as TOML.
 pub(crate) fn judged_keys(alloc: Global, octets: &[u8]) -> Result<Keys, ShellFault>
     ensures keys { IfOk result (λ keys. keys_in octets.now ≡ Ok keys) }
     ensures refused { IfErr result (IsKeyRefusal octets.now) }
+    ensures size { IfOk result (λ _. length octets.now ≤ TOML_OCTETS) }
 {
     if octets.len() > input::TOML_OCTETS {
         return Err(ShellFault::Keys(KeyFault::OutOfMemory.number()));

@@ -1,9 +1,10 @@
 //! Table files, as octets of an input.
 
-ghost use Rattle.std.specs.Prelude.{◌≡◌, ◌≢◌, ℕ, is_some, IfErr, IfOk, IfSome, IsOk};
+ghost use Rattle.std.specs.Prelude.{◌≡◌, ◌≢◌, ◌≤◌, ℕ, length, is_some, IfErr, IfOk, IfSome, IsOk};
 ghost use Rattle.std.specs.Option.{option_map};
 ghost use Rattle.octets.specs.Memory.{Gives};
 ghost use Rattle.gatt_files.specs.TableFile.{table_in, HasNext, IsRefusedAs, IsTableRefusal, IsTableFileFault, IsNextFileFault, next_of};
+ghost use Rattle.gatt_files.specs.declared.input.TheConstants.{TOML_OCTETS};
 
 use crate::fault::ShellFault;
 use crate::input;
@@ -58,10 +59,12 @@ fn next_fault(fault: ShellFault) -> ShellFault
 }
 
 /// The table of a file with these octets, or the number of the fault for which it is refused: refused
-/// memory is a fault of the file like any other. A file that is too large is given no memory.
+/// memory is a fault of the file like any other. A file of more octets than `TOML_OCTETS` is
+/// refused so before it is read as TOML.
 pub(crate) fn judged_table(alloc: Global, octets: &[u8]) -> Result<Table, ShellFault>
     ensures table { IfOk result (λ table. table_in octets.now ≡ Ok table) }
     ensures refused { IfErr result (IsTableRefusal octets.now) }
+    ensures size { IfOk result (λ _. length octets.now ≤ TOML_OCTETS) }
 {
     if octets.len() > input::TOML_OCTETS {
         return Err(ShellFault::Table(TableFault::OutOfMemory.number()));
