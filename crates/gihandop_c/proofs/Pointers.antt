@@ -1,15 +1,17 @@
 -- The machine value of a pointer to a host. Assumes `Logic`.
-use Rattle.std.proofs.Common.{◌≡◌, ℕ, List, [], ◌∷◌, ◌++◌, refl, subst}
+use Rattle.std.proofs.Common.{◌≡◌, ℕ, List, [], ◌∷◌, ◌++◌, refl, subst, sym}
 use seplogic.Ra.Ura.{Ura}
 use mir.Raw.{raw as bare}
 use mir.Syntax.{impl, tnil, dnil}
 use mir.Val.{Val, vstruct, vcons, vnil, of_list}
-use base.Logic.{SProp, ent, guard, via, snd∗, never, fst∗, guard_i}
+use base.Fml.{Fml, fsep}
+use base.Fraction.{full_share}
+use base.Logic.{SProp, ent, sep, guard, via, snd∗, never, fst∗, guard_i}
 use types.Logic.{Logic, sem}
-use types.Kit.{Item, Goal, Seq, Step, step, ‵, given, ◌$◌, drop, fsplit, fjoin, fpick, fpack, feq_i, feq_l, use1, learn}
+use types.Kit.{Item, Goal, Seq, Step, step, ‵, given, ◌$◌, ◌∵◌, !, qed, done, move, rewrite, drop, fsplit, fjoin, fpick, fpack, feq_i, feq_l, use1, learn}
 use contract.Monad.{fact_use}
 use denote.Builtin.{RawPtr}
-use denote.Memory.{lone}
+use denote.Memory.{cell_at, lone, mem, part_at, part_of}
 use denote.RattleType.{RattleType, Valss}
 use denote.RawPtr.{Ptr, block_ptr, null_ptr, ptr_val, in_a_block, Testable}
 use denote.Steps.{nothing}
@@ -27,6 +29,7 @@ use Rattle.std_heap.proofs.Global.TheLaws as heap_laws
 use Rattle.gihandop_c.proofs.opened.Opened.TheLaws as opened_laws
 use Rattle.gihandop_c.specs.contracts.host_pointer.HostPointer as pointer
 use Rattle.gihandop_c.specs.contracts.opened.Opened as opened
+use Rattle.gihandop_c.specs.Lending.{with_host}
 use Rattle.gihandop_c.specs.Owned.{may_give_back, owns_the_host}
 
 abbrev pub OpenRow : RattleType
@@ -76,3 +79,17 @@ module _ {M : Type 1} {𝓤 : Ura M} {𝓛 : Logic 𝓤} {K : Type 0} {Γ : List
       in_a_block t p (λ q. box_owns may_give_back OpenRow q x) (fst∗ 𝓤 (never 𝓤) (sem 𝓛 (may_give_back (bare (lone OpenRow.mir)) null_ptr))) (λ b o e.
       use1 𝓛 (given (Testable (block_ptr b o)) (‵ (box_owns may_give_back OpenRow (block_ptr b o) x))) (testable 𝓛 a (block_ptr b o) x) $
       learn t (λ tested. block b o x e refl tested))
+
+module _ {M : Type 1} {𝓤 : Ura M} (𝓛 : Logic 𝓤) (d : pointer.the_row.Denot) (b o rb ro : ℕ) where
+  -- what a pointer keeps while its host is lent: the right to give the block back, and its own place
+  abbrev pub Beside : Fml
+  Beside = fsep (may_give_back (bare (lone OpenRow.mir)) (block_ptr b o)) (cell_at full_share pointer.the_row.mir (pointer_word d.at ∷ []) rb ro)
+
+  -- with the host in its block again it leads to that
+  pub comes_back : d.at ≡ block_ptr b o → (w : OpenRow.Denot)
+      → ent 𝓤 (sep 𝓤 (sem 𝓛 ((mem OpenRow).own_at w b o)) (sem 𝓛 Beside)) (sem 𝓛 ((mem pointer.the_row).own_at (with_host d w) rb ro))
+  unfolding part_of
+  comes_back e w =
+      qed 𝓛 (‵ (part_at OpenRow full_share w b o) ∷ ‵ Beside ∷ []) ∵ move ! (1 ∷ []) $ fsplit ! $ move ! (2 ∷ 0 ∷ []) $ fjoin ! $
+      rewrite ! 0 (λ (p : Ptr). ‵ (owns_the_host OpenRow p (Some w))) (sym e) refl $ pointer_in ! d.at (Some w) $ move ! (1 ∷ 0 ∷ []) $ fjoin ! $
+      fpack ! (List Val) (λ vs. fsep (cell_at full_share pointer.the_row.mir vs rb ro) (pointer.the_row.own_val (with_host d w) vs)) (pointer_word d.at ∷ []) $ done !

@@ -1,6 +1,7 @@
 -- What the contracts of this crate cite.
 pub mod Boundary
 pub mod Files
+pub mod Lending
 pub mod Opening
 pub mod Owned
 pub mod Seeing

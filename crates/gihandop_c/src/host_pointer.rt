@@ -1,7 +1,9 @@
 //! The pointer to a host on the heap, which a program in C keeps.
 
 ghost use Rattle.std.specs.Prelude.{◌≡◌, Option, Some, None, option_map};
+ghost use Rattle.std.specs.Borrow.{sem};
 ghost use Rattle.std.specs.Coded.{coded_option};
+ghost use Rattle.std.specs.Option.{option_copied_mut};
 ghost use Rattle.gihandop_c.specs.contracts.opened.Opened.{the_row};
 ghost use Rattle.gihandop_c.specs.declared.opened.Opened.{Opened as Open};
 
@@ -26,6 +28,21 @@ impl Model for HostPointer {
 }
 
 impl HostPointer {
+    ghost use Rattle.gihandop_c.specs.Lending.{LendsTheHost};
+
+    /// Lends the host, if one is open.
+    #[inline(always)]
+    pub(crate) fn as_mut(&mut self) -> Option<&mut Opened>
+        ensures* writes_back { sem 𝓛 (LendsTheHost self.entry result) }
+        ensures host { option_copied_mut result ≡ self.old.host }
+    {
+        let at = self.at as *mut Opened;
+        if at.is_null() {
+            return None;
+        }
+        unsafe { Some(&mut *at) }
+    }
+
     /// To no host.
     fn null() -> HostPointer
         ensures { result.host ≡ None }

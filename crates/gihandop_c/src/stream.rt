@@ -61,8 +61,9 @@ pub(crate) fn nothing(opened: &mut Opened, count: &mut usize) -> u32
     status::NOTHING
 }
 
-/// Puts the next packet that is to go out at the front of `out`, and its length into `count`.
-#[inline(always)]
+/// Puts the next packet that is to go out at the front of `out`, and its length into `count`. It
+/// stands apart, so that a call of C that finds nothing owed saves no register.
+#[inline(never)]
 pub(crate) fn next_out(opened: &mut Opened, out: &mut [u8], count: &mut usize) -> u32
     ensures status { result ≡ out_status (length out.old) opened.old }
     ensures goes { result ≡ DONE → LeadsOn [] (take count.new out.new ∷ []) opened.old opened.new }

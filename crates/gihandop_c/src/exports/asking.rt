@@ -19,7 +19,7 @@ use gatt_host::App;
 use std::alloc::Global;
 
 /// Makes a call of the application.
-fn ask(alloc: Global, host: &mut HostPointer, call: App<'_>) -> u32
+fn ask(host: &mut HostPointer, call: App<'_>) -> u32
     ensures closed { host.old.host ≡ None → result ≡ CLOSED }
     ensures takes { result ≢ OUTPUT_OWED
         → HostLeads (ACall (call_of call.entry) ∷ []) [] host.old.host host.new.host }
@@ -34,17 +34,15 @@ fn ask(alloc: Global, host: &mut HostPointer, call: App<'_>) -> u32
     ensures owes { IfSome host.old.host (WaitsForOutput result) }
     ensures owed { result ≡ OUTPUT_OWED → host.new.host ≡ host.old.host }
 {
-    let Some(mut open) = host.take(alloc) else {
+    let Some(open) = host.as_mut() else {
         return status::CLOSED;
     };
-    let answer = asking::call(&mut open, call);
-    host.put(open);
-    answer
+    asking::call(open, call)
 }
 
 /// Writes the characteristic value at a handle, as the application does.
 #[unsafe(no_mangle)]
-pub extern "C" fn gh_update(alloc: Global, host: &mut HostPointer, handle: u16, value: &[u8]) -> u32
+pub extern "C" fn gh_update(host: &mut HostPointer, handle: u16, value: &[u8]) -> u32
     ensures closed { host.old.host ≡ None → result ≡ CLOSED }
     ensures takes { result ≢ OUTPUT_OWED
         → HostLeads (ACall (UpdateCall handle value.now) ∷ []) [] host.old.host host.new.host }
@@ -59,18 +57,13 @@ pub extern "C" fn gh_update(alloc: Global, host: &mut HostPointer, handle: u16, 
     ensures owes { IfSome host.old.host (WaitsForOutput result) }
     ensures owed { result ≡ OUTPUT_OWED → host.new.host ≡ host.old.host }
 {
-    ask(alloc, host, App::Update(handle, value))
+    ask(host, App::Update(handle, value))
 }
 
 /// Authorizes the connection with a handle while the time is below a moment, in milliseconds: 0
 /// withdraws it.
 #[unsafe(no_mangle)]
-pub extern "C" fn gh_authorize(
-    alloc: Global,
-    host: &mut HostPointer,
-    connection: u16,
-    until: u64,
-) -> u32
+pub extern "C" fn gh_authorize(host: &mut HostPointer, connection: u16, until: u64) -> u32
     ensures closed { host.old.host ≡ None → result ≡ CLOSED }
     ensures takes { result ≢ OUTPUT_OWED
         → HostLeads (ACall (AuthorizeCall connection until) ∷ []) [] host.old.host host.new.host }
@@ -85,12 +78,12 @@ pub extern "C" fn gh_authorize(
     ensures owes { IfSome host.old.host (WaitsForOutput result) }
     ensures owed { result ≡ OUTPUT_OWED → host.new.host ≡ host.old.host }
 {
-    ask(alloc, host, App::Authorize(connection, until))
+    ask(host, App::Authorize(connection, until))
 }
 
 /// Ends the connection with a handle.
 #[unsafe(no_mangle)]
-pub extern "C" fn gh_disconnect(alloc: Global, host: &mut HostPointer, connection: u16) -> u32
+pub extern "C" fn gh_disconnect(host: &mut HostPointer, connection: u16) -> u32
     ensures closed { host.old.host ≡ None → result ≡ CLOSED }
     ensures takes { result ≢ OUTPUT_OWED
         → HostLeads (ACall (DisconnectCall connection) ∷ []) [] host.old.host host.new.host }
@@ -105,12 +98,12 @@ pub extern "C" fn gh_disconnect(alloc: Global, host: &mut HostPointer, connectio
     ensures owes { IfSome host.old.host (WaitsForOutput result) }
     ensures owed { result ≡ OUTPUT_OWED → host.new.host ≡ host.old.host }
 {
-    ask(alloc, host, App::Disconnect(connection))
+    ask(host, App::Disconnect(connection))
 }
 
 /// Takes in the time, in milliseconds, which never goes back.
 #[unsafe(no_mangle)]
-pub extern "C" fn gh_tick(alloc: Global, host: &mut HostPointer, time: u64) -> u32
+pub extern "C" fn gh_tick(host: &mut HostPointer, time: u64) -> u32
     ensures closed { host.old.host ≡ None → result ≡ CLOSED }
     ensures takes { result ≢ OUTPUT_OWED
         → HostLeads (ACall (TickCall time) ∷ []) [] host.old.host host.new.host }
@@ -125,7 +118,7 @@ pub extern "C" fn gh_tick(alloc: Global, host: &mut HostPointer, time: u64) -> u
     ensures owes { IfSome host.old.host (WaitsForOutput result) }
     ensures owed { result ≡ OUTPUT_OWED → host.new.host ≡ host.old.host }
 {
-    ask(alloc, host, App::Tick(time))
+    ask(host, App::Tick(time))
 }
 
 /// Replaces the table by that of another table file: what peers have configured stays where it
@@ -154,10 +147,8 @@ pub extern "C" fn gh_replace(alloc: Global, host: &mut HostPointer, table: &[u8]
     ensures owed { result ≡ OUTPUT_OWED → host.new.host ≡ host.old.host }
     ensures unread { BAD_TABLE < result → host.new.host ≡ host.old.host }
 {
-    let Some(mut open) = host.take(alloc) else {
+    let Some(open) = host.as_mut() else {
         return status::CLOSED;
     };
-    let answer = asking::replace_by(alloc, &mut open, table);
-    host.put(open);
-    answer
+    asking::replace_by(alloc, open, table)
 }

@@ -17,7 +17,6 @@ use std::alloc::Global;
 /// Of a client characteristic configuration it is empty.
 #[unsafe(no_mangle)]
 pub extern "C" fn gh_value(
-    alloc: Global,
     host: &mut HostPointer,
     handle: u16,
     out: &mut [u8],
@@ -34,19 +33,16 @@ pub extern "C" fn gh_value(
     ensures untouched { result ≢ DONE → out.new ≡ out.old }
 {
     *count = 0;
-    let Some(open) = host.take(alloc) else {
+    let Some(open) = host.as_mut() else {
         return status::CLOSED;
     };
-    let answer = reading::value(&open, handle, out, count);
-    host.put(open);
-    answer
+    reading::value(open, handle, out, count)
 }
 
 /// Puts the handle of the value of the first characteristic of a type in the first service of a
 /// type into `handle`. Types are UUIDs as octets, the lowest first: 2 for one of 16 bits, or 16.
 #[unsafe(no_mangle)]
 pub extern "C" fn gh_find(
-    alloc: Global,
     host: &mut HostPointer,
     service: &[u8],
     characteristic: &[u8],
@@ -58,19 +54,16 @@ pub extern "C" fn gh_find(
     ensures unchanged { host.new.host ≡ host.old.host }
 {
     *handle = 0;
-    let Some(open) = host.take(alloc) else {
+    let Some(open) = host.as_mut() else {
         return status::CLOSED;
     };
-    let answer = reading::find(&open, service, characteristic, handle);
-    host.put(open);
-    answer
+    reading::find(open, service, characteristic, handle)
 }
 
 /// Puts the connection at a place, counted from 0, in the order of the slots, into `connection`,
 /// if there are so many.
 #[unsafe(no_mangle)]
 pub extern "C" fn gh_connection(
-    alloc: Global,
     host: &mut HostPointer,
     place: usize,
     connection: &mut ConnectionFields,
@@ -81,30 +74,26 @@ pub extern "C" fn gh_connection(
     ensures unchanged { host.new.host ≡ host.old.host }
     ensures untouched { result ≢ DONE → connection.new ≡ connection.old }
 {
-    let Some(open) = host.take(alloc) else {
+    let Some(open) = host.as_mut() else {
         return status::CLOSED;
     };
-    let answer = connections::connection(&open, place, connection);
-    host.put(open);
-    answer
+    connections::connection(open, place, connection)
 }
 
 /// Puts the least time, in milliseconds, at which an indication that is not confirmed is late into
 /// `time`; there is none where every one is confirmed. Until then no time has to be told.
 #[unsafe(no_mangle)]
-pub extern "C" fn gh_deadline(alloc: Global, host: &mut HostPointer, time: &mut u64) -> u32
+pub extern "C" fn gh_deadline(host: &mut HostPointer, time: &mut u64) -> u32
     ensures status { result ≡ if_open deadline_status host.old.host }
     ensures deadline { result ≡ DONE → IfSome host.old.host (λ opened.
         slots_deadline opened.host.held.slots ≡ Some time.new) }
     ensures unchanged { host.new.host ≡ host.old.host }
 {
     *time = 0;
-    let Some(open) = host.take(alloc) else {
+    let Some(open) = host.as_mut() else {
         return status::CLOSED;
     };
-    let answer = reading::deadline(&open, time);
-    host.put(open);
-    answer
+    reading::deadline(open, time)
 }
 
 /// Puts what peers have configured, and who is owed that the table has changed, at the front of
@@ -129,12 +118,10 @@ pub extern "C" fn gh_rows_text(
     ensures untouched { result ≢ DONE → out.new ≡ out.old }
 {
     *count = 0;
-    let Some(open) = host.take(alloc) else {
+    let Some(open) = host.as_mut() else {
         return status::CLOSED;
     };
-    let answer = reading::rows_text(alloc, &open, out, count);
-    host.put(open);
-    answer
+    reading::rows_text(alloc, open, out, count)
 }
 
 /// Puts what a status says, a line of ASCII, at the front of `out`, where it fits, and its length

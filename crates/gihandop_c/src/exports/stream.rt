@@ -9,19 +9,12 @@ ghost use Rattle.gihandop_c.specs.declared.status.TheConstants.{CLOSED, DONE, OU
 
 use crate::host_pointer::HostPointer;
 use crate::notices::NoticeFields;
-use crate::opened::Opened;
 use crate::{notices, status, stream};
-use std::alloc::Global;
 
 /// Takes in octets of the stream from the controller, which may begin and end anywhere: up to the
 /// end of the next packet, and that packet, or all of them where none ends in them. Says how many.
 #[unsafe(no_mangle)]
-pub extern "C" fn gh_take(
-    alloc: Global,
-    host: &mut HostPointer,
-    octets: &[u8],
-    used: &mut usize,
-) -> u32
+pub extern "C" fn gh_take(host: &mut HostPointer, octets: &[u8], used: &mut usize) -> u32
     ensures closed { host.old.host ≡ None → result ≡ CLOSED }
     ensures takes { HostLeads (octet_items (take used.new octets.now)) []
         host.old.host host.new.host }
@@ -40,25 +33,18 @@ pub extern "C" fn gh_take(
     ensures owed { result ≡ OUTPUT_OWED → host.new.host ≡ host.old.host }
     ensures stopped { HostStaysIfStopped host.old.host host.new.host }
 {
-    let Some(mut open) = host.take(alloc) else {
+    let Some(open) = host.as_mut() else {
         *used = 0;
         return status::CLOSED;
     };
-    let answer = stream::take(&mut open, octets, used);
-    host.put(open);
-    answer
+    stream::take(open, octets, used)
 }
 
 /// Puts the next packet that is to go to the controller at the front of `out`, which has room for
 /// 260 octets, and its length into `count`, and takes in that it has gone; or answers that nothing
 /// is to go out.
 #[unsafe(no_mangle)]
-pub extern "C" fn gh_next_out(
-    alloc: Global,
-    host: &mut HostPointer,
-    out: &mut [u8],
-    count: &mut usize,
-) -> u32
+pub extern "C" fn gh_next_out(host: &mut HostPointer, out: &mut [u8], count: &mut usize) -> u32
     ensures status { result ≡ if_open (out_status (length out.old)) host.old.host }
     ensures goes { result ≡ DONE → HostLeads [] (take count.new out.new ∷ [])
         host.old.host host.new.host }
@@ -68,60 +54,27 @@ pub extern "C" fn gh_next_out(
     ensures unchanged { result ≢ DONE → HostStays host.old.host host.new.host }
     ensures untouched { result ≢ DONE → out.new ≡ out.old }
 {
-    let Some(mut open) = host.take(alloc) else {
+    let Some(open) = host.as_mut() else {
         *count = 0;
         return status::CLOSED;
     };
     if !open.host.may_owe() {
-        let answer = stream::nothing(&mut open, count);
-        host.put(open);
-        return answer;
+        return stream::nothing(open, count);
     }
-    give(host, out, count, open)
-}
-
-/// Puts the next packet that is to go to the controller at the front of `out`, of the host in a box,
-/// and puts the box back. It stands apart, so that a call that finds nothing owed saves no register.
-#[inline(never)]
-fn give(
-    host: &mut HostPointer,
-    out: &mut [u8],
-    count: &mut usize,
-    boxed: Box<Opened, Global>,
-) -> u32
-    requires taken { host.old.host ≡ None }
-    ensures status { result ≡ out_status (length out.old) boxed.value }
-    ensures goes { result ≡ DONE → HostLeads [] (take count.new out.new ∷ [])
-        (Some boxed.value) host.new.host }
-    ensures within { result ≡ DONE → count.new ≤ length out.old }
-    ensures needs { result ≡ SHORT_BUFFER → count.new ≡ 260 }
-    ensures none { result ≢ DONE → result ≢ SHORT_BUFFER → count.new ≡ 0 }
-    ensures unchanged { result ≢ DONE → HostStays (Some boxed.value) host.new.host }
-    ensures untouched { result ≢ DONE → out.new ≡ out.old }
-{
-    let mut open = boxed;
-    let answer = stream::next_out(&mut open, out, count);
-    host.put(open);
-    answer
+    stream::next_out(open, out, count)
 }
 
 /// Puts the next notice of what was taken in last into `notice`.
 #[unsafe(no_mangle)]
-pub extern "C" fn gh_next_notice(
-    alloc: Global,
-    host: &mut HostPointer,
-    notice: &mut NoticeFields,
-) -> u32
+pub extern "C" fn gh_next_notice(host: &mut HostPointer, notice: &mut NoticeFields) -> u32
     ensures status { result ≡ if_open notice_status host.old.host }
     ensures gives { result ≡ DONE
         → OfTheHost (HandsOut notice.new) host.old.host host.new.host }
     ensures unchanged { result ≢ DONE → host.new.host ≡ host.old.host }
     ensures untouched { result ≢ DONE → notice.new ≡ notice.old }
 {
-    let Some(mut open) = host.take(alloc) else {
+    let Some(open) = host.as_mut() else {
         return status::CLOSED;
     };
-    let answer = notices::next(&mut open, notice);
-    host.put(open);
-    answer
+    notices::next(open, notice)
 }
