@@ -1,4 +1,4 @@
-ghost use Rattle.std.specs.Prelude.{◌≡◌, ◌+◌, ◌-◌, ◌*◌, ◌^◌, ◌<◌, ◌≤◌, ◌↔◌, [], ◌++◌, length, take, drop, Some, None, IsSome, IsOk, IfOk};
+ghost use Rattle.std.specs.Prelude.{◌≡◌, ◌+◌, ◌-◌, ◌*◌, ◌^◌, ◌<◌, ◌≤◌, ◌↔◌, [], ◌++◌, length, take, drop, is_some, Some, None, IsSome, IsOk, IfOk, IfSome};
 ghost use Rattle.std.specs.Bool.{OnTrue, OnFalse};
 ghost use Rattle.std.specs.Borrow.{sem};
 ghost use Rattle.std.specs.Option.{option_map};
@@ -11,7 +11,7 @@ ghost use Rattle.octets.specs.Number.{Octets, two_octets};
 
 use crate::pdus::{MAX_PDUS, Pdus};
 use arrayvec::ArrayVec;
-use le_h4::PacketBuf;
+use le_h4::{PacketBuf, acl_into};
 use octets::overwrite;
 use std::alloc::{AllocError, Global};
 use std::marker::Model;
@@ -169,6 +169,38 @@ impl Sender {
         true
     }
 
+    /// Writes the next packet at the front of `out`, and says how many octets it has. There is none,
+    /// and nothing changes, where no PDU is queued or as many packets are outstanding as may be.
+    #[inline(always)]
+    pub fn next_into(&mut self, handle: u16, out: &mut [u8]) -> Option<usize>
+        requires handle { handle < 2 ^ 12 }
+        requires room { 260 ≤ length out.old }
+        ensures gives { is_some result ≡ may_give self.old.outgoing }
+        ensures given { IfSome result (λ count. option_map (acl_octets handle)
+            (next_of self.old.outgoing.queue) ≡ Some (take count out.new)) }
+        ensures within { IfSome result (λ count. count ≤ length out.old) }
+        ensures after { OnTrue (is_some result)
+            (self.new ≡ record self.old { outgoing = after_next self.old.outgoing }) }
+        ensures unchanged { OnFalse (is_some result) (self.new ≡ self.old) }
+        ensures out_unchanged { OnFalse (is_some result) (out.new ≡ out.old) }
+    {
+        if self.share <= self.outstanding {
+            return None;
+        }
+        let Some((channel, payload)) = self.pdus.front() else {
+            return None;
+        };
+        let length = HEADER + payload.len();
+        let count = fragment_into(handle, channel, payload, self.gone, self.acl_len, out);
+        self.outstanding += 1;
+        self.gone += self.acl_len;
+        if self.gone >= length {
+            self.pdus.pop();
+            self.gone = 0;
+        }
+        Some(count)
+    }
+
     /// A packet may be given now.
     pub fn may_give(&self) -> bool
         ensures { result ≡ may_give self.now.outgoing }
@@ -241,6 +273,38 @@ fn write_fragment(
     } else {
         let fragment = part(payload, gone - HEADER, acl_len);
         out.acl(handle, CONTINUATION, &[], fragment);
+    }
+}
+
+/// The same at the front of `out`. Says how many octets it has.
+#[inline(always)]
+#[tactic(auto, using(crate::proofs::Fragments::take_header, crate::proofs::Fragments::drop_header, crate::proofs::Fragments::fragment_later))]
+fn fragment_into(
+    handle: u16,
+    channel: u16,
+    payload: &[u8],
+    gone: usize,
+    acl_len: usize,
+    out: &mut [u8],
+) -> usize
+    requires handle { handle < 2 ^ 12 }
+    requires payload { length payload.now ≤ 517 }
+    requires gone { 0 < gone → 4 ≤ gone }
+    requires least { 4 ≤ acl_len }
+    requires most { acl_len ≤ 251 }
+    requires room { 260 ≤ length out.old }
+    ensures written { take result out.new
+        ≡ acl_octets handle
+        (fragment_at gone (take acl_len (drop gone (frame_of (channel, payload.now))))) }
+    ensures within { result ≤ length out.old }
+{
+    if gone == 0 {
+        let header = frame_header(channel, payload.len() as u16);
+        let fragment = part(payload, 0, acl_len - HEADER);
+        acl_into(handle, FIRST_FRAGMENT, &header, fragment, out)
+    } else {
+        let fragment = part(payload, gone - HEADER, acl_len);
+        acl_into(handle, CONTINUATION, &[], fragment, out)
     }
 }
 

@@ -14,4 +14,4 @@ pub use deframer::{Deframer, Fed, H4Fault};
 pub use octets::{ArraySink, Failed, Reader, Sink, SliceSource, Source, Writer};
 pub use packet::{PacketRef, WholePacket};
 pub use packet_buf::PacketBuf;
-pub use write::{write_acl, write_command};
+pub use write::{acl_into, write_acl, write_command};

@@ -1,9 +1,12 @@
-ghost use Rattle.std.specs.Prelude.{◌≡◌, ◌+◌, ◌*◌, ◌^◌, ◌<◌, ◌≤◌, [], ◌∷◌, ◌++◌, length};
+ghost use Rattle.std.specs.Prelude.{◌≡◌, ◌+◌, ◌*◌, ◌^◌, ◌<◌, ◌≤◌, [], ◌∷◌, ◌++◌, length, take};
 ghost use Rattle.octets.specs.Number.{two_octets};
 
 use crate::indicator;
 use arrayvec::ArrayVec;
-use octets::overwrite;
+use octets::{overwrite, write_parts};
+
+/// The octets in front of ACL data.
+const HEADER: usize = 5;
 
 /// Writes an ACL packet in place of what `out` holds: a connection handle of 12 bits, the packet
 /// boundary flag, and at most 255 octets of data. Its broadcast flag is 0. (Core 5.0, Vol 2 Part E,
@@ -17,6 +20,32 @@ pub fn write_acl(handle: u16, pb: u8, octets: &[u8], out: &mut ArrayVec<u8, 260>
 {
     let header = acl_header(handle, pb, octets.len() as u16);
     overwrite(out, &header, octets, &[]);
+}
+
+/// Writes an ACL packet at the front of `out`, and says how many octets it has: a connection handle of
+/// 12 bits, the packet boundary flag, and at most 255 octets of data, those of `header` and then those
+/// of `octets`. What stands behind it stays. Its broadcast flag is 0. (Core 5.0, Vol 2 Part E, 5.4.2)
+#[inline(always)]
+pub fn acl_into(handle: u16, pb: u8, header: &[u8], octets: &[u8], out: &mut [u8]) -> usize
+    requires handle { handle < 2 ^ 12 }
+    requires pb { pb ≤ 3 }
+    requires octets { length header.now + length octets.now ≤ 255 }
+    requires room { 260 ≤ length out.old }
+    ensures written { take result out.new
+        ≡ 0x02 ∷ two_octets (handle + 2 ^ 12 * pb) ++ two_octets
+        (length (header.now ++ octets.now))
+        ++ header.now ++ octets.now }
+    ensures within { result ≤ length out.old }
+{
+    let length = header.len() + octets.len();
+    let end = HEADER + length;
+    write_parts(
+        &mut out[..end],
+        &acl_header(handle, pb, length as u16),
+        header,
+        octets,
+    );
+    end
 }
 
 /// What stands in front of so many octets of ACL data: the indicator, the connection handle with the
