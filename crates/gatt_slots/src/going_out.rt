@@ -1,6 +1,6 @@
 //! What goes out for the connections of slots: the commands that are due for them, and their packets.
 
-ghost use Rattle.std.specs.Prelude.{◌≡◌, ◌<◌, false, is_none, is_some, length, Some, IfSome};
+ghost use Rattle.std.specs.Prelude.{◌≡◌, ◌<◌, false, is_none, is_some, length, take, Some, IfSome, ◌≤◌};
 ghost use Rattle.std.specs.Bool.{OnTrue, OnFalse};
 ghost use Rattle.std.specs.List.{list_any, position};
 ghost use Rattle.std.specs.Option.{option_and_then, option_map};
@@ -76,6 +76,25 @@ impl Slot {
         ensures out_unchanged { OnFalse result (out.new ≡ out.old) }
     {
         self.used != Use::Free && self.sender.next_packet(self.handle, out)
+    }
+
+    /// Writes the next packet at the front of `out`, and says how many octets it has. There is none, and
+    /// nothing changes, where all is given that may be.
+    #[inline(always)]
+    pub fn next_into(&mut self, out: &mut [u8]) -> Option<usize>
+        requires room { 260 ≤ length out.old }
+        ensures gives { is_some result ≡ gives self.old }
+        ensures packet { IfSome result
+            (λ count. option_and_then packet_of self.old ≡ Some (take count out.new)) }
+        ensures within { IfSome result (λ count. count ≤ length out.old) }
+        ensures after { OnTrue (is_some result) (self.new ≡ option_map without_packet self.old) }
+        ensures unchanged { OnFalse (is_some result) (self.new ≡ self.old) }
+        ensures out_unchanged { OnFalse (is_some result) (out.new ≡ out.old) }
+    {
+        if self.used == Use::Free {
+            return None;
+        }
+        self.sender.next_into(self.handle, out)
     }
 }
 
@@ -172,6 +191,28 @@ impl Slots {
     {
         let slot = &mut self.slots[place];
         let given = slot.next_packet(out);
+        let giving = slot.gives();
+        self.marks.go_on(place, giving);
+        given
+    }
+
+    /// Writes the next packet of a slot at the front of `out`, and says how many octets it has. There is
+    /// none, and nothing changes, where all is given that may be.
+    #[inline(always)]
+    pub fn next_into(&mut self, place: usize, out: &mut [u8]) -> Option<usize>
+        requires place { place < length self.old }
+        requires room { 260 ≤ length out.old }
+        ensures gives { is_some result ≡ gives (kept_at self.old place) }
+        ensures packet { IfSome result (λ count.
+            option_and_then packet_of (kept_at self.old place) ≡ Some (take count out.new)) }
+        ensures within { IfSome result (λ count. count ≤ length out.old) }
+        ensures after { OnTrue (is_some result)
+            (self.new ≡ slots_at place without_packet self.old) }
+        ensures unchanged { OnFalse (is_some result) (self.new ≡ self.old) }
+        ensures out_unchanged { OnFalse (is_some result) (out.new ≡ out.old) }
+    {
+        let slot = &mut self.slots[place];
+        let given = slot.next_into(out);
         let giving = slot.gives();
         self.marks.go_on(place, giving);
         given
