@@ -1,7 +1,7 @@
 //! What goes out next: a command that is due, while the controller takes any, and else a packet of the
 //! first slot that may give one.
 
-ghost use Rattle.std.specs.Prelude.{◌≡◌, ◌≢◌, ◌<◌, length, List, ◌&&◌, not, nat_lt, is_some, true, Some, ◌∷◌, []};
+ghost use Rattle.std.specs.Prelude.{◌≡◌, ◌≢◌, ◌<◌, ◌≤◌, length, take, IfSome, List, ◌&&◌, not, nat_lt, is_some, true, Some, ◌∷◌, []};
 ghost use Rattle.std.specs.Bool.{OnTrue, OnFalse};
 ghost use Rattle.std.specs.List.{list_any, position};
 ghost use Rattle.std.specs.Option.{option_map};
@@ -243,6 +243,61 @@ fn either_out(controller: &mut Controller, slots: &mut Slots, out: &mut PacketBu
         return true;
     }
     packet_out(slots, out)
+}
+
+/// Writes the packet of the first slot that may give one at the front of `out`. Says how many octets it
+/// has.
+#[inline(always)]
+fn packet_into(slots: &mut Slots, out: &mut [u8]) -> Option<usize>
+    requires room { 260 ≤ length out.old }
+    ensures goes { is_some result ≡ is_some (packet_in slots.old) }
+    ensures octets { IfSome result (λ count. packet_in slots.old ≡ Some (take count out.new)) }
+    ensures within { IfSome result (λ count. count ≤ length out.old) }
+    ensures after { slots.new ≡ with_first gives (option_map without_packet) slots.old }
+    ensures unchanged { OnFalse (is_some result) (slots.new ≡ slots.old) }
+    ensures out_unchanged { OnFalse (is_some result) (out.new ≡ out.old) }
+{
+    let Some(place) = slots.first_that_gives() else {
+        return None;
+    };
+    slots.next_into(place, out)
+}
+
+/// Writes what goes out next at the front of `out`, as `next_out` has it: a command by way of `packet`.
+/// Says how many octets it has.
+#[inline(always)]
+pub(crate) fn next_into(
+    controller: &mut Controller,
+    slots: &mut Slots,
+    packet: &mut PacketBuf,
+    out: &mut [u8],
+) -> Option<usize>
+    requires room { 260 ≤ length out.old }
+    ensures goes { is_some result ≡ is_some (next_out controller.old slots.old) }
+    ensures octets { IfSome result
+        (λ count. next_out controller.old slots.old ≡ Some (take count out.new)) }
+    ensures within { IfSome result (λ count. count ≤ length out.old) }
+    ensures controller { controller.new ≡ controller_then controller.old slots.old }
+    ensures slots { slots.new ≡ slots_then controller.old slots.old }
+    ensures controller_unchanged { OnFalse (is_some result) (controller.new ≡ controller.old) }
+    ensures slots_unchanged { OnFalse (is_some result) (slots.new ≡ slots.old) }
+    ensures out_unchanged { OnFalse (is_some result) (out.new ≡ out.old) }
+{
+    if command_out(controller, slots, packet) {
+        return Some(copy(packet.as_slice(), out));
+    }
+    packet_into(slots, out)
+}
+
+/// Copies octets to the front of `out`, and says how many they are.
+#[inline(always)]
+pub(crate) fn copy(octets: &[u8], out: &mut [u8]) -> usize
+    requires { length octets.now ≤ length out.old }
+    ensures copied { take result out.new ≡ octets.now }
+    ensures count { result ≡ length octets.now }
+{
+    out[..octets.len()].copy_from_slice(octets);
+    octets.len()
 }
 
 /// A command is due, and the controller takes one.

@@ -356,8 +356,8 @@ fn copy_next(state: &mut HostState, packet: &mut PacketBuf, out: &mut ArrayVec<u
     true
 }
 
-/// Puts the next packet that is to go out at the front of `out`, by way of `packet`, and takes in that it
-/// is out. Says how many octets it has.
+/// Puts the next packet that is to go out at the front of `out`, a command by way of `packet`, and takes
+/// in that it is out. Says how many octets it has.
 #[inline(always)]
 fn next_into(state: &mut HostState, packet: &mut PacketBuf, out: &mut [u8]) -> Option<usize>
     requires room { 260 ≤ length out.old }
@@ -368,21 +368,7 @@ fn next_into(state: &mut HostState, packet: &mut PacketBuf, out: &mut [u8]) -> O
     ensures unchanged { result ≡ None → state.new ≡ state.old }
     ensures out_unchanged { result ≡ None → out.new ≡ out.old }
 {
-    if !state.next_out(packet) {
-        return None;
-    }
-    Some(copy(packet.as_slice(), out))
-}
-
-/// Copies octets to the front of `out`, and says how many they are.
-#[inline(always)]
-fn copy(octets: &[u8], out: &mut [u8]) -> usize
-    requires { length octets.now ≤ length out.old }
-    ensures copied { take result out.new ≡ octets.now }
-    ensures count { result ≡ length octets.now }
-{
-    out[..octets.len()].copy_from_slice(octets);
-    octets.len()
+    state.next_into(packet, out)
 }
 
 /// Whether it is an ACL packet with more data than the largest that is kept.

@@ -1,4 +1,4 @@
-ghost use Rattle.std.specs.Prelude.{◌≡◌, ◌<◌, ◌≤◌, [], if◌then◌else◌, is_some, length, map, true, Some, IfSome, IsSome};
+ghost use Rattle.std.specs.Prelude.{◌≡◌, ◌<◌, ◌≤◌, [], if◌then◌else◌, is_some, length, map, take, true, Some, None, IfSome, IsSome};
 ghost use Rattle.std.specs.Bool.{OnFalse, OnTrue};
 ghost use Rattle.std.specs.Option.{option_to_list};
 ghost use Rattle.att_attributes.specs.Attributes.{attribute_at, is_fixed_at};
@@ -13,7 +13,7 @@ ghost use Rattle.le_hci.specs.Event.{completed_packets_of};
 ghost use Rattle.le_security.specs.Link.{Encryption, Refresh};
 
 use crate::controller::Controller;
-use crate::going_out::{init_out, is_drained, is_init_drained, may_owe, next_out};
+use crate::going_out::{copy, init_out, is_drained, is_init_drained, may_owe, next_into, next_out};
 use crate::last_event::LastEvent;
 use arrayvec::ArrayVec;
 use att_policy::KeyFacts;
@@ -332,6 +332,27 @@ impl HostState {
             return next_out(&mut self.controller, &mut self.slots, out);
         }
         init_out(&mut self.controller, out)
+    }
+
+    /// Puts the next packet that is to go out at the front of `out`, a command by way of `packet`, and
+    /// takes in that it is out. Says how many octets it has.
+    #[inline(always)]
+    pub(crate) fn next_into(&mut self, packet: &mut PacketBuf, out: &mut [u8]) -> Option<usize>
+        requires room { 260 ≤ length out.old }
+        ensures goes { is_some result ≡ is_some (next_of self.old) }
+        ensures octets { IfSome result (λ count. next_of self.old ≡ Some (take count out.new)) }
+        ensures within { IfSome result (λ count. count ≤ length out.old) }
+        ensures after { self.new ≡ after_out self.old }
+        ensures unchanged { result ≡ None → self.new ≡ self.old }
+        ensures out_unchanged { result ≡ None → out.new ≡ out.old }
+    {
+        if self.controller.is_ready() {
+            return next_into(&mut self.controller, &mut self.slots, packet, out);
+        }
+        if !init_out(&mut self.controller, packet) {
+            return None;
+        }
+        Some(copy(packet.as_slice(), out))
     }
 
     /// Whether something may be to go out: where it is not so, nothing is.
