@@ -78,8 +78,8 @@ pub(crate) fn next_out(opened: &mut Opened, out: &mut [u8], count: &mut usize) -
         return too_short(opened, count);
     }
     match opened.host.next_into(out) {
+        // One was owed, so that nothing was noted as drained.
         Some(length) => {
-            opened.drained = false;
             *count = length;
             status::DONE
         }
