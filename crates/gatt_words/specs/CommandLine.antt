@@ -1,23 +1,22 @@
 -- The command line that the program takes, as clap's specification reads one.
-use Rattle.std.specs.Prelude.{◌≡◌, ℕ, List, [], codes, map, take, unwrap_or, Bool, true, false, Option, Some, IfSome, option_map}
+use Rattle.std.specs.Prelude.{◌≡◌, ℕ, List, [], ◌∷◌, codes, map, take, unwrap_or, Bool, true, false, Option, Some, IfSome, option_map}
 use Rattle.clap.specs.Words.{App, Row, Rule, Shape, Text, all_of, first_of, new_app, new_rule, one_of, with_rule, with_subcommand}
 use Rattle.clap.specs.declared.builder.action.ArgAction.TheVariants.{Append, Set, SetTrue}
+use Rattle.gatt_words.specs.declared.argument.Argument.{Argument}
+use Rattle.gatt_words.specs.declared.argument.Takes.{Takes}
+use Rattle.gatt_words.specs.declared.argument.Takes.TheVariants.{Path, PathIfAny, Value, Values, Nothing}
 use Rattle.gatt_words.specs.declared.words.Choice.{Choice}
 use Rattle.gatt_words.specs.declared.words.Choice.TheVariants.{Att, Check, Show, Run, Serve, Host}
-
--- the command `att`, which has no argument
-abbrev pub att_shape : Shape
-att_shape = (new_app (codes "att")).top
 
 -- an argument that is a path and has to be there
 abbrev pub file_rule : Text → Rule
 file_rule name = record (new_rule name) { required = true; action = Some Set }
 
--- the command `check`, of a table file and a key file
-abbrev pub check_shape : Shape
-check_shape = (with_rule (with_rule (new_app (codes "check")) (file_rule (codes "TABLE"))) (file_rule (codes "KEYS"))).top
+-- an argument that is a path and may be left out
+abbrev pub optional_rule : Text → Rule
+optional_rule name = record (new_rule name) { action = Some Set }
 
--- an option that is a path and may be left out
+-- an option that has a value and may be left out
 abbrev pub option_rule : Text → Rule
 option_rule name = record (new_rule name) { long = Some name; action = Some Set; value_names = 1 }
 
@@ -25,55 +24,80 @@ option_rule name = record (new_rule name) { long = Some name; action = Some Set;
 abbrev pub list_rule : Text → Rule
 list_rule name = record (new_rule name) { long = Some name; action = Some Append; value_names = 1 }
 
--- an argument that is a path and may be left out
-abbrev pub optional_rule : Text → Rule
-optional_rule name = record (new_rule name) { action = Some Set }
-
--- the command `show`, of a table file, a key file that may be left out, and a rows file
-abbrev pub show_shape : Shape
-show_shape = (with_rule (with_rule (with_rule (new_app (codes "show"))
-    (file_rule (codes "TABLE"))) (optional_rule (codes "KEYS"))) (option_rule (codes "rows"))).top
-
 -- a flag, which has no value and may be left out
 abbrev pub flag_rule : Text → Rule
 flag_rule name = record (new_rule name) { long = Some name; action = Some SetTrue }
 
--- the command `run`, of a table file, a key file and a script; and with its options and its flags
-abbrev pub run_files : App
-run_files = with_rule (with_rule (with_rule (new_app (codes "run"))
-    (file_rule (codes "TABLE"))) (file_rule (codes "KEYS"))) (file_rule (codes "SCRIPT"))
+-- what the parser is told of an argument of the code's tables
+abbrev pub rule_taking : Takes → Text → Rule
+rule_taking Path name = file_rule name
+rule_taking PathIfAny name = optional_rule name
+rule_taking (Value word) name = option_rule name
+rule_taking (Values word) name = list_rule name
+rule_taking Nothing name = flag_rule name
 
+abbrev pub rule_for : Argument → Rule
+rule_for argument = rule_taking argument.takes argument.name.now
+
+-- a command with arguments, in their order
+abbrev pub with_rules : App → List Rule → App
+with_rules app [] = app
+with_rules app (rule ∷ rules) = with_rules (with_rule app rule) rules
+
+abbrev pub shape_with : Text → List Rule → Shape
+shape_with name rules = (with_rules (new_app name) rules).top
+
+-- the command `att`, which has no argument
+abbrev pub att_shape : Shape
+att_shape = (new_app (codes "att")).top
+
+-- the command `check`, of a table file and a key file
+abbrev pub check_shape : Shape
+check_shape = shape_with (codes "check") (file_rule (codes "TABLE") ∷ file_rule (codes "KEYS") ∷ [])
+
+-- the command `show`, of a table file, a key file that may be left out, and a rows file
+abbrev pub show_shape : Shape
+show_shape = shape_with (codes "show") (file_rule (codes "TABLE") ∷ optional_rule (codes "KEYS") ∷ option_rule (codes "rows") ∷ [])
+
+-- the command `run`, of a table file, a key file and a script, with its options and its flags
 abbrev pub run_shape : Shape
-run_shape = (with_rule (with_rule (with_rule (with_rule run_files
-    (option_rule (codes "rows"))) (option_rule (codes "next"))) (flag_rule (codes "notices"))) (flag_rule (codes "echo"))).top
+run_shape = shape_with (codes "run") (
+    file_rule (codes "TABLE")
+    ∷ file_rule (codes "KEYS")
+    ∷ file_rule (codes "SCRIPT")
+    ∷ option_rule (codes "rows")
+    ∷ option_rule (codes "next")
+    ∷ flag_rule (codes "notices")
+    ∷ flag_rule (codes "echo")
+    ∷ [])
 
 -- the command `serve`, of a table file, a key file and an address
 abbrev pub serve_shape : Shape
-serve_shape = (with_rule (with_rule (with_rule (with_rule (new_app (codes "serve"))
-    (file_rule (codes "TABLE"))) (file_rule (codes "KEYS"))) (file_rule (codes "ADDRESS")))
-    (option_rule (codes "rows"))).top
+serve_shape = shape_with (codes "serve") (
+    file_rule (codes "TABLE") ∷ file_rule (codes "KEYS") ∷ file_rule (codes "ADDRESS") ∷ option_rule (codes "rows") ∷ [])
 
--- the command `host`, of a table file and a key file; with where its controller and its application are; with what a scanner sees;
--- with what is recorded of what goes on; and with all its options and flags
-abbrev pub host_files : App
-host_files = with_rule (with_rule (with_rule (with_rule (new_app (codes "host"))
-    (file_rule (codes "TABLE"))) (file_rule (codes "KEYS"))) (option_rule (codes "rows"))) (flag_rule (codes "drop-unknown"))
-
-abbrev pub host_ways : App
-host_ways = with_rule (with_rule (with_rule (with_rule (with_rule host_files
-    (option_rule (codes "listen"))) (option_rule (codes "connect"))) (option_rule (codes "serial")))
-    (option_rule (codes "application"))) (option_rule (codes "application-port"))
-
-abbrev pub host_radio : App
-host_radio = with_rule (with_rule (with_rule host_ways
-    (option_rule (codes "name"))) (list_rule (codes "advertise"))) (option_rule (codes "address"))
-
-abbrev pub host_records : App
-host_records = with_rule (with_rule host_radio (option_rule (codes "capture"))) (flag_rule (codes "log-values"))
-
+-- the command `host`: its files; where its controller and its application are; what a scanner sees; what is recorded of what goes
+-- on; how many phones there may be, and for how long
 abbrev pub host_shape : Shape
-host_shape = (with_rule (with_rule (with_rule host_records
-    (option_rule (codes "slots"))) (option_rule (codes "idle"))) (flag_rule (codes "once"))).top
+host_shape = shape_with (codes "host") (
+    file_rule (codes "TABLE")
+    ∷ file_rule (codes "KEYS")
+    ∷ option_rule (codes "rows")
+    ∷ flag_rule (codes "drop-unknown")
+    ∷ option_rule (codes "listen")
+    ∷ option_rule (codes "connect")
+    ∷ option_rule (codes "serial")
+    ∷ option_rule (codes "application")
+    ∷ option_rule (codes "application-port")
+    ∷ option_rule (codes "name")
+    ∷ list_rule (codes "advertise")
+    ∷ option_rule (codes "address")
+    ∷ option_rule (codes "capture")
+    ∷ flag_rule (codes "log-values")
+    ∷ option_rule (codes "slots")
+    ∷ option_rule (codes "idle")
+    ∷ flag_rule (codes "once")
+    ∷ [])
 
 -- the program, which has a version
 abbrev pub program_shape : Shape

@@ -72,18 +72,6 @@ refused, its first fault is told by its number, as by `check`, and then where it
 
   gatt_shell show examples/door.toml examples/keys.toml";
 
-/// The argument of the table file.
-pub const TABLE: &str = "TABLE";
-
-/// What the table file is.
-pub const TABLE_ABOUT: &str = "The table file: the attributes, their values and who may use them";
-
-/// The argument of the key file.
-pub const KEYS: &str = "KEYS";
-
-/// What the key file is.
-pub const KEYS_ABOUT: &str = "The key file: the long-term keys of known peers";
-
 /// The name of the command `run`.
 pub const RUN: &str = "run";
 
@@ -105,12 +93,6 @@ one that is not there is empty.
 
   gatt_shell run examples/door.toml examples/keys.toml examples/first_contact.script";
 
-/// The argument of the script.
-pub const SCRIPT: &str = "SCRIPT";
-
-/// What the script is.
-pub const SCRIPT_ABOUT: &str = "The script: what phones and the application do, line by line";
-
 /// The name of the command `serve`.
 pub const SERVE: &str = "serve";
 
@@ -128,54 +110,6 @@ docs/FORMATS.md with which faults it ends. The rows file keeps what the phones h
 is read first and rewritten at the end, and one that is not there is empty.
 
   gatt_shell serve examples/door.toml examples/keys.toml 127.0.0.1:5000";
-
-/// The argument of the address.
-pub const ADDRESS: &str = "ADDRESS";
-
-/// What the address is.
-pub const ADDRESS_ABOUT: &str = "Where to listen: an IP address and a port, as 127.0.0.1:5000";
-
-/// The name of the option that names a rows file.
-pub const ROWS: &str = "rows";
-
-/// What the rows file is.
-pub const ROWS_ABOUT: &str = "The rows file: what the phones with keys have configured";
-
-/// The name of the option that names a table which replaces the first.
-pub const NEXT: &str = "next";
-
-/// What that table is.
-pub const NEXT_ABOUT: &str = "The table file that the line `replace` of a script replaces TABLE by";
-
-/// The name of the flag that has notices printed.
-pub const NOTICES: &str = "notices";
-
-/// What the flag does.
-pub const NOTICES_ABOUT: &str = "Print what the application is told too, one line a notice";
-
-/// The name of the flag that has the lines of a script printed.
-pub const ECHO: &str = "echo";
-
-/// What the flag does.
-pub const ECHO_ABOUT: &str = "Print each line of the script too, before what it brings";
-
-/// What stands for the value of an option that gives a service.
-pub const UUID: &str = "UUID";
-
-/// What stands for the value of an option that names a file.
-pub const FILE: &str = "FILE";
-
-/// The same of a socket or a line.
-pub const PATH: &str = "PATH";
-
-/// The same of a text.
-pub const TEXT: &str = "TEXT";
-
-/// The same of a number.
-pub const N: &str = "N";
-
-/// The same of a time.
-pub const SECONDS: &str = "SECONDS";
 
 /// The name of the command `host`.
 pub const HOST: &str = "host";
@@ -195,91 +129,3 @@ can wait for.
 
   gatt_shell host examples/door.toml examples/keys.toml --listen 127.0.0.1:5000 \\
       --application door.socket --rows door.rows";
-
-/// The flag that has rows of unknown peers dropped.
-pub const DROP_UNKNOWN: &str = "drop-unknown";
-
-/// What it does.
-pub const DROP_UNKNOWN_ABOUT: &str =
-    "Drop rows of peers without a key, in place of refusing the file";
-
-/// The option that says where a controller connects.
-pub const LISTEN: &str = "listen";
-
-/// What it is.
-pub const LISTEN_ABOUT: &str = "Where a controller connects: an IP address and a port";
-
-/// The option that says where a controller listens.
-pub const CONNECT: &str = "connect";
-
-/// What it is.
-pub const CONNECT_ABOUT: &str = "Where a controller listens: it is tried until it is there";
-
-/// The option that names a serial line.
-pub const SERIAL: &str = "serial";
-
-/// What it is.
-pub const SERIAL_ABOUT: &str = "The serial line of a controller, which is set up already";
-
-/// The option that says where an application connects.
-pub const APPLICATION: &str = "application";
-
-/// What it is.
-pub const APPLICATION_ABOUT: &str = "The socket where an application connects, for its owner alone";
-
-/// The option that says at which port an application connects.
-pub const APPLICATION_PORT: &str = "application-port";
-
-/// What it is.
-pub const APPLICATION_PORT_ABOUT: &str =
-    "Where an application connects by TCP: whoever reaches it may speak for the device";
-
-/// The option that has a name advertised.
-pub const NAME: &str = "name";
-
-/// What it is.
-pub const NAME_ABOUT: &str = "The name that is advertised, shortened to what fits";
-
-/// The option that has services advertised.
-pub const ADVERTISE: &str = "advertise";
-
-/// What it is.
-pub const ADVERTISE_ABOUT: &str = "The UUID of a service that is advertised, for each its own";
-
-/// The option that gives an address.
-pub const RANDOM_ADDRESS: &str = "address";
-
-/// What it is.
-pub const RANDOM_ADDRESS_ABOUT: &str = "A static random address, in place of the controller's own";
-
-/// The option that has a capture written.
-pub const CAPTURE: &str = "capture";
-
-/// What it is.
-pub const CAPTURE_ABOUT: &str =
-    "A capture (btsnoop) of what goes to the controller and comes from it";
-
-/// The flag that has values logged.
-pub const LOG_VALUES: &str = "log-values";
-
-/// What it does.
-pub const LOG_VALUES_ABOUT: &str =
-    "Log the octets too that phones write, which are secret elsewhere";
-
-/// The option that says how many phones there may be.
-pub const SLOTS: &str = "slots";
-
-/// What it is.
-pub const SLOTS_ABOUT: &str = "How many phones there may be at once, 1 to 8 (4)";
-
-/// The option that has silent strangers sent away.
-pub const IDLE: &str = "idle";
-
-/// What it is.
-pub const IDLE_ABOUT: &str = "After how many silent seconds a phone without a key is sent away";
-
-/// The flag that has the first controller be the last.
-pub const ONCE: &str = "once";
-
-/// What it does.
-pub const ONCE_ABOUT: &str = "End once the first controller is gone";

@@ -2,6 +2,8 @@
 //! is told where they choose none.
 #![tactic(auto)]
 
+mod argument;
+mod arguments;
 mod given;
 mod help;
 mod host;

@@ -1,51 +1,28 @@
 //! The command `show`: its words, and what they choose.
 
 ghost use Rattle.std.specs.Prelude.{◌≡◌, codes, IfSome, IfOk, false};
-ghost use Rattle.clap.specs.Words.{app_of, shape_of, found_of, rows_of, rule_of, with_rule, IsPlainArg};
+ghost use Rattle.clap.specs.Words.{shape_of, found_of, rows_of};
 ghost use Rattle.clap.specs.declared.builder.Command.TheViews.{out-Command};
-ghost use Rattle.gatt_words.specs.CommandLine.{name_of, optional_rule, show_shape};
+ghost use Rattle.gatt_words.specs.CommandLine.{name_of, show_shape};
 ghost use Rattle.gatt_words.specs.CommandLine.{HasFilesOf};
 
-use crate::help;
-use crate::words::{Choice, with_file, with_option};
-use clap::{Arg, ArgAction, ArgMatches, Command};
+use crate::argument::with_arguments;
+use crate::words::Choice;
+use crate::{arguments, help};
+use clap::{ArgMatches, Command};
 use std::alloc::{AllocError, Global};
 
 /// The choice of `show`, with its files.
 #[tactic(auto, using(crate::proofs::CommandLines::first_in_rows))]
-pub(crate) fn showing<'a>(arguments: &ArgMatches<'a>) -> Option<Choice<'a>>
+pub(crate) fn showing<'a>(matches: &ArgMatches<'a>) -> Option<Choice<'a>>
     ensures name { IfSome result (λ choice. name_of choice ≡ codes "show") }
-    ensures files { IfSome result (HasFilesOf (rows_of (found_of arguments.now))) }
+    ensures files { IfSome result (HasFilesOf (rows_of (found_of matches.now))) }
 {
     Some(Choice::Show {
-        table: arguments.get_str(help::TABLE)?,
-        keys: arguments.get_str(help::KEYS),
-        rows: arguments.get_str(help::ROWS),
+        table: matches.get_str(arguments::TABLE)?,
+        keys: matches.get_str(arguments::KEYS),
+        rows: matches.get_str(arguments::ROWS),
     })
-}
-
-/// An argument that is a path and may be left out.
-fn optional_argument<'a>(alloc: Global, name: &'a str, about: &'a str) -> Arg<'a>
-    ensures rule { rule_of result ≡ optional_rule name.entry.now }
-    ensures plain { IsPlainArg result }
-    ensures local { result.global ≡ false }
-{
-    Arg::new(alloc, name).help(about).action(ArgAction::Set)
-}
-
-/// The command with one more argument, a path that may be left out.
-fn with_optional<'a>(
-    alloc: Global,
-    command: Command<'a>,
-    name: &'a str,
-    about: &'a str,
-) -> Result<Command<'a>, AllocError>
-    ensures app { IfOk result
-        (λ added. app_of added ≡ with_rule (app_of command.entry) (optional_rule name.entry.now)) }
-    ensures local { IfOk result
-        (λ added. (out-Command added).has_globals ≡ (out-Command command.entry).has_globals) }
-{
-    command.arg(optional_argument(alloc, name, about))
 }
 
 /// The command `show`.
@@ -57,7 +34,5 @@ pub(crate) fn show_command<'a>(alloc: Global) -> Result<Command<'a>, AllocError>
         .about(help::SHOW_ABOUT)
         .long_about(help::SHOW_DETAILS)
         .after_help(help::STATUSES);
-    let command = with_file(alloc, command, help::TABLE, help::TABLE_ABOUT)?;
-    let command = with_optional(alloc, command, help::KEYS, help::KEYS_ABOUT)?;
-    with_option(alloc, command, help::ROWS, help::FILE, help::ROWS_ABOUT)
+    with_arguments(alloc, command, &arguments::SHOW_ARGUMENTS)
 }

@@ -1,19 +1,19 @@
 //! The command line: which command its words choose, and what is told where they choose none.
 ghost use Rattle.std.specs.Prelude.{◌≡◌, ◌⊎◌, [], ◌∷◌, map, drop, codes, option_map, string_bytes};
 ghost use Rattle.std.specs.Prelude.{IfSome, IfOk, IfErr, IsErrAnd, MatchResult, false};
-ghost use Rattle.clap.specs.Words.{IsAmong, app_of, fault_of, kind_of, shape_of, with_rule};
+ghost use Rattle.clap.specs.Words.{IsAmong, app_of, fault_of, kind_of, shape_of};
 ghost use Rattle.clap.specs.declared.builder.Command.TheViews.{out-Command};
 ghost use Rattle.clap.specs.Words.{found_of, rows_of, subcommand_name_of, subcommand_of, subcommand_rows_of};
-ghost use Rattle.clap.specs.Words.{rule_of, IsPlainArg};
-ghost use Rattle.gatt_words.specs.CommandLine.{att_shape, file_rule, flag_rule, list_rule, option_rule, check_shape, run_files, run_shape, serve_shape, program_line, command_line, name_of};
+ghost use Rattle.gatt_words.specs.CommandLine.{att_shape, check_shape, run_shape, serve_shape, program_line, command_line, name_of};
 ghost use Rattle.gatt_words.specs.CommandLine.{HasFiles, HasFilesOf};
 ghost use Rattle.gatt_words.specs.Refusal.{ShowsUnlessMemory, refusal_for};
 
-use crate::help;
+use crate::argument::with_arguments;
 use crate::host::{HostChoice, host_command, hosting};
 use crate::show::{show_command, showing};
+use crate::{arguments, help};
 use clap::error::ErrorKind;
-use clap::{Arg, ArgAction, ArgMatches, Command, Error};
+use clap::{ArgMatches, Command, Error};
 use std::alloc::{AllocError, Global};
 
 /// The command that the words choose, with the paths of its files.
@@ -102,60 +102,60 @@ fn choice_in<'a>(matches: &ArgMatches<'a>) -> Result<Choice<'a>, Refusal>
     ensures att { subcommand_name_of matches.now ≡ Some (codes "att") → result ≡ Ok Choice.Att }
     ensures err { IfErr result (λ refusal. refusal ≡ Refusal.Misunderstood) }
 {
-    let Some((name, arguments)) = matches.subcommand() else {
+    let Some((name, named)) = matches.subcommand() else {
         return Err(Refusal::Misunderstood);
     };
     match name {
         help::ATT => Ok(Choice::Att),
-        help::CHECK => checking(arguments).ok_or(Refusal::Misunderstood),
-        help::SHOW => showing(arguments).ok_or(Refusal::Misunderstood),
-        help::RUN => running(arguments).ok_or(Refusal::Misunderstood),
-        help::SERVE => serving(arguments).ok_or(Refusal::Misunderstood),
-        help::HOST => hosting(arguments).ok_or(Refusal::Misunderstood),
+        help::CHECK => checking(named).ok_or(Refusal::Misunderstood),
+        help::SHOW => showing(named).ok_or(Refusal::Misunderstood),
+        help::RUN => running(named).ok_or(Refusal::Misunderstood),
+        help::SERVE => serving(named).ok_or(Refusal::Misunderstood),
+        help::HOST => hosting(named).ok_or(Refusal::Misunderstood),
         _ => Err(Refusal::Misunderstood),
     }
 }
 
 /// The choice of `check`, with its files.
 #[tactic(auto, using(crate::proofs::CommandLines::first_in_rows))]
-fn checking<'a>(arguments: &ArgMatches<'a>) -> Option<Choice<'a>>
+fn checking<'a>(matches: &ArgMatches<'a>) -> Option<Choice<'a>>
     ensures name { IfSome result (λ choice. name_of choice ≡ codes "check") }
-    ensures files { IfSome result (HasFilesOf (rows_of (found_of arguments.now))) }
+    ensures files { IfSome result (HasFilesOf (rows_of (found_of matches.now))) }
 {
     Some(Choice::Check {
-        table: arguments.get_str(help::TABLE)?,
-        keys: arguments.get_str(help::KEYS)?,
+        table: matches.get_str(arguments::TABLE)?,
+        keys: matches.get_str(arguments::KEYS)?,
     })
 }
 
 /// The choice of `run`, with its files and its flags.
 #[tactic(auto, using(crate::proofs::CommandLines::first_in_rows, crate::proofs::CommandLines::flag_in_rows))]
-fn running<'a>(arguments: &ArgMatches<'a>) -> Option<Choice<'a>>
+fn running<'a>(matches: &ArgMatches<'a>) -> Option<Choice<'a>>
     ensures name { IfSome result (λ choice. name_of choice ≡ codes "run") }
-    ensures files { IfSome result (HasFilesOf (rows_of (found_of arguments.now))) }
+    ensures files { IfSome result (HasFilesOf (rows_of (found_of matches.now))) }
 {
     Some(Choice::Run {
-        table: arguments.get_str(help::TABLE)?,
-        next: arguments.get_str(help::NEXT),
-        keys: arguments.get_str(help::KEYS)?,
-        rows: arguments.get_str(help::ROWS),
-        script: arguments.get_str(help::SCRIPT)?,
-        notices: arguments.get_flag(help::NOTICES),
-        echo: arguments.get_flag(help::ECHO),
+        table: matches.get_str(arguments::TABLE)?,
+        next: matches.get_str(arguments::NEXT),
+        keys: matches.get_str(arguments::KEYS)?,
+        rows: matches.get_str(arguments::ROWS),
+        script: matches.get_str(arguments::SCRIPT)?,
+        notices: matches.get_flag(arguments::NOTICES),
+        echo: matches.get_flag(arguments::ECHO),
     })
 }
 
 /// The choice of `serve`, with its files and its address.
 #[tactic(auto, using(crate::proofs::CommandLines::first_in_rows))]
-fn serving<'a>(arguments: &ArgMatches<'a>) -> Option<Choice<'a>>
+fn serving<'a>(matches: &ArgMatches<'a>) -> Option<Choice<'a>>
     ensures name { IfSome result (λ choice. name_of choice ≡ codes "serve") }
-    ensures files { IfSome result (HasFilesOf (rows_of (found_of arguments.now))) }
+    ensures files { IfSome result (HasFilesOf (rows_of (found_of matches.now))) }
 {
     Some(Choice::Serve {
-        table: arguments.get_str(help::TABLE)?,
-        keys: arguments.get_str(help::KEYS)?,
-        rows: arguments.get_str(help::ROWS),
-        address: arguments.get_str(help::ADDRESS)?,
+        table: matches.get_str(arguments::TABLE)?,
+        keys: matches.get_str(arguments::KEYS)?,
+        rows: matches.get_str(arguments::ROWS),
+        address: matches.get_str(arguments::ADDRESS)?,
     })
 }
 
@@ -182,33 +182,6 @@ fn att_command<'a>(alloc: Global) -> Command<'a>
         .after_help(help::STATUSES)
 }
 
-/// An argument that is a path and has to be there.
-fn file_argument<'a>(alloc: Global, name: &'a str, about: &'a str) -> Arg<'a>
-    ensures rule { rule_of result ≡ file_rule name.entry.now }
-    ensures plain { IsPlainArg result }
-    ensures local { result.global ≡ false }
-{
-    Arg::new(alloc, name)
-        .help(about)
-        .required(true)
-        .action(ArgAction::Set)
-}
-
-/// The command with one more argument, a path that has to be there.
-pub(crate) fn with_file<'a>(
-    alloc: Global,
-    command: Command<'a>,
-    name: &'a str,
-    about: &'a str,
-) -> Result<Command<'a>, AllocError>
-    ensures app { IfOk result
-        (λ added. app_of added ≡ with_rule (app_of command.entry) (file_rule name.entry.now)) }
-    ensures local { IfOk result
-        (λ added. (out-Command added).has_globals ≡ (out-Command command.entry).has_globals) }
-{
-    command.arg(file_argument(alloc, name, about))
-}
-
 /// The command `check`.
 fn check_command<'a>(alloc: Global) -> Result<Command<'a>, AllocError>
     ensures shape { IfOk result (λ command. shape_of command ≡ check_shape) }
@@ -218,106 +191,7 @@ fn check_command<'a>(alloc: Global) -> Result<Command<'a>, AllocError>
         .about(help::CHECK_ABOUT)
         .long_about(help::CHECK_DETAILS)
         .after_help(help::STATUSES);
-    let command = with_file(alloc, command, help::TABLE, help::TABLE_ABOUT)?;
-    with_file(alloc, command, help::KEYS, help::KEYS_ABOUT)
-}
-
-/// An option that has a value, and may be left out.
-fn option<'a>(alloc: Global, name: &'a str, value: &'a str, about: &'a str) -> Arg<'a>
-    ensures rule { rule_of result ≡ option_rule name.entry.now }
-    ensures plain { IsPlainArg result }
-    ensures local { result.global ≡ false }
-{
-    Arg::new(alloc, name)
-        .long(name)
-        .value_name(value)
-        .help(about)
-        .action(ArgAction::Set)
-}
-
-/// The command with one more option, which has a value.
-pub(crate) fn with_option<'a>(
-    alloc: Global,
-    command: Command<'a>,
-    name: &'a str,
-    value: &'a str,
-    about: &'a str,
-) -> Result<Command<'a>, AllocError>
-    ensures app { IfOk result
-        (λ added. app_of added ≡ with_rule (app_of command.entry) (option_rule name.entry.now)) }
-    ensures local { IfOk result
-        (λ added. (out-Command added).has_globals ≡ (out-Command command.entry).has_globals) }
-{
-    command.arg(option(alloc, name, value, about))
-}
-
-/// An option that may be given again and again.
-fn list_option<'a>(alloc: Global, name: &'a str, about: &'a str) -> Arg<'a>
-    ensures rule { rule_of result ≡ list_rule name.entry.now }
-    ensures plain { IsPlainArg result }
-    ensures local { result.global ≡ false }
-{
-    Arg::new(alloc, name)
-        .long(name)
-        .value_name(help::UUID)
-        .help(about)
-        .action(ArgAction::Append)
-}
-
-/// The command with one more option, which may be given again and again.
-pub(crate) fn with_list<'a>(
-    alloc: Global,
-    command: Command<'a>,
-    name: &'a str,
-    about: &'a str,
-) -> Result<Command<'a>, AllocError>
-    ensures app { IfOk result
-        (λ added. app_of added ≡ with_rule (app_of command.entry) (list_rule name.entry.now)) }
-    ensures local { IfOk result
-        (λ added. (out-Command added).has_globals ≡ (out-Command command.entry).has_globals) }
-{
-    command.arg(list_option(alloc, name, about))
-}
-
-/// A flag, which has no value and may be left out.
-fn flag_argument<'a>(alloc: Global, name: &'a str, about: &'a str) -> Arg<'a>
-    ensures rule { rule_of result ≡ flag_rule name.entry.now }
-    ensures plain { IsPlainArg result }
-    ensures local { result.global ≡ false }
-{
-    Arg::new(alloc, name)
-        .long(name)
-        .help(about)
-        .action(ArgAction::SetTrue)
-}
-
-/// The command with one more flag.
-pub(crate) fn with_flag<'a>(
-    alloc: Global,
-    command: Command<'a>,
-    name: &'a str,
-    about: &'a str,
-) -> Result<Command<'a>, AllocError>
-    ensures app { IfOk result
-        (λ added. app_of added ≡ with_rule (app_of command.entry) (flag_rule name.entry.now)) }
-    ensures local { IfOk result
-        (λ added. (out-Command added).has_globals ≡ (out-Command command.entry).has_globals) }
-{
-    command.arg(flag_argument(alloc, name, about))
-}
-
-/// The command `run` with its files alone.
-fn run_files_command<'a>(alloc: Global) -> Result<Command<'a>, AllocError>
-    ensures app { IfOk result (λ command. app_of command ≡ run_files) }
-    ensures local { IfOk result (λ command. (out-Command command).has_globals ≡ false) }
-{
-    let command = Command::new(alloc, help::RUN)
-        .about(help::RUN_ABOUT)
-        .long_about(help::RUN_DETAILS)
-        .after_help(help::STATUSES);
-    let command = with_file(alloc, command, help::TABLE, help::TABLE_ABOUT)?;
-    let command = with_file(alloc, command, help::KEYS, help::KEYS_ABOUT)?;
-    with_file(alloc, command, help::SCRIPT, help::SCRIPT_ABOUT)
+    with_arguments(alloc, command, &arguments::CHECK_ARGUMENTS)
 }
 
 /// The command `run`.
@@ -325,11 +199,11 @@ fn run_command<'a>(alloc: Global) -> Result<Command<'a>, AllocError>
     ensures shape { IfOk result (λ command. shape_of command ≡ run_shape) }
     ensures local { IfOk result (λ command. (out-Command command).has_globals ≡ false) }
 {
-    let command = run_files_command(alloc)?;
-    let command = with_option(alloc, command, help::ROWS, help::FILE, help::ROWS_ABOUT)?;
-    let command = with_option(alloc, command, help::NEXT, help::FILE, help::NEXT_ABOUT)?;
-    let command = with_flag(alloc, command, help::NOTICES, help::NOTICES_ABOUT)?;
-    with_flag(alloc, command, help::ECHO, help::ECHO_ABOUT)
+    let command = Command::new(alloc, help::RUN)
+        .about(help::RUN_ABOUT)
+        .long_about(help::RUN_DETAILS)
+        .after_help(help::STATUSES);
+    with_arguments(alloc, command, &arguments::RUN_ARGUMENTS)
 }
 
 /// The command `serve`.
@@ -341,10 +215,7 @@ fn serve_command<'a>(alloc: Global) -> Result<Command<'a>, AllocError>
         .about(help::SERVE_ABOUT)
         .long_about(help::SERVE_DETAILS)
         .after_help(help::STATUSES);
-    let command = with_file(alloc, command, help::TABLE, help::TABLE_ABOUT)?;
-    let command = with_file(alloc, command, help::KEYS, help::KEYS_ABOUT)?;
-    let command = with_file(alloc, command, help::ADDRESS, help::ADDRESS_ABOUT)?;
-    with_option(alloc, command, help::ROWS, help::FILE, help::ROWS_ABOUT)
+    with_arguments(alloc, command, &arguments::SERVE_ARGUMENTS)
 }
 
 /// The program without its commands, of which one has to be named.

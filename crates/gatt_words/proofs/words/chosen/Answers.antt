@@ -6,7 +6,6 @@ use Rattle.gatt_words.specs.declared.words.Refusal.TheVariants.{Shown}
 use Rattle.gatt_words.proofs.CommandLines.{att_taken, att_named, none_faults, help_faults, version_faults, takes_behind, named_behind, missing_refused, help_shown, version_shown, shown_among, name-rows, kinds_at, faulty}
 use Rattle.std.proofs.lemmas.Result.{IfOk-weaker}
 use Rattle.std.specs.Prelude.{IfOk}
-use Rattle.clap.specs.Words.{Row, Text}
 use Rattle.gatt_words.specs.CommandLine.{HasFiles}
 use Rattle.gatt_words.proofs.CommandLines.{always}
 use Rattle.gatt_words.proofs.words.chosen.Goals as goal

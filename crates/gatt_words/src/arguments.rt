@@ -1,0 +1,201 @@
+//! The arguments of the commands: their names, and the tables that the parser and the help have them
+//! from.
+
+use crate::argument::{Argument, Takes};
+
+// The names, by which what is given is asked for.
+
+pub const TABLE: &str = "TABLE";
+
+pub const KEYS: &str = "KEYS";
+
+pub const SCRIPT: &str = "SCRIPT";
+
+pub const ADDRESS: &str = "ADDRESS";
+
+pub const ROWS: &str = "rows";
+
+pub const NEXT: &str = "next";
+
+pub const NOTICES: &str = "notices";
+
+pub const ECHO: &str = "echo";
+
+pub const DROP_UNKNOWN: &str = "drop-unknown";
+
+pub const LISTEN: &str = "listen";
+
+pub const CONNECT: &str = "connect";
+
+pub const SERIAL: &str = "serial";
+
+pub const APPLICATION: &str = "application";
+
+pub const APPLICATION_PORT: &str = "application-port";
+
+pub const NAME: &str = "name";
+
+pub const ADVERTISE: &str = "advertise";
+
+pub const RANDOM_ADDRESS: &str = "address";
+
+pub const CAPTURE: &str = "capture";
+
+pub const LOG_VALUES: &str = "log-values";
+
+pub const SLOTS: &str = "slots";
+
+pub const IDLE: &str = "idle";
+
+pub const ONCE: &str = "once";
+
+/// The table file of all commands that have one.
+const TABLE_FILE: Argument = Argument {
+    name: TABLE,
+    takes: Takes::Path,
+    about: "The table file: the attributes, their values and who may use them",
+};
+
+/// The key file.
+const KEY_FILE: Argument = Argument {
+    name: KEYS,
+    takes: Takes::Path,
+    about: "The key file: the long-term keys of known peers",
+};
+
+/// The rows file.
+const ROWS_FILE: Argument = Argument {
+    name: ROWS,
+    takes: Takes::Value("FILE"),
+    about: "The rows file: what the phones with keys have configured",
+};
+
+/// The arguments of `check`.
+pub const CHECK_ARGUMENTS: [Argument; 2] = [TABLE_FILE, KEY_FILE];
+
+/// The arguments of `show`.
+pub const SHOW_ARGUMENTS: [Argument; 3] = [
+    TABLE_FILE,
+    Argument {
+        name: KEYS,
+        takes: Takes::PathIfAny,
+        about: "The key file: the long-term keys of known peers",
+    },
+    ROWS_FILE,
+];
+
+/// The arguments of `run`.
+pub const RUN_ARGUMENTS: [Argument; 7] = [
+    TABLE_FILE,
+    KEY_FILE,
+    Argument {
+        name: SCRIPT,
+        takes: Takes::Path,
+        about: "The script: what phones and the application do, line by line",
+    },
+    ROWS_FILE,
+    Argument {
+        name: NEXT,
+        takes: Takes::Value("FILE"),
+        about: "The table file that the line `replace` of a script replaces TABLE by",
+    },
+    Argument {
+        name: NOTICES,
+        takes: Takes::Nothing,
+        about: "Print what the application is told too, one line a notice",
+    },
+    Argument {
+        name: ECHO,
+        takes: Takes::Nothing,
+        about: "Print each line of the script too, before what it brings",
+    },
+];
+
+/// The arguments of `serve`.
+pub const SERVE_ARGUMENTS: [Argument; 4] = [
+    TABLE_FILE,
+    KEY_FILE,
+    Argument {
+        name: ADDRESS,
+        takes: Takes::Path,
+        about: "Where to listen: an IP address and a port, as 127.0.0.1:5000",
+    },
+    ROWS_FILE,
+];
+
+/// The arguments of `host`.
+pub const HOST_ARGUMENTS: [Argument; 17] = [
+    TABLE_FILE,
+    KEY_FILE,
+    ROWS_FILE,
+    Argument {
+        name: DROP_UNKNOWN,
+        takes: Takes::Nothing,
+        about: "Drop rows of peers without a key, in place of refusing the file",
+    },
+    Argument {
+        name: LISTEN,
+        takes: Takes::Value("ADDRESS"),
+        about: "Where a controller connects: an IP address and a port",
+    },
+    Argument {
+        name: CONNECT,
+        takes: Takes::Value("ADDRESS"),
+        about: "Where a controller listens: it is tried until it is there",
+    },
+    Argument {
+        name: SERIAL,
+        takes: Takes::Value("PATH"),
+        about: "The serial line of a controller, which is set up already",
+    },
+    Argument {
+        name: APPLICATION,
+        takes: Takes::Value("PATH"),
+        about: "The socket where an application connects, for its owner alone",
+    },
+    Argument {
+        name: APPLICATION_PORT,
+        takes: Takes::Value("ADDRESS"),
+        about: "Where an application connects by TCP: whoever reaches it may speak for the device",
+    },
+    Argument {
+        name: NAME,
+        takes: Takes::Value("TEXT"),
+        about: "The name that is advertised, shortened to what fits",
+    },
+    Argument {
+        name: ADVERTISE,
+        takes: Takes::Values("UUID"),
+        about: "The UUID of a service that is advertised, for each its own",
+    },
+    Argument {
+        name: RANDOM_ADDRESS,
+        takes: Takes::Value("ADDRESS"),
+        about: "A static random address, in place of the controller's own",
+    },
+    Argument {
+        name: CAPTURE,
+        takes: Takes::Value("FILE"),
+        about: "A capture (btsnoop) of what goes to the controller and comes from it",
+    },
+    Argument {
+        name: LOG_VALUES,
+        takes: Takes::Nothing,
+        about: "Log the octets too that phones write, which are secret elsewhere",
+    },
+    Argument {
+        name: SLOTS,
+        takes: Takes::Value("N"),
+        about: "How many phones there may be at once, 1 to 8 (4)",
+    },
+    Argument {
+        name: IDLE,
+        takes: Takes::Value("SECONDS"),
+        about: "After how many silent seconds a phone without a key is sent away",
+    },
+    Argument {
+        name: ONCE,
+        takes: Takes::Nothing,
+        about: "End once the first controller is gone",
+    },
+];
