@@ -2,7 +2,7 @@ use crate::uuid::Uuid;
 
 /// What a client asks of the server: Core 5.0, Vol 3 Part F, 3.4. Handles are as sent: a range may
 /// be empty or begin with 0, and a handle may be in no table.
-#[derive(Clone, Copy, Debug, PartialEq, Eq)]
+#[derive(Clone, Copy, PartialEq, Eq)]
 pub enum Request<'a> {
     /// Exchange MTU Request: the largest PDU, in octets, that the client receives.
     ExchangeMtu {

@@ -12,7 +12,7 @@ pub const EVENT_MASK: u64 = 0x2000_9FFF_FFFF_FFFF;
 pub const LE_EVENT_MASK: u64 = 0x0000_0000_0000_001F;
 
 /// What a host asks of its controller: Core 5.0, Vol 2 Part E, 7.
-#[derive(Clone, Copy, Debug, PartialEq, Eq)]
+#[derive(Clone, Copy)]
 pub enum Command<'a> {
     /// Start over: 7.3.2.
     Reset,

@@ -9,7 +9,7 @@ use crate::peer::Peer;
 
 /// What a controller reports: Core 5.0, Vol 2 Part E, 7.7. A handle is that of a connection, below
 /// 4,096, and a status of 0 is success.
-#[derive(Clone, Copy, Debug, PartialEq, Eq)]
+#[derive(Clone, Copy, PartialEq, Eq)]
 pub enum Event<'a> {
     /// A connection has ended: 7.7.5.
     DisconnectionComplete {

@@ -1,7 +1,7 @@
 use le_hci::Peer;
 
 /// What a phone does. Phones are numbered from 0, and there are 8.
-#[derive(Clone, Copy, PartialEq, Eq)]
+#[derive(Clone, Copy)]
 pub enum PhoneAct<'a> {
     /// The phone connects, as this peer. The controller no longer advertises.
     Connect {
