@@ -87,7 +87,7 @@ impl<C: Sink> Capture<C> {
         }
     }
 
-    /// The same of octets that have come from the controller.
+    /// Records octets that have come from the controller, as `went` does those that go to it.
     pub fn came(&mut self, octets: &[u8], time: u64)
         ensures captured { fault_of self.old ≡ None
             → Captures Direction.Received time (received_of self.old) octets.now

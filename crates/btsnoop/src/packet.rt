@@ -59,7 +59,8 @@ fn needed(octets: &[u8]) -> Option<usize>
     }
 }
 
-/// The same of a command and of synchronous data, whose size stands behind two octets.
+/// How many octets a command or synchronous data has, as far as can be told: its size stands behind
+/// two octets.
 fn needed_behind_two(rest: &[u8]) -> usize
     ensures { result ≡ needed_behind_two rest.now }
 {

@@ -10,8 +10,8 @@ use std::alloc::{AllocError, Global};
 pub(crate) struct Heard {
     /// Their lines.
     pub(crate) text: Vec<u8>,
-    /// The same for the log: of a value that was written only how many octets it has, unless values
-    /// are logged.
+    /// Their lines for the log: of a value that was written only how many octets it has, unless
+    /// values are logged.
     pub(crate) log: Vec<u8>,
     logs_values: bool,
     places: Places,

@@ -17,7 +17,7 @@ pub(crate) enum Takes {
     PathIfAny,
     /// The value of an option, for which this word stands in the help.
     Value(&'static str),
-    /// The same of an option that may be given again and again.
+    /// The value of an option that may be given again and again.
     Values(&'static str),
     /// Nothing: it is a flag.
     Nothing,

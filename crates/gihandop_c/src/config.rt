@@ -24,7 +24,7 @@ pub struct HostConfig {
     pub advertising: [u8; 31],
 }
 
-/// The same as a host takes it; none where the advertising data is too long.
+/// The configuration as a host takes it; none where the advertising data is too long.
 pub(crate) fn to_config(config: &HostConfig) -> Option<Config>
     ensures config { IfSome result (λ given. given ≡ config_given config.now) }
     ensures fits { IsSome result → nat_lt 31 config.now.advertising_length ≡ false }

@@ -76,7 +76,7 @@ pub(crate) fn read_table(alloc: Global, octets: &[u8]) -> Result<Table, u32>
     }
 }
 
-/// The same, or its first fault: what is not UTF-8 is no TOML.
+/// The table of a table file, or its first fault: what is not UTF-8 is no TOML.
 #[tactic(auto, using(crate::proofs::Texts::table_of_text, crate::proofs::Texts::table_of_no_text))]
 fn table_in(alloc: Global, octets: &[u8]) -> Result<Table, TableFault>
     ensures { Gives TableFault.OutOfMemory (table_in octets.now) result }
@@ -100,7 +100,7 @@ fn read_keys(alloc: Global, octets: &[u8]) -> Result<Keys, u32>
     }
 }
 
-/// The same, or its first fault: what is not UTF-8 is no TOML.
+/// The keys of a key file, or its first fault: what is not UTF-8 is no TOML.
 #[tactic(auto, using(crate::proofs::Texts::keys_of_text, crate::proofs::Texts::keys_of_no_text))]
 fn keys_in(alloc: Global, octets: &[u8]) -> Result<Keys, KeyFault>
     ensures { Gives KeyFault.OutOfMemory (keys_in octets.now) result }
@@ -124,7 +124,7 @@ fn read_rows(alloc: Global, octets: &[u8]) -> Result<Rows, u32>
     }
 }
 
-/// The same, or its first fault: the first line of what is not UTF-8 is bad.
+/// What a rows file says, or its first fault: the first line of what is not UTF-8 is bad.
 #[tactic(auto, using(crate::proofs::Texts::rows_of_text, crate::proofs::Texts::rows_of_no_text))]
 fn rows_in(alloc: Global, octets: &[u8]) -> Result<Rows, RowsFault>
     ensures { Gives RowsFault.OutOfMemory (rows_in octets.now) result }

@@ -276,7 +276,8 @@ fn write_fragment(
     }
 }
 
-/// The same at the front of `out`. Says how many octets it has.
+/// Writes a fragment of a frame, in its packet, at the front of `out`. Says how many octets the
+/// packet has.
 #[inline(always)]
 #[tactic(auto, using(crate::proofs::Fragments::take_header, crate::proofs::Fragments::drop_header, crate::proofs::Fragments::fragment_later))]
 fn fragment_into(

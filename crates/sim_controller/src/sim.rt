@@ -17,10 +17,7 @@ use crate::config::SimConfig;
 use crate::fault::SimFault;
 use crate::frame::{frame_of, tell_frame};
 use crate::phone::Phone;
-use crate::phones::{
-    absent_phones, assemble, connect, end, ended, hear, hears_too_much, here_with, hold, is_held,
-    is_here, leave, take_in,
-};
+use crate::phones::{absent_phones, here_with};
 use crate::reason::{LOCAL_HOST_ENDED, REMOTE_USER_ENDED};
 use crate::told::Told;
 use crate::waiting::{MAX_PACKETS, tell, tell_both};
@@ -114,14 +111,14 @@ impl Sim {
         requires { phone < 8 }
         ensures { Does (Act.Connect phone peer) self.old self.new result }
     {
-        if is_here(&self.phones, phone) {
+        if self.phones[usize::from(phone)].is_here() {
             return Err(SimFault::AlreadyHere);
         }
         if !self.advertising {
             return Err(SimFault::NotAdvertising);
         }
         tell(&mut self.waiting, Told::ConnectionComplete { phone, peer })?;
-        connect(&mut self.phones, phone);
+        self.phones[usize::from(phone)].connect();
         self.advertising = false;
         Ok(())
     }
@@ -130,7 +127,7 @@ impl Sim {
         requires { phone < 8 }
         ensures { Does (Act.Drop phone) self.old self.new result }
     {
-        if !is_here(&self.phones, phone) {
+        if !self.phones[usize::from(phone)].is_here() {
             return Err(SimFault::NotHere);
         }
         tell(
@@ -140,7 +137,7 @@ impl Sim {
                 reason: REMOTE_USER_ENDED,
             },
         )?;
-        leave(&mut self.phones, phone);
+        self.phones[usize::from(phone)].leave();
         Ok(())
     }
 
@@ -150,7 +147,7 @@ impl Sim {
         ensures { IsDone (telling_fault self.old phone (told ∷ []))
             (with_told self.old (told ∷ [])) self.old self.new result }
     {
-        if !is_here(&self.phones, phone) {
+        if !self.phones[usize::from(phone)].is_here() {
             return Err(SimFault::NotHere);
         }
         tell(&mut self.waiting, told)
@@ -161,7 +158,7 @@ impl Sim {
         requires payload { length payload.now ≤ 517 }
         ensures { Does (Act.Send phone cid payload.now) self.old self.new result }
     {
-        if !is_here(&self.phones, phone) {
+        if !self.phones[usize::from(phone)].is_here() {
             return Err(SimFault::NotHere);
         }
         let frame = frame_of(cid, payload);
@@ -173,10 +170,10 @@ impl Sim {
         requires { phone < 8 }
         ensures { Does (Act.Hold phone) self.old self.new result }
     {
-        if !is_here(&self.phones, phone) {
+        if !self.phones[usize::from(phone)].is_here() {
             return Err(SimFault::NotHere);
         }
-        hold(&mut self.phones, phone);
+        self.phones[usize::from(phone)].hold();
         Ok(())
     }
 
@@ -194,7 +191,7 @@ impl Sim {
                         reason: LOCAL_HOST_ENDED,
                     };
                     tell_both(&mut self.waiting, answer, ended)?;
-                    end(&mut self.phones, phone, reason);
+                    self.phones[usize::from(phone)].end(reason);
                     Ok(())
                 }
                 None => tell(&mut self.waiting, answer),
@@ -262,19 +259,19 @@ impl Sim {
         ensures { let fragment = fragment_that begins octets.now in
             IsDone (data_fault self.old (Some phone) fragment) (after_data self.old (Some phone) fragment) self.old self.new result }
     {
-        let assembled = assemble(&self.phones, phone, begins, octets);
-        if hears_too_much(&self.phones, phone, &assembled) {
+        let assembled = self.phones[usize::from(phone)].assemble(begins, octets);
+        if self.phones[usize::from(phone)].hears_too_much(&assembled) {
             return Err(SimFault::Full);
         }
-        if is_held(&self.phones, phone) {
-            take_in(&mut self.phones, phone, assembled);
+        if self.phones[usize::from(phone)].is_held() {
+            self.phones[usize::from(phone)].take_in(assembled);
             return Ok(());
         }
         tell(
             &mut self.waiting,
             Told::CompletedPackets { phone, packets: 1 },
         )?;
-        take_in(&mut self.phones, phone, assembled);
+        self.phones[usize::from(phone)].take_in(assembled);
         Ok(())
     }
 
@@ -290,7 +287,7 @@ impl Sim {
         ensures after { self.new
             ≡ with_phone self.old phone (after_hearing (phone_at self.old phone)) }
     {
-        hear(&mut self.phones, phone, out)
+        self.phones[usize::from(phone)].hear(out)
     }
 
     /// The reason of a Disconnect that ended the connection of a phone, where it was not yet told.
@@ -300,6 +297,6 @@ impl Sim {
         ensures after { self.new
             ≡ with_phone self.old phone (after_telling (phone_at self.old phone)) }
     {
-        ended(&mut self.phones, phone)
+        self.phones[usize::from(phone)].ended()
     }
 }
