@@ -1,3 +1,4 @@
 pub mod Groups
 pub mod OfType
 pub mod Places
+pub mod TypeOrder

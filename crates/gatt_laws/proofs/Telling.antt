@@ -1,6 +1,7 @@
 -- What is told keeps its promise.
 use Rattle.gatt_laws.proofs.AllowedNotices.{tells_no_refusals, tells_nothing_ignored}
-use Rattle.gatt_laws.proofs.AllowedNotices.{tells_only_of_the_live, tells_what_was_allowed}
+use Rattle.gatt_laws.proofs.AllowedNotices.{tells_only_of_the_live}
+use Rattle.gatt_laws.proofs.AllowedWrites.{tells_what_was_allowed}
 use Rattle.gatt_laws.proofs.KeyNotices.{tells_each_key}
 use Rattle.gatt_laws.proofs.Knowing.{knows_the_values}
 use Rattle.gatt_laws.proofs.KnowingWho.{always_has_one_handle_each, knows_who_is_there}

@@ -1,8 +1,13 @@
 pub mod Alone
+pub mod AloneAtEnd
+pub mod AloneChanges
 pub mod Changed
 pub mod FirstCase
+pub mod FirstCaseOfWrites
 pub mod Front
 pub mod Gained
+pub mod GainedBefore
+pub mod HearerTold
 pub mod Promise
 pub mod Standing
 pub mod Stopping

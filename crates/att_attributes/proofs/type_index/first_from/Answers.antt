@@ -1,7 +1,8 @@
 use Rattle.std.proofs.Common.{ℕ, Bool, refl, sym, ◌∙◌}
 use Rattle.att_attributes.specs.Attributes.{type_at}
 use Rattle.att_attributes.specs.TypeIndex.{is_before}
-use Rattle.att_attributes.proofs.OfType.{begin, narrow_low, narrow_high, place_within, place_below, place_at, closed, above_at, middle_within}
+use Rattle.att_attributes.proofs.OfType.{begin, narrow_low, narrow_high, above_at, middle_within}
+use Rattle.att_attributes.proofs.TypeOrder.{place_within, place_below, place_at, closed}
 use Rattle.att_attributes.proofs.type_index.first_from.Goals as goal
 
 pub loop-low-init : goal.loop-low-init

@@ -1,0 +1,170 @@
+-- What is hidden no connection of the peer may know, in an item and in an event.
+use Rattle.std.proofs.Common.{◌≡◌, Bool, true, false, ◌==◌, ◌&&◌, ◌||◌, List, [], ◌∷◌, ◌++◌, Option, Some, None, refl, sym, ap, ◌∙◌}
+use Rattle.std.specs.Prelude.{not, if◌then◌else◌}
+use Rattle.std.specs.List.{list_any}
+use Rattle.std.specs.Option.{option_to_list}
+use Rattle.std.proofs.lemmas.Bool.{eqb-true}
+use Rattle.att_numbers.specs.Types.{Handle}
+use Rattle.att_table.specs.Table.{Contents}
+use Rattle.gatt_laws.proofs.ItemEvents.{means_its_event}
+use Rattle.gatt_laws.proofs.TwoWorlds.{keeps_alike, given_alike}
+use Rattle.gatt_laws.specs.laws.Alike.{is_of, Alike, Hides, may_read_at}
+use Rattle.gatt_laws.specs.machine.Event.{Ordinal, Event, Replaced}
+use Rattle.gatt_laws.specs.machine.Input.{Item, Course, after_item, course}
+use Rattle.gatt_laws.specs.machine.ItemEvents.{event_at, after_if}
+use Rattle.gatt_laws.specs.laws.NothingCrosses.{knows, knows_in, is_known, is_replaced, known_while, hidden_while, SparedIf, given_by}
+use Rattle.gatt_laws.specs.machine.Part.{Part, is_live, row_of, standing_of}
+use Rattle.gatt_laws.specs.laws.Settled.{has_slot, IsSettled}
+use Rattle.gatt_laws.specs.machine.State.{State, step}
+use Rattle.gatt_laws.specs.laws.Runs.{events_in}
+use Rattle.gatt_laws.specs.laws.TwoWorlds.{SameTable, Matched, Agrees, Spared, given_in, given_of}
+use Rattle.gatt_subs.specs.Hearing.{may_hear_at}
+use Rattle.le_hci.specs.declared.peer.Peer.{Peer}
+use Rattle.octets.specs.Number.{Octets}
+
+first-false : (one other : Bool) → (one || other) ≡ false → one ≡ false
+first-false false other is = refl
+first-false true other is = cc is
+
+second-false : (one other : Bool) → (one || other) ≡ false → other ≡ false
+second-false false other is = is
+second-false true other is = cc is
+
+false-then : (one other : Bool) → one ≡ true → (one && other) ≡ false → other ≡ false
+false-then true other is both = both
+false-then false other is both = cc is
+
+not-true : (test : Bool) → not test ≡ true → test ≡ false
+not-true false is = refl
+not-true true is = cc is
+
+not-false : (test : Bool) → test ≡ false → not test ≡ true
+not-false false is = refl
+not-false true is = cc is
+
+-- What is hidden no connection of the peer may know.
+
+unknown-slot : (peer : Peer) (state : State) (handle : Handle) (ordinal other : Ordinal) (rest : Bool) (known more : Bool)
+    → knows peer state handle other ≡ known → (known || more) ≡ false → ((other == ordinal) || rest) ≡ true
+    → (rest ≡ true → more ≡ false → knows peer state handle ordinal ≡ false) → knows peer state handle ordinal ≡ false
+unknown-slot peer state handle ordinal other rest known more is none has later =
+    elim (other == ordinal) as (λ (same : Bool). (other == ordinal) ≡ same → (same || rest) ≡ true → knows peer state handle ordinal ≡ false) [
+      | true ↦ λ same there. ap (knows peer state handle) (sym (eqb-true other ordinal same)) ∙ is ∙ first-false known more none
+      | false ↦ λ same there. later there (second-false known more none)
+    ] refl has
+
+unknown-in : (peer : Peer) (state : State) (handle : Handle) (ordinal : Ordinal) (slots : List (Option Ordinal)) → list_any (knows_in peer state handle) slots ≡ false
+    → has_slot ordinal slots ≡ true → knows peer state handle ordinal ≡ false
+unknown-in peer state handle ordinal [] none has = cc has
+unknown-in peer state handle ordinal (None ∷ slots) none has = unknown-in peer state handle ordinal slots none has
+unknown-in peer state handle ordinal (Some other ∷ slots) none has =
+    unknown-slot peer state handle ordinal other (has_slot ordinal slots) (knows peer state handle other) (list_any (knows_in peer state handle) slots) refl none has
+    (λ there more. unknown-in peer state handle ordinal slots more there)
+
+live-has-slot : (state : State) (ordinal : Ordinal) → IsSettled state → is_live (state.parts ordinal).mark ≡ true → has_slot ordinal state.slots ≡ true
+live-has-slot state ordinal settled live =
+    elim (has_slot ordinal state.slots) as (λ (has : Bool). has_slot ordinal state.slots ≡ has → has ≡ true) [
+      | true ↦ λ is. refl
+      | false ↦ λ is. cc (sym (ap (λ (p : Part). is_live p.mark) (settled.gone ordinal is)) ∙ live)
+    ] refl
+
+pub hides-unknown : (peer : Peer) (hidden : Handle → Bool) (state : State) → IsSettled state → ((handle : Handle) → hidden handle ≡ true → is_known peer state handle ≡ false)
+    → Hides peer hidden state
+hides-unknown peer hidden state settled unknown ordinal live mine handle is =
+    let part : Part = state.parts ordinal in
+    let attributes = state.room.table.attributes in
+    let reads : Bool = may_read_at attributes (standing_of state.room part) handle in
+    let hears : Bool = may_hear_at attributes (row_of (state.bonds part.peer) part) (standing_of state.room part) handle in
+    let none : knows peer state handle ordinal ≡ false =
+    unknown-in peer state handle ordinal state.slots (unknown handle is) (live-has-slot state ordinal settled live) in
+    let neither : (reads || hears) ≡ false = false-then (is_of peer part) (reads || hears) mine (false-then (is_live part.mark) (is_of peer part && (reads || hears)) live none) in
+    record { unread = first-false reads hears neither; unheard = second-false reads hears neither }
+
+pub now-unknown : (peer : Peer) (course : Course) (items : List Item) (handle : Handle) → hidden_while peer course items handle ≡ true
+    → is_known peer course.intake.state handle ≡ false
+now-unknown peer course [] handle is = not-true (is_known peer course.intake.state handle) is
+now-unknown peer course (item ∷ items) handle is = first-false (is_known peer course.intake.state handle) _ (not-true _ is)
+
+pub later-unknown : (peer : Peer) (course : Course) (item : Item) (items : List Item) (handle : Handle) → is_replaced course.intake item ≡ false
+    → hidden_while peer course (item ∷ items) handle ≡ true → hidden_while peer (after_item course item) items handle ≡ true
+later-unknown peer course item items handle stays is =
+    let later : Bool = known_while peer (after_item course item) items handle in
+    let none : (if is_replaced course.intake item then false else later) ≡ false =
+    second-false (is_known peer course.intake.state handle) (if is_replaced course.intake item then false else later) (not-true _ is) in
+    not-false later (sym (ap (λ (replaced : Bool). if replaced then false else later) stays) ∙ none)
+
+-- more may be hidden
+pub alike-more : (peer : Peer) (hidden more : Handle → Bool) (one other : State) → ((handle : Handle) → hidden handle ≡ true → more handle ≡ true) → Alike peer hidden one other
+    → Alike peer more one other
+alike-more peer hidden more one other wider alike = record {
+  room = alike.room;
+  values = record {
+    count = alike.values.count;
+    lengths = alike.values.lengths;
+    shown = λ handle used shown. alike.values.shown handle used (not-hidden (hidden handle) handle refl shown);
+  };
+  bonds = alike.bonds;
+  owed = alike.owed;
+  own = alike.own;
+  others = alike.others;
+  slots = alike.slots;
+  next = alike.next;
+  controller = alike.controller;
+}
+  where
+    not-hidden : (test : Bool) (handle : Handle) → hidden handle ≡ test → more handle ≡ false → hidden handle ≡ false
+    not-hidden false handle is shown = is
+    not-hidden true handle is shown = cc (wider handle is, shown)
+
+-- The packets of one item, and of those behind it.
+
+abbrev pub given_if : Peer → Ordinal → State → Option Event → List Octets
+given_if peer ordinal state None = []
+given_if peer ordinal state (Some event) = given_of peer ordinal state event
+
+then-given : (peer : Peer) (ordinal : Ordinal) (state : State) (event : Option Event) (events : List Event)
+    → given_in peer ordinal state (option_to_list event ++ events) ≡ given_if peer ordinal state event ++ given_in peer ordinal (after_if state event) events
+then-given peer ordinal state None events = refl
+then-given peer ordinal state (Some event) events = refl
+
+pub given-next : (peer : Peer) (ordinal : Ordinal) (course : Course) (item : Item) (items : List Item)
+    → given_by peer ordinal course (item ∷ items)
+    ≡ given_if peer ordinal course.intake.state (event_at course.intake item) ++ given_by peer ordinal (after_item course item) items
+given-next peer ordinal course item items =
+    let event : Option Event = event_at course.intake item in
+    let events : List Event = events_in (after_item course item) items in
+    then-given peer ordinal course.intake.state event events
+    ∙ ap (λ (state : State). given_if peer ordinal course.intake.state event ++ given_in peer ordinal state events) (sym (means_its_event course item).state)
+
+-- One event, if there is one.
+
+same-table : (hidden : Handle → Bool) (table : Contents) → SameTable hidden table table
+same-table hidden table = record {
+  attributes = refl;
+  changer = refl;
+  values = record { count = refl; lengths = λ handle used. refl; shown = λ handle used shown. refl };
+}
+
+matched-itself : (hidden : Handle → Bool) (event its : Event) → event ≡ its → Matched hidden hidden event its
+matched-itself hidden (Replaced table) its is = record { its = table; is = sym is; same = same-table hidden table }
+matched-itself hidden event its is = (is, refl)
+
+pub record AfterBoth (peer : Peer) (hidden : Handle → Bool) (one other : State) (event its : Option Event) : Type 0 where
+  pub alike : Alike peer hidden (after_if one event) (after_if other its)
+  pub given : (ordinal : Ordinal) → given_if peer ordinal one event ≡ given_if peer ordinal other its
+
+pub after-both : (peer : Peer) (hidden following : Handle → Bool) (one other : State) (event its : Event) → Alike peer hidden one other → Matched hidden following event its
+    → Hides peer hidden one → Hides peer following (step one event) → Spared peer one event → Spared peer other its
+    → AfterBoth peer following one other (Some event) (Some its)
+after-both peer hidden following one other event its alike matched hides then_hides spared spared_too =
+    let agrees : Agrees peer hidden one other event its =
+    record { following = following; matched = matched; hides = hides; hides_then = then_hides; spared = spared; spared_too = spared_too } in
+    record { alike = keeps_alike peer hidden one other event its alike agrees; given = given_alike peer hidden one other event its alike agrees }
+
+pub after-same : (peer : Peer) (hidden : Handle → Bool) (one other : State) (event its : Option Event) → event ≡ its → Alike peer hidden one other → Hides peer hidden one
+    → Hides peer hidden (after_if one event) → SparedIf peer one event → SparedIf peer other its → AfterBoth peer hidden one other event its
+after-same peer hidden one other None None equal alike hides then_hides spared spared_too = record { alike = alike; given = λ ordinal. refl }
+after-same peer hidden one other (Some event) (Some its) equal alike hides then_hides spared spared_too =
+    after-both peer hidden hidden one other event its alike (matched-itself hidden event its (cc equal)) hides then_hides spared spared_too
+after-same peer hidden one other None (Some its) equal alike hides then_hides spared spared_too = cc equal
+after-same peer hidden one other (Some event) None equal alike hides then_hides spared spared_too = cc equal
