@@ -2,7 +2,7 @@
 
 ghost use Rattle.std.specs.Prelude.{◌≤◌, length, IfOk};
 
-use crate::waiting::{Source, Waiting};
+use device_ends::{Source, Waiting};
 use arrayvec::ArrayVec;
 use device_lines::{Found, Inbox, LONGEST, Outbox};
 use std::alloc::Global;

@@ -3,13 +3,8 @@
 ghost use Rattle.std.specs.Prelude.{None};
 
 use crate::application::Application;
-use crate::log::Log;
-use crate::recording::Recording;
-use crate::rows::RowsFile;
 use crate::strangers::Strangers;
-use crate::stream::Stream;
-use crate::waiting::{Ready, Source, Waiting};
-use crate::way::{RETRY_TIME, Way};
+use device_ends::{Log, RETRY_TIME, Ready, Recording, RowsFile, Source, Stream, Waiting, Way};
 use arrayvec::ArrayVec;
 use device_lines::{Asked, Found, LONGEST, read_line};
 use gatt_device::{Happenings, Next};

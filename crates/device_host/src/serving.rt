@@ -3,17 +3,13 @@
 use crate::application::Application;
 use crate::device::{Device, Question};
 use crate::heard::Heard;
-use crate::log::Log;
 use crate::outgoing::ToController;
-use crate::recording::Recording;
-use crate::rows::RowsFile;
 use crate::settings::{Door, Reached, Settings};
 use crate::strangers::Strangers;
 use crate::telling::tell;
 use crate::unknown::unknown_peer;
-use crate::waiting::{Source, Waiting};
-use crate::way::Way;
 use crate::words::HostWords;
+use device_ends::{Log, Recording, RowsFile, Source, Waiting, Way};
 use device_lines::Told;
 use gatt_device::{End, Sending, serve_turn};
 use gatt_files::{LazyFile, RowsPath, RowsReader, ShellFault};

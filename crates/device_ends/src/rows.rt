@@ -1,6 +1,7 @@
 //! The rows file, which is written when the rows have changed.
 
-use gatt_host::{Rows, Writer};
+use gatt_subs::Rows;
+use octets::Writer;
 use std::alloc::Global;
 use std::fs::{File, Files};
 use std::io::{ErrorKind, Write};
@@ -8,7 +9,7 @@ use std::{fs, io};
 
 /// A rows file, if there is one, and the text that it has.
 #[derive(Drop)]
-pub(crate) struct RowsFile<'a> {
+pub struct RowsFile<'a> {
     alloc: Global,
     path: Option<&'a str>,
     saved: Vec<u8>,
@@ -16,7 +17,7 @@ pub(crate) struct RowsFile<'a> {
 
 impl<'a> RowsFile<'a> {
     /// A file of which nothing is known to be saved.
-    pub(crate) fn new(alloc: Global, path: Option<&'a str>) -> RowsFile<'a> {
+    pub fn new(alloc: Global, path: Option<&'a str>) -> RowsFile<'a> {
         RowsFile {
             alloc,
             path,
@@ -26,7 +27,7 @@ impl<'a> RowsFile<'a> {
 
     /// Puts the rows in place of what the file has, where they are not known to be there: at each
     /// moment it has the old ones or the new ones, whole.
-    pub(crate) fn save<R: Files<File = File>>(&mut self, rt: &R, rows: &Rows) -> io::Result<()> {
+    pub fn save<R: Files<File = File>>(&mut self, rt: &R, rows: &Rows) -> io::Result<()> {
         let Some(path) = self.path else {
             return Ok(());
         };
@@ -43,11 +44,7 @@ impl<'a> RowsFile<'a> {
     }
 
     /// Writes the rows, whether they are there or not: so it is seen whether that can be done.
-    pub(crate) fn save_first<R: Files<File = File>>(
-        &mut self,
-        rt: &R,
-        rows: &Rows,
-    ) -> io::Result<()> {
+    pub fn save_first<R: Files<File = File>>(&mut self, rt: &R, rows: &Rows) -> io::Result<()> {
         self.saved.clear();
         if self.saved.extend_from_slice(b"unsaved").is_err() {
             return Err(io::Error::from(ErrorKind::OutOfMemory));

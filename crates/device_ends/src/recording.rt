@@ -13,7 +13,7 @@ const OWNER_ALONE: u32 = 0o600;
 
 /// A capture, if one is written.
 #[derive(Drop)]
-pub(crate) struct Recording {
+pub struct Recording {
     capture: Option<Capture<Writer<File>>>,
     /// Whether it was told that no more packets are recorded.
     is_told: bool,
@@ -21,7 +21,7 @@ pub(crate) struct Recording {
 
 impl Recording {
     /// No capture.
-    pub(crate) fn none() -> Recording {
+    pub fn none() -> Recording {
         Recording {
             capture: None,
             is_told: false,
@@ -30,7 +30,7 @@ impl Recording {
 
     /// Begins a capture in a file at a path, in place of what that had. One that is new is its owner's
     /// alone: keys go by in it.
-    pub(crate) fn begin<R: Files<File = File>>(rt: &R, path: &str) -> io::Result<Recording> {
+    pub fn begin<R: Files<File = File>>(rt: &R, path: &str) -> io::Result<Recording> {
         let file = File::options()
             .write(true)
             .create(true)
@@ -44,7 +44,7 @@ impl Recording {
     }
 
     /// Octets have gone to the controller.
-    pub(crate) fn went<R: Clock + Eprint>(&mut self, octets: &[u8], log: &Log<'_, R>) {
+    pub fn went<R: Clock + Eprint>(&mut self, octets: &[u8], log: &Log<'_, R>) {
         if let Some(capture) = &mut self.capture {
             capture.went(octets, log.micros());
             self.tell(log);
@@ -52,7 +52,7 @@ impl Recording {
     }
 
     /// Octets have come from the controller.
-    pub(crate) fn came<R: Clock + Eprint>(&mut self, octets: &[u8], log: &Log<'_, R>) {
+    pub fn came<R: Clock + Eprint>(&mut self, octets: &[u8], log: &Log<'_, R>) {
         if let Some(capture) = &mut self.capture {
             capture.came(octets, log.micros());
             self.tell(log);
@@ -60,7 +60,7 @@ impl Recording {
     }
 
     /// The stream of another controller begins.
-    pub(crate) fn next_stream(&mut self) {
+    pub fn next_stream(&mut self) {
         if let Some(capture) = &mut self.capture {
             capture.next_stream();
             self.is_told = self.is_told && capture.fault().is_some();

@@ -17,7 +17,7 @@ const WRITE_TIME: u64 = 5_000;
 
 /// The way to a controller and back.
 #[derive(Drop)]
-pub(crate) enum Stream {
+pub enum Stream {
     /// A connection.
     Socket(TcpStream),
     /// A serial line.
@@ -26,7 +26,7 @@ pub(crate) enum Stream {
 
 impl Stream {
     /// A connection that was made: its reads and writes come to an end, and it sends at once.
-    pub(crate) fn of_socket(socket: TcpStream) -> io::Result<Stream> {
+    pub fn of_socket(socket: TcpStream) -> io::Result<Stream> {
         socket.set_nonblocking(false)?;
         socket.set_nodelay(true)?;
         socket.set_read_timeout(Some(Duration::from_millis(READ_TIME)))?;
@@ -35,12 +35,12 @@ impl Stream {
     }
 
     /// Whether a read that does not fill its buffer has taken all that was there.
-    pub(crate) fn is_emptied(&self) -> bool {
+    pub fn is_emptied(&self) -> bool {
         matches!(self, Stream::Socket(_))
     }
 
     /// Reads once. None where nothing is there as yet; no octets at the end.
-    pub(crate) fn read(&mut self, buffer: &mut [u8]) -> io::Result<Option<usize>> {
+    pub fn read(&mut self, buffer: &mut [u8]) -> io::Result<Option<usize>> {
         let read = match self {
             Stream::Socket(socket) => socket.read(buffer),
             Stream::Serial(line) => line.read(buffer),
@@ -55,11 +55,7 @@ impl Stream {
     }
 
     /// Writes all of these octets, or fails where they are taken too slowly.
-    pub(crate) fn write<R: Clock + Eprint>(
-        &mut self,
-        octets: &[u8],
-        log: &Log<'_, R>,
-    ) -> io::Result<()> {
+    pub fn write<R: Clock + Eprint>(&mut self, octets: &[u8], log: &Log<'_, R>) -> io::Result<()> {
         let mut rest = octets;
         let begun = log.now();
         for _write in 0..u64::MAX {

@@ -10,7 +10,7 @@ use std::time::Duration;
 
 /// What may be ready.
 #[derive(Clone, Copy, Debug, PartialEq, Eq)]
-pub(crate) enum Source {
+pub enum Source {
     /// The stream of the controller.
     Controller,
     /// Where controllers connect.
@@ -34,25 +34,29 @@ impl Source {
 
 /// What is ready.
 #[derive(Clone, Copy)]
-pub(crate) struct Ready {
-    pub(crate) controller: bool,
+pub struct Ready {
+    /// Whether the controller may be read.
+    pub controller: bool,
     /// Whether the controller sends no more, once what is there is read.
-    pub(crate) is_ending: bool,
-    pub(crate) controllers: bool,
-    pub(crate) application: bool,
-    pub(crate) applications: bool,
+    pub is_ending: bool,
+    /// Whether a controller connects.
+    pub controllers: bool,
+    /// Whether the application may be read, or takes more.
+    pub application: bool,
+    /// Whether an application connects.
+    pub applications: bool,
 }
 
 /// Waits for sockets.
 #[derive(Drop)]
-pub(crate) struct Waiting {
+pub struct Waiting {
     poll: Poll,
     events: Events,
 }
 
 impl Waiting {
     /// Waits for nothing yet.
-    pub(crate) fn new(alloc: Global, net: &impl Net) -> io::Result<Waiting> {
+    pub fn new(alloc: Global, net: &impl Net) -> io::Result<Waiting> {
         Ok(Waiting {
             poll: Poll::new(net)?,
             events: Events::with_capacity(alloc, 8)?,
@@ -60,7 +64,7 @@ impl Waiting {
     }
 
     /// Watches a socket from now on.
-    pub(crate) fn watch(&self, socket: &impl AsRawFd, source: Source) -> io::Result<()> {
+    pub fn watch(&self, socket: &impl AsRawFd, source: Source) -> io::Result<()> {
         let fd: RawFd = socket.as_raw_fd();
         self.poll
             .registry()
@@ -68,7 +72,7 @@ impl Waiting {
     }
 
     /// Has a socket that is still ready told again.
-    pub(crate) fn again(&self, socket: &impl AsRawFd, source: Source) -> io::Result<()> {
+    pub fn again(&self, socket: &impl AsRawFd, source: Source) -> io::Result<()> {
         let fd: RawFd = socket.as_raw_fd();
         self.poll
             .registry()
@@ -76,7 +80,7 @@ impl Waiting {
     }
 
     /// Waits until something is ready, or the time is up, if there is one.
-    pub(crate) fn wait(&mut self, timeout: Option<Duration>) -> io::Result<Ready> {
+    pub fn wait(&mut self, timeout: Option<Duration>) -> io::Result<Ready> {
         self.poll.poll(&mut self.events, timeout)?;
         let mut ready = Ready {
             controller: false,

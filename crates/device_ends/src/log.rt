@@ -6,15 +6,16 @@ use std::time::{Clock, Instant, SystemTime, UNIX_EPOCH};
 
 /// The clock of the program, and its log.
 #[derive(Drop)]
-pub(crate) struct Log<'a, R> {
-    pub(crate) rt: &'a R,
+pub struct Log<'a, R> {
+    /// The runtime, by which all else of the program is done.
+    pub rt: &'a R,
     alloc: Global,
     begun: Instant,
 }
 
 impl<'a, R: Clock + Eprint> Log<'a, R> {
     /// The time begins now.
-    pub(crate) fn new(rt: &'a R, alloc: Global) -> io::Result<Log<'a, R>> {
+    pub fn new(rt: &'a R, alloc: Global) -> io::Result<Log<'a, R>> {
         Ok(Log {
             rt,
             alloc,
@@ -23,7 +24,7 @@ impl<'a, R: Clock + Eprint> Log<'a, R> {
     }
 
     /// The time since the start, in milliseconds.
-    pub(crate) fn now(&self) -> u64 {
+    pub fn now(&self) -> u64 {
         match self.begun.elapsed(self.rt) {
             Ok(since) => since.as_millis().min(0xFFFF_FFFF_FFFF_FFFF) as u64,
             Err(_) => 0,
@@ -31,7 +32,7 @@ impl<'a, R: Clock + Eprint> Log<'a, R> {
     }
 
     /// The time since the start of 1970, in microseconds.
-    pub(crate) fn micros(&self) -> u64 {
+    pub fn micros(&self) -> u64 {
         let Ok(now) = SystemTime::now(self.rt) else {
             return 0;
         };
@@ -42,7 +43,7 @@ impl<'a, R: Clock + Eprint> Log<'a, R> {
     }
 
     /// Writes a line. Where that cannot be done, nobody can be told.
-    pub(crate) fn say(&self, words: &str) {
+    pub fn say(&self, words: &str) {
         let now = self.now();
         let (seconds, rest) = (now / 1_000, now % 1_000);
         if let Ok(line) = format!(in self.alloc; "{seconds}.{rest:03} {words}") {
@@ -51,7 +52,7 @@ impl<'a, R: Clock + Eprint> Log<'a, R> {
     }
 
     /// Writes a line of two parts.
-    pub(crate) fn say_of(&self, words: &str, what: &str) {
+    pub fn say_of(&self, words: &str, what: &str) {
         if let Ok(line) = format!(in self.alloc; "{words} {what}") {
             self.say(line.as_str());
         }

@@ -11,11 +11,11 @@ use std::time::Duration;
 const CONNECT_TIME: u64 = 250;
 
 /// How long it takes until a controller that is not there is tried again, in milliseconds.
-pub(crate) const RETRY_TIME: u64 = 500;
+pub const RETRY_TIME: u64 = 500;
 
 /// How a controller is reached.
 #[derive(Drop)]
-pub(crate) enum Way<'a> {
+pub enum Way<'a> {
     /// It connects.
     Listen(TcpListener),
     /// It listens at an address.
@@ -26,7 +26,7 @@ pub(crate) enum Way<'a> {
 
 impl Way<'_> {
     /// The stream of the next controller, if one is there.
-    pub(crate) fn reach<R: Files<File = File> + Net<Listener = TcpListener, Stream = TcpStream>>(
+    pub fn reach<R: Files<File = File> + Net<Listener = TcpListener, Stream = TcpStream>>(
         &self,
         rt: &R,
     ) -> io::Result<Option<Stream>> {
@@ -52,7 +52,7 @@ impl Way<'_> {
     }
 
     /// Whether it has to be tried again and again.
-    pub(crate) fn is_tried(&self) -> bool {
+    pub fn is_tried(&self) -> bool {
         !matches!(self, Way::Listen(_))
     }
 }
