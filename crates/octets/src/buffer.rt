@@ -3,13 +3,15 @@
 ghost use Rattle.std.specs.Prelude.{◌≡◌, ◌+◌, ◌≤◌, ◌++◌, length};
 ghost use Rattle.arrayvec.specs.ArrayVec.{array_vec_len};
 
+use crate::pdu::MAX_PDU;
 use arrayvec::ArrayVec;
 
 /// What makes a buffer longer.
-const ZEROS: [u8; 517] = [0; 517];
+const ZEROS: [u8; MAX_PDU] = [0; MAX_PDU];
 
-/// Puts octets of three places, one behind the other, in place of what a buffer of at most 517 octets
-/// holds. It is not cleared first, so that octets of the same length as before are written once.
+/// Puts octets of three places, one behind the other, in place of what a buffer of at most a PDU's
+/// octets holds. It is not cleared first, so that octets of the same length as before are written
+/// once.
 #[inline(always)]
 pub fn overwrite<const N: usize>(
     buffer: &mut ArrayVec<u8, N>,
@@ -17,7 +19,7 @@ pub fn overwrite<const N: usize>(
     second: &[u8],
     third: &[u8],
 )
-    requires largest { N ≤ 517 }
+    requires largest { N ≤ MAX_PDU }
     requires fits { length first.now + length second.now + length third.now ≤ N }
     ensures { buffer.new.items ≡ first.now ++ second.now ++ third.now }
 {
@@ -28,7 +30,7 @@ pub fn overwrite<const N: usize>(
 /// Gives a buffer a length, by as few octets as it takes.
 #[inline(always)]
 fn set_length<const N: usize>(buffer: &mut ArrayVec<u8, N>, length: usize)
-    requires largest { N ≤ 517 }
+    requires largest { N ≤ MAX_PDU }
     requires fits { length ≤ N }
     ensures { array_vec_len buffer.new ≡ length }
 {
