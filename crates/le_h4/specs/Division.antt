@@ -2,6 +2,7 @@
 use Rattle.std.specs.Prelude.{ℕ, suc, zero, nat_lt, Bool, false, if◌then◌else◌, List, [], ◌∷◌, ◌++◌, length, nat_le, drop, Option, Some, None}
 use Rattle.octets.specs.Number.{Octets}
 use Rattle.le_h4.specs.Packet.{Packet, AclPacket, EventPacket, ScoPacket, First, FirstPacket, NoneYet, NoPacket, first_of}
+use Rattle.le_h4.specs.declared.progress.TheConstants.{MAX_ACL_DATA}
 
 -- how a division ends: with less than a whole packet, or where an indicator stands that no packet has
 pub data End : Type 0 where
@@ -21,7 +22,7 @@ lost indicator = record { packets = []; end = Lost indicator }
 
 -- an ACL packet with more data than the largest that is kept is as if it were not there (this profile's own)
 abbrev pub is_long : Packet → Bool
-is_long (AclPacket handle pb bc octets) = nat_lt 1024 (length octets)
+is_long (AclPacket handle pb bc octets) = nat_lt MAX_ACL_DATA (length octets)
 is_long (EventPacket octets) = false
 is_long ScoPacket = false
 

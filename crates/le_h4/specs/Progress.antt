@@ -5,6 +5,7 @@ use Rattle.le_h4.specs.declared.progress.Progress.TheVariants.{Lacks, Whole, Lon
 use Rattle.le_h4.specs.Packet.{Packet, EventPacket, ScoPacket, First, FirstPacket, NoneYet, NoPacket, first_of, acl_packet}
 use Rattle.octets.specs.Number.{Octets, from_two}
 use Rattle.le_h4.specs.declared.indicator.TheConstants.{ACL, SCO, EVENT}
+use Rattle.le_h4.specs.declared.progress.TheConstants.{MAX_ACL_DATA, MAX_PACKET_IN}
 
 -- the progress of data of a size, of which so many octets are there
 abbrev pub short_progress : ℕ → ℕ → Progress
@@ -12,7 +13,7 @@ short_progress size count = if nat_le size count then Whole else Lacks (size - c
 
 abbrev pub data_progress : ℕ → ℕ → Progress
 data_progress size count =
-    if nat_le size count then Whole else if nat_le size 1024 then Lacks (size - count) else Long (size - count)
+    if nat_le size count then Whole else if nat_le size MAX_ACL_DATA then Lacks (size - count) else Long (size - count)
 
 abbrev pub acl_progress : Octets → Progress
 acl_progress (low ∷ high ∷ size_low ∷ size_high ∷ octets) = data_progress (from_two size_low size_high) (length octets)
@@ -60,7 +61,7 @@ pub record BeginsWith (octets : Octets) (size : ℕ) : Type 0 where
   pub packet : Packet
   pub first : first_of (take size octets) ≡ FirstPacket packet []
   pub within : size ≤ length octets
-  pub kept : size ≤ 1029
+  pub kept : size ≤ MAX_PACKET_IN
 
 -- what is lacking is at most so much
 abbrev pub LacksAtMost : ℕ → Progress → Type 0

@@ -8,6 +8,7 @@ ghost use Rattle.le_h4.specs.Progress.{Fits, packet_in};
 ghost use Rattle.le_h4.specs.Gathering.{Gathers};
 ghost use Rattle.le_h4.specs.Held.{unless_marked};
 ghost use Rattle.le_h4.specs.Whole.{lying_in, is_at_border};
+ghost use Rattle.le_h4.specs.declared.progress.TheConstants.{MAX_PACKET_IN};
 
 use crate::gathered::Gathered;
 use crate::packet::{PacketRef, WholePacket, first_packet, read_packet};
@@ -226,7 +227,7 @@ fn skip<'a>(skipping: &mut usize, octets: &'a [u8]) -> &'a [u8]
 
 /// Gathers octets, as many as there are of those that are missing, and answers what follows.
 fn fill<'a>(gathered: &mut Gathered, missing: usize, octets: &'a [u8]) -> &'a [u8]
-    requires { length gathered.old + missing ≤ 1029 }
+    requires { length gathered.old + missing ≤ MAX_PACKET_IN }
     ensures gathered { gathered.new ≡ gathered.old ++ take missing octets.now }
     ensures rest { result.now ≡ drop missing octets.now }
 {

@@ -1,12 +1,12 @@
 ghost use Rattle.std.specs.Prelude.{◌≡◌, ◌+◌, ◌≤◌, [], ◌++◌, length, ◌==◌};
 
-use crate::progress::LARGEST;
+use crate::progress::MAX_PACKET_IN;
 use std::marker::Model;
 
 /// The octets so far of one packet, in a buffer of their own. What was there before is not cleared.
 #[derive(Drop)]
 pub(crate) struct Gathered {
-    octets: [u8; LARGEST],
+    octets: [u8; MAX_PACKET_IN],
     len: usize,
 }
 
@@ -16,10 +16,11 @@ impl Model for Gathered {
     ghost Value = { Octets };
 
     ghost use Rattle.std.specs.Prelude.{◌≤◌, take};
+    ghost use Rattle.le_h4.specs.declared.progress.TheConstants.{MAX_PACKET_IN};
 
     ghost view = { λ g. take g.len g.octets };
 
-    ghost invariant = { λ g. g.len ≤ 1029 };
+    ghost invariant = { λ g. g.len ≤ MAX_PACKET_IN };
 }
 
 impl Gathered {
@@ -28,7 +29,7 @@ impl Gathered {
         ensures { result ≡ [] }
     {
         Gathered {
-            octets: [0; LARGEST],
+            octets: [0; MAX_PACKET_IN],
             len: 0,
         }
     }
@@ -37,7 +38,7 @@ impl Gathered {
     #[inline(always)]
     pub(crate) fn as_slice(&self) -> &[u8]
         ensures value { result.now ≡ self.now }
-        ensures fits { length result.now ≤ 1029 }
+        ensures fits { length result.now ≤ MAX_PACKET_IN }
     {
         &self.octets[..self.len]
     }
@@ -61,7 +62,7 @@ impl Gathered {
     /// Appends octets.
     #[inline(always)]
     pub(crate) fn append(&mut self, octets: &[u8])
-        requires { length self.old + length octets.now ≤ 1029 }
+        requires { length self.old + length octets.now ≤ MAX_PACKET_IN }
         ensures { self.new ≡ self.old ++ octets.now }
     {
         let end = self.len + octets.len();

@@ -3,18 +3,22 @@ ghost use Rattle.octets.specs.Number.{two_octets};
 
 use crate::indicator;
 use crate::write::acl_header;
+use arrayvec::ArrayVec;
 use octets::write_parts;
 use std::marker::Model;
 
 /// The most octets of a packet to the controller: the header of ACL data, and 255 of them; or a
 /// command with its indicator.
-const LARGEST: usize = 260;
+pub const MAX_PACKET_OUT: usize = 260;
+
+/// The octets of a packet to the controller.
+pub type PacketOctets = ArrayVec<u8, MAX_PACKET_OUT>;
 
 /// A packet to the controller, and room for the next. What stood there before is not cleared, so that
 /// each octet is written once.
 #[derive(Drop)]
 pub struct PacketBuf {
-    octets: [u8; LARGEST],
+    octets: [u8; MAX_PACKET_OUT],
     len: usize,
 }
 
@@ -24,10 +28,11 @@ impl Model for PacketBuf {
     ghost Value = { Octets };
 
     ghost use Rattle.std.specs.Prelude.{◌≤◌, take};
+    ghost use Rattle.le_h4.specs.declared.packet_buf.TheConstants.{MAX_PACKET_OUT};
 
     ghost view = { λ p. take p.len p.octets };
 
-    ghost invariant = { λ p. p.len ≤ 260 };
+    ghost invariant = { λ p. p.len ≤ MAX_PACKET_OUT };
 }
 
 impl PacketBuf {
@@ -36,7 +41,7 @@ impl PacketBuf {
         ensures { result ≡ [] }
     {
         PacketBuf {
-            octets: [0; LARGEST],
+            octets: [0; MAX_PACKET_OUT],
             len: 0,
         }
     }
@@ -45,7 +50,7 @@ impl PacketBuf {
     #[inline(always)]
     pub fn as_slice(&self) -> &[u8]
         ensures value { result.now ≡ self.now }
-        ensures fits { length result.now ≤ 260 }
+        ensures fits { length result.now ≤ MAX_PACKET_OUT }
     {
         &self.octets[..self.len]
     }
@@ -79,7 +84,7 @@ impl PacketBuf {
     /// Puts octets of three places, one behind the other, in place of those before.
     #[inline(always)]
     fn write(&mut self, first: &[u8], second: &[u8], third: &[u8])
-        requires { length first.now + length second.now + length third.now ≤ 260 }
+        requires { length first.now + length second.now + length third.now ≤ MAX_PACKET_OUT }
         ensures { self.new ≡ first.now ++ second.now ++ third.now }
     {
         let len = first.len() + second.len() + third.len();

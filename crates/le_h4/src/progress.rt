@@ -2,12 +2,13 @@ ghost use Rattle.std.specs.Prelude.{◌≡◌, ◌-◌, ◌≤◌, length, IfSom
 ghost use Rattle.le_h4.specs.Progress.{progress_of, data_progress, short_progress, LacksAtMost, stated_size, BeginsWith};
 
 use crate::indicator;
+use crate::write::HEADER;
 
 /// The most octets of data of an ACL packet that is kept.
-pub(crate) const MAX_ACL_DATA: usize = 1_024;
+pub const MAX_ACL_DATA: usize = 1_024;
 
 /// The most octets of a packet that is kept: those of an ACL packet.
-pub(crate) const LARGEST: usize = 5 + MAX_ACL_DATA;
+pub const MAX_PACKET_IN: usize = HEADER + MAX_ACL_DATA;
 
 /// How far the octets of a packet have come.
 #[derive(Clone, Copy, PartialEq, Eq)]
@@ -24,9 +25,9 @@ pub(crate) enum Progress {
 
 /// How far a packet has come of which these octets are there, from its indicator on.
 pub(crate) fn progress_at(octets: &[u8]) -> Progress
-    requires { length octets.now ≤ 1029 }
+    requires { length octets.now ≤ MAX_PACKET_IN }
     ensures exact { result ≡ progress_of octets.now }
-    ensures fits { LacksAtMost (1029 - length octets.now) result }
+    ensures fits { LacksAtMost (MAX_PACKET_IN - length octets.now) result }
 {
     let [indicator, rest @ ..] = octets else {
         return Progress::Lacks(1);
@@ -57,7 +58,7 @@ pub(crate) fn whole_packet(octets: &[u8]) -> Option<usize>
     ensures { IfSome result (λ size. BeginsWith octets.now size) }
 {
     let size = stated_size(octets)?;
-    if size < octets.len() && size < LARGEST {
+    if size < octets.len() && size < MAX_PACKET_IN {
         Some(size + 1)
     } else {
         None

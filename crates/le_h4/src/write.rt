@@ -1,17 +1,18 @@
 ghost use Rattle.std.specs.Prelude.{◌≡◌, ◌+◌, ◌*◌, ◌^◌, ◌<◌, ◌≤◌, [], ◌∷◌, ◌++◌, length, take};
 ghost use Rattle.octets.specs.Number.{two_octets};
+ghost use Rattle.le_h4.specs.declared.packet_buf.TheConstants.{MAX_PACKET_OUT};
 
 use crate::indicator;
-use arrayvec::ArrayVec;
+use crate::packet_buf::PacketOctets;
 use octets::{overwrite, write_parts};
 
 /// The octets in front of ACL data.
-const HEADER: usize = 5;
+pub(crate) const HEADER: usize = 5;
 
 /// Writes an ACL packet in place of what `out` holds: a connection handle of 12 bits, the packet
 /// boundary flag, and at most 255 octets of data. Its broadcast flag is 0. (Core 5.0, Vol 2 Part E,
 /// 5.4.2)
-pub fn write_acl(handle: u16, pb: u8, octets: &[u8], out: &mut ArrayVec<u8, 260>)
+pub fn write_acl(handle: u16, pb: u8, octets: &[u8], out: &mut PacketOctets)
     requires handle { handle < 2 ^ 12 }
     requires pb { pb ≤ 3 }
     requires octets { length octets.now ≤ 255 }
@@ -30,7 +31,7 @@ pub fn acl_into(handle: u16, pb: u8, header: &[u8], octets: &[u8], out: &mut [u8
     requires handle { handle < 2 ^ 12 }
     requires pb { pb ≤ 3 }
     requires octets { length header.now + length octets.now ≤ 255 }
-    requires room { 260 ≤ length out.old }
+    requires room { MAX_PACKET_OUT ≤ length out.old }
     ensures written { take result out.new
         ≡ 0x02 ∷ two_octets (handle + 2 ^ 12 * pb) ++ two_octets
         (length (header.now ++ octets.now))
@@ -51,7 +52,7 @@ pub fn acl_into(handle: u16, pb: u8, header: &[u8], octets: &[u8], out: &mut [u8
 /// What stands in front of so many octets of ACL data: the indicator, the connection handle with the
 /// packet boundary flag, and their length.
 #[inline(always)]
-pub(crate) fn acl_header(handle: u16, pb: u8, length: u16) -> [u8; 5]
+pub(crate) fn acl_header(handle: u16, pb: u8, length: u16) -> [u8; HEADER]
     requires handle { handle < 2 ^ 12 }
     requires pb { pb ≤ 3 }
     ensures { result ≡ 0x02 ∷ two_octets (handle + 2 ^ 12 * pb) ++ two_octets length }
@@ -63,7 +64,7 @@ pub(crate) fn acl_header(handle: u16, pb: u8, length: u16) -> [u8; 5]
 
 /// Writes a command in place of what `out` holds: its indicator, and its at most 259 octets from the
 /// opcode on. (Core 5.0, Vol 2 Part E, 5.4.1)
-pub fn write_command(octets: &[u8], out: &mut ArrayVec<u8, 260>)
+pub fn write_command(octets: &[u8], out: &mut PacketOctets)
     requires { length octets.now ≤ 259 }
     ensures { out.new.items ≡ 0x01 ∷ octets.now }
 {
