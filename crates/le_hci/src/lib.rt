@@ -5,6 +5,7 @@
 mod buffers;
 mod command;
 mod command_packet;
+mod connection;
 mod event;
 pub mod event_code;
 mod event_form;
@@ -12,10 +13,12 @@ mod init;
 mod init_words;
 pub mod opcode;
 mod peer;
+pub mod reason;
 
 pub use buffers::Buffers;
 pub use command::{Command, EVENT_MASK, LE_EVENT_MASK};
 pub use command_packet::write_command;
+pub use connection::{LAST_CONNECTION_HANDLE, PERIPHERAL};
 pub use event::{BadEvent, CompletedPackets, Event, read_event};
 pub use init::{Init, InitFault, Settings};
 pub use peer::{PUBLIC_ADDRESS, Peer, RANDOM_ADDRESS};
