@@ -5,6 +5,7 @@ use Rattle.octets.specs.Number.{Octets, from_two}
 use Rattle.le_h4.specs.declared.indicator.TheConstants.{COMMAND, ACL, SCO, EVENT}
 use Rattle.btsnoop.specs.declared.packet.Progress.{Progress}
 use Rattle.btsnoop.specs.declared.packet.Progress.TheVariants.{Lacks, Whole, Lost}
+use Rattle.le_h4.specs.declared.progress.TheConstants.{MAX_PACKET_IN}
 
 -- how many octets a packet has, its indicator among them, by the octets behind that: as many as its header, until that is there
 abbrev pub needed_behind_two : Octets → ℕ
@@ -29,21 +30,21 @@ needed_of (indicator ∷ octets) =
     else if indicator == EVENT then Some (event_needed octets)
     else None
 
--- these octets are one packet of at most 1,029 octets, all of it
+-- these octets are one packet of at most as many octets as are kept of one, all of it
 abbrev pub IsPacket : Octets → Type 0
-IsPacket octets = (needed_of octets ≡ Some (length octets)) × (length octets ≤ 1029)
+IsPacket octets = (needed_of octets ≡ Some (length octets)) × (length octets ≤ MAX_PACKET_IN)
 
--- these octets begin a packet of at most 1,029 octets, which lacks some
+-- these octets begin a packet of at most as many octets, which lacks some
 pub record IsUnfinished (octets : Octets) : Type 0 where
   pub needed : ℕ
   pub is : needed_of octets ≡ Some needed
   pub lacks : length octets < needed
-  pub few : needed ≤ 1029
+  pub few : needed ≤ MAX_PACKET_IN
 
--- no packet of at most 1,029 octets begins so: none has this indicator, or the header tells of more
+-- no packet of at most as many octets begins so: none has this indicator, or the header tells of more
 abbrev pub none_needed : Option ℕ → Type 0
 none_needed None = ⊤
-none_needed (Some needed) = 1029 < needed
+none_needed (Some needed) = MAX_PACKET_IN < needed
 
 abbrev pub IsLost : Octets → Type 0
 IsLost octets = none_needed (needed_of octets)
@@ -63,6 +64,6 @@ IsBegun octets = within_needed (length octets) (needed_of octets)
 -- how far they have come
 abbrev pub Progresses : Octets → Progress → Type 0
 Progresses octets (Lacks missing) =
-    (needed_of octets ≡ Some (length octets + missing)) × (0 < missing) × (length octets + missing ≤ 1029)
+    (needed_of octets ≡ Some (length octets + missing)) × (0 < missing) × (length octets + missing ≤ MAX_PACKET_IN)
 Progresses octets Whole = IsPacket octets
 Progresses octets Lost = IsLost octets

@@ -3,14 +3,15 @@
 ghost use Rattle.std.specs.Prelude.{◌≡◌, ◌≤◌, ◌++◌, [], length, take, drop};
 ghost use Rattle.btsnoop.specs.Packet.{Progresses};
 
-use crate::packet::{LARGEST, Progress, progress_at};
+use crate::packet::{Progress, progress_at};
 use arrayvec::ArrayVec;
+use le_h4::MAX_PACKET_IN;
 use std::marker::Model;
 
 /// The octets so far of one packet, and none behind it.
 #[derive(Drop)]
 pub(crate) struct Begun {
-    octets: ArrayVec<u8, LARGEST>,
+    octets: ArrayVec<u8, MAX_PACKET_IN>,
 }
 
 impl Model for Begun {
@@ -38,7 +39,7 @@ impl Begun {
     /// The octets.
     pub(crate) fn as_slice(&self) -> &[u8]
         ensures octets { result.now ≡ self.now }
-        ensures few { length result.now ≤ 1029 }
+        ensures few { length result.now ≤ MAX_PACKET_IN }
     {
         self.octets.as_slice()
     }

@@ -8,5 +8,4 @@ mod packet;
 mod record;
 
 pub use capture::{Capture, CaptureFault};
-pub use packet::LARGEST;
 pub use record::Direction;

@@ -3,11 +3,7 @@
 ghost use Rattle.std.specs.Prelude.{◌≡◌};
 ghost use Rattle.btsnoop.specs.Packet.{needed_behind_two, needed_of, IsBegun, Progresses};
 
-use le_h4::indicator;
-
-/// The most octets of a packet that is captured, its indicator among them: an ACL packet with 1,024
-/// octets of data.
-pub const LARGEST: usize = 1_029;
+use le_h4::{MAX_PACKET_IN, indicator};
 
 /// How far the octets of a packet have come.
 #[derive(Clone, Copy, PartialEq, Eq)]
@@ -28,7 +24,7 @@ pub(crate) fn progress_at(octets: &[u8]) -> Progress
     let Some(needed) = needed(octets) else {
         return Progress::Lost;
     };
-    if needed > LARGEST {
+    if needed > MAX_PACKET_IN {
         Progress::Lost
     } else if needed > octets.len() {
         Progress::Lacks(needed - octets.len())

@@ -5,9 +5,8 @@ ghost use Rattle.std.specs.Io.KnownBytes.{Appends};
 ghost use Rattle.btsnoop.specs.Record.{file_header, flags_of, header_of, record_of};
 ghost use Rattle.octets.specs.Stream.{CountsFailure, WritesFront};
 
-use crate::packet::LARGEST;
 use arrayvec::ArrayVec;
-use le_h4::indicator;
+use le_h4::{MAX_PACKET_IN, indicator};
 use octets::{Failed, Sink, write_all};
 
 /// Identification, version 1, and the data link of H4 packets: 1002.
@@ -21,7 +20,7 @@ const EPOCH: u64 = 719_540 * 86_400 * 1_000_000;
 const HEADER: usize = 24;
 
 /// The most octets of a record.
-const RECORD: usize = HEADER + LARGEST;
+const RECORD: usize = HEADER + MAX_PACKET_IN;
 
 /// Which way a packet goes.
 #[derive(Clone, Copy, Debug, PartialEq, Eq)]
@@ -51,7 +50,7 @@ pub(crate) fn write_record<C: Sink>(
     packet: &[u8],
     sink: &mut C,
 ) -> Result<(), Failed>
-    requires { length packet.now ≤ 1029 }
+    requires { length packet.now ≤ MAX_PACKET_IN }
     ensures ok { OnOk result
         (Appends (C.contents sink.old) (C.contents sink.new)
         (record_of direction time packet.now)) }
@@ -70,7 +69,7 @@ pub(crate) fn write_record<C: Sink>(
 /// What stands before a packet in its record.
 #[tactic(auto, unfolding(crate::specs::Record::header_of))]
 fn header(direction: Direction, time: u64, packet: &[u8]) -> ArrayVec<u8, HEADER>
-    requires { length packet.now ≤ 1029 }
+    requires { length packet.now ≤ MAX_PACKET_IN }
     ensures { result.items ≡ header_of direction time packet.now }
 {
     let length = (packet.len() as u32).to_be_bytes();
