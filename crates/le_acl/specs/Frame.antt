@@ -4,6 +4,8 @@ use Rattle.std.specs.Option.{option_map}
 use Rattle.octets.specs.Number.{Octets, from_two}
 use Rattle.le_acl.specs.Fragment.{Fragment, Beginning, Continuation}
 use Rattle.le_acl.specs.Packets.{Pdu, frame_of, fragments_of}
+use Rattle.le_acl.specs.declared.frame.TheConstants.{MAX_FRAME}
+use Rattle.octets.specs.declared.pdu.TheConstants.{MAX_PDU}
 
 -- the octets are at least as many as a header and the payload length that it states
 abbrev pub is_enough : Octets → Bool
@@ -13,7 +15,7 @@ is_enough _ = false
 -- they are exactly as many, and no more than the largest frame has (this profile's own)
 abbrev pub is_frame : Octets → Bool
 is_frame (low ∷ high ∷ channel_low ∷ channel_high ∷ payload) =
-    (length payload == from_two low high) && nat_le (length (low ∷ high ∷ channel_low ∷ channel_high ∷ payload)) 521
+    (length payload == from_two low high) && nat_le (length (low ∷ high ∷ channel_low ∷ channel_high ∷ payload)) MAX_FRAME
 is_frame _ = false
 
 -- fragments stand with the newest first. The newest run has those from the newest beginning on
@@ -46,5 +48,5 @@ frame_at fragments = of_run (newest_run fragments)
 
 -- the fragments of a PDU that is no longer than the largest make its frame, whatever came before them
 abbrev pub FragmentsMakeTheirFrame : Type 0
-FragmentsMakeTheirFrame = (size : ℕ) (pdu : Pdu) (older : List Fragment) → 0 < size → length pdu.1 ≤ 517
+FragmentsMakeTheirFrame = (size : ℕ) (pdu : Pdu) (older : List Fragment) → 0 < size → length pdu.1 ≤ MAX_PDU
     → frame_at (reverse (fragments_of size pdu) ++ older) ≡ Some (frame_of pdu)

@@ -4,6 +4,7 @@ use Rattle.std.specs.List.{zip}
 use Rattle.arrayvec.specs.ArrayVec.{ArrayVec}
 use Rattle.octets.specs.Number.{Octets}
 use Rattle.le_acl.specs.Packets.{Pdu}
+use Rattle.le_acl.specs.declared.pdus.TheConstants.{MAX_PDUS}
 
 -- the PDUs by channel and payload, and what stands in the room for the next
 pub record Queued : Type 0 where
@@ -25,11 +26,11 @@ window first count slots = take count (drop first slots ++ take first slots)
 abbrev pub queued_of : ℕ → ℕ → List ℕ → List (ArrayVec ℕ) → Queued
 queued_of first count channels payloads = record {
   pdus = zip (window first count channels) (map octets_of (window first count payloads));
-  room = (get_or payloads ((first + count) % 16) empty).items;
+  room = (get_or payloads ((first + count) % MAX_PDUS) empty).items;
 }
 
 pub record IsRing (first count : ℕ) (channels : List ℕ) (payloads : List (ArrayVec ℕ)) : Type 0 where
-  pub first_below : first < 16
-  pub count_within : count ≤ 16
-  pub channels_length : length channels ≡ 16
-  pub payloads_length : length payloads ≡ 16
+  pub first_below : first < MAX_PDUS
+  pub count_within : count ≤ MAX_PDUS
+  pub channels_length : length channels ≡ MAX_PDUS
+  pub payloads_length : length payloads ≡ MAX_PDUS

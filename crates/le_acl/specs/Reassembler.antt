@@ -5,6 +5,7 @@ use Rattle.le_acl.specs.declared.reassembler.State.{State}
 use Rattle.le_acl.specs.declared.reassembler.State.TheVariants.{Idle, Unfinished, Whole}
 use Rattle.le_acl.specs.Fragment.{Fragment, Beginning, Continuation}
 use Rattle.le_acl.specs.Frame.{is_enough, is_frame, frame_at}
+use Rattle.le_acl.specs.declared.frame.TheConstants.{MAX_FRAME}
 
 -- the octets so far of a frame that may still become whole, and the frame that the newest fragment made whole
 pub record Assembly : Type 0 where
@@ -19,7 +20,7 @@ abbrev pub assembled_of : Octets → Assembly
 assembled_of octets =
     if is_enough octets
     then record { unfinished = None; frame = if is_frame octets then Some octets else None }
-    else record { unfinished = if nat_le (length octets) 521 then Some octets else None; frame = None }
+    else record { unfinished = if nat_le (length octets) MAX_FRAME then Some octets else None; frame = None }
 
 -- after more octets of the run
 abbrev pub with_more : Option Octets → Octets → Assembly

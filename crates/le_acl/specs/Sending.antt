@@ -5,6 +5,7 @@ use Rattle.le_acl.specs.Pdus.{Queued}
 use Rattle.le_acl.specs.Fragment.{Fragment, Beginning, Continuation}
 use Rattle.le_acl.specs.Packets.{Pdu, pieces, frame_of, fragments_of}
 use Rattle.le_acl.specs.Outgoing.{Outgoing, none_queued}
+use Rattle.le_acl.specs.declared.pdus.TheConstants.{MAX_PDUS}
 
 -- what stands in the room that is lent is no part of what goes out
 pub record Sending : Type 0 where
@@ -47,4 +48,4 @@ pub record IsSending (queued : Queued) (gone size : ℕ) (lent : Bool) : Type 0 
   pub size_least : 27 ≤ size
   pub size_most : size ≤ 251
   pub within : IsWithin size gone queued.pdus
-  pub has_room : lent ≡ true → length queued.pdus < 16
+  pub has_room : lent ≡ true → length queued.pdus < MAX_PDUS

@@ -2,10 +2,13 @@
 //! the buffers of the controller. (Core 5.0, Vol 3 Part A, 7.2, and Vol 2 Part E, 4.1)
 #![tactic(auto)]
 
+pub mod boundary;
+mod frame;
 mod pdus;
 mod reassembler;
 mod sender;
 
+pub use frame::MAX_FRAME;
 pub use pdus::MAX_PDUS;
 pub use reassembler::{Piece, Reassembler, is_frame};
 pub use sender::{Full, Sender};

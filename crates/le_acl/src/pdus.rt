@@ -1,8 +1,8 @@
 ghost use Rattle.std.specs.Prelude.{◌≡◌, ◌+◌, ◌<◌, ◌≤◌, ◌↔◌, [], ◌∷◌, ◌++◌, drop, length, vec_len, slice_get, IfOk, IfSome, Some, IsNone};
 ghost use Rattle.std.specs.Borrow.{sem};
+ghost use Rattle.octets.specs.declared.pdu.TheConstants.{MAX_PDU};
 
-use arrayvec::ArrayVec;
-use octets::overwrite;
+use octets::{PduOctets, overwrite};
 use std::alloc::{AllocError, Global};
 use std::marker::Model;
 
@@ -12,14 +12,14 @@ pub const MAX_PDUS: usize = 16;
 /// The payloads of PDUs, each at its place.
 #[derive(Drop)]
 struct Payloads {
-    items: Vec<ArrayVec<u8, 517>>,
+    items: Vec<PduOctets>,
 }
 
 impl Payloads {
     ghost use Rattle.le_acl.specs.PayloadLends.{LendsPayload};
 
     #[inline(always)]
-    fn at_mut(&mut self, index: usize) -> &mut ArrayVec<u8, 517>
+    fn at_mut(&mut self, index: usize) -> &mut PduOctets
         requires { index < vec_len self.old.items }
         ensures* writes_back { sem 𝓛 (LendsPayload self.entry index result) }
     {
@@ -31,7 +31,7 @@ impl Payloads {
 #[derive(Drop)]
 pub(crate) struct Pdus {
     payloads: Payloads,
-    channels: [u16; 16],
+    channels: [u16; MAX_PDUS],
     first: usize,
     count: usize,
 }
@@ -52,7 +52,7 @@ impl Model for Pdus {
 impl Pdus {
     ghost use Rattle.le_acl.specs.PdusLends.{LendsRoom};
 
-    /// No PDUs, with room for 16.
+    /// No PDUs, with room for as many as may be.
     pub(crate) fn new(alloc: Global) -> Result<Pdus, AllocError>
         ensures { IfOk result (λ pdus. pdus.pdus ≡ []) }
     {
@@ -60,7 +60,7 @@ impl Pdus {
             payloads: Payloads {
                 items: empty_payloads(alloc)?,
             },
-            channels: [0; 16],
+            channels: [0; MAX_PDUS],
             first: 0,
             count: 0,
         })
@@ -69,15 +69,15 @@ impl Pdus {
     /// How many PDUs there are.
     pub(crate) fn len(&self) -> usize
         ensures count { result ≡ length self.now.pdus }
-        ensures within { result ≤ 16 }
+        ensures within { result ≤ MAX_PDUS }
     {
         self.count
     }
 
     /// The payload of the next PDU.
     #[inline(always)]
-    pub(crate) fn room(&mut self) -> &mut ArrayVec<u8, 517>
-        requires { length self.old.pdus < 16 }
+    pub(crate) fn room(&mut self) -> &mut PduOctets
+        requires { length self.old.pdus < MAX_PDUS }
         ensures* writes_back { sem 𝓛 (LendsRoom self.entry result) }
     {
         self.payloads.at_mut((self.first + self.count) % MAX_PDUS)
@@ -86,7 +86,7 @@ impl Pdus {
     /// Queues what stands in the room.
     #[inline(always)]
     pub(crate) fn push(&mut self, channel: u16)
-        requires { length self.old.pdus < 16 }
+        requires { length self.old.pdus < MAX_PDUS }
         ensures { self.new.pdus ≡ self.old.pdus ++ (channel, self.old.room) ∷ [] }
     {
         self.channels[(self.first + self.count) % MAX_PDUS] = channel;
@@ -96,8 +96,8 @@ impl Pdus {
     /// Queues the octets of two places, one behind the other. What stood in the room is lost.
     #[inline(always)]
     pub(crate) fn queue(&mut self, channel: u16, front: &[u8], rest: &[u8])
-        requires room { length self.old.pdus < 16 }
-        requires fits { length front.now + length rest.now ≤ 517 }
+        requires room { length self.old.pdus < MAX_PDUS }
+        requires fits { length front.now + length rest.now ≤ MAX_PDU }
         ensures { self.new.pdus ≡ self.old.pdus ++ (channel, front.now ++ rest.now) ∷ [] }
     {
         let place = (self.first + self.count) % MAX_PDUS;
@@ -111,7 +111,7 @@ impl Pdus {
     pub(crate) fn front(&self) -> Option<(u16, &[u8])>
         ensures none { IsNone result ↔ (self.now.pdus ≡ []) }
         ensures front { IfSome result (λ pdu. slice_get self.now.pdus 0 ≡ Some (pdu.0, pdu.1.now)) }
-        ensures fits { IfSome result (λ pdu. length pdu.1.now ≤ 517) }
+        ensures fits { IfSome result (λ pdu. length pdu.1.now ≤ MAX_PDU) }
     {
         if self.count == 0 {
             return None;
@@ -141,11 +141,11 @@ impl Pdus {
     }
 }
 
-/// 16 payloads with nothing in them.
-fn empty_payloads(alloc: Global) -> Result<Vec<ArrayVec<u8, 517>>, AllocError>
-    ensures { IfOk result (λ payloads. vec_len payloads ≡ 16) }
+/// Payloads with nothing in them, for as many PDUs as may be.
+fn empty_payloads(alloc: Global) -> Result<Vec<PduOctets>, AllocError>
+    ensures { IfOk result (λ payloads. vec_len payloads ≡ MAX_PDUS) }
 {
     let mut payloads = Vec::new(alloc);
-    payloads.resize_with(MAX_PDUS, || ArrayVec::new())?;
+    payloads.resize_with(MAX_PDUS, || PduOctets::new())?;
     Ok(payloads)
 }

@@ -2,6 +2,7 @@ ghost use Rattle.std.specs.Prelude.{◌≡◌, ◌≤◌, ◌↔◌, ◌++◌, l
 ghost use Rattle.le_acl.specs.Frame.{FragmentsMakeTheirFrame, is_frame};
 ghost use Rattle.le_acl.specs.Reassembler.{GivesFrames, nothing, assembled_of, with_continuation, assembly_of};
 
+use crate::frame::MAX_FRAME;
 use std::cmp::Ordering;
 use std::marker::Model;
 
@@ -25,15 +26,12 @@ enum State {
     Whole,
 }
 
-/// The most octets of a frame, its header among them.
-const LARGEST: usize = 521;
-
 /// Puts the L2CAP frames of one connection together from ACL fragments: each has a header of 4
-/// octets, whose first 2 state the length of its payload, and at most 521 octets in all. (Core 5.0,
-/// Vol 3 Part A, 3.1)
+/// octets, whose first 2 state the length of its payload, and at most `MAX_FRAME` octets in all.
+/// (Core 5.0, Vol 3 Part A, 3.1)
 #[derive(Drop)]
 pub struct Reassembler {
-    octets: [u8; LARGEST],
+    octets: [u8; MAX_FRAME],
     /// How many of the octets are held.
     len: usize,
     state: State,
@@ -46,10 +44,11 @@ impl Model for Reassembler {
 
     ghost use Rattle.std.specs.Prelude.{◌≤◌, take};
     ghost use Rattle.le_acl.specs.Reassembler.{assembly_of};
+    ghost use Rattle.le_acl.specs.declared.frame.TheConstants.{MAX_FRAME};
 
     ghost view = { λ r. assembly_of r.state (take r.len r.octets) };
 
-    ghost invariant = { λ r. r.len ≤ 521 };
+    ghost invariant = { λ r. r.len ≤ MAX_FRAME };
 }
 
 impl Reassembler {
@@ -62,7 +61,7 @@ impl Reassembler {
         ensures fragments { FragmentsMakeTheirFrame }
     {
         Reassembler {
-            octets: [0; LARGEST],
+            octets: [0; MAX_FRAME],
             len: 0,
             state: State::Idle,
         }
@@ -115,23 +114,24 @@ impl Reassembler {
     }
 }
 
-/// Whether octets are a whole frame: a header, and as long a payload as it states, at most 521 in all.
+/// Whether octets are a whole frame: a header, and as long a payload as it states, at most
+/// `MAX_FRAME` in all.
 #[inline(always)]
 pub fn is_frame(octets: &[u8]) -> bool
     ensures { result ≡ is_frame octets.now }
 {
-    octets.len() <= LARGEST && state_of(octets) == State::Whole
+    octets.len() <= MAX_FRAME && state_of(octets) == State::Whole
 }
 
 /// Joins a fragment to the octets so far, which are less than a frame.
 #[inline(always)]
-fn join(octets: &mut [u8; LARGEST], len: &mut usize, fragment: &[u8]) -> State
-    requires { len.old ≤ 521 }
+fn join(octets: &mut [u8; MAX_FRAME], len: &mut usize, fragment: &[u8]) -> State
+    requires { len.old ≤ MAX_FRAME }
     ensures joined { assembly_of result (take len.new octets.new)
         ≡ assembled_of (take len.old octets.old ++ fragment.now) }
-    ensures within { len.new ≤ 521 }
+    ensures within { len.new ≤ MAX_FRAME }
 {
-    if fragment.len() > LARGEST - *len {
+    if fragment.len() > MAX_FRAME - *len {
         return State::Idle;
     }
     let end = *len + fragment.len();
@@ -140,10 +140,10 @@ fn join(octets: &mut [u8; LARGEST], len: &mut usize, fragment: &[u8]) -> State
     state_of(&octets[..end])
 }
 
-/// What octets of at most 521 are of a frame.
+/// What octets of at most a frame are of it.
 #[inline(always)]
 fn state_of(octets: &[u8]) -> State
-    requires { length octets.now ≤ 521 }
+    requires { length octets.now ≤ MAX_FRAME }
     ensures { assembly_of result octets.now ≡ assembled_of octets.now }
 {
     let [low, high, _, _, payload @ ..] = octets else {

@@ -8,11 +8,14 @@ ghost use Rattle.le_acl.specs.Acts.{AlwaysGivesAShare};
 ghost use Rattle.le_acl.specs.History.{FollowsHistory};
 ghost use Rattle.le_acl.specs.Sending.{idle, fragment_at};
 ghost use Rattle.octets.specs.Number.{Octets, two_octets};
+ghost use Rattle.le_h4.specs.declared.packet_buf.TheConstants.{MAX_PACKET_OUT};
+ghost use Rattle.octets.specs.declared.pdu.TheConstants.{MAX_PDU};
 
+use crate::boundary::{CONTINUATION, FIRST_NOT_FLUSHED};
+use crate::frame::HEADER;
 use crate::pdus::{MAX_PDUS, Pdus};
-use arrayvec::ArrayVec;
-use le_h4::{PacketBuf, acl_into};
-use octets::overwrite;
+use le_h4::{PacketBuf, PacketOctets, acl_into};
+use octets::{PduOctets, overwrite};
 use std::alloc::{AllocError, Global};
 use std::marker::Model;
 
@@ -20,15 +23,8 @@ use std::marker::Model;
 #[derive(Clone, Copy, PartialEq, Eq)]
 pub struct Full;
 
-/// The octets of a frame's header: Core 5.0, Vol 3 Part A, 3.1.
-const HEADER: usize = 4;
-/// The packet boundary flags of the fragments of a frame: Core 5.0, Vol 2 Part E, 5.4.2.
-const FIRST_FRAGMENT: u8 = 0b00;
-
-const CONTINUATION: u8 = 0b01;
-
-/// Queues the PDUs that go out on one connection, at most 16 of at most 517 octets, and gives them as
-/// ACL packets, of which only a share may be outstanding. (Core 5.0, Vol 2 Part E, 4.1.1)
+/// Queues the PDUs that go out on one connection, at most `MAX_PDUS`, and gives them as ACL
+/// packets, of which only a share may be outstanding. (Core 5.0, Vol 2 Part E, 4.1.1)
 #[derive(Drop)]
 pub struct Sender {
     pdus: Pdus,
@@ -81,9 +77,9 @@ impl Sender {
 
     /// Lends an empty buffer for the payload of the next PDU.
     #[inline(always)]
-    pub fn room(&mut self) -> Result<&mut ArrayVec<u8, 517>, Full>
+    pub fn room(&mut self) -> Result<&mut PduOctets, Full>
         ensures* writes_back { sem 𝓛 (LendsRoom self.entry result) }
-        ensures full { IsOk result ↔ (length self.old.outgoing.queue < 16) }
+        ensures full { IsOk result ↔ (length self.old.outgoing.queue < MAX_PDUS) }
         ensures empty { IfOk result (λ room. room.now.items ≡ []) }
     {
         if self.backlog() == MAX_PDUS {
@@ -108,8 +104,8 @@ impl Sender {
 
     /// Queues the octets of two places, one behind the other, as a PDU on a channel. There is room for it.
     pub fn queue(&mut self, cid: u16, first: &[u8], rest: &[u8])
-        requires room { length self.old.outgoing.queue < 16 }
-        requires fits { length first.now + length rest.now ≤ 517 }
+        requires room { length self.old.outgoing.queue < MAX_PDUS }
+        requires fits { length first.now + length rest.now ≤ MAX_PDU }
         ensures { self.new ≡ record {
           outgoing = with_pdu self.old.outgoing
               (cid, first.now ++ rest.now);
@@ -122,7 +118,7 @@ impl Sender {
 
     /// Writes the first packet not yet given in place of what `out` holds. There is none, and nothing
     /// changes, where no PDU is queued or as many packets are outstanding as may be.
-    pub fn next(&mut self, handle: u16, out: &mut ArrayVec<u8, 260>) -> bool
+    pub fn next(&mut self, handle: u16, out: &mut PacketOctets) -> bool
         requires { handle < 2 ^ 12 }
         ensures gives { result ≡ may_give self.old.outgoing }
         ensures given { OnTrue result (option_map (acl_octets handle)
@@ -174,7 +170,7 @@ impl Sender {
     #[inline(always)]
     pub fn next_into(&mut self, handle: u16, out: &mut [u8]) -> Option<usize>
         requires handle { handle < 2 ^ 12 }
-        requires room { 260 ≤ length out.old }
+        requires room { MAX_PACKET_OUT ≤ length out.old }
         ensures gives { is_some result ≡ may_give self.old.outgoing }
         ensures given { IfSome result (λ count. option_map (acl_octets handle)
             (next_of self.old.outgoing.queue) ≡ Some (take count out.new)) }
@@ -227,7 +223,7 @@ impl Sender {
     /// How many PDUs have a packet not yet given.
     pub fn backlog(&self) -> usize
         ensures count { result ≡ length self.now.outgoing.queue }
-        ensures within { result ≤ 16 }
+        ensures within { result ≤ MAX_PDUS }
     {
         self.pdus.len()
     }
@@ -258,7 +254,7 @@ fn write_fragment(
     out: &mut PacketBuf,
 )
     requires handle { handle < 2 ^ 12 }
-    requires payload { length payload.now ≤ 517 }
+    requires payload { length payload.now ≤ MAX_PDU }
     requires gone { 0 < gone → 4 ≤ gone }
     requires least { 4 ≤ acl_len }
     requires most { acl_len ≤ 251 }
@@ -269,7 +265,7 @@ fn write_fragment(
     if gone == 0 {
         let header = frame_header(channel, payload.len() as u16);
         let fragment = part(payload, 0, acl_len - HEADER);
-        out.acl(handle, FIRST_FRAGMENT, &header, fragment);
+        out.acl(handle, FIRST_NOT_FLUSHED, &header, fragment);
     } else {
         let fragment = part(payload, gone - HEADER, acl_len);
         out.acl(handle, CONTINUATION, &[], fragment);
@@ -289,11 +285,11 @@ fn fragment_into(
     out: &mut [u8],
 ) -> usize
     requires handle { handle < 2 ^ 12 }
-    requires payload { length payload.now ≤ 517 }
+    requires payload { length payload.now ≤ MAX_PDU }
     requires gone { 0 < gone → 4 ≤ gone }
     requires least { 4 ≤ acl_len }
     requires most { acl_len ≤ 251 }
-    requires room { 260 ≤ length out.old }
+    requires room { MAX_PACKET_OUT ≤ length out.old }
     ensures written { take result out.new
         ≡ acl_octets handle
         (fragment_at gone (take acl_len (drop gone (frame_of (channel, payload.now))))) }
@@ -302,7 +298,7 @@ fn fragment_into(
     if gone == 0 {
         let header = frame_header(channel, payload.len() as u16);
         let fragment = part(payload, 0, acl_len - HEADER);
-        acl_into(handle, FIRST_FRAGMENT, &header, fragment, out)
+        acl_into(handle, FIRST_NOT_FLUSHED, &header, fragment, out)
     } else {
         let fragment = part(payload, gone - HEADER, acl_len);
         acl_into(handle, CONTINUATION, &[], fragment, out)
