@@ -3,6 +3,7 @@ use Rattle.std.specs.Prelude.{◌≡◌, ℕ, ◌+◌, ◌≤◌, List, [], ◌�
 use Rattle.octets.specs.Number.{Octets}
 use Rattle.att_values.specs.declared.flat_store.Place.{Place}
 use Rattle.att_values.specs.Cell.{Cell}
+use Rattle.att_numbers.specs.declared.limit.TheConstants.{MAX_VALUE}
 
 -- the cell at a place
 abbrev pub cell_in : Octets → Place → Cell
@@ -15,4 +16,4 @@ cells_in octets places = map (cell_in octets) places
 abbrev pub IsLaidOut : ℕ → List Place → ℕ → Type 0
 IsLaidOut from [] end = from ≡ end
 IsLaidOut from (place ∷ places) end =
-    (place.start ≡ from) × (place.len ≤ place.room) × (place.room ≤ 512) × IsLaidOut (from + place.room) places end
+    (place.start ≡ from) × (place.len ≤ place.room) × (place.room ≤ MAX_VALUE) × IsLaidOut (from + place.room) places end

@@ -1,6 +1,7 @@
 ghost use Rattle.std.specs.Prelude.{◌≡◌, ◌+◌, ◌-◌, ◌≤◌, if◌then◌else◌, max, [], ◌∷◌, ◌++◌, length, take, drop, replicate, sum_by, OnOk, OnErr};
 ghost use Rattle.att_values.specs.Cell.{Cell, IsUsed, cell_at, with_part};
 ghost use Rattle.att_values.specs.FlatStore.{cell_in};
+ghost use Rattle.att_numbers.specs.declared.limit.TheConstants.{MAX_VALUE};
 
 use crate::value_store::ValueStore;
 use std::alloc::{AllocError, Global};
@@ -13,7 +14,7 @@ struct Place {
     start: usize,
     /// How many octets it has.
     len: u16,
-    /// The most octets that it may ever have, at most 512.
+    /// The most octets that it may ever have, at most `MAX_VALUE`.
     room: u16,
 }
 
@@ -95,7 +96,7 @@ impl FlatStore {
     /// Appends a value with its room, in octets. Where memory runs out the store stays as it was.
     pub fn push(&mut self, room: u16, octets: &[u8]) -> Result<(), AllocError>
         requires fits { length octets.now ≤ room }
-        requires room { room ≤ 512 }
+        requires room { room ≤ MAX_VALUE }
         ensures ok { OnOk result
             (self.new ≡ self.old ++ record { room = room; octets = octets.now } ∷ []) }
         ensures err { OnErr result (self.new ≡ self.old) }
@@ -163,7 +164,7 @@ fn write_part(octets: &mut [u8], start: usize, part: &[u8])
 
 // Ends a value before its octet `end`, or, where it is longer and `keep` is set, where it ended.
 fn set_end(place: &mut Place, end: usize, keep: bool)
-    requires { end ≤ 512 }
+    requires { end ≤ MAX_VALUE }
     ensures { place.new ≡ record place.old { len = if keep then max place.old.len end else end } }
 {
     let end = end as u16;

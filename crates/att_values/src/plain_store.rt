@@ -4,15 +4,16 @@ ghost use Rattle.att_values.specs.Cell.{IsUsed, cell_at, value_with_part, with_p
 
 use crate::value_store::ValueStore;
 use arrayvec::ArrayVec;
+use att_numbers::limit::MAX_VALUE;
 use std::alloc::{AllocError, Global};
 use std::marker::Model;
 
 /// A value, in a buffer of its own.
 #[derive(Drop)]
 struct Slot {
-    /// The most octets that it may ever have, at most 512.
+    /// The most octets that it may ever have, at most `MAX_VALUE`.
     room: u16,
-    octets: ArrayVec<u8, 512>,
+    octets: ArrayVec<u8, MAX_VALUE>,
 }
 
 /// The values of attributes, each in a buffer of its own: the plain store, to test others against.
@@ -46,7 +47,7 @@ impl PlainStore {
     /// Appends a value with its room, in octets. Where memory runs out the store stays as it was.
     pub fn push(&mut self, room: u16, octets: &[u8]) -> Result<(), AllocError>
         requires fits { length octets.now ≤ room }
-        requires room { room ≤ 512 }
+        requires room { room ≤ MAX_VALUE }
         ensures ok { OnOk result
             (self.new ≡ self.old ++ record { room = room; octets = octets.now } ∷ []) }
         ensures err { OnErr result (self.new ≡ self.old) }
@@ -128,8 +129,8 @@ impl ValueStore for PlainStore {
 }
 
 // A copy of a value, in a buffer.
-fn copy(value: &[u8]) -> ArrayVec<u8, 512>
-    requires { length value.now ≤ 512 }
+fn copy(value: &[u8]) -> ArrayVec<u8, MAX_VALUE>
+    requires { length value.now ≤ MAX_VALUE }
     ensures { result.items ≡ value.now }
 {
     let mut buffer = ArrayVec::new();
@@ -138,9 +139,9 @@ fn copy(value: &[u8]) -> ArrayVec<u8, 512>
 }
 
 // Writes a part of a value in its buffer.
-fn write_part(value: &mut ArrayVec<u8, 512>, offset: usize, part: &[u8], keep: bool)
+fn write_part(value: &mut ArrayVec<u8, MAX_VALUE>, offset: usize, part: &[u8], keep: bool)
     requires offset { offset ≤ array_vec_len value.old }
-    requires fits { offset + length part.now ≤ 512 }
+    requires fits { offset + length part.now ≤ MAX_VALUE }
     ensures { value.new.items ≡ value_with_part keep value.old.items offset part.now }
 {
     let end = offset + part.len();

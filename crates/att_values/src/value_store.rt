@@ -5,7 +5,7 @@ ghost use Rattle.att_values.specs.Cell.{value_with_part};
 ghost use Rattle.att_values.specs.ValueStore.{ByHandle, value_in};
 
 /// The values of attributes, by handles from 1 without gaps. Each has a fixed room: the most octets
-/// that it may ever have, at most 512.
+/// that it may ever have, at most `MAX_VALUE`.
 pub trait ValueStore {
     /// The value of each handle.
     ghost contents: { Self → ByHandle };
