@@ -7,6 +7,7 @@ use Rattle.att_policy.specs.Policy.{configuration_bits_of}
 use Rattle.att_attributes.specs.declared.attr.Attr.{Attr}
 use Rattle.att_attributes.specs.declared.attr.Role.{Role}
 use Rattle.att_attributes.specs.declared.attr.Role.TheVariants.{Declaration, Value, Configuration, Descriptor}
+use Rattle.att_numbers.specs.declared.limit.TheConstants.{MAX_ATTRIBUTES}
 
 -- the attribute at a handle: handles count from 1
 abbrev pub attribute_at : List Attr → Handle → Option Attr
@@ -66,7 +67,7 @@ abbrev pub HaveHandlesFrom : Handle → List Attr → Type 0
 HaveHandlesFrom first [] = Unit
 HaveHandlesFrom first (attr ∷ rest) = (attr.handle ≡ first) × HaveHandlesFrom (first + 1) rest
 
--- the handles count from 1, of at most 1,024 attributes
+-- the handles count from 1, of no more attributes than a table may have
 pub record IsNumbered (attributes : List Attr) : Type 0 where
   pub handles : HaveHandlesFrom 1 attributes
-  pub most : length attributes ≤ 1024
+  pub most : length attributes ≤ MAX_ATTRIBUTES

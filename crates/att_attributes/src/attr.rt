@@ -8,7 +8,7 @@ pub struct Attr {
     /// Its type, a UUID as a number. One of 16 bits is written out in full: Core 5.0, Vol 3 Part B,
     /// 2.5.1.
     pub kind: u128,
-    /// The largest length of its value, in octets, at most 512.
+    /// The largest length of its value, in octets, at most `MAX_VALUE`.
     pub largest: u16,
     /// Its value keeps its length.
     pub fixed: bool,

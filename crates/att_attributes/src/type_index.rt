@@ -5,6 +5,7 @@ ghost use Rattle.std.specs.Prelude.{◌≡◌, ◌+◌, ◌-◌, ◌^◌, ◌<�
 ghost use Rattle.att_attributes.specs.Attributes.{type_at, IsNumbered};
 ghost use Rattle.att_attributes.specs.OfType.{handles_of_type, handles_by_type};
 ghost use Rattle.att_attributes.specs.TypeIndex.{is_before, place_from, turns_for, IsIndex};
+ghost use Rattle.att_numbers.specs.declared.limit.TheConstants.{MAX_ATTRIBUTES};
 
 use crate::attr::Attr;
 use std::alloc::{AllocError, Global};
@@ -117,7 +118,7 @@ fn first_from<S: Steps>(
 ) -> usize
     requires known { known ≤ place_from (type_at attributes.now) index.now kind handle }
     requires index { IsIndex (type_at attributes.now) (length attributes.now) index.now }
-    requires most { length index.now ≤ 1024 }
+    requires most { length index.now ≤ MAX_ATTRIBUTES }
     ensures place { result ≡ place_from (type_at attributes.now) index.now kind handle }
     ensures from { known ≤ result }
     ensures within { result ≤ length index.now }
