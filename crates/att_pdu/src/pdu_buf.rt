@@ -1,23 +1,24 @@
 ghost use Rattle.std.specs.Prelude.{◌≡◌, ◌+◌, ◌-◌, ◌≤◌, ◌↔◌, [], ◌++◌, length, IsTrue, take};
 ghost use Rattle.std.specs.Bool.{OnTrue, OnFalse};
 ghost use Rattle.arrayvec.specs.ArrayVec.{array_vec_len};
+ghost use Rattle.att_pdu.specs.declared.pdu_buf.TheConstants.{MAX_MTU, MIN_MTU};
 
-use arrayvec::ArrayVec;
 use att_numbers::opcode;
+use octets::{MAX_PDU, PduOctets};
 
 /// The least ATT_MTU of an LE link, in octets: Core 5.0, Vol 3 Part G, 5.2.1.
 pub const MIN_MTU: u16 = 23;
-/// The largest ATT_MTU that this profile serves, in octets: a value of 512 octets in one PDU.
-pub const MAX_MTU: u16 = 517;
+/// The largest ATT_MTU that this profile serves, in octets: the largest value in one PDU.
+pub const MAX_MTU: u16 = MAX_PDU as u16;
 
 /// A PDU that is being put together in a buffer of its caller's, and never outgrows an ATT_MTU of
-/// 23 to 517 octets.
+/// `MIN_MTU` to `MAX_MTU` octets.
 #[derive(Drop)]
 pub struct PduBuf<'a> {
-    octets: &'a mut ArrayVec<u8, 517>,
+    octets: &'a mut PduOctets,
     mtu: u16,
-    pub ghost least: { 23 ≤ mtu },
-    pub ghost most: { mtu ≤ 517 },
+    pub ghost least: { MIN_MTU ≤ mtu },
+    pub ghost most: { mtu ≤ MAX_MTU },
     pub ghost within: { array_vec_len octets.now ≤ mtu },
 }
 
@@ -27,9 +28,9 @@ impl<'a> PduBuf<'a> {
     ghost use Rattle.att_pdu.specs.Response.{OfAttribute, OfGroup, element_octets, ErrorResponse, sent};
 
     /// An empty PDU in `octets`, whose content is dropped.
-    pub fn new(octets: &'a mut ArrayVec<u8, 517>, mtu: u16) -> PduBuf<'a>
-        requires least { 23 ≤ mtu }
-        requires most { mtu ≤ 517 }
+    pub fn new(octets: &'a mut PduOctets, mtu: u16) -> PduBuf<'a>
+        requires least { MIN_MTU ≤ mtu }
+        requires most { mtu ≤ MAX_MTU }
         ensures empty { contents result ≡ [] }
         ensures mtu { mtu_of result ≡ mtu }
         ensures in_octets { IsIn result octets.entry }
@@ -42,8 +43,8 @@ impl<'a> PduBuf<'a> {
     #[inline(always)]
     pub fn mtu(&self) -> u16
         ensures mtu { result ≡ mtu_of self.now }
-        ensures least { 23 ≤ result }
-        ensures most { result ≤ 517 }
+        ensures least { MIN_MTU ≤ result }
+        ensures most { result ≤ MAX_MTU }
     {
         self.mtu
     }
