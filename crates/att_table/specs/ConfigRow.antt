@@ -6,6 +6,7 @@ use Rattle.std.specs.List.{list_any}
 use Rattle.att_numbers.specs.Types.{Handle, Row}
 use Rattle.att_attributes.specs.declared.attr.Attr.{Attr}
 use Rattle.att_attributes.specs.Attributes.{configuration_bits_at, is_configuration_at, type_at}
+use Rattle.att_numbers.specs.declared.limit.TheConstants.{MAX_CONFIGURATIONS}
 
 -- the bits at a handle: 0 where the row has no entry
 abbrev pub bits_at : Row → Handle → ℕ
@@ -24,7 +25,7 @@ has_entry row handle = list_any (λ entry. entry.0 == handle) row
 
 -- whether bits can be set at a handle: its entry is there, or there is room for one more
 abbrev pub has_room : Row → Handle → Bool
-has_room row handle = has_entry row handle || nat_lt (length row) 64
+has_room row handle = has_entry row handle || nat_lt (length row) MAX_CONFIGURATIONS
 
 -- an entry is of a handle that is in use, and its bits are notify and indicate
 abbrev pub IsEntry : Handle × ℕ → Type 0

@@ -10,6 +10,7 @@ use Rattle.att_attributes.specs.declared.attr.Role.TheVariants.{Declaration, Val
 use Rattle.att_attributes.specs.Attributes.{configurations_of, is_configuration, is_fixed_at, is_value, largest_at, IsNumbered}
 use Rattle.att_attributes.specs.Group.{group_ends_of}
 use Rattle.att_attributes.specs.OfType.{handles_by_type}
+use Rattle.att_numbers.specs.declared.limit.TheConstants.{MAX_CONFIGURATIONS, MAX_DECLARATION, MAX_VALUE, MAX_VALUES_OCTETS}
 
 -- the attributes in the order of their handles, and the value of each
 pub record Contents : Type 0 where
@@ -37,10 +38,10 @@ values_of cells = map (λ (cell : Cell). cell.octets) cells
 -- the most octets of a value, by the role of its attribute: a declaration has properties, a handle and a type of 16
 -- octets at most, and a configuration has none in the table (Core 5.0, Vol 3 Part F, 3.2.9, and Part G, 3.3.1)
 abbrev pub most_octets : Role → ℕ
-most_octets Declaration = 19
-most_octets Value = 512
+most_octets Declaration = MAX_DECLARATION
+most_octets Value = MAX_VALUE
 most_octets Configuration = 0
-most_octets Descriptor = 512
+most_octets Descriptor = MAX_VALUE
 
 -- the octets that count towards the limit of a table: those of characteristic values and descriptors
 abbrev pub counted_octets : Role → ℕ → ℕ
@@ -85,10 +86,11 @@ pub record IsKept (attributes : List Attr) (cells : List Cell) : Type 0 where
   pub rooms : map (λ (attr : Attr). attr.largest) attributes ≡ map (λ (cell : Cell). cell.room) cells
   pub within : All (λ (cell : Cell). length cell.octets ≤ cell.room) cells
 
--- at most 64 of the attributes are configurations, at most 65,536 octets count, and the ends of the groups, and the handles by type, are those of the attributes
+-- no more of the attributes are configurations, and no more octets count, than a table may have, and the ends of the groups,
+-- and the handles by type, are those of the attributes
 pub record IsWhole (attributes : List Attr) (cells : List Cell) (group_ends by_type : List Handle) : Type 0 where
   pub kept : IsKept attributes cells
-  pub few : configurations_of attributes ≤ 64
-  pub counted : octets_of attributes ≤ 65536
+  pub few : configurations_of attributes ≤ MAX_CONFIGURATIONS
+  pub counted : octets_of attributes ≤ MAX_VALUES_OCTETS
   pub ends : group_ends ≡ group_ends_of attributes
   pub types : by_type ≡ handles_by_type attributes

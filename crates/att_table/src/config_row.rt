@@ -7,13 +7,14 @@ ghost use Rattle.att_table.specs.ConfigRow.{bits_at, with_bits, has_entry, has_i
 use crate::table::Table;
 use arrayvec::ArrayVec;
 use att_attributes::Role;
+use att_numbers::limit::MAX_CONFIGURATIONS;
 use std::marker::Model;
 
-/// What one client has written to the client characteristic configurations of a table: at most 64
-/// of them, by handle. (Core 5.0, Vol 3 Part G, 3.3.3.3)
+/// What one client has written to the client characteristic configurations of a table, by
+/// handle. (Core 5.0, Vol 3 Part G, 3.3.3.3)
 #[derive(Drop)]
 pub struct ConfigRow {
-    entries: ArrayVec<(u16, u8), 64>,
+    entries: ArrayVec<(u16, u8), MAX_CONFIGURATIONS>,
 }
 
 impl Model for ConfigRow {
@@ -47,10 +48,10 @@ impl ConfigRow {
         bits_in(&self.entries, handle)
     }
 
-    /// The entries, in the order in which their handles were set first: at most 64.
+    /// The entries, in the order in which their handles were set first.
     pub fn entries(&self) -> &[(u16, u8)]
         ensures entries { result.now ≡ self.now }
-        ensures most { length self.now ≤ 64 }
+        ensures most { length self.now ≤ MAX_CONFIGURATIONS }
         ensures known { All IsEntry self.now }
     {
         &self.entries
@@ -94,7 +95,7 @@ impl ConfigRow {
 }
 
 // Drops the entries that do not stay when a table is replaced.
-fn retain_kept(entries: &mut ArrayVec<(u16, u8), 64>, old: &Table, new: &Table)
+fn retain_kept(entries: &mut ArrayVec<(u16, u8), MAX_CONFIGURATIONS>, old: &Table, new: &Table)
     ensures { entries.new.items ≡ kept_row old.now.attributes new.now.attributes entries.old.items }
 {
     entries.retain(|&mut (handle, bits)| new.supports(handle, bits)
@@ -130,7 +131,7 @@ fn configured_type(table: &Table, handle: u16) -> u128
 
 // Writes the bits over those at a handle, or appends an entry where there is none.
 #[tactic(auto, using(std::proofs::lemmas::Grind::common_steps, crate::proofs::Rows::append_missing))]
-fn write(entries: &mut ArrayVec<(u16, u8), 64>, handle: u16, bits: u8)
+fn write(entries: &mut ArrayVec<(u16, u8), MAX_CONFIGURATIONS>, handle: u16, bits: u8)
     requires { IsTrue (has_room entries.old.items handle) }
     ensures { entries.new.items ≡ with_bits entries.old.items handle bits }
 {

@@ -10,6 +10,7 @@ ghost use Rattle.att_table.specs.ConfigRow.{is_supported, HasRowRoom};
 ghost use Rattle.att_table.specs.Facts.{IsTable};
 ghost use Rattle.att_table.specs.Find.{value_found, value_where};
 ghost use Rattle.att_table.specs.Table.{Contents, octets_of, value_at, room_at, with_value, values_of, IsKept, IsWhole};
+ghost use Rattle.att_numbers.specs.declared.limit.TheConstants.{MAX_ATTRIBUTES, MAX_CONFIGURATIONS, MAX_TABLE_OCTETS, MAX_VALUES_OCTETS};
 
 use crate::{changer, find};
 use att_attributes::{Attr, Role, Steps};
@@ -43,8 +44,8 @@ impl Table {
         by_type: Vec<u16>,
     ) -> Self
         requires kept { IsKept attributes.items values }
-        requires few { configurations_of attributes.items ≤ 64 }
-        requires counted { octets_of attributes.items ≤ 65536 }
+        requires few { configurations_of attributes.items ≤ MAX_CONFIGURATIONS }
+        requires counted { octets_of attributes.items ≤ MAX_VALUES_OCTETS }
         requires ends { group_ends.items ≡ group_ends_of attributes.items }
         requires types { by_type.items ≡ handles_by_type attributes.items }
         ensures attributes { result.attributes ≡ attributes.items }
@@ -74,7 +75,7 @@ impl Table {
         // It has a value, and a client's row has room for it if it is a configuration.
         ensures value { IfSome result (λ attr. handle ≤ length self.now.values) }
         ensures used { IfSome result (λ attr. 0 < handle) }
-        ensures most { IfSome result (λ attr. handle ≤ 1024) }
+        ensures most { IfSome result (λ attr. handle ≤ MAX_ATTRIBUTES) }
         ensures row { HasRowRoom self.now.attributes handle }
     {
         self.attributes.get(usize::from(handle.checked_sub(1)?))
@@ -220,7 +221,7 @@ impl Table {
     pub fn changer(&self) -> Option<u16>
         ensures changer { result ≡ changer_of self.now }
         ensures found { IfSome result (λ handle. IsOfAChanger self.now handle) }
-        ensures most { IfSome result (λ handle. handle ≤ 1024) }
+        ensures most { IfSome result (λ handle. handle ≤ MAX_ATTRIBUTES) }
     {
         changer::changer_of(&self.attributes, &self.values)
     }
@@ -228,7 +229,7 @@ impl Table {
     /// How many octets the table keeps for its values: the sum of their largest lengths.
     pub fn octets(&self) -> usize
         ensures sum { result ≡ sum_by (λ (attr : Attr). attr.largest) self.now.attributes }
-        ensures most { result ≤ 84992 }
+        ensures most { result ≤ MAX_TABLE_OCTETS }
     {
         self.values.octets()
     }

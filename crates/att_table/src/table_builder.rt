@@ -3,6 +3,7 @@
 ghost use Rattle.std.specs.Prelude.{◌≡◌, ◌+◌, ◌<◌, ◌≤◌, ◌∷◌, ◌++◌, [], length, IfOk, IsSome, OnOk, OnErr};
 ghost use Rattle.att_attributes.specs.Attributes.{attribute_at, configurations_of};
 ghost use Rattle.att_table.specs.Table.{Contents, octets_of, value_at, values_of, IsKept, IsNext};
+ghost use Rattle.att_numbers.specs.declared.limit.TheConstants.{MAX_ATTRIBUTES, MAX_CONFIGURATIONS, MAX_VALUES_OCTETS};
 
 use crate::table::Table;
 use att_attributes::Attr;
@@ -37,10 +38,10 @@ impl TableBuilder {
         }
     }
 
-    /// Adds an attribute at the next handle, with its value, up to 1,024 of them. Where memory is
-    /// refused, the builder stays as it was.
+    /// Adds an attribute at the next handle, with its value, up to `MAX_ATTRIBUTES` of them. Where
+    /// memory is refused, the builder stays as it was.
     pub fn push(&mut self, attr: Attr, value: &[u8]) -> Result<(), AllocError>
-        requires room { length self.old.attributes < 1024 }
+        requires room { length self.old.attributes < MAX_ATTRIBUTES }
         requires next { IsNext self.old.attributes attr value.now }
         ensures attributes { OnOk result (self.new.attributes ≡ self.old.attributes ++ attr ∷ []) }
         ensures values { OnOk result (self.new.values ≡ self.old.values ++ value.now ∷ []) }
@@ -74,11 +75,11 @@ impl TableBuilder {
         self.values.value_at(handle)
     }
 
-    /// The table of these attributes, of which at most 64 are client characteristic configurations,
+    /// The table of these attributes, of which at most `MAX_CONFIGURATIONS` are configurations,
     /// with the ends of their groups and their handles by type.
     pub fn finish(self, alloc: Global) -> Result<Table, AllocError>
-        requires few { configurations_of self.attributes ≤ 64 }
-        requires counted { octets_of self.attributes ≤ 65536 }
+        requires few { configurations_of self.attributes ≤ MAX_CONFIGURATIONS }
+        requires counted { octets_of self.attributes ≤ MAX_VALUES_OCTETS }
         ensures { IfOk result (λ table. table ≡ self) }
     {
         let group_ends = att_attributes::group_ends(alloc, &self.attributes)?;

@@ -31,7 +31,8 @@ pub enum TableFault {
     BadUuid,
     /// A value is not an even number of hexadecimal digits.
     BadHex,
-    /// A value has more than 512 octets, or its largest length is below its length or above 512.
+    /// A value has more than `MAX_VALUE` octets, or its largest length is below its length or above
+    /// that.
     TooLong,
     /// A need has a key size that is not from 7 to 16, a key that is unknown, or one of another type.
     BadSecurity,

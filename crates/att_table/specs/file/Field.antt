@@ -11,11 +11,12 @@ use Rattle.att_policy.specs.declared.guard.Properties.{Properties}
 use Rattle.att_policy.specs.declared.guard.TheConstants.Properties.{READ, WRITE_WITHOUT_RESPONSE, WRITE, NOTIFY, INDICATE}
 use Rattle.att_table.specs.declared.table_fault.TableFault.{TableFault}
 use Rattle.att_table.specs.declared.table_fault.TableFault.TheVariants.{BadHex, TooLong, BadSecurity}
+use Rattle.att_numbers.specs.declared.limit.TheConstants.{MAX_VALUE}
 
--- the octets that were decoded, where they are at most 512
+-- the octets that were decoded, where they are no more than a value may have
 abbrev pub value_decoded : Result Octets FromHexError → Result Octets TableFault
 value_decoded (Err _) = Err BadHex
-value_decoded (Ok octets) = if nat_le (length octets) 512 then Ok octets else Err TooLong
+value_decoded (Ok octets) = if nat_le (length octets) MAX_VALUE then Ok octets else Err TooLong
 
 -- the value that a text writes in hexadecimal digits
 abbrev pub value_of : Octets → Result Octets TableFault
@@ -25,7 +26,7 @@ value_of text = value_decoded (decode_of text)
 abbrev pub largest_of : Option ℤ → Bool → ℕ → Result ℕ TableFault
 largest_of None fixed length = Ok length
 largest_of (Some (pos max)) fixed length =
-    if nat_le length max && nat_le max 512 && (not fixed || (max == length)) then Ok max else Err TooLong
+    if nat_le length max && nat_le max MAX_VALUE && (not fixed || (max == length)) then Ok max else Err TooLong
 largest_of (Some (negsuc _)) fixed length = Err TooLong
 
 -- the words of the properties: Core 5.0, Vol 3 Part G, 3.3.1.1

@@ -1,13 +1,13 @@
--- How much a table may have: this profile's own.
+-- Whether a table is within its limits: this profile's own.
 use Rattle.std.specs.Prelude.{ℕ, Bool, ◌&&◌, nat_le, List, length}
 use Rattle.att_attributes.specs.declared.attr.Attr.{Attr}
 use Rattle.att_attributes.specs.Attributes.{configurations_of}
 use Rattle.att_table.specs.Table.{octets_of}
+use Rattle.att_numbers.specs.declared.limit.TheConstants.{MAX_ATTRIBUTES, MAX_CONFIGURATIONS, MAX_VALUES_OCTETS}
 
--- at most 1,024 attributes, 64 client characteristic configurations, and 65,536 octets of values
 abbrev pub is_within : ℕ → ℕ → ℕ → Bool
 is_within attributes configurations octets =
-    nat_le attributes 1024 && nat_le configurations 64 && nat_le octets 65536
+    nat_le attributes MAX_ATTRIBUTES && nat_le configurations MAX_CONFIGURATIONS && nat_le octets MAX_VALUES_OCTETS
 
 abbrev pub is_within_limits : List Attr → Bool
 is_within_limits attributes =

@@ -9,6 +9,7 @@ ghost use Rattle.att_table.specs.declared.table_fault.TableFault.TheVariants.{Ou
 ghost use Rattle.att_table.specs.Table.{last_role};
 ghost use Rattle.att_table.specs.file.Placed.{next_handle};
 ghost use Rattle.att_table.specs.file.TableFile.{is_announced, config_at, configure, characteristic_value, characterize, characteristic_step};
+ghost use Rattle.att_numbers.specs.declared.limit.TheConstants.{MAX_VALUE};
 
 use crate::file::descriptor::Descriptor;
 use crate::file::draft::Draft;
@@ -18,6 +19,7 @@ use crate::table_fault::TableFault;
 use arrayvec::ArrayVec;
 use att_attributes::{Attr, Role, type_octets};
 use att_numbers::attribute_type::{CHARACTERISTIC, CLIENT_CHARACTERISTIC_CONFIGURATION};
+use att_numbers::limit::MAX_DECLARATION;
 use att_policy::{Guard, Need, Properties};
 use bitflags::Flags;
 use toml::{Table, Value};
@@ -80,7 +82,7 @@ fn characterize(draft: &mut Draft, attr: Attr, value: &[u8], need: Need) -> Resu
     requires handle { attr.handle ≡ next_handle draft.old + 1 }
     requires role { attr.role ≡ Role.Value }
     requires fits { length value.now ≤ attr.largest }
-    requires largest { attr.largest ≤ 512 }
+    requires largest { attr.largest ≤ MAX_VALUE }
     requires exact { attr.fixed ≡ true → length value.now ≡ attr.largest }
     ensures { Leaves OutOfMemory (characterize draft.old attr value.now need) result draft.new }
 {
@@ -90,7 +92,7 @@ fn characterize(draft: &mut Draft, attr: Attr, value: &[u8], need: Need) -> Resu
 }
 
 /// The value of the declaration of a characteristic with this value.
-fn characteristic_value(attr: &Attr) -> ArrayVec<u8, 19>
+fn characteristic_value(attr: &Attr) -> ArrayVec<u8, MAX_DECLARATION>
     ensures { result.items ≡ characteristic_value attr.now }
 {
     let [low, high] = attr.handle.to_le_bytes();

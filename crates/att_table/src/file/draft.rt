@@ -8,6 +8,7 @@ ghost use Rattle.att_table.specs.declared.table_fault.TableFault.TheVariants.{Ou
 ghost use Rattle.att_table.specs.file.Placed.{next_handle, add, declare};
 ghost use Rattle.att_table.specs.file.Service.{earlier_service};
 ghost use Rattle.att_table.specs.Table.{counted_octets, last_role, most_octets, IsNext};
+ghost use Rattle.att_numbers.specs.declared.limit.TheConstants.{MAX_DECLARATION};
 
 use crate::file::include;
 use crate::file::include::ServiceHandles;
@@ -15,18 +16,10 @@ use crate::table::Table;
 use crate::table_builder::TableBuilder;
 use crate::table_fault::TableFault;
 use att_attributes::{Attr, Role};
+use att_numbers::limit::{MAX_ATTRIBUTES, MAX_CONFIGURATIONS, MAX_VALUES_OCTETS};
 use att_policy::{Guard, Need, Properties};
 use std::alloc::{AllocError, Global};
 use std::marker::Model;
-
-/// The most attributes that a table may have.
-const MAX_ATTRIBUTES: usize = 1024;
-
-/// The most client characteristic configurations that a table may have.
-const MAX_CONFIGURATIONS: usize = 64;
-
-/// The most octets that the values of a table may have together, each at its largest length.
-const MAX_OCTETS: usize = 65536;
 
 /// A table that grows, with what counts towards its limits.
 #[derive(Drop)]
@@ -87,7 +80,7 @@ impl Draft {
     /// The handle of the next attribute.
     pub fn next_handle(&self) -> u16
         ensures next { result ≡ next_handle self.now }
-        ensures within { result ≤ 1025 }
+        ensures within { result ≤ MAX_ATTRIBUTES + 1 }
     {
         self.table.len() as u16 + 1
     }
@@ -103,7 +96,7 @@ impl Draft {
         let octets = self.octets + usize::from(counted_octets(attr.role, attr.largest));
         if self.table.len() == MAX_ATTRIBUTES
             || configurations > MAX_CONFIGURATIONS
-            || octets > MAX_OCTETS
+            || octets > MAX_VALUES_OCTETS
         {
             return Err(TableFault::TooMany);
         }
@@ -115,7 +108,7 @@ impl Draft {
 
     /// Adds a declaration of this type, which anybody may read.
     pub fn declare(&mut self, kind: u128, value: &[u8]) -> Result<(), TableFault>
-        requires { length value.now ≤ 19 }
+        requires { length value.now ≤ MAX_DECLARATION }
         ensures declared { Leaves OutOfMemory (declare self.old kind value.now) result self.new }
         ensures next { OnOk result (next_handle self.new ≡ next_handle self.old + 1) }
     {

@@ -9,14 +9,12 @@ ghost use Rattle.att_table.specs.file.Field.{value_of, largest_of, property_name
 
 use crate::table_fault::TableFault;
 use arrayvec::ArrayVec;
+use att_numbers::limit::MAX_VALUE;
 use att_policy::Properties;
 
-/// The most octets that a value may have: Core 5.0, Vol 3 Part F, 3.2.9.
-pub const MAX_VALUE: usize = 512;
-
 /// The value that a text writes, two hexadecimal digits an octet: `BadHex` where it is not an even
-/// number of digits, or else `TooLong` where it has more than 512 octets.
-pub fn read_value(text: &str) -> Result<ArrayVec<u8, 512>, TableFault>
+/// number of digits, or else `TooLong` where it has more than `MAX_VALUE` octets.
+pub fn read_value(text: &str) -> Result<ArrayVec<u8, MAX_VALUE>, TableFault>
     ensures { result_map_both (λ octets. octets.items) (λ fault. fault) result ≡ value_of text.now }
 {
     if !is_hex(text) {
@@ -25,7 +23,7 @@ pub fn read_value(text: &str) -> Result<ArrayVec<u8, 512>, TableFault>
     if text.len() / 2 > MAX_VALUE {
         return Err(TableFault::TooLong);
     }
-    let mut octets = ArrayVec::from([0; 512]);
+    let mut octets = ArrayVec::from([0; MAX_VALUE]);
     octets.truncate(text.len() / 2);
     hex::decode_to_slice(text, octets.as_mut_slice()).unwrap();
     Ok(octets)
@@ -46,10 +44,10 @@ fn has_only_digits(text: &str) -> bool
 }
 
 /// The largest length that a value of this length may have, in octets: its length, unless `max`
-/// says another. `TooLong` where `max` is below the length or above 512, or is another length
-/// than that of a value whose length is fixed.
+/// says another. `TooLong` where `max` is below the length or above `MAX_VALUE`, or is another
+/// length than that of a value whose length is fixed.
 pub fn read_largest(max: Option<i64>, fixed: bool, length: usize) -> Result<u16, TableFault>
-    requires { length ≤ 512 }
+    requires { length ≤ MAX_VALUE }
     ensures { result ≡ largest_of max fixed length }
 {
     let Some(max) = max else {

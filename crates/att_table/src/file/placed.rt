@@ -11,6 +11,7 @@ use crate::file::{field, needs, type_text};
 use crate::table_fault::{TableFault, TableKey};
 use arrayvec::ArrayVec;
 use att_attributes::{Attr, Role};
+use att_numbers::limit::MAX_VALUE;
 use att_policy::{Guard, Properties};
 use bitflags::Flags;
 use toml::{Table, Value};
@@ -21,7 +22,7 @@ pub struct Placed {
     /// The attribute.
     pub attr: Attr,
     /// Its value.
-    pub value: ArrayVec<u8, 512>,
+    pub value: ArrayVec<u8, MAX_VALUE>,
 }
 
 /// The type at `uuid`.
@@ -81,7 +82,7 @@ fn with_property(
 }
 
 /// The value at `value`.
-fn read_value(table: &Table) -> Result<ArrayVec<u8, 512>, TableFault>
+fn read_value(table: &Table) -> Result<ArrayVec<u8, MAX_VALUE>, TableFault>
     ensures { result_map_both (λ octets. octets.items) (λ fault. fault) result
         ≡ value_read_at (table_view table.now) }
 {
@@ -101,7 +102,7 @@ pub fn read_placed(
         ≡ placed_of role handle allowed (table_view table.now) }
     ensures handle { IfOk result (λ placed. placed.attr.handle ≡ handle) }
     ensures fits { IfOk result (λ placed. length placed.value.items ≤ placed.attr.largest) }
-    ensures largest { IfOk result (λ placed. placed.attr.largest ≤ 512) }
+    ensures largest { IfOk result (λ placed. placed.attr.largest ≤ MAX_VALUE) }
     ensures exact { IfOk result
         (λ placed. placed.attr.fixed ≡ true → length placed.value.items ≡ placed.attr.largest) }
     ensures role { IfOk result (λ placed. placed.attr.role ≡ role) }
