@@ -16,13 +16,14 @@ use Rattle.att_writes.specs.declared.outcome.Outcome.TheVariants.{Queued, Denied
 use Rattle.att_writes.specs.declared.queue.Place.{Place}
 use Rattle.att_writes.specs.Entry.{Entry}
 use Rattle.octets.specs.Number.{Octets}
+use Rattle.att_writes.specs.declared.queue.TheConstants.{MAX_PREPARED, MAX_PREPARED_OCTETS}
 
--- at most 32 prepared writes, with at most 1,024 octets of parts: this profile's own
+-- how many octets the parts of prepared writes have together, and whether one more has room: this profile's own
 abbrev pub octets_of : List Entry → ℕ
 octets_of entries = sum_by (λ (entry : Entry). length entry.part) entries
 
 abbrev pub has_room : List Entry → Octets → Bool
-has_room entries part = nat_lt (length entries) 32 && nat_le (octets_of entries + length part) 1024
+has_room entries part = nat_lt (length entries) MAX_PREPARED && nat_le (octets_of entries + length part) MAX_PREPARED_OCTETS
 
 -- the handles that writes are of, each once, in the order of their first writes
 abbrev pub once_each : List Handle → List Handle
@@ -44,10 +45,10 @@ sizes_of places = sum_by (λ (place : Place). place.len) places
 -- the parts have the lengths that their places say, within the limits, for which there is room
 pub record IsLaidOut (places : List Place) (octets : Octets) (place_room octet_room : ℕ) : Type 0 where
   pub sizes : sizes_of places ≡ length octets
-  pub few_entries : length places ≤ 32
-  pub few_octets : length octets ≤ 1024
-  pub has_place_room : 32 ≤ place_room
-  pub has_octet_room : 1024 ≤ octet_room
+  pub few_entries : length places ≤ MAX_PREPARED
+  pub few_octets : length octets ≤ MAX_PREPARED_OCTETS
+  pub has_place_room : MAX_PREPARED ≤ place_room
+  pub has_octet_room : MAX_PREPARED_OCTETS ≤ octet_room
 
 -- why a write is not prepared, if it is not: the policy goes before the room
 abbrev pub unless_broken : Option (Rule × Code) → Bool → Option Code

@@ -11,13 +11,13 @@ ghost use Rattle.att_writes.specs.Fits.{AllFit, after_all};
 ghost use Rattle.att_writes.specs.Leaves.{Leaves};
 ghost use Rattle.att_writes.specs.Outcome.{outcome_of};
 ghost use Rattle.att_writes.specs.Queue.{entries_in, sizes_of, handles_of, once_each, prepare_fault, queue_after, prepare_outcome, touched_by};
+ghost use Rattle.att_writes.specs.declared.queue.TheConstants.{MAX_PREPARED};
 
 use crate::entry::EntryRef;
 use crate::fault::fault_of;
 use crate::outcome::Outcome;
-use crate::queue::{Place, Queue};
+use crate::queue::{Place, Queue, Touched};
 use crate::writes::put;
-use arrayvec::ArrayVec;
 use att_numbers::{error_code, opcode};
 use att_policy::{Access, Standing, first_broken};
 use att_table::{ConfigRow, Table};
@@ -66,7 +66,7 @@ pub fn execute(
     row: &mut ConfigRow,
     standing: &Standing,
     queue: &mut Queue,
-    touched: &mut ArrayVec<u16, 32>,
+    touched: &mut Touched,
 ) -> Outcome
     requires row { IsRowOf table.old.attributes row.old }
     ensures outcome { result
@@ -139,9 +139,9 @@ fn put_all(table: &mut Table, row: &mut ConfigRow, places: &[Place], octets: &[u
 }
 
 /// Puts the handles of entries, each once, into an empty buffer.
-fn touch_all(places: &[Place], touched: &mut ArrayVec<u16, 32>)
+fn touch_all(places: &[Place], touched: &mut Touched)
     requires empty { touched.old.items ≡ [] }
-    requires few { length places.now ≤ 32 }
+    requires few { length places.now ≤ MAX_PREPARED }
     ensures { touched.new.items ≡ once_each (map (λ (place : Place). place.handle) places.now) }
 {
     for place in places {

@@ -10,5 +10,5 @@ mod writes;
 
 pub use execution::{cancel, execute, prepare};
 pub use outcome::Outcome;
-pub use queue::Queue;
+pub use queue::{MAX_PREPARED, Queue, Touched};
 pub use writes::{command, write};

@@ -4,14 +4,18 @@ ghost use Rattle.att_writes.specs.Queue.{entries_in, sizes_of, has_room};
 ghost use Rattle.att_writes.specs.SameBut.{JudgesByLengths, LeavesOthers, StoresTouched, SetsTouched};
 
 use crate::entry::EntryRef;
+use arrayvec::ArrayVec;
 use std::alloc::{AllocError, Global};
 use std::marker::Model;
 
-/// The most entries in a queue: this profile's own.
-const MAX_ENTRIES: usize = 32;
+/// The most prepared writes in a queue: this profile's own.
+pub const MAX_PREPARED: usize = 32;
+
+/// The handles of the attributes that were written, each once.
+pub type Touched = ArrayVec<u16, MAX_PREPARED>;
 
 /// The most octets of all parts in a queue: this profile's own.
-const MAX_OCTETS: usize = 1024;
+const MAX_PREPARED_OCTETS: usize = 1_024;
 
 /// Where a prepared write is to be made, and how many octets its part has.
 #[derive(Clone, Copy, Debug)]
@@ -38,8 +42,8 @@ impl Place {
     }
 }
 
-/// The prepared writes of one client, in their order: at most 32, with at most 1,024 octets of
-/// parts. (Core 5.0, Vol 3 Part F, 3.4.6)
+/// The prepared writes of one client, in their order, within the limits of a queue. (Core 5.0, Vol 3
+/// Part F, 3.4.6)
 #[derive(Debug, Drop)]
 pub struct Queue {
     places: Vec<Place>,
@@ -71,8 +75,8 @@ impl Queue {
         ensures configured { SetsTouched }
     {
         Ok(Queue {
-            places: Vec::with_capacity(alloc, MAX_ENTRIES)?,
-            octets: Vec::with_capacity(alloc, MAX_OCTETS)?,
+            places: Vec::with_capacity(alloc, MAX_PREPARED)?,
+            octets: Vec::with_capacity(alloc, MAX_PREPARED_OCTETS)?,
         })
     }
 
@@ -81,7 +85,7 @@ impl Queue {
     pub(crate) fn has_room(&self, part: &[u8]) -> bool
         ensures { result ≡ has_room self.now part.now }
     {
-        self.places.len() < MAX_ENTRIES && self.octets.len() + part.len() <= MAX_OCTETS
+        self.places.len() < MAX_PREPARED && self.octets.len() + part.len() <= MAX_PREPARED_OCTETS
     }
 
     /// Adds an entry at the end. It takes no memory.
@@ -103,7 +107,7 @@ impl Queue {
     pub(crate) fn parts(&self) -> (&[Place], &[u8])
         ensures entries { entries_in result.0.now result.1.now ≡ self.now }
         ensures sizes { sizes_of result.0.now ≡ length result.1.now }
-        ensures within { length result.0.now ≤ 32 }
+        ensures within { length result.0.now ≤ MAX_PREPARED }
     {
         (&self.places, &self.octets)
     }
