@@ -14,6 +14,7 @@ use Rattle.le_security.specs.declared.key_fault.KeyFault.{KeyFault}
 use Rattle.le_security.specs.declared.key_fault.KeyFault.TheVariants.{Missing, BadAddress, BadHex, BadSize, Twice, TooMany, Shape, NotZero}
 use Rattle.le_security.specs.Address.{address_of, address_type_of}
 use Rattle.le_security.specs.Keys.{has_answer}
+use Rattle.le_security.specs.declared.entry_file.TheConstants.{MAX_ENTRIES}
 
 abbrev pub entry_keys : Keys
 entry_keys =
@@ -98,10 +99,10 @@ entry_of written = do
     };
   })
 
--- an entry behind others, at most 64 in all, none of which answers the same request
+-- an entry behind others, at most so many in all, none of which answers the same request
 abbrev pub entry_after : List Entry → Data → Result Entry KeyFault
 entry_after entries value = do
-  _ ← unless (nat_lt (length entries) 64) TooMany
+  _ ← unless (nat_lt (length entries) MAX_ENTRIES) TooMany
   members ← require (as_table value) Shape
   _ ← unless (is_shaped entry_keys members) Shape
   written ← written_at members

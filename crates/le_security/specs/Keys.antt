@@ -7,10 +7,11 @@ use Rattle.le_hci.specs.declared.peer.Peer.{Peer}
 use Rattle.le_security.specs.declared.entry.Entry.{Entry}
 use Rattle.le_security.specs.declared.entry.Key.{Key}
 use Rattle.le_security.specs.Entry.{same_peer, is_for}
+use Rattle.le_security.specs.declared.entry_file.TheConstants.{MAX_ENTRIES}
 
--- there are at most 64 of them, and at most one for each request
+-- there are no more of them than a key file may have, and at most one for each request
 pub record AreProvisioned (entries : List Entry) : Type 0 where
-  pub within : length entries ≤ 64
+  pub within : length entries ≤ MAX_ENTRIES
   pub once : (peer : Peer) (random_number : Octets) (diversifier : ℕ) → count_by (is_for peer random_number diversifier) entries ≤ 1
 
 -- whether the request that an entry answers has an answer

@@ -71,7 +71,7 @@ pub struct Written<'a> {
 /// fault.
 pub fn read_entry(entries: &[Entry], element: &Value) -> Result<Entry, KeyFault>
     ensures entry { result ≡ entry_after entries.now (view element.now) }
-    ensures room { IfOk result (λ _. length entries.now < 64) }
+    ensures room { IfOk result (λ _. length entries.now < MAX_ENTRIES) }
     ensures once { IfOk result (λ entry. IsFalse (has_answer entries.now entry)) }
     ensures is_toml { IfErr result (λ fault. fault ≢ NotToml) }
 {

@@ -22,7 +22,7 @@ pub enum KeyFault {
     BadSize,
     /// An earlier entry has the same peer, random number and diversifier.
     Twice,
-    /// There are more than 64 entries.
+    /// There are more than `MAX_ENTRIES` entries.
     TooMany,
     /// Memory was refused.
     OutOfMemory,

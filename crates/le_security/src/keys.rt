@@ -3,6 +3,7 @@ ghost use Rattle.std.specs.List.{count_by};
 ghost use Rattle.std.specs.Option.{option_copied};
 ghost use Rattle.le_security.specs.Entry.{is_for};
 ghost use Rattle.le_security.specs.Keys.{has_answer, is_known, answer_of, peer_at};
+ghost use Rattle.le_security.specs.declared.entry_file.TheConstants.{MAX_ENTRIES};
 
 use crate::entry::{Entry, Key};
 use le_hci::Peer;
@@ -39,7 +40,7 @@ impl Keys {
 
     /// Adds a key at the end.
     pub(crate) fn push(&mut self, entry: Entry) -> Result<(), AllocError>
-        requires room { length self.old < 64 }
+        requires room { length self.old < MAX_ENTRIES }
         requires once { IsFalse (has_answer self.old entry) }
         ensures pushed { OnOk result (self.new ≡ self.old ++ entry ∷ []) }
         ensures unchanged { OnErr result (self.new ≡ self.old) }
@@ -77,7 +78,7 @@ impl Keys {
     /// How many keys there are.
     pub fn count(&self) -> usize
         ensures count { result ≡ length self.now }
-        ensures within { result ≤ 64 }
+        ensures within { result ≤ MAX_ENTRIES }
     {
         self.entries.len()
     }
