@@ -7,6 +7,7 @@ use Rattle.att_policy.specs.Policy.{first_unmet_rule_of}
 use Rattle.att_attributes.specs.Attributes.{guard_at, is_value_at}
 use Rattle.att_table.specs.Table.{Contents, value_at}
 use Rattle.octets.specs.Number.{Octets}
+use Rattle.att_numbers.specs.declared.limit.TheConstants.{MAX_ATTRIBUTES}
 
 pub record InTable : Type 0 where
   pub table : Contents
@@ -19,4 +20,4 @@ pub record IsLookedUp (table : Contents) (handle : Handle) (guard : Guard) (ungu
   pub read_by_all : unguarded ≡ true → (standing : Standing) → first_unmet_rule_of guard.read standing ≡ None
   pub value : octets ≡ value_at table.values handle
   pub used : 0 < handle
-  pub most : handle ≤ 1024
+  pub most : handle ≤ MAX_ATTRIBUTES

@@ -11,6 +11,7 @@ use Rattle.gatt_subs.specs.RowEntry.{order_of, rank_of}
 use Rattle.gatt_subs.specs.Rows.{Subscriptions}
 use Rattle.gatt_subs.specs.RowsText.{configured, owed_in, text_of}
 use Rattle.gatt_subs.specs.Unfitted.{Written, nothing_written, rows_read}
+use Rattle.att_numbers.specs.declared.limit.TheConstants.{MAX_CONFIGURATIONS}
 
 -- a peer that a line can name
 pub record IsNamed (peer : Peer) : Type 0 where
@@ -45,13 +46,13 @@ pub record IsBondOfAFile (bond : Bond) : Type 0 where
   pub entries : All IsEntry bond.row
   pub handles : All (λ (entry : Handle × ℕ). entry.0 < 65536) bond.row
   pub once : HasOneEntryEach bond.row
-  pub few : length bond.row ≤ 64
+  pub few : length bond.row ≤ MAX_CONFIGURATIONS
 
 -- fitted rows of peers that lines can name, each once and in order
 pub record IsFitted (rows : Subscriptions) : Type 0 where
   pub peers : All IsNamed rows.peers
   pub climbs : Climbs rank_of rows.peers
-  pub few : length rows.peers ≤ 64
+  pub few : length rows.peers ≤ MAX_OWED
   pub bonds : All IsBondOfAFile rows.bonds
   pub unfitted : rows.unfitted ≡ nothing_written
 

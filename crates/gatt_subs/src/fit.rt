@@ -4,6 +4,7 @@ ghost use Rattle.std.specs.Prelude.{◌≡◌, ◌≤◌, if◌then◌else◌, O
 ghost use Rattle.att_table.specs.ConfigRow.{with_bits, is_supported, IsRowOf};
 ghost use Rattle.gatt_subs.specs.Fit.{peers_of, row_fitted, wants_changes, with_peer};
 ghost use Rattle.gatt_subs.specs.Rows.{row_in};
+ghost use Rattle.att_numbers.specs.declared.limit.TheConstants.{MAX_ATTRIBUTES};
 
 use crate::hearing::wants_indications;
 use crate::row_entry::RowEntry;
@@ -75,7 +76,7 @@ fn set_supported(row: &mut ConfigRow, table: &Table, handle: u16, bits: u8)
 
 /// Whether a row asks for indications of the changer of a table, if that has one.
 pub fn wants_changes(changer: Option<u16>, row: &ConfigRow) -> bool
-    requires { IfSome changer (λ handle. handle ≤ 1024) }
+    requires { IfSome changer (λ handle. handle ≤ MAX_ATTRIBUTES) }
     ensures { result ≡ wants_changes changer row.now }
 {
     match changer {

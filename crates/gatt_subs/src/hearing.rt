@@ -8,6 +8,7 @@ ghost use Rattle.att_policy.specs.Policy.{first_unmet_rule_of, may_hear_of};
 ghost use Rattle.att_attributes.specs.Attributes.{is_value_at};
 ghost use Rattle.att_table.specs.Table.{value_at};
 ghost use Rattle.gatt_subs.specs.Hearing.{bits_for, is_indicated, is_indication, may_hear_at, wants_indications};
+ghost use Rattle.att_numbers.specs.declared.limit.TheConstants.{MAX_ATTRIBUTES};
 
 use att_policy::{Guard, INDICATION, Need, Standing, may_hear};
 use att_table::{ConfigRow, Role, Table};
@@ -51,7 +52,7 @@ impl<'a> Raised<'a> {
             (λ raised. raised ≡ record { table = table.now; handle = handle }) }
         ensures value { IfSome result (λ raised. is_value_at table.now.attributes handle ≡ true) }
         ensures used { IfSome result (λ raised. 0 < handle) }
-        ensures most { IfSome result (λ raised. handle ≤ 1024) }
+        ensures most { IfSome result (λ raised. handle ≤ MAX_ATTRIBUTES) }
         ensures none { IsNone result → (row : Row) (standing : Standing)
             → may_hear_at table.now.attributes row standing handle ≡ false }
     {
@@ -73,7 +74,7 @@ impl<'a> Raised<'a> {
     pub fn handle(&self) -> u16
         ensures handle { result ≡ self.now.handle }
         ensures used { 0 < result }
-        ensures most { result ≤ 1024 }
+        ensures most { result ≤ MAX_ATTRIBUTES }
     {
         self.handle
     }
@@ -132,7 +133,7 @@ fn is_heard(guard: &Guard, unguarded: bool, bits: u8, standing: &Standing) -> bo
 /// What a client has configured for the value at a handle: its configuration stands behind it.
 #[inline(always)]
 fn bits_for(row: &ConfigRow, handle: u16) -> u8
-    requires { handle ≤ 1024 }
+    requires { handle ≤ MAX_ATTRIBUTES }
     ensures { result ≡ bits_for row.now handle }
 {
     row.get(handle + 1)
@@ -140,7 +141,7 @@ fn bits_for(row: &ConfigRow, handle: u16) -> u8
 
 /// Whether a client has asked for indications of the value at a handle.
 pub fn wants_indications(row: &ConfigRow, handle: u16) -> bool
-    requires { handle ≤ 1024 }
+    requires { handle ≤ MAX_ATTRIBUTES }
     ensures { result ≡ wants_indications row.now handle }
 {
     bits_for(row, handle) & INDICATION != 0

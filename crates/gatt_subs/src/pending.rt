@@ -82,7 +82,7 @@ impl Pending {
             ≡ is_notified self.old table.now.attributes row.now standing.entry.now handle backlog }
         ensures pending { self.new
             ≡ after_raise self.old table.now.attributes row.now standing.entry.now handle }
-        ensures room { OnTrue result (backlog < 8) }
+        ensures room { OnTrue result (backlog < MAX_BACKLOG) }
         ensures value { OnTrue result (is_value_at table.now.attributes handle ≡ true) }
     {
         match Raised::of(table, handle) {
@@ -102,7 +102,7 @@ impl Pending {
     ) -> bool
         ensures notified { result ≡ is_notified self.old raised.now.table.attributes row.now standing.entry.now raised.now.handle backlog }
         ensures pending { self.new ≡ after_raise self.old raised.now.table.attributes row.now standing.entry.now raised.now.handle }
-        ensures room { OnTrue result (backlog < 8) }
+        ensures room { OnTrue result (backlog < MAX_BACKLOG) }
     {
         if self.timed_out {
             return false;
@@ -131,7 +131,7 @@ impl Pending {
             ≡ released_handle self.old table.now.attributes row.now standing.entry.now backlog }
         ensures pending { self.new
             ≡ after_release self.old table.now.attributes row.now standing.entry.now backlog now }
-        ensures room { IfSome result (λ handle. backlog < 8) }
+        ensures room { IfSome result (λ handle. backlog < MAX_BACKLOG) }
         ensures value { IfSome result (λ handle. is_value_at table.now.attributes handle ≡ true) }
     {
         if self.unconfirmed.is_some() || self.timed_out || backlog >= MAX_BACKLOG {

@@ -19,6 +19,7 @@ ghost use Rattle.gatt_subs.specs.RowEntry.{is_at, rank_of};
 ghost use Rattle.gatt_subs.specs.Rows.{place_of, bond_of, row_of, row_in, row_read, owes, bonds_with, with_bond, with_row, with_set, with_owed, kept_bond, subscriptions_read, ChangesBond};
 ghost use Rattle.gatt_subs.specs.Changes.{with_changes_owed};
 ghost use Rattle.gatt_subs.specs.RowsText.{text_of};
+ghost use Rattle.att_numbers.specs.declared.limit.TheConstants.{MAX_ATTRIBUTES};
 
 use crate::bond::Bond;
 use crate::row_entry::RowEntry;
@@ -128,7 +129,7 @@ impl Rows {
     /// The bond of a peer, fitted to a table that has this changer.
     fn fitted_bond(&self, peer: &Peer, table: &Table, changer: Option<u16>) -> Bond
         requires changer { changer ≡ changer_of table.now }
-        requires most { IfSome changer (λ handle. handle ≤ 1024) }
+        requires most { IfSome changer (λ handle. handle ≤ MAX_ATTRIBUTES) }
         ensures { result ≡ fitted_bond table.now self.now peer.now }
     {
         let row = self.fitted_row(peer, table);
@@ -241,7 +242,7 @@ impl Rows {
 
     /// Sets that each peer whose row asks for indications of this changer is owed one, and no other.
     pub fn owe_changes(&mut self, changer: Option<u16>)
-        requires most { IfSome changer (λ handle. handle ≤ 1024) }
+        requires most { IfSome changer (λ handle. handle ≤ MAX_ATTRIBUTES) }
         ensures owed { self.new
             ≡ record self.old { bonds = map (with_changes_owed changer) self.old.bonds } }
         ensures each { (peer : Peer)
@@ -254,7 +255,7 @@ impl Rows {
 
 /// Sets of each bond that it is owed where its row asks for indications of this changer.
 fn owe_where_wanted(bonds: &mut Vec<Bond>, changer: Option<u16>)
-    requires { IfSome changer (λ handle. handle ≤ 1024) }
+    requires { IfSome changer (λ handle. handle ≤ MAX_ATTRIBUTES) }
     ensures { bonds.new.items ≡ map (with_changes_owed changer) bonds.old.items }
 {
     for place in 0..bonds.len() {

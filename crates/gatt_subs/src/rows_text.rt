@@ -14,6 +14,7 @@ use crate::bond::Bond;
 use crate::row_entry::RowEntry;
 use crate::unfitted::{Unfitted, first_entry_behind};
 use arrayvec::ArrayVec;
+use att_numbers::limit::MAX_CONFIGURATIONS;
 use att_table::ConfigRow;
 use itoa::Buffer;
 use le_hci::Peer;
@@ -117,7 +118,7 @@ fn write_owed<W: Sink>(peers: &[Peer], sink: &mut W) -> Result<(), Failed>
 }
 
 /// The entries of a row that have bits, in the order of a rows file.
-fn entries_of(peer: &Peer, row: &ConfigRow) -> ArrayVec<RowEntry, 64>
+fn entries_of(peer: &Peer, row: &ConfigRow) -> ArrayVec<RowEntry, MAX_CONFIGURATIONS>
     ensures { result.items ≡ entries_of peer.now row.now }
 {
     let mut entries = ArrayVec::new();
@@ -138,8 +139,8 @@ fn entries_of(peer: &Peer, row: &ConfigRow) -> ArrayVec<RowEntry, 64>
 
 /// Puts an entry in its place in the order of a rows file.
 #[tactic(auto, using(crate::proofs::InOrder::inserts))]
-fn insert_in_order(entries: &mut ArrayVec<RowEntry, 64>, entry: RowEntry)
-    requires { array_vec_len entries.old < 64 }
+fn insert_in_order(entries: &mut ArrayVec<RowEntry, MAX_CONFIGURATIONS>, entry: RowEntry)
+    requires { array_vec_len entries.old < MAX_CONFIGURATIONS }
     ensures items { entries.new.items ≡ in_order order_of entry entries.old.items }
     ensures len { array_vec_len entries.new ≡ array_vec_len entries.old + 1 }
 {
@@ -201,7 +202,7 @@ fn address_text(address: [u8; 6]) -> [u8; 17]
 
 /// Appends a number in decimal digits.
 fn push_number(line: &mut ArrayVec<u8, LINE>, number: u64)
-    requires { array_vec_len line.old + 20 ≤ 96 }
+    requires { array_vec_len line.old + 20 ≤ LINE }
     ensures items { line.new.items ≡ line.old.items ++ decimal number }
     ensures len { array_vec_len line.new ≤ array_vec_len line.old + 20 }
 {
@@ -211,7 +212,7 @@ fn push_number(line: &mut ArrayVec<u8, LINE>, number: u64)
 
 /// Appends octets that fit, so the `unwrap` is proved and tests nothing.
 fn push(line: &mut ArrayVec<u8, LINE>, octets: &[u8])
-    requires { array_vec_len line.old + length octets.now ≤ 96 }
+    requires { array_vec_len line.old + length octets.now ≤ LINE }
     ensures items { line.new.items ≡ line.old.items ++ octets.now }
     ensures len { array_vec_len line.new ≡ array_vec_len line.old + length octets.now }
 {
