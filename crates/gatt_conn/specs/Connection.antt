@@ -3,6 +3,7 @@ use Rattle.std.specs.Prelude.{min, max, Bool, true, false, if◌then◌else◌, 
 use Rattle.att_numbers.specs.Types.{Mtu}
 use Rattle.att_policy.specs.declared.standing.Standing.{Standing}
 use Rattle.att_writes.specs.Entry.{Entry}
+use Rattle.att_pdu.specs.declared.pdu_buf.TheConstants.{MIN_MTU}
 
 -- what the policy sees of it; its ATT_MTU; the largest PDU that the server receives; whether a client has exchanged its own for it; and its prepared writes, in their order
 pub record Connection : Type 0 where
@@ -16,7 +17,7 @@ pub record Connection : Type 0 where
 abbrev pub new_connection : Mtu → Connection
 new_connection rx_mtu = record {
   standing = record { key = None; key_known = false; until = 0; now = 0 };
-  mtu = 23;
+  mtu = MIN_MTU;
   rx_mtu = rx_mtu;
   exchanged = false;
   queue = [];
@@ -24,7 +25,7 @@ new_connection rx_mtu = record {
 
 -- the ATT_MTU is what both sides can receive, and never below the least: Core 5.0, Vol 3 Part F, 3.4.2.2
 abbrev pub mtu_between : Mtu → Mtu → Mtu
-mtu_between client_rx_mtu server_rx_mtu = max 23 (min client_rx_mtu server_rx_mtu)
+mtu_between client_rx_mtu server_rx_mtu = max MIN_MTU (min client_rx_mtu server_rx_mtu)
 
 -- the first exchange sets it. Later ones change nothing, by this profile's own rule
 abbrev pub after_exchange : Connection → Mtu → Connection

@@ -11,6 +11,7 @@ use Rattle.att_writes.specs.Entry.{Entry}
 use Rattle.gatt_conn.specs.Answer.{Question, entry_at, answer_to, conn_after}
 use Rattle.gatt_conn.specs.Connection.{Connection, new_connection, mtu_between}
 use Rattle.octets.specs.Number.{Octets}
+use Rattle.att_pdu.specs.declared.pdu_buf.TheConstants.{MIN_MTU}
 
 -- a PDU asked for this and had this answer, if one was due; or the server dropped what was prepared
 pub data Said : Type 0 where
@@ -42,7 +43,7 @@ first_exchange (said ∷ earlier) = option_or (first_exchange earlier) (exchange
 
 -- the ATT_MTU of a connection to a server that receives PDUs of this many octets
 abbrev pub mtu_in : Mtu → List Said → Mtu
-mtu_in rx_mtu all = option_map_or (λ client_rx_mtu. mtu_between client_rx_mtu rx_mtu) (first_exchange all) 23
+mtu_in rx_mtu all = option_map_or (λ client_rx_mtu. mtu_between client_rx_mtu rx_mtu) (first_exchange all) MIN_MTU
 
 -- the part that a client asks to prepare
 abbrev pub part_asked : Question → List Entry

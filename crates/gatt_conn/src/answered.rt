@@ -10,11 +10,12 @@ ghost use Rattle.gatt_conn.specs.Served.{Serves, IsAnswered};
 
 use crate::conn::Conn;
 use crate::writing::{cancel, command, execute, prepare, write};
-use arrayvec::ArrayVec;
 use att_numbers::{error_code, opcode};
 use att_pdu::{ExecuteFlags, PduBuf, PduFault, Request, read_request};
 use att_reads::answer_read;
 use att_table::{ConfigRow, Table};
+use att_writes::Touched;
+use octets::PduOctets;
 
 /// What an Attribute PDU led to, beside the answer itself.
 #[derive(Debug, Drop)]
@@ -24,7 +25,7 @@ pub struct Answered {
     /// The PDU confirms an indication.
     pub confirmed: bool,
     /// The handles that were written, each once, in the order of their first writes.
-    pub touched: ArrayVec<u16, 32>,
+    pub touched: Touched,
 }
 
 /// What became of a PDU, where the handles that were written go into a list of the caller's.
@@ -62,7 +63,7 @@ pub fn answer(
     ensures where_due { is_some (answer_to table.old row.old conn.old
         (request_of pdu.now conn.old.mtu)) ≡ is_due (request_of pdu.now conn.old.mtu) }
 {
-    let mut touched = ArrayVec::new();
+    let mut touched = Touched::new();
     let served = serve(table, row, conn, pdu, out, &mut touched);
     Answered {
         due: served.due,
@@ -78,7 +79,7 @@ fn serve(
     conn: &mut Conn,
     pdu: &[u8],
     out: &mut PduBuf<'_>,
-    touched: &mut ArrayVec<u16, 32>,
+    touched: &mut Touched,
 ) -> Served
     requires empty { contents out.old ≡ [] }
     requires mtu { mtu_of out.old ≡ conn.old.mtu }
@@ -119,7 +120,7 @@ fn serve_form(
     conn: &mut Conn,
     pdu: &[u8],
     out: &mut PduBuf<'_>,
-    touched: &mut ArrayVec<u16, 32>,
+    touched: &mut Touched,
 ) -> Served
     requires empty { contents out.old ≡ [] }
     requires untouched { touched.old.items ≡ [] }
@@ -188,8 +189,8 @@ pub fn answer_into(
     row: &mut ConfigRow,
     conn: &mut Conn,
     pdu: &[u8],
-    octets: &mut ArrayVec<u8, 517>,
-    touched: &mut ArrayVec<u16, 32>,
+    octets: &mut PduOctets,
+    touched: &mut Touched,
 ) -> Served
     requires row { IsRowOf table.old.attributes row.old }
 

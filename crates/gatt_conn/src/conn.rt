@@ -7,12 +7,12 @@ ghost use Rattle.att_writes.specs.Queue.{prepare_fault, queue_after, prepare_out
 ghost use Rattle.gatt_conn.specs.Answer.{entry_at};
 ghost use Rattle.gatt_conn.specs.Connection.{new_connection, after_exchange};
 ghost use Rattle.gatt_conn.specs.Transcript.{TranscriptTells};
+ghost use Rattle.att_pdu.specs.declared.pdu_buf.TheConstants.{MAX_MTU};
 
-use arrayvec::ArrayVec;
 use att_pdu::MIN_MTU;
 use att_policy::{Access, Standing};
 use att_table::{ConfigRow, Table};
-use att_writes::{Outcome, Queue};
+use att_writes::{Outcome, Queue, Touched};
 use std::alloc::{AllocError, Global};
 use std::marker::Model;
 
@@ -42,13 +42,14 @@ pub struct Conn {
 
 impl Model for Conn {
     ghost use Rattle.std.specs.Prelude.{◌≤◌};
+    ghost use Rattle.att_pdu.specs.declared.pdu_buf.TheConstants.{MAX_MTU, MIN_MTU};
     ghost use Rattle.gatt_conn.specs.Connection.{Connection};
 
     ghost Value = { Connection };
 
     ghost view = { λ conn. record { standing = conn.standing; mtu = conn.mtu; rx_mtu = conn.rx_mtu; exchanged = conn.exchanged; queue = conn.queue } };
 
-    ghost invariant = { λ conn. (23 ≤ conn.mtu) × (conn.mtu ≤ 517) × (23 ≤ conn.rx_mtu) × (conn.rx_mtu ≤ 517) };
+    ghost invariant = { λ conn. (MIN_MTU ≤ conn.mtu) × (conn.mtu ≤ MAX_MTU) × (MIN_MTU ≤ conn.rx_mtu) × (conn.rx_mtu ≤ MAX_MTU) };
 }
 
 impl Conn {
@@ -56,7 +57,7 @@ impl Conn {
     /// exchanged. All the room that it will need is made here, with `alloc`.
     #[tactic(auto, using(crate::proofs::Transcripts::transcript_tells))]
     pub fn new(alloc: Global) -> Result<Conn, AllocError>
-        ensures conn { IfOk result (λ conn. conn ≡ new_connection 247) }
+        ensures conn { IfOk result (λ conn. conn ≡ new_connection RX_MTU) }
         // Whatever happens to a new connection and to the table, its own transcript tells its
         // ATT_MTU and its prepared writes.
         ensures transcript { TranscriptTells }
@@ -73,8 +74,8 @@ impl Conn {
     /// Sets the largest PDU that the server receives on this connection, in octets, before any
     /// ATT_MTU is exchanged.
     pub fn limit(&mut self, rx_mtu: u16)
-        requires least { 23 ≤ rx_mtu }
-        requires most { rx_mtu ≤ 517 }
+        requires least { MIN_MTU ≤ rx_mtu }
+        requires most { rx_mtu ≤ MAX_MTU }
         requires not_exchanged { self.old.exchanged ≡ false }
         ensures { self.new ≡ record self.old { rx_mtu = rx_mtu } }
     {
@@ -98,8 +99,8 @@ impl Conn {
     /// The ATT_MTU, in octets.
     pub fn mtu(&self) -> u16
         ensures mtu { result ≡ self.now.mtu }
-        ensures least { 23 ≤ result }
-        ensures most { result ≤ 517 }
+        ensures least { MIN_MTU ≤ result }
+        ensures most { result ≤ MAX_MTU }
     {
         self.mtu
     }
@@ -162,7 +163,7 @@ impl Conn {
         &mut self,
         table: &mut Table,
         row: &mut ConfigRow,
-        touched: &mut ArrayVec<u16, 32>,
+        touched: &mut Touched,
     ) -> Outcome
         requires row { IsRowOf table.old.attributes row.old }
         ensures outcome { result

@@ -6,4 +6,5 @@ mod conn;
 mod writing;
 
 pub use answered::{Answered, Served, answer, answer_into};
+pub use att_writes::Touched;
 pub use conn::Conn;

@@ -12,11 +12,10 @@ ghost use Rattle.gatt_conn.specs.Served.{Serves};
 
 use crate::answered::{Served, refuse, with_answer, without_answer};
 use crate::conn::Conn;
-use arrayvec::ArrayVec;
 use att_numbers::opcode;
 use att_pdu::{ExecuteFlags, PduBuf};
 use att_table::{ConfigRow, Table};
-use att_writes::Outcome;
+use att_writes::{Outcome, Touched};
 
 /// Serves a Write Request: Core 5.0, Vol 3 Part F, 3.4.5.1.
 pub(crate) fn write(
@@ -26,7 +25,7 @@ pub(crate) fn write(
     handle: u16,
     value: &[u8],
     out: &mut PduBuf<'_>,
-    touched: &mut ArrayVec<u16, 32>,
+    touched: &mut Touched,
 ) -> Served
     requires empty { contents out.old ≡ [] }
     requires untouched { touched.old.items ≡ [] }
@@ -56,7 +55,7 @@ pub(crate) fn command(
     conn: &Conn,
     handle: u16,
     value: &[u8],
-    touched: &mut ArrayVec<u16, 32>,
+    touched: &mut Touched,
 ) -> Served
     requires untouched { touched.old.items ≡ [] }
     requires row { IsRowOf table.old.attributes row.old }
@@ -125,7 +124,7 @@ pub(crate) fn execute(
     row: &mut ConfigRow,
     conn: &mut Conn,
     out: &mut PduBuf<'_>,
-    touched: &mut ArrayVec<u16, 32>,
+    touched: &mut Touched,
 ) -> Served
     requires empty { contents out.old ≡ [] }
     requires row { IsRowOf table.old.attributes row.old }
