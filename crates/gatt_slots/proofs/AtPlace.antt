@@ -11,7 +11,7 @@ use Rattle.std.proofs.lemmas.Bool.{OnFalse_at, OnTrue_at}
 use Rattle.gatt_slots.proofs.Covering.{read_at}
 use Rattle.gatt_slots.specs.Commands.{has_command, without_packet}
 use Rattle.gatt_slots.specs.Kept.{Kept}
-use Rattle.gatt_slots.specs.Places.{is_some_handle, waits, GoesOn}
+use Rattle.gatt_slots.specs.Places.{is_some_handle, may_listen, waits, GoesOn}
 use Rattle.gatt_slots.specs.Request.{is_full, kept_served, pending_after}
 use Rattle.gatt_laws.specs.machine.Turn.{remote_user_terminated}
 use Rattle.gatt_slots.specs.Turn.{after_ending}
@@ -86,3 +86,12 @@ given_goes_on slot given false after stays =
       waiting = λ some. ap waits (sym same) ∙ some;
       free = λ some. ap (λ it. is_none it) (sym same) ∙ some;
     }
+
+pub given_listens : (slot given : Option Kept) (gave : Bool) → OnTrue gave (given ≡ option_map without_packet slot) → OnFalse gave (given ≡ slot)
+    → may_listen given ≡ true → may_listen slot ≡ true
+given_listens slot given true after stays is = sym (same slot) ∙ ap may_listen (sym (OnTrue_at refl after)) ∙ is
+  where
+    same : (slot : Option Kept) → may_listen (option_map without_packet slot) ≡ may_listen slot
+    same None = refl
+    same (Some kept) = refl
+given_listens slot given false after stays is = ap may_listen (sym (OnFalse_at refl stays)) ∙ is

@@ -1,11 +1,12 @@
 -- What a set of places covers, as slots change and as places leave it.
-use Rattle.std.proofs.Common.{◌≡◌, ◌≢◌, ℕ, zero, suc, ◌+◌, ◌<◌, ◌≤◌, Bool, true, false, ◌||◌, List, [], ◌∷◌, length, set, get_or, Option, Some, None, refl, sym, ap, subst, ◌∙◌, arith}
+use Rattle.std.proofs.Common.{◌≡◌, ◌≢◌, ℕ, zero, suc, ◌+◌, ◌<◌, ◌≤◌, ◌==◌, Bool, true, false, ◌||◌, List, [], ◌∷◌, length, set, get_or, Option, Some, None, refl, sym, ap, subst, ◌∙◌, arith}
 use Rattle.std.specs.Prelude.{is_none, if◌then◌else◌, not}
 use Rattle.std.specs.Bool.{OnFalse, OnTrue}
 use Rattle.std.specs.Int.{bit_at}
 use Rattle.std.specs.List.{list_any, position}
 use Rattle.std.specs.Option.{option_map_or}
 use Rattle.std.proofs.lemmas.Bool.{cases_eq, cases_lt, OnFalse_from, OnTrue_at}
+use Rattle.std.proofs.lemmas.Bool.Decides.{eqb_tells}
 use Rattle.std.proofs.lemmas.List.{get_or-set_same, get_or-set_other, length-set}
 use Rattle.std.proofs.lemmas.Nat.Bits.{bit_at-zero, bit_at_ones}
 use Rattle.std.proofs.lemmas.Option.{slice_get-get_or}
@@ -16,20 +17,21 @@ use Rattle.att_table.specs.Table.{Contents}
 use Rattle.gatt_slots.specs.Commands.{gives, has_command}
 use Rattle.gatt_slots.specs.Hearing.{ear_of, told_in_turn, told_of, with_told}
 use Rattle.gatt_slots.specs.Kept.{Kept}
-use Rattle.gatt_slots.specs.Places.{is_due, waits, Covers, GoesOn, IsMarked}
-use Rattle.gatt_slots.specs.Slots.{Held, all_heard, handles_for, heard_by, heard_from, kept_at}
+use Rattle.gatt_slots.specs.Places.{is_due, may_listen, waits, Covers, GoesOn, IsMarked}
+use Rattle.gatt_slots.specs.Slots.{Held, all_heard, handles_for, heard_by, heard_from, is_own, kept_at}
 use Rattle.gatt_subs.specs.Rows.{Subscriptions, row_of}
 use Rattle.gatt_slots.specs.declared.marks.Marks.{Marks}
 use Rattle.gatt_slots.specs.declared.places.Due.{Due}
 use Rattle.gatt_slots.specs.declared.places.Places.{Places}
-use Rattle.gatt_slots.specs.declared.places.Due.TheVariants.{Command, Packet}
+use Rattle.gatt_slots.specs.declared.places.Due.TheVariants.{Command, Packet, Value}
 
 pub none-due : (due : Due) → is_due due None ≡ false
 none-due Command = refl
 none-due Packet = refl
+none-due Value = refl
 
 -- what is due is due at a slot that is there
-there : (due : Due) (slots : Held) (place : ℕ) → is_due due (kept_at slots place) ≡ true → place < length slots
+pub there : (due : Due) (slots : Held) (place : ℕ) → is_due due (kept_at slots place) ≡ true → place < length slots
 there due slots place is = within (is_due due) (none-due due) slots place is
 
 pub at-same : (slots : Held) (place : ℕ) (slot : Option Kept) → place < length slots → kept_at (set slots place slot) place ≡ slot
@@ -133,22 +135,26 @@ waits_more slots place slot old new before still here other within is = ⊎_elim
 module _ (slots : Held) (place : ℕ) (slot : Option Kept) (old new : Marks) (marked : IsMarked slots old)
     (packets : bit_at new.packets.bits place ≡ 1) (other_packets : (other : ℕ) → other ≢ place → bit_at new.packets.bits other ≡ bit_at old.packets.bits other) where
   pub marked_with : bit_at new.commands.bits place ≡ 1 → ((other : ℕ) → other ≢ place → bit_at new.commands.bits other ≡ bit_at old.commands.bits other)
+      → bit_at new.listening.bits place ≡ 1 → ((other : ℕ) → other ≢ place → bit_at new.listening.bits other ≡ bit_at old.listening.bits other)
       → (new.waiting ≡ false → list_any waits (set slots place slot) ≡ false) → (new.free ≡ false → list_any (λ it. is_none it) (set slots place slot) ≡ false)
       → IsMarked (set slots place slot) new
-  marked_with commands other_commands waiting free = record {
+  marked_with commands other_commands listening other_listening waiting free = record {
     few = omega (arith, marked.few, length-set slots place slot);
     commands = covered_with Command old.commands.bits new.commands.bits slots place slot marked.commands commands other_commands;
     packets = covered_with Packet old.packets.bits new.packets.bits slots place slot marked.packets packets other_packets;
+    listening = covered_with Value old.listening.bits new.listening.bits slots place slot marked.listening listening other_listening;
     waiting = waiting;
     free = free;
   }
 
-  pub marked_on : new.commands ≡ old.commands → new.waiting ≡ old.waiting → new.free ≡ old.free → GoesOn (kept_at slots place) slot → IsMarked (set slots place slot) new
-  marked_on commands waiting free goes = record {
+  pub marked_on : new.commands ≡ old.commands → new.waiting ≡ old.waiting → new.free ≡ old.free → GoesOn (kept_at slots place) slot
+      → Covers Value new.listening.bits (set slots place slot) → IsMarked (set slots place slot) new
+  marked_on commands waiting free goes listening = record {
     few = omega (arith, marked.few, length-set slots place slot);
     commands = subst (λ (it : Places). Covers Command it.bits (set slots place slot)) (sym commands)
         (covered_still Command old.commands.bits slots place slot marked.commands goes.command);
     packets = covered_with Packet old.packets.bits new.packets.bits slots place slot marked.packets packets other_packets;
+    listening = listening;
     waiting = λ none. none_with waits slot slots place (marked.waiting (sym waiting ∙ none)) goes.waiting;
     free = λ none. none_with (λ it. is_none it) slot slots place (marked.free (sym free ∙ none)) goes.free;
   }
@@ -156,8 +162,9 @@ module _ (slots : Held) (place : ℕ) (slot : Option Kept) (old new : Marks) (ma
 -- none may be given at it any more
 pub marked_off : (slots : Held) (place : ℕ) (slot : Option Kept) (old new : Marks) → place < length slots → IsMarked slots old → gives slot ≡ false
     → ((other : ℕ) → other < 8 → other ≢ place → bit_at new.packets.bits other ≡ bit_at old.packets.bits other)
-    → new.commands ≡ old.commands → new.waiting ≡ old.waiting → new.free ≡ old.free → GoesOn (kept_at slots place) slot → IsMarked (set slots place slot) new
-marked_off slots place slot old new within marked idle others commands waiting free goes =
+    → new.commands ≡ old.commands → new.waiting ≡ old.waiting → new.free ≡ old.free → GoesOn (kept_at slots place) slot
+    → Covers Value new.listening.bits (set slots place slot) → IsMarked (set slots place slot) new
+marked_off slots place slot old new within marked idle others commands waiting free goes listening =
     let few : length (set slots place slot) ≤ 8 = omega (arith, marked.few, length-set slots place slot) in
     record {
       few = few;
@@ -166,15 +173,18 @@ marked_off slots place slot old new within marked idle others commands waiting f
       packets = covered_without Packet old.packets.bits new.packets.bits (set slots place slot) place few
           (covered_still Packet old.packets.bits slots place slot marked.packets (λ is. clash is idle))
           (ap gives (at-same slots place slot within) ∙ idle) others;
+      listening = listening;
       waiting = λ none. none_with waits slot slots place (marked.waiting (sym waiting ∙ none)) goes.waiting;
       free = λ none. none_with (λ it. is_none it) slot slots place (marked.free (sym free ∙ none)) goes.free;
     }
 
-pub all_marked : (slots : Held) → length slots ≤ 8 → IsMarked slots (record { commands = record { bits = 255 }; packets = record { bits = 255 }; waiting = true; free = true })
+pub all_marked : (slots : Held) → length slots ≤ 8
+    → IsMarked slots (record { commands = record { bits = 255 }; packets = record { bits = 255 }; listening = record { bits = 255 }; waiting = true; free = true })
 all_marked slots few = record {
   few = few;
   commands = all_covered Command slots few;
   packets = all_covered Packet slots few;
+  listening = all_covered Value slots few;
   waiting = λ none. cc none;
   free = λ none. cc none;
 }
@@ -189,6 +199,21 @@ none_covered due places slots covers empty = none_due due slots (λ place. idle 
       where
         bit : ◌≡◌ {A = ℕ} 1 0 → is_due due (kept_at slots place) ≡ false
         bit e = absurd (omega (arith, e))
+
+-- where no place but one is in a set, each that is in it is that one
+outside : {X : Type 0} (bits place : ℕ) → bits ≡ 0 → bit_at bits place ≡ 1 → X
+outside bits place none within =
+    let e : ◌≡◌ {A = ℕ} 1 0 = sym within ∙ ap (λ (it : ℕ). bit_at it place) none ∙ bit_at-zero place in absurd (omega (arith, e))
+
+pub only_own : (bits others own place : ℕ) → others ≡ 0 → ((other : ℕ) → other < 8 → other ≢ own → bit_at others other ≡ bit_at bits other)
+    → place < 8 → bit_at bits place ≡ 1 → (own == place) ≡ true
+only_own bits others own place none same few within = ⊎_elim
+    (λ is. ⊎_elim (λ it. it.0) (λ it. absurd (it.1 (sym is))) (eqb_tells own place))
+    (λ apart. outside others place none (same place few apart ∙ within))
+    (cases_eq place own)
+
+pub none_own : (bits : ℕ) (own : Option ℕ) → bits ≡ 0 → (place : ℕ) → bit_at bits place ≡ 1 → is_own own place ≡ true
+none_own bits own none place within = outside bits place none within
 
 -- nothing is due at a place that is not in the set
 pub idle_outside : (due : Due) (places : ℕ) (slots : Held) (place : ℕ) → Covers due places slots → bit_at places place ≡ 0 → is_due due (kept_at slots place) ≡ false
@@ -242,6 +267,27 @@ commands_heard table now rows own here handles places slots heard is covers = λ
     covers place
     (sym (heard-command table now rows (handles_for own here handles place) (kept_at slots place))
     ∙ ap has_command (sym (heard-at hear (λ at. refl) 0 slots place ∙ ap (λ (at : ℕ). hear at (kept_at slots place)) (first place))) ∙ ap (λ (it : Held). has_command (kept_at it place)) (sym is) ∙ due)
+  where
+    first : (place : ℕ) → 0 + place ≡ place
+    first place = omega arith
+
+-- nor does a connection come to listen by what it hears
+heard-listens : (table : Contents) (now : ℕ) (rows : Subscriptions) (handles : List Handle) (slot : Option Kept)
+    → may_listen (heard_by table now rows handles slot) ≡ may_listen slot
+heard-listens table now rows handles None = refl
+heard-listens table now rows handles (Some kept) =
+    elim kept.live as (λ (live : Bool). (let heard : Kept = if live then with_told kept (told_in_turn table (ear_of now (row_of rows kept.peer) kept) now handles (told_of kept)) else kept in may_listen (Some heard)) ≡ may_listen (Some kept)) [
+      | true ↦ refl
+      | false ↦ refl
+    ]
+
+pub listening_heard : (table : Contents) (now : ℕ) (rows : Subscriptions) (own : Option ℕ) (here handles : List Handle) (places : ℕ) (slots heard : Held)
+    → heard ≡ all_heard table now rows own here handles slots → Covers Value places slots → Covers Value places heard
+listening_heard table now rows own here handles places slots heard is covers = λ place listens.
+    let hear : ℕ → Option Kept → Option Kept = λ at slot. heard_by table now rows (handles_for own here handles at) slot in
+    covers place
+    (sym (heard-listens table now rows (handles_for own here handles place) (kept_at slots place))
+    ∙ ap may_listen (sym (heard-at hear (λ at. refl) 0 slots place ∙ ap (λ (at : ℕ). hear at (kept_at slots place)) (first place))) ∙ ap (λ (it : Held). may_listen (kept_at it place)) (sym is) ∙ listens)
   where
     first : (place : ℕ) → 0 + place ≡ place
     first place = omega arith

@@ -3,15 +3,22 @@ use Rattle.std.proofs.Common.{◌≡◌, ℕ, ◌+◌, Bool, true, false, ◌||�
 use Rattle.std.proofs.lemmas.Bool.Decides.{nat_tests}
 use Rattle.att_numbers.specs.Types.{Handle, Row}
 use Rattle.att_table.specs.Table.{Contents}
+use Rattle.att_attributes.specs.declared.attr.Attr.{Attr}
+use Rattle.att_attributes.specs.Attributes.{attribute_at, is_value}
+use Rattle.att_policy.specs.declared.guard.Guard.{Guard}
 use Rattle.att_policy.specs.declared.standing.Standing.{Standing}
-use Rattle.gatt_slots.specs.Hearing.{Ear, Told, after_hearing, ear_of, told_of, told_raised, told_released, with_heard, with_told}
+use Rattle.att_policy.specs.Policy.{configuration_bits_of, first_unmet_rule_of, may_hear_of}
+use Rattle.std.specs.Prelude.{is_none, is_some}
+use Rattle.std.specs.Int.Bits.{and_zero_l}
+use Rattle.std.proofs.lemmas.Bool.{and_right}
+use Rattle.gatt_slots.specs.Hearing.{Ear, Told, after_hearing, ear_of, row_by_key, row_in_force, told_of, told_raised, told_released, with_heard, with_told}
 use Rattle.gatt_subs.specs.Hearing.{may_hear_at, wants_indications}
 use Rattle.gatt_subs.specs.Indications.{with_handle}
 use Rattle.gatt_subs.specs.Told.{notification_of}
 use Rattle.std.specs.List.{list_any}
-use Rattle.std.specs.Option.{option_to_list}
+use Rattle.std.specs.Option.{option_map_or, option_to_list}
 use Rattle.gatt_slots.specs.Kept.{Kept}
-use Rattle.gatt_slots.specs.Places.{is_some_handle, waits}
+use Rattle.gatt_slots.specs.Places.{is_some_handle, may_listen, waits}
 use Rattle.gatt_slots.specs.Slots.{Held, all_heard, handles_for, heard_by, heard_from, is_own, raised_by}
 use Rattle.gatt_subs.specs.Rows.{Subscriptions, row_of}
 use Rattle.gatt_subs.specs.declared.pending.Unconfirmed.{Unconfirmed}
@@ -84,10 +91,14 @@ none-waits : (waiting : List Handle) → is_some_handle waiting ≡ false → wa
 none-waits [] none = refl
 none-waits (handle ∷ handles) none = cc none
 
-quiet-slot : (table : Contents) (now : ℕ) (rows : Subscriptions) (slot : Option Kept) → waits slot ≡ false → heard_by table now rows [] slot ≡ slot
+pub quiet-slot : (table : Contents) (now : ℕ) (rows : Subscriptions) (slot : Option Kept) → waits slot ≡ false → heard_by table now rows [] slot ≡ slot
 quiet-slot table now rows None none = refl
 quiet-slot table now rows (Some kept) none =
     ap (λ (it : Kept). Some it) (nothing_heard table now (row_of rows kept.peer) kept (none-waits kept.pending.waiting none))
+
+pub both-none : (first rest : Bool) → (first || rest) ≡ false → (first ≡ false) × (rest ≡ false)
+both-none true rest none = cc none
+both-none false rest none = (refl, none)
 
 all-quiet : (hear : ℕ → Option Kept → Option Kept) → ((place : ℕ) (slot : Option Kept) → waits slot ≡ false → hear place slot ≡ slot)
     → (start : ℕ) (slots : Held) → list_any waits slots ≡ false → heard_from start hear slots ≡ slots
@@ -95,10 +106,6 @@ all-quiet hear quiet start [] none = refl
 all-quiet hear quiet start (slot ∷ slots) none =
     let parts = both-none (waits slot) (list_any waits slots) none in
     λ i. quiet start slot parts.0 i ∷ all-quiet hear quiet (start + 1) slots parts.1 i
-  where
-    both-none : (first rest : Bool) → (first || rest) ≡ false → (first ≡ false) × (rest ≡ false)
-    both-none true rest none = cc none
-    both-none false rest none = (refl, none)
 
 pub nothing_heard_by_all : (table : Contents) (now : ℕ) (rows : Subscriptions) (own : Option ℕ) (slots : Held) → list_any waits slots ≡ false
     → slots ≡ all_heard table now rows own [] [] slots
@@ -111,3 +118,42 @@ nothing_heard_by_all table now rows own slots none =
 pub none_there : {A : Type 0} (items : List A) → (length items == 0) ≡ true → items ≡ []
 none_there [] none = refl
 none_there (item ∷ items) none = absurd (grind (arith, nat_tests, none))
+
+pub off : (is : Bool) → not is ≡ true → is ≡ false
+off true e = cc e
+off false e = refl
+
+-- nor does one hear of any value whose client has configured nothing
+unasked-of : (guard : Guard) (standing : Standing) → may_hear_of guard 0 standing ≡ false
+unasked-of guard standing =
+    ap (λ (both : ℕ). not (both == 0) && is_none (first_unmet_rule_of guard.read standing)) (and_zero_l (configuration_bits_of guard.properties))
+
+unasked : (attributes : List Attr) (standing : Standing) (handle : Handle) → may_hear_at attributes [] standing handle ≡ false
+unasked attributes standing handle =
+    elim (attribute_at attributes handle) as (λ (found : Option Attr).
+    option_map_or (λ (attr : Attr). is_value attr.role && may_hear_of attr.guard 0 standing) found false ≡ false) [
+      | None ↦ refl
+      | Some attr ↦ and_right (is_value attr.role) (may_hear_of attr.guard 0 standing) (unasked-of attr.guard standing)
+    ]
+
+none-in-force : (bond : Option Row) (kept : Kept) → (is_some kept.link.key || not (length kept.row == 0)) ≡ false → row_in_force bond kept ≡ []
+none-in-force bond kept none =
+    let parts = both-none (is_some kept.link.key) (not (length kept.row == 0)) none in
+    ap (λ (has : Bool). row_by_key has bond kept.row) parts.0 ∙ none_there kept.row (turned (length kept.row == 0) parts.1)
+  where
+    turned : (is : Bool) → not is ≡ false → is ≡ true
+    turned true e = refl
+    turned false e = cc e
+
+pub unlistening : (table : Contents) (now : ℕ) (rows : Subscriptions) (handle : Handle) (slot : Option Kept) → may_listen slot ≡ false
+    → raised_by table now rows handle slot ≡ slot
+unlistening table now rows handle None deaf = refl
+unlistening table now rows handle (Some kept) deaf =
+    let ear : Ear = ear_of now (row_of rows kept.peer) kept in
+    elim kept.live as (λ (live : Bool). (live && (is_some kept.link.key || not (length kept.row == 0))) ≡ false
+    → Some (if live then with_told kept (told_raised table ear handle (told_of kept)) else kept) ≡ Some kept) [
+      | true ↦ λ none. ap (λ (told : Told). Some (with_told kept told)) (unheard-raised table ear handle (told_of kept)
+          (ap (λ (row : Row). may_hear_at table.attributes row ear.standing handle) (none-in-force (row_of rows kept.peer) kept none)
+          ∙ unasked table.attributes ear.standing handle))
+      | false ↦ λ none. refl
+    ] deaf

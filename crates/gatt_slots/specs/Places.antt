@@ -1,5 +1,5 @@
 -- Where something may be due in the slots of a host: sets of places, as the bits of a number, that cover all that is due.
-use Rattle.std.specs.Prelude.{◌≡◌, ℕ, ◌<◌, ◌≤◌, Bool, true, false, is_none, List, [], ◌∷◌, length, Option}
+use Rattle.std.specs.Prelude.{◌≡◌, ℕ, ◌<◌, ◌≤◌, ◌==◌, ◌&&◌, ◌||◌, Bool, true, false, not, is_none, is_some, List, [], ◌∷◌, length, Option}
 use Rattle.std.specs.Int.{bit_at}
 use Rattle.std.specs.List.{list_any}
 use Rattle.std.specs.Option.{option_map_or}
@@ -7,14 +7,20 @@ use Rattle.gatt_slots.specs.Commands.{gives, has_command}
 use Rattle.gatt_slots.specs.declared.marks.Marks.{Marks}
 use Rattle.gatt_slots.specs.declared.telling.Heard.{Heard}
 use Rattle.gatt_slots.specs.declared.places.Due.{Due}
-use Rattle.gatt_slots.specs.declared.places.Due.TheVariants.{Command, Packet}
+use Rattle.gatt_slots.specs.declared.places.Due.TheVariants.{Command, Packet, Value}
 use Rattle.gatt_slots.specs.Kept.{Kept}
 use Rattle.gatt_slots.specs.Slots.{Held, kept_at}
 
--- a command is due for the connection of a slot, or a packet of it may be given
+-- the connection of a slot may hear of values: its link has a key, so that the row of its peer's bond is in force, or it
+-- has configured something itself
+abbrev pub may_listen : Option Kept → Bool
+may_listen slot = option_map_or (λ (kept : Kept). kept.live && (is_some kept.link.key || not (length kept.row == 0))) slot false
+
+-- a command is due for the connection of a slot, a packet of it may be given, or it may hear of a value that is written
 abbrev pub is_due : Due → Option Kept → Bool
 is_due Command slot = has_command slot
 is_due Packet slot = gives slot
+is_due Value slot = may_listen slot
 
 -- the first place of a set
 pub record IsFirstPlace (set place : ℕ) : Type 0 where
@@ -34,11 +40,12 @@ is_some_handle (handle ∷ handles) = true
 abbrev pub waits : Option Kept → Bool
 waits slot = option_map_or (λ (kept : Kept). is_some_handle kept.pending.waiting) slot false
 
--- nothing is due, waits or is free but where it is marked
+-- nothing is due or heard, waits or is free but where it is marked
 pub record IsMarked (slots : Held) (marks : Marks) : Type 0 where
   pub few : length slots ≤ 8
   pub commands : Covers Command marks.commands.bits slots
   pub packets : Covers Packet marks.packets.bits slots
+  pub listening : Covers Value marks.listening.bits slots
   pub waiting : marks.waiting ≡ false → list_any waits slots ≡ false
   pub free : marks.free ≡ false → list_any (λ slot. is_none slot) slots ≡ false
 

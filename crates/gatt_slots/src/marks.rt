@@ -1,20 +1,22 @@
 //! Where something may be due in the slots of a host, so that an event looks at no others.
 
-ghost use Rattle.std.specs.Prelude.{◌≡◌, false, ◌<◌, ◌≤◌, length, set, Option};
+ghost use Rattle.std.specs.Prelude.{◌≡◌, false, true, ◌<◌, ◌≤◌, length, set, Option};
 ghost use Rattle.gatt_slots.specs.Commands.{gives};
 ghost use Rattle.gatt_slots.specs.Kept.{Kept};
-ghost use Rattle.gatt_slots.specs.Places.{GoesOn, IsMarked};
+ghost use Rattle.gatt_slots.specs.Places.{may_listen, GoesOn, IsMarked};
 ghost use Rattle.gatt_slots.specs.Slots.{kept_at, Held};
 
 use crate::places::Places;
 
-/// Nothing is due, waits or is free but where it is marked.
+/// Nothing is due or heard, waits or is free but where it is marked.
 #[derive(Clone, Copy)]
 pub(crate) struct Marks {
     /// Where a command may be due.
     pub(crate) commands: Places,
     /// Where a packet may be given.
     pub(crate) packets: Places,
+    /// Where a connection may hear of values.
+    pub(crate) listening: Places,
     /// Whether a value may wait to be indicated.
     pub(crate) waiting: bool,
     /// Whether a slot may be free.
@@ -30,6 +32,7 @@ impl Marks {
         Marks {
             commands: Places::ALL,
             packets: Places::ALL,
+            listening: Places::ALL,
             waiting: true,
             free: true,
         }
@@ -43,6 +46,7 @@ impl Marks {
     {
         self.commands.add(place);
         self.packets.add(place);
+        self.listening.add(place);
         self.waiting = true;
         self.free = true;
     }
@@ -58,7 +62,9 @@ impl Marks {
         if ended {
             self.change(place);
         } else {
-            self.go_on(place, true);
+            self.packets.add(place);
+            // It may have configured something.
+            self.listening.add(place);
         }
     }
 
@@ -68,6 +74,7 @@ impl Marks {
         requires { place < 8 }
         ensures { (slots : Held) (slot : Option Kept) → place < length slots
             → IsMarked slots self.old → GoesOn (kept_at slots place) slot
+            → (may_listen slot ≡ true → may_listen (kept_at slots place) ≡ true)
             → (giving ≡ false → gives slot ≡ false) → IsMarked (set slots place slot) self.new }
     {
         if giving {

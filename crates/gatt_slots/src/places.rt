@@ -1,12 +1,13 @@
 //! Sets of places among slots: where something may be due, so that no other slot is looked at.
 
-ghost use Rattle.std.specs.Prelude.{◌≡◌, ◌≢◌, ℕ, ◌<◌, ◌≤◌, length, None, IfSome};
+ghost use Rattle.std.specs.Prelude.{◌≡◌, ◌≢◌, ℕ, ◌<◌, ◌≤◌, length, true, None, IfSome};
 ghost use Rattle.std.specs.Bool.{OnTrue};
 ghost use Rattle.std.specs.Int.{bit_at};
 ghost use Rattle.std.specs.List.{position};
-ghost use Rattle.gatt_slots.specs.Places.{is_due, Covers, IsFirstPlace};
+ghost use Rattle.gatt_slots.specs.Places.{is_due, may_listen, Covers, IsFirstPlace};
+ghost use Rattle.gatt_slots.specs.Slots.{is_own};
 
-use crate::slot::Slot;
+use crate::slot::{Slot, Use};
 
 /// What may be due at a slot.
 #[derive(Clone, Copy, PartialEq, Eq)]
@@ -15,6 +16,8 @@ pub(crate) enum Due {
     Command,
     /// A packet of its connection.
     Packet,
+    /// A value that was written, if its connection may hear of any.
+    Value,
 }
 
 /// A set of places, each below 8.
@@ -62,6 +65,21 @@ impl Places {
         self.bits &= !(1 << place);
     }
 
+    /// No place is in the set but that of the slot `own`.
+    #[inline(always)]
+    pub(crate) fn is_empty_but(self, own: Option<usize>) -> bool
+        ensures { OnTrue result ((place : ℕ) → place < 8 → bit_at self.bits place ≡ 1
+            → is_own own place ≡ true) }
+    {
+        let mut others = self;
+        if let Some(place) = own {
+            if place < 8 {
+                others.remove(place);
+            }
+        }
+        others.is_empty()
+    }
+
     /// The first place of the set.
     #[inline(always)]
     fn first(self) -> Option<usize>
@@ -84,7 +102,16 @@ impl Slot {
         match due {
             Due::Command => self.has_command(),
             Due::Packet => self.gives(),
+            Due::Value => self.may_listen(),
         }
+    }
+
+    /// Whether its connection may hear of values: where it is not so, it hears of none.
+    #[inline(always)]
+    fn may_listen(&self) -> bool
+        ensures { result ≡ may_listen self.now }
+    {
+        self.used == Use::Live && (self.link.facts().is_some() || !self.row.entries().is_empty())
     }
 }
 

@@ -1,16 +1,18 @@
 //! The slots of a host, as one value that knows where something may be due.
 
-ghost use Rattle.std.specs.Prelude.{◌≡◌, false, ◌<◌, ◌≤◌, ◌^◌, length, map, replicate, take, None, Some, IfOk, IfSome, IsSome};
-ghost use Rattle.std.specs.List.{list_any};
+ghost use Rattle.std.specs.Prelude.{◌≡◌, ℕ, false, ◌<◌, ◌≤◌, ◌^◌, length, map, replicate, take, None, Some, IfOk, IfSome, IsSome};
+ghost use Rattle.std.specs.Bool.{OnTrue};
+ghost use Rattle.std.specs.List.{list_any, position};
 ghost use Rattle.att_table.specs.ConfigRow.{bits_at, IsRowOf};
+ghost use Rattle.att_table.specs.Table.{Contents};
 ghost use Rattle.gatt_laws.specs.machine.Turn.{channel_answer, gained_encryption};
 ghost use Rattle.gatt_slots.specs.Connections.{FindsNext};
 ghost use Rattle.gatt_slots.specs.Hearing.{row_in_force};
-ghost use Rattle.gatt_slots.specs.Places.{CoversHeard};
+ghost use Rattle.gatt_slots.specs.Places.{may_listen, CoversHeard};
 ghost use Rattle.gatt_slots.specs.Request.{bond_served, confirmed_of, handles_of, is_full, kept_served, table_after};
 ghost use Rattle.gatt_slots.specs.Slots.{after_entries, all_after_table, all_after_time, all_heard, at_place, kept_at, late_handles, place_free, place_holding, place_serving, row_there, slots_at, slots_deadline, IsThere};
 ghost use Rattle.gatt_slots.specs.Turn.{after_authorizing, after_ending, after_key_asked, after_link_step, after_signal, come, has_no_room};
-ghost use Rattle.gatt_subs.specs.Rows.{owes, row_of, ChangesBond};
+ghost use Rattle.gatt_subs.specs.Rows.{owes, row_of, ChangesBond, Subscriptions};
 ghost use Rattle.le_hci.specs.Event.{completed_packets_of};
 ghost use Rattle.le_security.specs.Keys.{answer_of};
 ghost use Rattle.le_security.specs.Link.{after_step, Encryption, Refresh};
@@ -19,7 +21,7 @@ use crate::connection::{Connection, next_connection};
 use crate::each::{complete_all, find_free, find_serving, first_deadline, replace_all, tick_all};
 use crate::handles::Handles;
 use crate::marks::Marks;
-use crate::places::Places;
+use crate::places::{Due, first_due};
 use crate::request::Brought;
 use crate::slot::Slot;
 use crate::telling::{Heard, hear_all};
@@ -354,14 +356,53 @@ impl Slots {
         ensures count { length self.new ≡ length self.old }
     {
         // Most events tell no connection anything.
-        if here.is_empty() && handles.is_empty() && !self.marks.waiting {
-            return;
+        if !self.nobody_hears(own, here, handles) {
+            self.look_and_hear(table, rows, own, here, handles, now);
         }
-        self.hear_each(table, rows, own, here, handles, now);
+    }
+
+    /// Whether the marks tell that no connection hears anything of these values, nor of what waits.
+    #[inline(always)]
+    fn nobody_hears(&self, own: Option<usize>, here: &[u16], handles: &[u16]) -> bool
+        ensures { OnTrue result ((table : Contents) (rows : Subscriptions) (now : ℕ)
+            → self.now ≡ all_heard table now rows own here.now handles.now self.now) }
+    {
+        here.is_empty()
+            && !self.marks.waiting
+            && (handles.is_empty() || self.marks.listening.is_empty_but(own))
+    }
+
+    /// The first slot whose connection may hear of values. Those before it are marked no more.
+    #[inline(always)]
+    fn first_that_listens(&mut self) -> Option<usize>
+        ensures place { result ≡ position may_listen self.old }
+        ensures unchanged { self.new ≡ self.old }
+    {
+        first_due(self.slots.as_slice(), Due::Value, &mut self.marks.listening)
+    }
+
+    /// Looks at who may hear of values, and has each slot hear what is raised where one does.
+    #[inline(never)]
+    fn look_and_hear(
+        &mut self,
+        table: &Table,
+        rows: &Rows,
+        own: Option<usize>,
+        here: &[u16],
+        handles: &[u16],
+        now: u64,
+    )
+        ensures heard { self.new
+            ≡ all_heard table.now now rows.now own here.now handles.now self.old }
+        ensures count { length self.new ≡ length self.old }
+    {
+        self.first_that_listens();
+        if !self.nobody_hears(own, here, handles) {
+            self.hear_each(table, rows, own, here, handles, now);
+        }
     }
 
     /// Has each slot hear what is raised, one after another.
-    #[inline(never)]
     fn hear_each(
         &mut self,
         table: &Table,

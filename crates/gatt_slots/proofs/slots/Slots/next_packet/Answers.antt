@@ -1,11 +1,11 @@
 use Rattle.std.proofs.Common.{◌<◌, Option, length, subst, sym, ap, ◌∙◌}
 use Rattle.std.proofs.lemmas.Bool.{OnTrue_at, OnTrue_from}
-use Rattle.gatt_slots.proofs.AtPlace.{changed_at, given_goes_on, there_at}
+use Rattle.gatt_slots.proofs.AtPlace.{changed_at, given_goes_on, given_listens, there_at}
 use Rattle.gatt_slots.proofs.Noted.{given_noted, noted_still}
 use Rattle.gatt_slots.specs.Commands.{without_packet}
 use Rattle.gatt_slots.specs.Handles.{noted_of}
 use Rattle.gatt_slots.specs.Kept.{Kept}
-use Rattle.gatt_slots.specs.Places.{GoesOn}
+use Rattle.gatt_slots.specs.Places.{may_listen, GoesOn}
 use Rattle.gatt_slots.specs.Slots.{Held}
 use Rattle.gatt_slots.proofs.slots.Slots.next_packet.Goals as goal
 
@@ -27,6 +27,7 @@ invariant_of-self c =
     let goes = given_goes_on slot c.next_packet-given.new.self c.next_packet-given.result c.next_packet-given.ensures.after c.next_packet-given.ensures.unchanged in (
       c.go_on.ensures slots c.next_packet-given.new.self within c.self.invariant.0
           (subst (λ (it : Option Kept). GoesOn it c.next_packet-given.new.self) there goes)
+          (λ listens. sym (ap may_listen there) ∙ given_listens slot c.next_packet-given.new.self c.next_packet-given.result c.next_packet-given.ensures.after c.next_packet-given.ensures.unchanged listens)
           (λ none. sym c.gives-giving.ensures ∙ none),
       noted_still slots c.self.inside.handles.noted c.self.invariant.1 place c.next_packet-given.new.self within
           (given_noted slot c.next_packet-given.new.self c.next_packet-given.result c.next_packet-given.ensures.after c.next_packet-given.ensures.unchanged ∙ ap noted_of there),
