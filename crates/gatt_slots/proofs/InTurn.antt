@@ -1,14 +1,13 @@
 -- Values are raised one by one for all connections: the same as if each connection heard all of them in its turn.
 use Rattle.std.proofs.Common.{◌≡◌, ℕ, zero, suc, ◌+◌, Bool, true, false, not, if◌then◌else◌, List, [], ◌∷◌, Option, Some, None, refl, sym, ap, ◌∙◌, arith}
-use Rattle.std.specs.List.{list_any}
 use Rattle.att_numbers.specs.Types.{Handle, Row}
 use Rattle.att_policy.specs.declared.standing.Standing.{Standing}
 use Rattle.att_table.specs.Table.{Contents}
 use Rattle.gatt_slots.specs.Kept.{Kept}
-use Rattle.gatt_slots.specs.Places.{may_listen, waits}
+use Rattle.gatt_slots.specs.Places.{may_listen}
 use Rattle.gatt_slots.specs.Slots.{Held, all_heard, all_raised, all_raised_in_turn, handles_for, heard_by, heard_from, is_among, is_own, kept_at, raised_at, raised_by}
 use Rattle.gatt_slots.proofs.Found.{clash}
-use Rattle.gatt_slots.proofs.Quiet.{both-none, nothing_raised, quiet-slot, unlistening}
+use Rattle.gatt_slots.proofs.Quiet.{nothing_raised, unlistening}
 use Rattle.gatt_subs.specs.Hearing.{may_hear_at}
 use Rattle.gatt_subs.specs.Rows.{Subscriptions}
 
@@ -26,18 +25,17 @@ alike : (one other : ℕ → Option Kept → Option Kept) (slots : Held) → ((p
     → heard_from 0 one slots ≡ heard_from 0 other slots
 alike one other slots same = λ i. heard_from 0 (λ place slot. same place slot i) slots
 
--- where nothing waits, and at no place anything is heard
-all-silent : (hear : ℕ → Option Kept → Option Kept) (start : ℕ) (slots : Held) → list_any waits slots ≡ false
-    → ((place : ℕ) → waits (kept_at slots place) ≡ false → hear (start + place) (kept_at slots place) ≡ kept_at slots place)
-    → heard_from start hear slots ≡ slots
-all-silent hear start [] none same = refl
-all-silent hear start (slot ∷ slots) none same =
-    let parts = both-none (waits slot) (list_any waits slots) none in
+-- the same where the slots that are there hear the same
+alike-there : (one other : ℕ → Option Kept → Option Kept) (start : ℕ) (slots : Held)
+    → ((place : ℕ) → one (start + place) (kept_at slots place) ≡ other (start + place) (kept_at slots place)) → heard_from start one slots ≡ heard_from start other slots
+alike-there one other start [] same = refl
+alike-there one other start (slot ∷ slots) same =
     let here : start ≡ start + 0 = omega arith in
-    λ i. (ap (λ (at : ℕ). hear at slot) here ∙ same zero parts.0) i ∷ all-silent hear (start + 1) slots parts.1 (λ place idle. next place ∙ same (suc place) idle) i
+    λ i. (ap (λ (at : ℕ). one at slot) here ∙ same zero ∙ ap (λ (at : ℕ). other at slot) (sym here)) i
+    ∷ alike-there one other (start + 1) slots (λ place. next one place ∙ same (suc place) ∙ sym (next other place)) i
   where
-    next : (place : ℕ) → hear (start + 1 + place) (kept_at slots place) ≡ hear (start + suc place) (kept_at slots place)
-    next place = let same : start + 1 + place ≡ start + suc place = omega arith in ap (λ (at : ℕ). hear at (kept_at slots place)) same
+    next : (hear : ℕ → Option Kept → Option Kept) (place : ℕ) → hear (start + 1 + place) (kept_at slots place) ≡ hear (start + suc place) (kept_at slots place)
+    next hear place = let same : start + 1 + place ≡ start + suc place = omega arith in ap (λ (at : ℕ). hear at (kept_at slots place)) same
 
 either : (test : Bool) (slot : Option Kept) → (if test then slot else slot) ≡ slot
 either true slot = refl
@@ -64,12 +62,12 @@ module _ (table : Contents) (now : ℕ) (rows : Subscriptions) where
   heard-in-turn (handle ∷ handles) slot = next-heard handle handles slot ∙ heard-in-turn handles (raised_by table now rows handle slot)
 
   -- one that may not listen hears of no value
-  unlistened : (handles : List Handle) (slot : Option Kept) → may_listen slot ≡ false → waits slot ≡ false → heard_by table now rows handles slot ≡ slot
-  unlistened [] slot deaf idle = quiet-slot table now rows slot idle
-  unlistened (handle ∷ handles) slot deaf idle =
+  unlistened : (handles : List Handle) (slot : Option Kept) → may_listen slot ≡ false → heard_by table now rows handles slot ≡ heard_by table now rows [] slot
+  unlistened [] slot deaf = refl
+  unlistened (handle ∷ handles) slot deaf =
       next-heard handle handles slot
       ∙ ap (λ (it : Option Kept). heard_by table now rows handles it) (unlistening table now rows handle slot deaf)
-      ∙ unlistened handles slot deaf idle
+      ∙ unlistened handles slot deaf
 
   -- for all of them
   module _ (own : Option ℕ) where
@@ -126,26 +124,38 @@ module _ (table : Contents) (now : ℕ) (rows : Subscriptions) where
         same true slot = nothing_raised table now rows handle silent slot
         same false slot = refl
 
-    -- where nothing waits, and no other connection may listen
-    pub nobody_listens : (handles : List Handle) (slots : Held) → list_any waits slots ≡ false
-        → ((place : ℕ) → may_listen (kept_at slots place) ≡ true → is_own own place ≡ true)
-        → slots ≡ all_heard table now rows own [] handles slots
-    nobody_listens handles slots none only =
-        sym (all-silent (λ place slot. heard_by table now rows (handles_for own [] handles place) slot) 0 slots none
-        (λ place idle. at place (kept_at slots place) idle (only place)))
+    -- where no other connection may listen, what is raised changes nothing
+    pub nobody_listens : (handles : List Handle) (slots : Held) → ((place : ℕ) → may_listen (kept_at slots place) ≡ true → is_own own place ≡ true)
+        → all_heard table now rows own [] handles slots ≡ all_heard table now rows None [] [] slots
+    nobody_listens handles slots only =
+        alike-there (λ place slot. heard_by table now rows (handles_for own [] handles place) slot) (λ place slot. heard_by table now rows [] slot) 0 slots
+        (λ place. at place (kept_at slots place) (only place))
       where
-        hears : (place : ℕ) (slot : Option Kept) → waits slot ≡ false → (may_listen slot ≡ true → is_own own place ≡ true)
-            → (is : Bool) → is_own own place ≡ is → heard_by table now rows (if is then [] else handles) slot ≡ slot
-        hears place slot idle only true is = quiet-slot table now rows slot idle
-        hears place slot idle only false is = unlistened handles slot (deaf (may_listen slot) refl) idle
+        hears : (place : ℕ) (slot : Option Kept) → (may_listen slot ≡ true → is_own own place ≡ true)
+            → (is : Bool) → is_own own place ≡ is → heard_by table now rows (if is then [] else handles) slot ≡ heard_by table now rows [] slot
+        hears place slot only true is = refl
+        hears place slot only false is = unlistened handles slot (deaf (may_listen slot) refl)
           where
             deaf : (so : Bool) → may_listen slot ≡ so → may_listen slot ≡ false
             deaf true so = clash (only so) is
             deaf false so = so
 
-        at : (place : ℕ) (slot : Option Kept) → waits slot ≡ false → (may_listen slot ≡ true → is_own own place ≡ true)
-            → heard_by table now rows (handles_for own [] handles (0 + place)) slot ≡ slot
-        at place slot idle only =
+        at : (place : ℕ) (slot : Option Kept) → (may_listen slot ≡ true → is_own own place ≡ true)
+            → heard_by table now rows (handles_for own [] handles (0 + place)) slot ≡ heard_by table now rows [] slot
+        at place slot only =
             let first : 0 + place ≡ place = omega arith in
             ap (λ (it : ℕ). heard_by table now rows (handles_for own [] handles it) slot) first
-            ∙ hears place slot idle only (is_own own place) refl
+            ∙ hears place slot only (is_own own place) refl
+
+    -- nor does it where nothing is raised
+    pub nothing_is_raised : (slots : Held) → all_heard table now rows own [] [] slots ≡ all_heard table now rows None [] [] slots
+    nothing_is_raised slots =
+        alike (λ place slot. heard_by table now rows (handles_for own [] [] place) slot) (λ place slot. heard_by table now rows [] slot) slots
+        (λ place slot. ap (λ (handles : List Handle). heard_by table now rows handles slot) (none (is_own own place)))
+      where
+        nothing-raised : List Handle
+        nothing-raised = []
+
+        none : (is : Bool) → (if is then nothing-raised else nothing-raised) ≡ nothing-raised
+        none true = refl
+        none false = refl

@@ -91,12 +91,12 @@ none-waits : (waiting : List Handle) → is_some_handle waiting ≡ false → wa
 none-waits [] none = refl
 none-waits (handle ∷ handles) none = cc none
 
-pub quiet-slot : (table : Contents) (now : ℕ) (rows : Subscriptions) (slot : Option Kept) → waits slot ≡ false → heard_by table now rows [] slot ≡ slot
+quiet-slot : (table : Contents) (now : ℕ) (rows : Subscriptions) (slot : Option Kept) → waits slot ≡ false → heard_by table now rows [] slot ≡ slot
 quiet-slot table now rows None none = refl
 quiet-slot table now rows (Some kept) none =
     ap (λ (it : Kept). Some it) (nothing_heard table now (row_of rows kept.peer) kept (none-waits kept.pending.waiting none))
 
-pub both-none : (first rest : Bool) → (first || rest) ≡ false → (first ≡ false) × (rest ≡ false)
+both-none : (first rest : Bool) → (first || rest) ≡ false → (first ≡ false) × (rest ≡ false)
 both-none true rest none = cc none
 both-none false rest none = (refl, none)
 
@@ -118,10 +118,6 @@ nothing_heard_by_all table now rows own slots none =
 pub none_there : {A : Type 0} (items : List A) → (length items == 0) ≡ true → items ≡ []
 none_there [] none = refl
 none_there (item ∷ items) none = absurd (grind (arith, nat_tests, none))
-
-pub off : (is : Bool) → not is ≡ true → is ≡ false
-off true e = cc e
-off false e = refl
 
 -- nor does one hear of any value whose client has configured nothing
 unasked-of : (guard : Guard) (standing : Standing) → may_hear_of guard 0 standing ≡ false

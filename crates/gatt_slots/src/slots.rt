@@ -1,7 +1,7 @@
 //! The slots of a host, as one value that knows where something may be due.
 
-ghost use Rattle.std.specs.Prelude.{◌≡◌, ℕ, false, ◌<◌, ◌≤◌, ◌^◌, length, map, replicate, take, None, Some, IfOk, IfSome, IsSome};
-ghost use Rattle.std.specs.Bool.{OnTrue};
+ghost use Rattle.std.specs.Prelude.{◌≡◌, ℕ, false, ◌<◌, ◌≤◌, ◌^◌, length, map, replicate, take, [], None, Some, IfOk, IfSome, IsSome};
+ghost use Rattle.std.specs.Bool.{OnTrue, OnFalse};
 ghost use Rattle.std.specs.List.{list_any, position};
 ghost use Rattle.att_table.specs.ConfigRow.{bits_at, IsRowOf};
 ghost use Rattle.att_table.specs.Table.{Contents};
@@ -358,18 +358,37 @@ impl Slots {
         // Most events tell no connection anything.
         if !self.nobody_hears(own, here, handles) {
             self.look_and_hear(table, rows, own, here, handles, now);
+        } else if self.may_wait() {
+            self.release(table, rows, now);
         }
     }
 
-    /// Whether the marks tell that no connection hears anything of these values, nor of what waits.
+    /// Whether the marks tell that no connection hears of these values.
     #[inline(always)]
     fn nobody_hears(&self, own: Option<usize>, here: &[u16], handles: &[u16]) -> bool
         ensures { OnTrue result ((table : Contents) (rows : Subscriptions) (now : ℕ)
-            → self.now ≡ all_heard table now rows own here.now handles.now self.now) }
+            → all_heard table now rows own here.now handles.now self.now
+            ≡ all_heard table now rows None [] [] self.now) }
     {
-        here.is_empty()
-            && !self.marks.waiting
-            && (handles.is_empty() || self.marks.listening.is_empty_but(own))
+        here.is_empty() && (handles.is_empty() || self.marks.listening.is_empty_but(own))
+    }
+
+    /// Whether a value may wait to be indicated: where it is not so, nothing is released.
+    #[inline(always)]
+    fn may_wait(&self) -> bool
+        ensures { OnFalse result ((table : Contents) (rows : Subscriptions) (now : ℕ)
+            → all_heard table now rows None [] [] self.now ≡ self.now) }
+    {
+        self.marks.waiting
+    }
+
+    /// Has each slot release what waits and is due.
+    #[inline(never)]
+    fn release(&mut self, table: &Table, rows: &Rows, now: u64)
+        ensures released { self.new ≡ all_heard table.now now rows.now None [] [] self.old }
+        ensures count { length self.new ≡ length self.old }
+    {
+        self.hear_each(table, rows, None, &[], &[], now);
     }
 
     /// The first slot whose connection may hear of values. Those before it are marked no more.
@@ -399,6 +418,8 @@ impl Slots {
         self.first_that_listens();
         if !self.nobody_hears(own, here, handles) {
             self.hear_each(table, rows, own, here, handles, now);
+        } else if self.may_wait() {
+            self.hear_each(table, rows, None, &[], &[], now);
         }
     }
 
