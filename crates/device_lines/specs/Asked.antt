@@ -3,7 +3,8 @@ use Rattle.std.specs.Prelude.{ℕ, ◌^◌, if◌then◌else◌, List, [], ◌�
 use Rattle.std.specs.Option.{option_map}
 use Rattle.std.specs.Str.{bytes_eq}
 use Rattle.octets.specs.Number.{Octets}
-use Rattle.scripts.specs.Line.{◌>>=◌, words_of}
+use Rattle.octets.specs.Missing.{◌>>=◌}
+use Rattle.scripts.specs.Line.{words_of}
 use Rattle.scripts.specs.Numeral.{number_of}
 use Rattle.scripts.specs.Payload.{payload_of}
 use Rattle.device_lines.specs.declared.asked.Asked.{Asked}

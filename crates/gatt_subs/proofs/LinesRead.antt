@@ -21,7 +21,8 @@ use Rattle.le_security.specs.Address.{address_of, is_joined, octets_of, pair}
 use Rattle.gatt_subs.specs.declared.rows_line.Line.{Line}
 use Rattle.gatt_subs.specs.declared.rows_line.Line.TheVariants.{Entry, Owed}
 use Rattle.gatt_subs.specs.ReadBack.{IsNamed, IsConfigured}
-use Rattle.gatt_subs.specs.RowsLine.{◌>>=◌, parts_of, kind_of, peer_of, is_from_one, handle_of, bits_of, line_behind, line_of}
+use Rattle.octets.specs.Missing.{◌>>=◌}
+use Rattle.gatt_subs.specs.RowsLine.{parts_of, kind_of, peer_of, is_from_one, handle_of, bits_of, line_behind, line_of}
 
 some-is : {A : Type 0} {x y : A} → Some x ≡ Some y → x ≡ y
 some-is is = cc is

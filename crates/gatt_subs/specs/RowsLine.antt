@@ -5,6 +5,7 @@ use Rattle.std.specs.List.{position_or_len, before_first, after_first}
 use Rattle.std.specs.Option.{option_map}
 use Rattle.std.specs.Str.{bytes_eq, all_ascii_digits}
 use Rattle.std.specs.Str.Parse.{digits_value}
+use Rattle.octets.specs.Missing.{◌>>=◌}
 use Rattle.octets.specs.Number.{Octets}
 use Rattle.att_numbers.specs.Types.{Handle}
 use Rattle.le_hci.specs.declared.peer.Peer.{Peer}
@@ -12,12 +13,6 @@ use Rattle.le_hci.specs.declared.peer.TheConstants.{PUBLIC_ADDRESS, RANDOM_ADDRE
 use Rattle.le_security.specs.Address.{address_of}
 use Rattle.gatt_subs.specs.declared.rows_line.Line.{Line}
 use Rattle.gatt_subs.specs.declared.rows_line.Line.TheVariants.{Entry, Owed}
-
--- a part of what may be missing, and then what follows from it
-infixl 10 ◌>>=◌
-abbrev pub ◌>>=◌ : {A B : Type 0} → Option A → (A → Option B) → Option B
-None >>= next = None
-Some x >>= next = next x
 
 -- single spaces stand between the words of a line
 abbrev pub space : ℕ

@@ -1,4 +1,5 @@
 pub mod Memory
+pub mod Missing
 pub mod Number
 pub mod Stream
 pub mod Streams

@@ -5,6 +5,7 @@ use Rattle.std.specs.Option.{option_map}
 use Rattle.std.specs.Result.{result_ok}
 use Rattle.std.specs.Str.{bytes_eq}
 use Rattle.hex.specs.Hex.{decode_sized}
+use Rattle.octets.specs.Missing.{◌>>=◌}
 use Rattle.octets.specs.Number.{Octets}
 use Rattle.le_hci.specs.declared.peer.Peer.{Peer}
 use Rattle.le_hci.specs.declared.peer.TheConstants.{PUBLIC_ADDRESS, RANDOM_ADDRESS}
@@ -17,12 +18,6 @@ use Rattle.scripts.specs.declared.line.Line.TheVariants.{Phone, Authorize, Updat
 use Rattle.scripts.specs.Name.{name_of}
 use Rattle.scripts.specs.Numeral.{number_of}
 use Rattle.scripts.specs.Payload.{payload_of}
-
--- a part of what may be missing, and then what follows from it
-infixl 10 ◌>>=◌
-abbrev pub ◌>>=◌ : {A B : Type 0} → Option A → (A → Option B) → Option B
-None >>= next = None
-Some x >>= next = next x
 
 -- the words of a line, with a single space between each two
 abbrev pub words_of : Octets → List Octets
