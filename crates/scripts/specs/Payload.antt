@@ -4,11 +4,11 @@ use Rattle.std.specs.Result.{result_ok}
 use Rattle.std.specs.Str.{bytes_eq}
 use Rattle.hex.specs.Hex.{decode_of}
 use Rattle.octets.specs.Number.{Octets}
-use Rattle.scripts.specs.declared.payload.TheConstants.{MAX_OCTETS}
+use Rattle.octets.specs.declared.pdu.TheConstants.{MAX_PDU}
 
--- at most 517 octets, two digits each
+-- at most a PDU's octets, two digits each
 unfoldable pub decoded : Octets → Option Octets
-decoded digits = if nat_le (length digits) (2 * MAX_OCTETS) then result_ok (decode_of digits) else None
+decoded digits = if nat_le (length digits) (2 * MAX_PDU) then result_ok (decode_of digits) else None
 
 -- a dash writes no octets, and an empty word is nothing
 unfoldable pub payload_of : Octets → Option Octets

@@ -3,13 +3,10 @@
 ghost use Rattle.std.specs.Prelude.{◌≡◌, is_some, IfSome};
 ghost use Rattle.scripts.specs.Payload.{decoded, payload_of};
 
-use arrayvec::ArrayVec;
+use octets::{MAX_PDU, PduOctets};
 use std::marker::Model;
 
-/// The most octets that a line may write.
-pub const MAX_OCTETS: usize = 517;
-
-/// At most 517 octets, as the digits that write them.
+/// At most a PDU's octets, as the digits that write them.
 #[derive(Drop)]
 pub struct Payload<'a> {
     digits: &'a str,
@@ -35,32 +32,32 @@ impl<'a> Payload<'a> {
         if word == "-" {
             return Some(Payload { digits: "" });
         }
-        if word.is_empty() || !decode(word, &mut ArrayVec::new()) {
+        if word.is_empty() || !decode(word, &mut PduOctets::new()) {
             return None;
         }
         Some(Payload { digits: word })
     }
 
     /// Gives the octets, and drops what was in the buffer.
-    pub fn decode(&self, octets: &mut ArrayVec<u8, 517>)
+    pub fn decode(&self, octets: &mut PduOctets)
         ensures { octets.new.items ≡ self.now }
     {
         decode(self.digits, octets);
     }
 }
 
-/// Writes the octets of at most 517 pairs of digits into the buffer, and drops what was in it.
-/// Where a text is something else, the buffer is emptied.
+/// Writes the octets of at most `MAX_PDU` pairs of digits into the buffer, and drops what was in
+/// it. Where a text is something else, the buffer is emptied.
 #[tactic(auto, unfolding(crate::specs::Payload::decoded))]
-fn decode(digits: &str, octets: &mut ArrayVec<u8, 517>) -> bool
+fn decode(digits: &str, octets: &mut PduOctets) -> bool
     ensures is { result ≡ is_some (decoded digits.now) }
     ensures octets { IfSome (decoded digits.now) (λ wanted. octets.new.items ≡ wanted) }
 {
     octets.clear();
-    if digits.len() > 2 * MAX_OCTETS {
+    if digits.len() > 2 * MAX_PDU {
         return false;
     }
-    let mut buffer = [0; MAX_OCTETS];
+    let mut buffer = [0; MAX_PDU];
     let room = &mut buffer[..digits.len() / 2];
     if hex::decode_to_slice(digits, room).is_err() {
         return false;
