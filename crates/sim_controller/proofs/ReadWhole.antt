@@ -19,7 +19,7 @@ use Rattle.sim_controller.specs.declared.command.Asked.{Asked}
 use Rattle.sim_controller.specs.declared.command.Asked.TheVariants.{Status, ReadBufferSize, LeReadBufferSize, Advertise, Disconnect, GiveKey, RefuseKey}
 use Rattle.sim_controller.specs.declared.config.SimConfig.{SimConfig}
 use Rattle.sim_controller.specs.declared.fault.SimFault.{SimFault}
-use Rattle.sim_controller.specs.declared.reason.TheConstants.{REMOTE_USER_ENDED}
+use Rattle.le_hci.specs.declared.reason.TheConstants.{REMOTE_USER_TERMINATED}
 use Rattle.sim_controller.specs.declared.told.Told.{Told}
 use Rattle.sim_controller.specs.declared.told.Told.TheVariants as told
 use Rattle.sim_controller.specs.Acts.{Act, Connect, Drop, Encrypt, Clear, Send, Hold, Done, told_of_act, act_fault}
@@ -158,7 +158,7 @@ frame-read phone cut frame below = fragments-read phone (fragments_of_pieces (pi
 
 act-read : (config : SimConfig) (act : Act) → IsFit act → All IsReadWhole (told_of_act config act)
 act-read config (Connect phone peer) fit = one (told.ConnectionComplete phone peer) fit
-act-read config (Drop phone) fit = one (told.DisconnectionComplete phone REMOTE_USER_ENDED) fit
+act-read config (Drop phone) fit = one (told.DisconnectionComplete phone REMOTE_USER_TERMINATED) fit
 act-read config (Encrypt phone random_number diversifier) fit = one (told.LongTermKeyRequest phone random_number diversifier) fit
 act-read config (Clear phone) fit = one (told.EncryptionChange phone 0x00) fit
 act-read config (Send phone channel payload) fit = frame-read phone config.cut (frame_of (channel, payload)) fit

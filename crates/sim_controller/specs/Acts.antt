@@ -9,7 +9,7 @@ use Rattle.sim_controller.specs.declared.act.PhoneAct.TheVariants as variant
 use Rattle.sim_controller.specs.declared.config.SimConfig.{SimConfig}
 use Rattle.sim_controller.specs.declared.fault.SimFault.{SimFault}
 use Rattle.sim_controller.specs.declared.fault.SimFault.TheVariants.{NotHere, AlreadyHere, NotAdvertising, Full, BadPacket, OutOfMemory}
-use Rattle.sim_controller.specs.declared.reason.TheConstants.{REMOTE_USER_ENDED}
+use Rattle.le_hci.specs.declared.reason.TheConstants.{REMOTE_USER_TERMINATED}
 use Rattle.sim_controller.specs.declared.told.Told.{Told}
 use Rattle.sim_controller.specs.declared.told.Told.TheVariants as told
 use Rattle.sim_controller.specs.Frames.{told_frame}
@@ -52,7 +52,7 @@ payload_in _ = []
 -- what the host is told of an act
 abbrev pub told_of_act : SimConfig → Act → List Told
 told_of_act config (Connect phone peer) = told.ConnectionComplete phone peer ∷ []
-told_of_act config (Drop phone) = told.DisconnectionComplete phone REMOTE_USER_ENDED ∷ []
+told_of_act config (Drop phone) = told.DisconnectionComplete phone REMOTE_USER_TERMINATED ∷ []
 told_of_act config (Encrypt phone random_number diversifier) = told.LongTermKeyRequest phone random_number diversifier ∷ []
 told_of_act config (Clear phone) = told.EncryptionChange phone 0x00 ∷ []
 told_of_act config (Send phone channel payload) = told_frame phone config.cut (frame_of (channel, payload))

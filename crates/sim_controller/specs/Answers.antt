@@ -9,7 +9,7 @@ use Rattle.sim_controller.specs.declared.command.Asked.TheVariants.{Status, Read
 use Rattle.sim_controller.specs.declared.config.SimConfig.{SimConfig}
 use Rattle.sim_controller.specs.declared.fault.SimFault.{SimFault}
 use Rattle.sim_controller.specs.declared.fault.SimFault.TheVariants.{Full, BadPacket}
-use Rattle.sim_controller.specs.declared.reason.TheConstants.{LOCAL_HOST_ENDED}
+use Rattle.le_hci.specs.declared.reason.TheConstants.{LOCAL_HOST_TERMINATED}
 use Rattle.sim_controller.specs.declared.told.Told.{Told}
 use Rattle.sim_controller.specs.declared.told.Told.TheVariants as told
 use Rattle.sim_controller.specs.FromHost.{Taken, Command, Data}
@@ -47,7 +47,7 @@ answer_to config (GiveKey handle) = completion opcode.LE_LONG_TERM_KEY_REQUEST_R
 answer_to config (RefuseKey handle) = completion opcode.LE_LONG_TERM_KEY_REQUEST_NEGATIVE_REPLY (two_octets handle)
 
 abbrev pub end_by_host : ℕ → Told
-end_by_host phone = told.DisconnectionComplete phone LOCAL_HOST_ENDED
+end_by_host phone = told.DisconnectionComplete phone LOCAL_HOST_TERMINATED
 
 -- any key is taken as the phone's
 abbrev pub encryption_on : ℕ → Told

@@ -4,6 +4,7 @@ use Rattle.std.specs.Option.{option_map, option_to_list}
 use Rattle.octets.specs.Number.{Octets}
 use Rattle.le_acl.specs.Fragment.{Fragment, Beginning, Continuation}
 use Rattle.le_acl.specs.Reassembler.{Assembly, assembled_of, with_more}
+use Rattle.sim_controller.specs.declared.phone.TheConstants.{MAX_FRAMES}
 
 -- its connection: whether packets are not completed by themselves, and the octets so far of a frame to it
 pub record Link : Type 0 where
@@ -54,9 +55,9 @@ with_assembly old assembly = record old {
   heard = heard_by old.link old.heard assembly;
 }
 
--- at most 16 frames wait to be heard
+-- so many frames at most wait to be heard
 abbrev pub hears_too_much : Phone → Assembly → Bool
-hears_too_much phone assembly = nat_lt 16 (length phone.heard + length (option_to_list assembly.frame))
+hears_too_much phone assembly = nat_lt MAX_FRAMES (length phone.heard + length (option_to_list assembly.frame))
 
 -- once its first frame is heard, or none, and once the reason is told, or none
 abbrev pub after_hearing : Phone → Phone

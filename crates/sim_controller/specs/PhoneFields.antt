@@ -6,6 +6,7 @@ use Rattle.circular_buffer.specs.Buffer.{Buffer}
 use Rattle.octets.specs.Number.{Octets}
 use Rattle.sim_controller.specs.Phone as model
 use Rattle.sim_controller.specs.declared.phone.Link.{Link}
+use Rattle.sim_controller.specs.declared.phone.TheConstants.{MAX_FRAMES}
 
 -- the octets of an array
 abbrev pub octets_in : ArrayVec ℕ → Octets
@@ -17,7 +18,7 @@ link_of link = record { held = link.held; unfinished = option_map octets_in link
 abbrev pub phone_of : Option Link → List (ArrayVec ℕ) → Option ℕ → model.Phone
 phone_of link heard ended = record { link = option_map link_of link; heard = map octets_in heard; ended = ended }
 
--- there is room for 16 frames, and there are no more
+-- there is room for so many frames, and there are no more
 pub record IsPhone (heard : Buffer (ArrayVec ℕ)) : Type 0 where
-  pub room : heard.capacity ≡ 16
-  pub within : length heard.items ≤ 16
+  pub room : heard.capacity ≡ MAX_FRAMES
+  pub within : length heard.items ≤ MAX_FRAMES

@@ -23,7 +23,7 @@ pub enum PhoneAct<'a> {
     Clear {
         phone: u8,
     },
-    /// The phone sends a payload of at most 517 octets on an L2CAP channel.
+    /// The phone sends a payload of at most a PDU's octets on an L2CAP channel.
     Send {
         phone: u8,
         cid: u16,

@@ -3,6 +3,7 @@ ghost use Rattle.le_acl.specs.Reassembler.{assembled_of};
 ghost use Rattle.sim_controller.specs.Assembled.{assembly, assembly_by};
 
 use arrayvec::ArrayVec;
+use le_acl::MAX_FRAME;
 use std::cmp::Ordering;
 
 /// What the fragments of a frame have come to.
@@ -11,9 +12,9 @@ pub(crate) enum Assembled {
     /// Nothing that may still become a frame.
     Nothing,
     /// Less than a frame's header states.
-    Unfinished(ArrayVec<u8, 521>),
+    Unfinished(ArrayVec<u8, MAX_FRAME>),
     /// A whole frame.
-    Frame(ArrayVec<u8, 521>),
+    Frame(ArrayVec<u8, MAX_FRAME>),
 }
 
 impl Assembled {
@@ -37,8 +38,8 @@ enum State {
 }
 
 /// What the octets of a frame so far come to, with those of a fragment behind them. A frame has at
-/// most 521 octets, its header of 4 among them, whose first 2 state the length of its payload. (Core
-/// 5.0, Vol 3 Part A, 3.1)
+/// most `MAX_FRAME` octets, its header of 4 among them, whose first 2 state the length of its
+/// payload. (Core 5.0, Vol 3 Part A, 3.1)
 pub(crate) fn assemble(earlier: &[u8], fragment: &[u8]) -> Assembled
     ensures { assembly result ≡ assembled_of (earlier.now ++ fragment.now) }
 {
@@ -56,9 +57,9 @@ pub(crate) fn assemble(earlier: &[u8], fragment: &[u8]) -> Assembled
     }
 }
 
-/// How many octets of a frame these are, of at most 521.
+/// How many octets of a frame these are, of at most `MAX_FRAME`.
 fn state_of(octets: &[u8]) -> State
-    requires { length octets.now ≤ 521 }
+    requires { length octets.now ≤ MAX_FRAME }
     ensures { assembly_by result octets.now ≡ assembled_of octets.now }
 {
     let [low, high, _, _, payload @ ..] = octets else {

@@ -2,6 +2,7 @@ ghost use Rattle.std.specs.Prelude.{◌≡◌, if◌then◌else◌, Some, None};
 ghost use Rattle.std.specs.Option.{option_map};
 ghost use Rattle.sim_controller.specs.FromHost.{host_packet_of, taken_of, asked_by, command_in, data_in};
 
+use le_acl::boundary::{CONTINUATION, FIRST_NOT_FLUSHED};
 use le_h4::indicator;
 use le_hci::opcode;
 
@@ -141,7 +142,7 @@ fn read_data(octets: &[u8]) -> Option<HostPacket<'_>>
             begins: true,
             octets,
         }),
-        CONTINUATION => Some(HostPacket::Data {
+        NEXT_FRAGMENT => Some(HostPacket::Data {
             handle,
             begins: false,
             octets,
@@ -152,6 +153,6 @@ fn read_data(octets: &[u8]) -> Option<HostPacket<'_>>
 
 /// The packet boundary flags of the fragments of a frame from the host, behind a broadcast flag of
 /// 00: Core 5.0, Vol 2 Part E, 5.4.2.
-const FIRST_FRAGMENT: u16 = 0b0000;
+const FIRST_FRAGMENT: u16 = FIRST_NOT_FLUSHED as u16;
 
-const CONTINUATION: u16 = 0b0001;
+const NEXT_FRAGMENT: u16 = CONTINUATION as u16;

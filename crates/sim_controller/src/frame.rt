@@ -2,17 +2,19 @@ ghost use Rattle.std.specs.Prelude.{◌≡◌, ◌+◌, ◌<◌, ◌≤◌, ◌�
 ghost use Rattle.circular_buffer.specs.Buffer.{buffer};
 ghost use Rattle.le_acl.specs.Packets.{frame_of};
 ghost use Rattle.sim_controller.specs.Frames.{told_frame, told_others};
+ghost use Rattle.octets.specs.declared.pdu.TheConstants.{MAX_PDU};
 
 use crate::fault::SimFault;
 use crate::told::Told;
 use crate::waiting::{MAX_PACKETS, put};
 use arrayvec::ArrayVec;
 use circular_buffer::HeapCircularBuffer;
+use le_acl::MAX_FRAME;
 
-/// A payload of at most 517 octets as a frame: the length of the payload, the channel, and the
+/// A payload as a frame: the length of the payload, the channel, and the
 /// payload. (Core 5.0, Vol 3 Part A, 3.1)
-pub(crate) fn frame_of(cid: u16, payload: &[u8]) -> ArrayVec<u8, 521>
-    requires { length payload.now ≤ 517 }
+pub(crate) fn frame_of(cid: u16, payload: &[u8]) -> ArrayVec<u8, MAX_FRAME>
+    requires { length payload.now ≤ MAX_PDU }
     ensures { result.items ≡ frame_of (cid, payload.now) }
 {
     let [size_low, size_high] = (payload.len() as u16).to_le_bytes();

@@ -12,7 +12,6 @@ mod frame;
 mod handle;
 mod phone;
 mod phones;
-mod reason;
 mod sim;
 mod told;
 mod waiting;

@@ -8,6 +8,7 @@ ghost use Rattle.sim_controller.specs.Phone.{absent, new_link, assembled_in, wit
 use crate::assembly::{Assembled, assemble};
 use arrayvec::ArrayVec;
 use circular_buffer::HeapCircularBuffer;
+use le_acl::MAX_FRAME;
 use std::alloc::{AllocError, Global};
 use std::marker::Model;
 
@@ -20,7 +21,7 @@ struct Link {
     /// Packets are not completed by themselves.
     held: bool,
     /// The octets so far of a frame to the phone.
-    unfinished: Option<ArrayVec<u8, 521>>,
+    unfinished: Option<ArrayVec<u8, MAX_FRAME>>,
 }
 
 /// A phone, as the controller sees it.
@@ -28,7 +29,7 @@ struct Link {
 pub(crate) struct Phone {
     link: Option<Link>,
     /// The frames that wait to be heard.
-    heard: HeapCircularBuffer<ArrayVec<u8, 521>>,
+    heard: HeapCircularBuffer<ArrayVec<u8, MAX_FRAME>>,
     /// The reason of a Disconnect of the host that was not yet told.
     ended: Option<u8>,
 }
@@ -154,11 +155,11 @@ impl Phone {
     }
 
     /// Writes the first frame that waits in place of what `out` holds, where there is one.
-    pub(crate) fn hear(&mut self, out: &mut ArrayVec<u8, 521>) -> bool
+    pub(crate) fn hear(&mut self, out: &mut ArrayVec<u8, MAX_FRAME>) -> bool
         ensures frame { OnTrue result (slice_get self.old.heard 0 ≡ Some out.new.items) }
         ensures none { OnFalse result (self.old.heard ≡ []) }
         ensures out_unchanged { OnFalse result (out.new.items ≡ out.old.items) }
-        ensures within { length self.old.heard ≤ 16 }
+        ensures within { length self.old.heard ≤ MAX_FRAMES }
         ensures after { self.new ≡ record self.old { heard = drop 1 self.old.heard } }
     {
         match self.heard.pop_front() {

@@ -9,6 +9,7 @@ ghost use Rattle.sim_controller.specs.Hearing.{HearsItsFrames};
 ghost use Rattle.sim_controller.specs.Phone.{after_hearing, after_telling};
 ghost use Rattle.sim_controller.specs.Simulated.{at_start, phone_at, with_phone, with_told, refusal, IsDone};
 ghost use Rattle.sim_controller.specs.Told.{octets_of, sent_of};
+ghost use Rattle.octets.specs.declared.pdu.TheConstants.{MAX_PDU};
 
 use crate::act::PhoneAct;
 use crate::answer::answer_to;
@@ -18,12 +19,14 @@ use crate::fault::SimFault;
 use crate::frame::{frame_of, tell_frame};
 use crate::phone::Phone;
 use crate::phones::{absent_phones, here_with};
-use crate::reason::{LOCAL_HOST_ENDED, REMOTE_USER_ENDED};
 use crate::told::Told;
 use crate::waiting::{MAX_PACKETS, tell, tell_both};
 use arrayvec::ArrayVec;
 use circular_buffer::HeapCircularBuffer;
+use le_acl::MAX_FRAME;
+use le_h4::PacketOctets;
 use le_hci::Peer;
+use le_hci::reason::{LOCAL_HOST_TERMINATED, REMOTE_USER_TERMINATED};
 use std::alloc::{AllocError, Global};
 use std::marker::Model;
 
@@ -81,7 +84,7 @@ impl Sim {
     /// Does what one of the 8 phones does. What is refused changes nothing.
     pub fn act(&mut self, act: PhoneAct<'_>) -> Result<(), SimFault>
         requires phone { phone_in (act_of act) < 8 }
-        requires payload { length (payload_in (act_of act)) ≤ 517 }
+        requires payload { length (payload_in (act_of act)) ≤ MAX_PDU }
         ensures exact { result ≡ refusal (act_fault self.old (act_of act.entry)) }
         ensures done { OnOk result (self.new ≡ after_act self.old (act_of act.entry)) }
         ensures unchanged { OnErr result (self.new ≡ self.old) }
@@ -134,7 +137,7 @@ impl Sim {
             &mut self.waiting,
             Told::DisconnectionComplete {
                 phone,
-                reason: REMOTE_USER_ENDED,
+                reason: REMOTE_USER_TERMINATED,
             },
         )?;
         self.phones[usize::from(phone)].leave();
@@ -155,7 +158,7 @@ impl Sim {
 
     fn send(&mut self, phone: u8, cid: u16, payload: &[u8]) -> Result<(), SimFault>
         requires phone { phone < 8 }
-        requires payload { length payload.now ≤ 517 }
+        requires payload { length payload.now ≤ MAX_PDU }
         ensures { Does (Act.Send phone cid payload.now) self.old self.new result }
     {
         if !self.phones[usize::from(phone)].is_here() {
@@ -188,7 +191,7 @@ impl Sim {
                 Some(phone) => {
                     let ended = Told::DisconnectionComplete {
                         phone,
-                        reason: LOCAL_HOST_ENDED,
+                        reason: LOCAL_HOST_TERMINATED,
                     };
                     tell_both(&mut self.waiting, answer, ended)?;
                     self.phones[usize::from(phone)].end(reason);
@@ -214,7 +217,7 @@ impl Sim {
 
     /// Writes the first packet that waits for the host in place of what `out` holds. There is none,
     /// and nothing changes, where it answers `false`.
-    pub fn next_to_host(&mut self, out: &mut ArrayVec<u8, 260>) -> bool
+    pub fn next_to_host(&mut self, out: &mut PacketOctets) -> bool
         ensures packet { OnTrue result (option_map (λ told. octets_of (sent_of told))
             (slice_get self.old.waiting 0) ≡ Some out.new.items) }
         ensures none { OnFalse result (self.old.waiting ≡ []) }
@@ -277,7 +280,7 @@ impl Sim {
 
     /// Writes the first frame that waits for a phone in place of what `out` holds, its header in front
     /// of its payload. There is none, and nothing changes, where it answers `false`.
-    pub fn heard(&mut self, phone: u8, out: &mut ArrayVec<u8, 521>) -> bool
+    pub fn heard(&mut self, phone: u8, out: &mut ArrayVec<u8, MAX_FRAME>) -> bool
         requires { phone < 8 }
         ensures frame { OnTrue result
             (slice_get (phone_at self.old phone).heard 0 ≡ Some out.new.items) }

@@ -3,8 +3,9 @@ ghost use Rattle.sim_controller.specs.Told.{event_octets, octets_of, sent_of, co
 
 use crate::handle::handle_of;
 use arrayvec::ArrayVec;
-use le_h4::{indicator, write_acl};
-use le_hci::{Peer, event_code};
+use le_acl::boundary::{CONTINUATION, FIRST};
+use le_h4::{PacketOctets, indicator, write_acl};
+use le_hci::{PERIPHERAL, Peer, event_code};
 
 /// A packet that waits for the host.
 #[derive(Drop)]
@@ -56,19 +57,11 @@ pub(crate) enum Told {
     },
 }
 
-/// The packet boundary flags of the fragments of a frame to the host: Core 5.0, Vol 2 Part E, 5.4.2.
-const FIRST_FRAGMENT: u8 = 0b10;
-
-const CONTINUATION: u8 = 0b01;
-
 /// The status of what was successful, in an event: Core 5.0, Vol 2 Part D, 1.3.
 const SUCCESS: u8 = 0x00;
 
 /// How many commands the host may send: one at a time.
 const ALLOWED: u8 = 1;
-
-/// The role of the controller in its connections: Core 5.0, Vol 2 Part E, 7.7.65.1.
-const PERIPHERAL: u8 = 0x01;
 
 /// 30 milliseconds, in units of 1.25.
 const INTERVAL: u16 = 0x0018;
@@ -84,7 +77,7 @@ const CLOCK_ACCURACY: u8 = 0x00;
 
 impl Told {
     /// Writes the packet in place of what `out` holds.
-    pub(crate) fn write(&self, out: &mut ArrayVec<u8, 260>)
+    pub(crate) fn write(&self, out: &mut PacketOctets)
         ensures { out.new.items ≡ octets_of (sent_of self.now) }
     {
         match self {
@@ -135,7 +128,7 @@ impl Told {
                 write_event(event_code::NUMBER_OF_COMPLETED_PACKETS, &fields, &[], out);
             }
             Told::Beginning { phone, octets } => {
-                write_acl(handle_of(*phone), FIRST_FRAGMENT, octets, out);
+                write_acl(handle_of(*phone), FIRST, octets, out);
             }
             Told::Continuation { phone, octets } => {
                 write_acl(handle_of(*phone), CONTINUATION, octets, out);
@@ -146,7 +139,7 @@ impl Told {
 
 /// Writes an event in place of what `out` holds: its code, and its parameters, which stand in two
 /// places. (Core 5.0, Vol 2 Part E, 5.4.4)
-fn write_event(code: u8, first: &[u8], others: &[u8], out: &mut ArrayVec<u8, 260>)
+fn write_event(code: u8, first: &[u8], others: &[u8], out: &mut PacketOctets)
     requires { length first.now + length others.now ≤ 255 }
     ensures { out.new.items ≡ event_octets code (first.now ++ others.now) }
 {
@@ -159,7 +152,7 @@ fn write_event(code: u8, first: &[u8], others: &[u8], out: &mut ArrayVec<u8, 260
 }
 
 /// Connection Complete: Core 5.0, Vol 2 Part E, 7.7.65.1.
-fn write_connection(phone: u8, peer: &Peer, out: &mut ArrayVec<u8, 260>)
+fn write_connection(phone: u8, peer: &Peer, out: &mut PacketOctets)
     ensures { out.new.items ≡ octets_of (connection_sent phone peer.now) }
 {
     let [low, high] = handle_of(phone).to_le_bytes();
@@ -191,7 +184,7 @@ fn write_connection(phone: u8, peer: &Peer, out: &mut ArrayVec<u8, 260>)
 }
 
 /// Long Term Key Request: Core 5.0, Vol 2 Part E, 7.7.65.5.
-fn write_key_request(phone: u8, rand: &[u8; 8], ediv: u16, out: &mut ArrayVec<u8, 260>)
+fn write_key_request(phone: u8, rand: &[u8; 8], ediv: u16, out: &mut PacketOctets)
     ensures { out.new.items ≡ octets_of (key_request_sent phone rand.now ediv) }
 {
     let [low, high] = handle_of(phone).to_le_bytes();
