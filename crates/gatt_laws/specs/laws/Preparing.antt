@@ -23,6 +23,7 @@ use Rattle.le_security.specs.declared.entry.Key.{Key}
 use Rattle.le_security.specs.Keys.{answer_of, is_known}
 use Rattle.le_security.specs.Link.{Step, Request, Encryption, Refresh, key_after}
 use Rattle.octets.specs.Number.{Octets}
+use Rattle.att_pdu.specs.declared.pdu_buf.TheConstants.{MIN_MTU}
 
 -- what decides it: the attributes, the keys, the largest PDU that is received, and the time; and of the connection
 -- whether it serves, its peer, the moment up to which it is authorized, the steps of its link, the first exchange of its
@@ -72,7 +73,7 @@ concern_of ordinal event = None
 abbrev pub preparing_connection : Preparing → Connection
 preparing_connection old = record {
   standing = record { key = key_after old.steps; key_known = is_known old.keys old.peer; until = old.until; now = old.time };
-  mtu = option_map_or (λ client_rx_mtu. mtu_between client_rx_mtu old.rx_mtu) old.exchange 23;
+  mtu = option_map_or (λ client_rx_mtu. mtu_between client_rx_mtu old.rx_mtu) old.exchange MIN_MTU;
   rx_mtu = old.rx_mtu;
   exchanged = is_some old.exchange;
   queue = old.queue;

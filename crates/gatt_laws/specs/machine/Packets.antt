@@ -24,6 +24,7 @@ use Rattle.le_l2cap.specs.declared.frame.Skip.{Skip}
 use Rattle.le_l2cap.specs.Frame.{BasicFrame, frame_of}
 use Rattle.octets.specs.Number.{Octets}
 use Rattle.le_hci.specs.declared.event_code.TheConstants.{COMMAND_COMPLETE}
+use Rattle.le_hci.specs.declared.connection.TheConstants.{LAST_CONNECTION_HANDLE, PERIPHERAL}
 
 -- why a host stops for good: an octet that begins no packet, an event that is no event, a controller that is not
 -- initialised, and one that reports an error of its own
@@ -78,10 +79,10 @@ own_event (Some connection) own = Of connection own
 
 -- the role of this side, and the largest handle of a connection: Core 5.0, Vol 2 Part E, 7.7.65.1
 abbrev pub peripheral : ℕ
-peripheral = 0x01
+peripheral = PERIPHERAL
 
 abbrev pub last_connection_handle : ℕ
-last_connection_handle = 0x0EFF
+last_connection_handle = LAST_CONNECTION_HANDLE
 
 -- a connection is accepted where it was made, this side is the peripheral, its handle is one and not in use, and a slot is
 -- free

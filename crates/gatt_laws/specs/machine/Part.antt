@@ -15,6 +15,7 @@ use Rattle.le_hci.specs.declared.peer.Peer.{Peer}
 use Rattle.le_security.specs.Keys.{is_known}
 use Rattle.le_security.specs.Link.{Step, key_after}
 use Rattle.octets.specs.Number.{Octets}
+use Rattle.le_acl.specs.declared.pdus.TheConstants.{MAX_PDUS}
 
 -- a connection is not there, serves, or is ending: it is told to disconnect, and nothing more is sent on it
 pub data Mark : Type 0 where
@@ -116,7 +117,7 @@ backlog_of room part = length (rest part.given (map (fragments_of (size_of room.
 
 -- so many PDUs are kept for one connection, and no more: this profile's own
 abbrev pub most_pdus : ℕ
-most_pdus = 16
+most_pdus = MAX_PDUS
 
 -- with PDUs queued behind the others
 abbrev pub with_pdus : Part → List Pdu → Part

@@ -12,6 +12,8 @@ use Rattle.gatt_laws.specs.machine.State.{State, with_commands_sent, commands_ou
 use Rattle.le_hci.specs.Init.{first_state}
 use Rattle.le_security.specs.declared.entry.Entry.{Entry}
 use Rattle.octets.specs.Number.{Octets}
+use Rattle.att_pdu.specs.declared.pdu_buf.TheConstants.{MAX_MTU, MIN_MTU}
+use Rattle.gatt_laws.specs.declared.TheConstants.{MAX_SLOTS}
 
 -- what a host is opened with: a table and keys; what each peer has configured, and whether it is owed; how many connections
 -- there may be, the largest PDU that is received, a random address or the public one, and advertising data
@@ -32,7 +34,7 @@ is_static address = nat_le 0xC0 (slice_index_or address 5 0)
 
 abbrev pub may_be_opened : ℕ → Mtu → Option Octets → Bool
 may_be_opened slots rx_mtu address =
-    nat_le 1 slots && nat_le slots 8 && nat_le 23 rx_mtu && nat_le rx_mtu 517 && option_map_or is_static address true
+    nat_le 1 slots && nat_le slots MAX_SLOTS && nat_le MIN_MTU rx_mtu && nat_le rx_mtu MAX_MTU && option_map_or is_static address true
 
 -- the controller takes one command before it answers any: Core 5.0, Vol 2 Part E, 4.4
 abbrev pub new_controller : Start → Controller

@@ -22,6 +22,7 @@ use Rattle.le_security.specs.declared.entry.Key.{Key}
 use Rattle.le_security.specs.Keys.{answer_of}
 use Rattle.le_security.specs.Link.{Step, Request, Encryption, Refresh}
 use Rattle.octets.specs.Number.{Octets}
+use Rattle.le_hci.specs.declared.reason.TheConstants.{AUTHENTICATION_FAILURE, REMOTE_USER_TERMINATED}
 
 -- what is left: the values of the table and the row of the peer's bond; whether the peer is still to be told that the table
 -- was replaced; the values that are raised for the other connections, and those for this one; and the connection
@@ -42,10 +43,10 @@ turn_to room bond owed part =
 -- Connection, where there is no room for an answer or the application ends the connection (Core 5.0, Vol 2 Part D, 2; which
 -- of them is this profile's own).
 abbrev pub authentication_failure : ℕ
-authentication_failure = 0x05
+authentication_failure = AUTHENTICATION_FAILURE
 
 abbrev pub remote_user_terminated : ℕ
-remote_user_terminated = 0x13
+remote_user_terminated = REMOTE_USER_TERMINATED
 
 -- an answer is due, and there is no room for it
 abbrev pub is_full : Room → Part → Bool
