@@ -12,6 +12,7 @@ use Rattle.att_attributes.specs.Attributes.{type_at, HaveHandlesFrom, IsNumbered
 use Rattle.att_attributes.specs.OfType.{handles_of_type, handles_by_type}
 use Rattle.att_attributes.specs.TypeIndex.{put, by_type, is_before, place_from, turns_for, IsOrdered, AllAbove, IsIndex}
 use Rattle.att_attributes.proofs.TypeOrder.{above_put, between, closed, filter_by_kind, is_between, length_by_kind, ordered_put, place_at, place_below, place_within, prefix_cons, put_inserts}
+use Rattle.att_numbers.specs.declared.limit.TheConstants.{MAX_ATTRIBUTES}
 
 -- the handles of a type in a range
 abbrev pub is_of : (ℕ → ℕ) → ℕ → ℕ → ℕ → ℕ → Bool
@@ -164,13 +165,13 @@ pub record IsNarrowed (place low high size before most now : ℕ) : Type 0 where
   pub enough : high - low ≤ remaining turns
   pub counted : now + turns ≤ before + most
 
-enough_turns : (count : ℕ) → count ≤ 1024 → count ≤ remaining (turns_for count)
+enough_turns : (count : ℕ) → count ≤ MAX_ATTRIBUTES → count ≤ remaining (turns_for count)
 enough_turns count within = elim (nat_le count 1023) as (λ few. nat_le count 1023 ≡ few → count ≤ remaining (if few then 10 else 11)) [
   | true ↦ λ few. let at_most : count ≤ 1023 = grind (arith, nat_tests) in omega (arith, at_most)
   | false ↦ λ many. omega (arith, within)
 ] refl
 
-pub begin : (place known size count : ℕ) → known ≤ place → place ≤ size → size ≤ 1024 → IsNarrowed place known size size count (turns_for (size - known)) count
+pub begin : (place known size count : ℕ) → known ≤ place → place ≤ size → size ≤ MAX_ATTRIBUTES → IsNarrowed place known size size count (turns_for (size - known)) count
 begin place known size count from within most = record {
   low_side = from;
   high_side = within;
@@ -227,7 +228,7 @@ pub index_given : (attributes : List Attr) (index : List ℕ) → IsNumbered att
     → IsIndex (type_at attributes) (length attributes) index
 index_given attributes index numbered is = subst (λ l. IsIndex (type_at attributes) (length attributes) l) (sym is) (index_of attributes numbered)
 
-pub length_given : (attributes : List Attr) (index : List ℕ) → IsNumbered attributes → index ≡ handles_by_type attributes → length index ≤ 1024
+pub length_given : (attributes : List Attr) (index : List ℕ) → IsNumbered attributes → index ≡ handles_by_type attributes → length index ≤ MAX_ATTRIBUTES
 length_given attributes index numbered is = omega (arith, ap length is, length-handles_by_type attributes, numbered.most)
 
 -- what is shown of the index as it is made, from the back
@@ -238,7 +239,7 @@ index_so_far attributes shown items place numbered within is so_far =
     subst (λ l. IsIndex (type_at attributes) (length attributes) l) (sym (is ∙ so_far)) (index_from attributes place numbered within)
 
 pub length_so_far : (attributes : List Attr) (shown items : List ℕ) (place : ℕ) → IsNumbered attributes
-    → shown ≡ items → items ≡ by_type (type_at attributes) (handles_of (drop place attributes)) → length shown ≤ 1024
+    → shown ≡ items → items ≡ by_type (type_at attributes) (handles_of (drop place attributes)) → length shown ≤ MAX_ATTRIBUTES
 length_so_far attributes shown items place numbered is so_far =
     let handles = handles_of (drop place attributes) in
     let made : length shown ≡ length handles = ap length (is ∙ so_far) ∙ length_by_kind (type_at attributes) handles in
@@ -281,7 +282,7 @@ handles_push [] attr first handles next = (omega (arith, next), tt)
 handles_push (head ∷ rest) attr first handles next =
     (handles.0, handles_push rest attr (first + 1) handles.1 (omega (arith, next)))
 
-pub numbered_pushed : (attributes : List Attr) (attr : Attr) → IsNumbered attributes → length attributes < 1024 → attr.handle ≡ length attributes + 1
+pub numbered_pushed : (attributes : List Attr) (attr : Attr) → IsNumbered attributes → length attributes < MAX_ATTRIBUTES → attr.handle ≡ length attributes + 1
     → IsNumbered (attributes ++ attr ∷ [])
 numbered_pushed attributes attr numbered room next =
     let long = length-append attributes (attr ∷ []) in

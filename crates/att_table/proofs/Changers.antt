@@ -4,6 +4,7 @@ use Rattle.std.specs.List.{find}
 use Rattle.std.specs.Option.{IfSome, option_map}
 use Rattle.att_attributes.specs.declared.attr.Attr.{Attr}
 use Rattle.att_attributes.specs.Attributes.{HaveHandlesFrom, IsNumbered}
+use Rattle.att_numbers.specs.declared.limit.TheConstants.{MAX_ATTRIBUTES}
 
 found_below : (test : Attr → Bool) (first : ℕ) (attributes : List Attr) → HaveHandlesFrom first attributes
     → IfSome (option_map (λ (attr : Attr). attr.handle) (find test attributes)) (λ handle. handle < first + length attributes)
@@ -20,9 +21,9 @@ found_below test first (attr ∷ rest) handles =
     weaker (Some handle) least most le below = omega arith
 
 pub found_within : (test : Attr → Bool) (attributes : List Attr) → IsNumbered attributes
-    → IfSome (option_map (λ (attr : Attr). attr.handle) (find test attributes)) (λ handle. handle ≤ 1024)
+    → IfSome (option_map (λ (attr : Attr). attr.handle) (find test attributes)) (λ handle. handle ≤ MAX_ATTRIBUTES)
 found_within test attributes numbered = within (option_map (λ (attr : Attr). attr.handle) (find test attributes)) (found_below test 1 attributes numbered.handles)
   where
-    within : (found : Option ℕ) → IfSome found (λ handle. handle < 1 + length attributes) → IfSome found (λ handle. handle ≤ 1024)
+    within : (found : Option ℕ) → IfSome found (λ handle. handle < 1 + length attributes) → IfSome found (λ handle. handle ≤ MAX_ATTRIBUTES)
     within None below = tt
     within (Some handle) below = omega (arith, numbered.most)

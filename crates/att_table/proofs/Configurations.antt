@@ -10,6 +10,7 @@ use Rattle.att_numbers.specs.Types.{Handle, Row}
 use Rattle.att_attributes.specs.declared.attr.Attr.{Attr}
 use Rattle.att_attributes.specs.Attributes.{is_configuration, configurations_of, attribute_at, is_configuration_at, HaveHandlesFrom, IsNumbered}
 use Rattle.att_table.specs.ConfigRow.{with_bits, has_entry, HasOneEntryEach, IsRowOf, HasRowRoom}
+use Rattle.att_numbers.specs.declared.limit.TheConstants.{MAX_CONFIGURATIONS}
 
 -- a write adds no other entry
 has_with_bits : (row : Row) (handle bits other : ℕ) → has_entry (with_bits row handle bits) other ≡ has_entry row other || (handle == other)
@@ -98,19 +99,19 @@ covered_by attributes (entry ∷ row) numbered all once =
     (grind (arith, found.1.own_handle, once.0)) (grind (arith, nat_tests, found.1.own_handle, found.1.is)) in
     omega arith
 
-within : (attributes : List Attr) (row : Row) → IsNumbered attributes → configurations_of attributes ≤ 64 → IsRowOf attributes row → HasOneEntryEach row → length row ≤ 64
+within : (attributes : List Attr) (row : Row) → IsNumbered attributes → configurations_of attributes ≤ MAX_CONFIGURATIONS → IsRowOf attributes row → HasOneEntryEach row → length row ≤ MAX_CONFIGURATIONS
 within attributes row numbered few all once =
     let covered = covered_by attributes row numbered all once in
     let counted = count_le (is_covered row) (λ (attr : Attr). is_configuration attr.role) attributes (λ attr passed. grind arith) in
     omega arith
 
 -- so there is room for a configuration that the row lacks
-room_unless : (attributes : List Attr) (row : Row) (handle : ℕ) (has : Bool) → has_entry row handle ≡ has → IsNumbered attributes → configurations_of attributes ≤ 64
-    → is_configuration_at attributes handle ≡ true → IsRowOf attributes row → HasOneEntryEach row → has || nat_lt (length row) 64 ≡ true
+room_unless : (attributes : List Attr) (row : Row) (handle : ℕ) (has : Bool) → has_entry row handle ≡ has → IsNumbered attributes → configurations_of attributes ≤ MAX_CONFIGURATIONS
+    → is_configuration_at attributes handle ≡ true → IsRowOf attributes row → HasOneEntryEach row → has || nat_lt (length row) MAX_CONFIGURATIONS ≡ true
 room_unless attributes row handle true has numbered few is all once = refl
 room_unless attributes row handle false has numbered few is all once =
     let more = within attributes ((handle, 0) ∷ row) numbered few (All-cons (λ entry. is_configuration_at attributes entry.0 ≡ true) (handle, 0) row is all) (has, once) in
     grind (arith, nat_tests)
 
-pub room_in_row : (attributes : List Attr) (handle : ℕ) → IsNumbered attributes → configurations_of attributes ≤ 64 → HasRowRoom attributes handle
+pub room_in_row : (attributes : List Attr) (handle : ℕ) → IsNumbered attributes → configurations_of attributes ≤ MAX_CONFIGURATIONS → HasRowRoom attributes handle
 room_in_row attributes handle numbered few is row all once = room_unless attributes row handle (has_entry row handle) refl numbered few is all once

@@ -8,6 +8,7 @@ use Rattle.hex.specs.declared.error.FromHexError.{FromHexError}
 use Rattle.hex.proofs.HexLemmas.{decode_of-ok, decode_sized-twice}
 use Rattle.att_table.specs.declared.table_fault.TableFault.TheVariants.{TooLong}
 use Rattle.att_table.specs.file.Field.{value_decoded, value_of}
+use Rattle.att_numbers.specs.declared.limit.TheConstants.{MAX_VALUE}
 
 -- the first of three ranges that a character is in, or none
 in_some_range : (upper lower decimal : Bool) (x y z : ℕ)
@@ -68,11 +69,11 @@ IsOk-decode_sized-half s room ok half =
     let of = length-decode_of s ok in
     ap is_ok (decode_sized-twice s room (omega (arith, of.2)) ∙ of.1)
 
-too_long : (octets : List ℕ) → 512 < length octets → value_decoded (Ok octets) ≡ Err TooLong
+too_long : (octets : List ℕ) → MAX_VALUE < length octets → value_decoded (Ok octets) ≡ Err TooLong
 too_long octets long = grind arith
 
 -- a value of more than 512 octets is refused
-pub value_of-long : (s : List ℕ) → is_ok (decode_of s) ≡ true → 512 < length s / 2 → value_of s ≡ Err TooLong
+pub value_of-long : (s : List ℕ) → is_ok (decode_of s) ≡ true → MAX_VALUE < length s / 2 → value_of s ≡ Err TooLong
 value_of-long s ok long =
     let of = length-decode_of s ok in
     ap value_decoded of.1 ∙ too_long of.0 (omega (arith, of.2))

@@ -20,35 +20,36 @@ use Rattle.att_attributes.proofs.OfType.{numbered_pushed}
 use Rattle.att_table.proofs.Configurations.{room_in_row}
 use Rattle.att_table.proofs.Services.{attribute_at-within}
 use Rattle.att_table.proofs.Tables.{kept-length, kept-room, value_at-cell, cell-within}
+use Rattle.att_numbers.specs.declared.limit.TheConstants.{MAX_ATTRIBUTES, MAX_DECLARATION, MAX_VALUE}
 
 -- the largest lengths
-most-512 : (role : Role) → most_octets role ≤ 512
-most-512 Declaration = omega arith
-most-512 Value = omega arith
-most-512 Configuration = omega arith
-most-512 Descriptor = omega arith
+most-value : (role : Role) → most_octets role ≤ MAX_VALUE
+most-value Declaration = omega arith
+most-value Value = omega arith
+most-value Configuration = omega arith
+most-value Descriptor = omega arith
 
 abbrev IsLargest : Attr → Type 0
 IsLargest attr = attr.largest ≤ most_octets attr.role
 
-all-512 : (attributes : List Attr) → All IsLargest attributes → All (λ (attr : Attr). attr.largest ≤ 512) attributes
-all-512 [] all = All-nil (λ (attr : Attr). attr.largest ≤ 512)
-all-512 (attr ∷ rest) all =
+all-value : (attributes : List Attr) → All IsLargest attributes → All (λ (attr : Attr). attr.largest ≤ MAX_VALUE) attributes
+all-value [] all = All-nil (λ (attr : Attr). attr.largest ≤ MAX_VALUE)
+all-value (attr ∷ rest) all =
     let here = All-head IsLargest attr rest all in
-    let most = most-512 attr.role in
-    All-cons (λ (attr : Attr). attr.largest ≤ 512) attr rest (omega arith) (all-512 rest (All-tail IsLargest attr rest all))
+    let most = most-value attr.role in
+    All-cons (λ (attr : Attr). attr.largest ≤ MAX_VALUE) attr rest (omega arith) (all-value rest (All-tail IsLargest attr rest all))
 
-counted-or-19 : (role : Role) (largest : ℕ) → largest ≤ most_octets role → largest ≤ counted_octets role largest + 19
-counted-or-19 Declaration largest within = omega arith
-counted-or-19 Value largest within = omega arith
-counted-or-19 Configuration largest within = omega arith
-counted-or-19 Descriptor largest within = omega arith
+counted-or-declared : (role : Role) (largest : ℕ) → largest ≤ most_octets role → largest ≤ counted_octets role largest + MAX_DECLARATION
+counted-or-declared Declaration largest within = omega arith
+counted-or-declared Value largest within = omega arith
+counted-or-declared Configuration largest within = omega arith
+counted-or-declared Descriptor largest within = omega arith
 
-pub sum-largest : (attributes : List Attr) → All IsLargest attributes → sum_by (λ (attr : Attr). attr.largest) attributes ≤ octets_of attributes + 19 * length attributes
+pub sum-largest : (attributes : List Attr) → All IsLargest attributes → sum_by (λ (attr : Attr). attr.largest) attributes ≤ octets_of attributes + MAX_DECLARATION * length attributes
 sum-largest [] all = omega arith
 sum-largest (attr ∷ rest) all =
     let later = sum-largest rest (All-tail IsLargest attr rest all) in
-    let here = counted-or-19 attr.role attr.largest (All-head IsLargest attr rest all) in
+    let here = counted-or-declared attr.role attr.largest (All-head IsLargest attr rest all) in
     let sums = sum_by-cons (λ (a : Attr). a.largest) attr rest in
     let counts = sum_by-cons (λ (a : Attr). counted_octets a.role a.largest) attr rest in
     omega (arith, later, here, sums, counts)
@@ -154,7 +155,7 @@ facts attributes cells ends types whole =
       handles = kept.numbered.handles;
       most = kept.numbered.most;
       one_value_each = length-map cells (λ (cell : Cell). cell.octets) ∙ sym (kept-length attributes cells kept);
-      largest = all-512 attributes kept.largest;
+      largest = all-value attributes kept.largest;
       within = λ handle used. value-within attributes cells handle kept used;
       fixed = λ handle is. value-fixed attributes cells handle kept is;
       behind = λ handle is. configuration-behind attributes cells handle kept is;
@@ -219,7 +220,7 @@ keeps_written attributes cells table keep handle offset part kept is used =
 abbrev Fits : Cell → Type 0
 Fits cell = length cell.octets ≤ cell.room
 
-pub kept-pushed : (attributes : List Attr) (cells : List Cell) (attr : Attr) (value : Octets) → IsKept attributes cells → length attributes < 1024 → IsNext attributes attr value
+pub kept-pushed : (attributes : List Attr) (cells : List Cell) (attr : Attr) (value : Octets) → IsKept attributes cells → length attributes < MAX_ATTRIBUTES → IsNext attributes attr value
     → IsKept (attributes ++ attr ∷ []) (cells ++ record { room = attr.largest; octets = value } ∷ [])
 kept-pushed attributes cells attr value kept room next =
     let cell : Cell = record { room = attr.largest; octets = value } in

@@ -27,6 +27,7 @@ use Rattle.att_table.specs.file.Service.{earlier_service, include_value}
 use Rattle.att_table.specs.Table.{Contents}
 use Rattle.att_table.specs.file.TypeText.{type_named, is_type_of_value}
 use Rattle.att_table.specs.file.TableFile.{any_property, read_and_write, descriptor_step, is_announced, config_at, configuration, configure, characteristic_value, characterize, characteristic_step, include_step, service_type_at, service_step, no_attributes, table_of, table_read}
+use Rattle.att_numbers.specs.declared.limit.TheConstants.{MAX_VALUE}
 
 abbrev IsWalked : {A : Type 0} → Result A TableFault → Type 0
 IsWalked (Ok _) = Unit
@@ -92,7 +93,7 @@ walked-properties_at allowed table =
 
 walked-value_decoded : (decoded : Result (List ℕ) FromHexError) → IsWalked (value_decoded decoded)
 walked-value_decoded (Err _) = λ e. cc e
-walked-value_decoded (Ok octets) = walked-if (nat_le (length octets) 512) octets TooLong (λ e. cc e)
+walked-value_decoded (Ok octets) = walked-if (nat_le (length octets) MAX_VALUE) octets TooLong (λ e. cc e)
 
 walked-value_read_at : (table : Members) → IsWalked (value_read_at table)
 walked-value_read_at table =
@@ -102,7 +103,7 @@ walked-value_read_at table =
 walked-largest_of : (largest : Option ℤ) (fixed : Bool) (size : ℕ) → IsWalked (largest_of largest fixed size)
 walked-largest_of None fixed size = tt
 walked-largest_of (Some (pos largest)) fixed size =
-    walked-if (nat_le size largest && nat_le largest 512 && (not fixed || (largest == size))) largest TooLong (λ e. cc e)
+    walked-if (nat_le size largest && nat_le largest MAX_VALUE && (not fixed || (largest == size))) largest TooLong (λ e. cc e)
 walked-largest_of (Some (negsuc _)) fixed size = λ e. cc e
 
 walked-placed_of : (role : Role) (handle : ℕ) (allowed : Properties) (table : Members) → IsWalked (placed_of role handle allowed table)

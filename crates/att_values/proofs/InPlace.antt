@@ -5,6 +5,7 @@ use Rattle.std.proofs.lemmas.List.{same_lists, places as list_places, get_or-map
 use Rattle.att_values.specs.declared.flat_store.Place.{Place}
 use Rattle.att_values.specs.Cell.{Cell, no_cell, IsUsed, cell_at, value_with_part, patched_cell, with_part}
 use Rattle.att_values.specs.FlatStore.{cell_in, cells_in, IsLaidOut}
+use Rattle.att_numbers.specs.declared.limit.TheConstants.{MAX_VALUE}
 
 -- the octets after a part is written over them from a place on
 abbrev pub written : List ℕ → ℕ → List ℕ → List ℕ
@@ -41,7 +42,7 @@ starts_within (place ∷ places) from end laid = let h = starts_within places (f
 
 -- each place stands within the octets, and its value within its room
 pub place_within : (places : List Place) (i from end : ℕ) (place : Place) → IsLaidOut from places end → i < length places → place ≡ get_or places i place
-    → (from ≤ place.start) × (place.start + place.room ≤ end) × (place.len ≤ place.room) × (place.room ≤ 512)
+    → (from ≤ place.start) × (place.start + place.room ≤ end) × (place.len ≤ place.room) × (place.room ≤ MAX_VALUE)
 place_within [] i from end place laid below is = absurd (omega arith)
 place_within (first ∷ rest) zero from end place laid below is =
     let later = starts_within rest (from + first.room) end laid.3 in
@@ -111,7 +112,7 @@ pub record StandsAt (octets : List ℕ) (cells : List Cell) (handle : ℕ) (plac
   pub fits : length (cell_at cells handle).octets ≤ (cell_at cells handle).room
   pub value_ends : place.start + place.len ≤ length octets
   pub room_ends : place.start + place.room ≤ length octets
-  pub room : place.room ≤ 512
+  pub room : place.room ≤ MAX_VALUE
 
 pub stands_at : (octets : List ℕ) (places : List Place) (cells : List Cell) (end handle at : ℕ) (place : Place)
     → IsLaidOut 0 places end → end ≡ length octets → cells_in octets places ≡ cells → IsUsed cells handle → at ≡ handle → place ≡ get_or places (at - 1) place

@@ -5,6 +5,7 @@ use Rattle.att_values.specs.declared.flat_store.Place.{Place}
 use Rattle.att_values.specs.Cell.{Cell}
 use Rattle.att_values.specs.FlatStore.{cell_in, cells_in, IsLaidOut}
 use Rattle.att_values.proofs.InPlace.{starts_within}
+use Rattle.att_numbers.specs.declared.limit.TheConstants.{MAX_VALUE}
 
 -- octets at the end leave the values before them
 value_before : (octets more : List ℕ) (start len : ℕ) → start + len ≤ length octets
@@ -28,7 +29,7 @@ value_last octets value room =
     same_lists _ _ (search (rules, list_places)) (λ k d h. grind (arith, list_places))
 
 -- one more place
-laid_out_more : (places : List Place) (from end : ℕ) (place : Place) → IsLaidOut from places end → place.start ≡ end → place.len ≤ place.room → place.room ≤ 512
+laid_out_more : (places : List Place) (from end : ℕ) (place : Place) → IsLaidOut from places end → place.start ≡ end → place.len ≤ place.room → place.room ≤ MAX_VALUE
     → IsLaidOut from (places ++ place ∷ []) (end + place.room)
 laid_out_more [] from end place laid start len room = (start ∙ sym laid, len, room, ap (λ n. n + place.room) laid)
 laid_out_more (first ∷ rest) from end place laid start len room =
@@ -58,7 +59,7 @@ cells_pushed octets new value places pushed cells end start room laid is_end vie
 pub laid_out_pushed : (octets new value : List ℕ) (places pushed : List Place) (end new_end start room : ℕ)
     → IsLaidOut 0 places end → end ≡ length octets → new_end ≡ length new
     → new ≡ appended octets value room → start ≡ end → pushed ≡ with_place places start (length value) room
-    → length value ≤ room → room ≤ 512
+    → length value ≤ room → room ≤ MAX_VALUE
     → IsLaidOut 0 pushed new_end
 laid_out_pushed octets new value places pushed end new_end start room laid is_end is_new_end is starts is_pushed fits largest =
     let count : new_end ≡ end + room =

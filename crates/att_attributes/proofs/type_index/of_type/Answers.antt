@@ -6,6 +6,7 @@ use Rattle.att_attributes.specs.Attributes.{type_at}
 use Rattle.att_attributes.specs.TypeIndex.{place_from, turns_for}
 use Rattle.att_attributes.proofs.OfType.{above_at, end_behind, found_between, index_given, length_given, none_at, none_past}
 use Rattle.att_attributes.proofs.type_index.of_type.Goals as goal
+use Rattle.att_numbers.specs.declared.limit.TheConstants.{MAX_ATTRIBUTES}
 
 pub first_from-start-requires-clause-index : goal.first_from-start-requires-clause-index
 first_from-start-requires-clause-index g c = index_given _ _ c.requires.numbered c.requires.index
@@ -80,7 +81,7 @@ turns_up_to count = elim (nat_le count 1023) as (λ few. (if few then 10 else 11
   | false ↦ omega arith
 ]
 
-turns_after : (count known : ℕ) → count ≤ 1024 → 0 < known → turns_for (count - known) ≤ 10
+turns_after : (count known : ℕ) → count ≤ MAX_ATTRIBUTES → 0 < known → turns_for (count - known) ≤ 10
 turns_after count known within after = grind (arith, nat_tests)
 
 pub returns-clause-steps : goal.returns-clause-steps

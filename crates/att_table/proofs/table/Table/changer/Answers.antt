@@ -6,6 +6,7 @@ use Rattle.att_table.specs.Table.{Contents, values_of}
 use Rattle.att_table.proofs.Changers.{found_within}
 use Rattle.att_table.proofs.ServiceBefore.{changer_found}
 use Rattle.att_table.proofs.table.Table.changer.Goals as goal
+use Rattle.att_numbers.specs.declared.limit.TheConstants.{MAX_ATTRIBUTES}
 
 pub returns-clause-found : goal.returns-clause-found
 returns-clause-found c =
@@ -20,5 +21,5 @@ returns-clause-most c =
     let held : List Attr → Contents = λ attributes. record { attributes = attributes; values = values_of c.self.inside.values } in
     let attributes = c.self.inside.attributes.items in
     let is = c.changer_of.ensures ∙ ap (λ (attributes : List Attr). changer_of (held attributes)) c.deref.ensures.value in
-    subst (λ (found : Option ℕ). IfSome found (λ handle. handle ≤ 1024)) (sym is)
+    subst (λ (found : Option ℕ). IfSome found (λ handle. handle ≤ MAX_ATTRIBUTES)) (sym is)
     (found_within (is_changer (held attributes)) attributes c.self.invariant.kept.numbered)
