@@ -24,6 +24,7 @@ use Rattle.gatt_slots.specs.declared.marks.Marks.{Marks}
 use Rattle.gatt_slots.specs.declared.places.Due.{Due}
 use Rattle.gatt_slots.specs.declared.places.Places.{Places}
 use Rattle.gatt_slots.specs.declared.places.Due.TheVariants.{Command, Packet, Value}
+use Rattle.gatt_laws.specs.declared.TheConstants.{MAX_SLOTS}
 
 pub none-due : (due : Due) → is_due due None ≡ false
 none-due Command = refl
@@ -48,7 +49,7 @@ at-other slots place other slot apart = ⊎_elim
     (cases_lt other (length slots))
 
 -- all places cover all that is due
-pub all_covered : (due : Due) (slots : Held) → length slots ≤ 8 → Covers due 255 slots
+pub all_covered : (due : Due) (slots : Held) → length slots ≤ MAX_SLOTS → Covers due 255 slots
 all_covered due slots few = λ place is. bit_at_ones 8 place (omega (arith, there due slots place is))
 
 -- a slot is changed whose place comes into the set
@@ -70,8 +71,8 @@ covered_still due places slots place slot covers still = λ other is. ⊎_elim
     (cases_eq other place)
 
 -- a place leaves it at which nothing is due
-pub covered_without : (due : Due) (old new : ℕ) (slots : Held) (place : ℕ) → length slots ≤ 8 → Covers due old slots → is_due due (kept_at slots place) ≡ false
-    → ((other : ℕ) → other < 8 → other ≢ place → bit_at new other ≡ bit_at old other) → Covers due new slots
+pub covered_without : (due : Due) (old new : ℕ) (slots : Held) (place : ℕ) → length slots ≤ MAX_SLOTS → Covers due old slots → is_due due (kept_at slots place) ≡ false
+    → ((other : ℕ) → other < MAX_SLOTS → other ≢ place → bit_at new other ≡ bit_at old other) → Covers due new slots
 covered_without due old new slots place few covers idle others = λ other is. ⊎_elim
     (λ same. clash is (ap (λ at. is_due due (kept_at slots at)) same ∙ idle))
     (λ apart. others other (omega (arith, there due slots other is)) apart ∙ covers other is)
@@ -161,11 +162,11 @@ module _ (slots : Held) (place : ℕ) (slot : Option Kept) (old new : Marks) (ma
 
 -- none may be given at it any more
 pub marked_off : (slots : Held) (place : ℕ) (slot : Option Kept) (old new : Marks) → place < length slots → IsMarked slots old → gives slot ≡ false
-    → ((other : ℕ) → other < 8 → other ≢ place → bit_at new.packets.bits other ≡ bit_at old.packets.bits other)
+    → ((other : ℕ) → other < MAX_SLOTS → other ≢ place → bit_at new.packets.bits other ≡ bit_at old.packets.bits other)
     → new.commands ≡ old.commands → new.waiting ≡ old.waiting → new.free ≡ old.free → GoesOn (kept_at slots place) slot
     → Covers Value new.listening.bits (set slots place slot) → IsMarked (set slots place slot) new
 marked_off slots place slot old new within marked idle others commands waiting free goes listening =
-    let few : length (set slots place slot) ≤ 8 = omega (arith, marked.few, length-set slots place slot) in
+    let few : length (set slots place slot) ≤ MAX_SLOTS = omega (arith, marked.few, length-set slots place slot) in
     record {
       few = few;
       commands = subst (λ (it : Places). Covers Command it.bits (set slots place slot)) (sym commands)
@@ -178,7 +179,7 @@ marked_off slots place slot old new within marked idle others commands waiting f
       free = λ none. none_with (λ it. is_none it) slot slots place (marked.free (sym free ∙ none)) goes.free;
     }
 
-pub all_marked : (slots : Held) → length slots ≤ 8
+pub all_marked : (slots : Held) → length slots ≤ MAX_SLOTS
     → IsMarked slots (record { commands = record { bits = 255 }; packets = record { bits = 255 }; listening = record { bits = 255 }; waiting = true; free = true })
 all_marked slots few = record {
   few = few;

@@ -5,6 +5,7 @@ use Rattle.std.specs.Option.{option_map_or}
 use Rattle.gatt_slots.specs.Kept.{Kept}
 use Rattle.gatt_slots.specs.Slots.{Held, late_handle, late_handles}
 use Rattle.gatt_subs.specs.Indications.{times_out}
+use Rattle.gatt_laws.specs.declared.TheConstants.{MAX_SLOTS}
 
 module _ (now : ℕ) (change : Option Kept → Option Kept) where
   abbrev late : Option Kept → List ℕ
@@ -56,8 +57,8 @@ few-taken now (suc place) (slot ∷ slots) =
     let whole = length-append (option_map_or (late_handle now) slot []) (late_handles now (take place slots)) in
     omega (arith, first, later, whole)
 
-pub late_room : (now place : ℕ) (slots : Held) (handles : List ℕ) → place < length slots → length slots ≤ 8
-    → handles ≡ late_handles now (take place slots) → length handles < 8
+pub late_room : (now place : ℕ) (slots : Held) (handles : List ℕ) → place < length slots → length slots ≤ MAX_SLOTS
+    → handles ≡ late_handles now (take place slots) → length handles < MAX_SLOTS
 late_room now place slots handles within few is =
     let count : length handles ≡ length (late_handles now (take place slots)) = ap (λ (it : List ℕ). length it) is in
     let most = few-taken now place slots in

@@ -2,12 +2,13 @@
 use Rattle.std.specs.Prelude.{◌≡◌, ℕ, ◌<◌, List, length, get_or, Option, Some, None}
 use Rattle.gatt_slots.specs.Kept.{Kept}
 use Rattle.gatt_slots.specs.Slots.{Held, kept_at}
+use Rattle.gatt_slots.specs.declared.handles.TheConstants.{FREE}
 
 -- what is noted of a slot: the handle of its connection, and where it is free a number that is none
 abbrev pub noted_of : Option Kept → ℕ
-noted_of None = 65536
+noted_of None = FREE
 noted_of (Some kept) = kept.handle
 
 -- it is noted of each slot, at its place
 abbrev pub AreNoted : Held → List ℕ → Type 0
-AreNoted slots noted = (place : ℕ) → place < length slots → get_or noted place 65536 ≡ noted_of (kept_at slots place)
+AreNoted slots noted = (place : ℕ) → place < length slots → get_or noted place FREE ≡ noted_of (kept_at slots place)

@@ -10,6 +10,7 @@ use Rattle.gatt_slots.specs.declared.places.Due.{Due}
 use Rattle.gatt_slots.specs.declared.places.Due.TheVariants.{Command, Packet, Value}
 use Rattle.gatt_slots.specs.Kept.{Kept}
 use Rattle.gatt_slots.specs.Slots.{Held, kept_at}
+use Rattle.gatt_laws.specs.declared.TheConstants.{MAX_SLOTS}
 
 -- the connection of a slot may hear of values: its link has a key, so that the row of its peer's bond is in force, or it
 -- has configured something itself
@@ -24,7 +25,7 @@ is_due Value slot = may_listen slot
 
 -- the first place of a set
 pub record IsFirstPlace (set place : ℕ) : Type 0 where
-  pub few : place < 8
+  pub few : place < MAX_SLOTS
   pub within : bit_at set place ≡ 1
   pub before : (other : ℕ) → other < place → bit_at set other ≡ 0
 
@@ -42,7 +43,7 @@ waits slot = option_map_or (λ (kept : Kept). is_some_handle kept.pending.waitin
 
 -- nothing is due or heard, waits or is free but where it is marked
 pub record IsMarked (slots : Held) (marks : Marks) : Type 0 where
-  pub few : length slots ≤ 8
+  pub few : length slots ≤ MAX_SLOTS
   pub commands : Covers Command marks.commands.bits slots
   pub packets : Covers Packet marks.packets.bits slots
   pub listening : Covers Value marks.listening.bits slots

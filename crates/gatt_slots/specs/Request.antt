@@ -18,13 +18,14 @@ use Rattle.gatt_subs.specs.Indications.{Indications, after_confirmation, confirm
 use Rattle.gatt_subs.specs.Rows.{with_row}
 use Rattle.le_acl.specs.Outgoing.{Outgoing}
 use Rattle.octets.specs.Number.{Octets}
+use Rattle.le_acl.specs.declared.pdus.TheConstants.{MAX_PDUS}
 
 -- what it asks for; and the connection is ended where an answer is due and there is no room for it
 abbrev pub asked_of : Octets → Kept → Question
 asked_of pdu kept = request_of pdu kept.mtu
 
 abbrev pub is_full : Octets → Kept → Bool
-is_full pdu kept = is_due (asked_of pdu kept) && (backlog_of kept == 16)
+is_full pdu kept = is_due (asked_of pdu kept) && (backlog_of kept == MAX_PDUS)
 
 -- what is stored, where the peer's bond has a row, and the handles that are written
 abbrev pub stored_of : Contents → ℕ → Option Row → Octets → Kept → Stored

@@ -12,6 +12,8 @@ use Rattle.le_hci.specs.declared.peer.Peer.{Peer}
 use Rattle.le_security.specs.declared.entry.Key.{Key}
 use Rattle.le_security.specs.Link.{Step, no_key, after_step, with_asked}
 use Rattle.octets.specs.Number.{Octets}
+use Rattle.att_pdu.specs.declared.pdu_buf.TheConstants.{MIN_MTU}
+use Rattle.le_acl.specs.declared.pdus.TheConstants.{MAX_PDUS}
 
 -- a connection that has just come
 abbrev pub come : ℕ → Peer → Bool → Mtu → ℕ → ℕ → Kept
@@ -23,7 +25,7 @@ come handle peer key_known rx_mtu share size = record {
   until = 0;
   row = [];
   link = no_key;
-  mtu = 23;
+  mtu = MIN_MTU;
   rx_mtu = rx_mtu;
   exchanged = false;
   queue = [];
@@ -65,12 +67,12 @@ after_link_step step kept =
 -- a PDU of a channel that is not that of the Attribute Protocol: it is ended where there is no room for an answer
 abbrev pub has_no_room : Option Octets → Kept → Bool
 has_no_room None kept = false
-has_no_room (Some answer) kept = backlog_of kept == 16
+has_no_room (Some answer) kept = backlog_of kept == MAX_PDUS
 
 abbrev pub with_answer : ℕ → Option Octets → Kept → Kept
 with_answer channel None kept = kept
 with_answer channel (Some answer) kept =
-    if backlog_of kept == 16 then after_ending remote_user_terminated kept
+    if backlog_of kept == MAX_PDUS then after_ending remote_user_terminated kept
     else record kept { outgoing = with_pdu kept.outgoing (channel, answer) }
 
 abbrev pub after_signal : ℕ → Octets → Kept → Kept

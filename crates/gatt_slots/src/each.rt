@@ -12,6 +12,7 @@ use crate::marks::Marks;
 use crate::slot::{Slot, Use};
 use arrayvec::ArrayVec;
 use att_table::Table;
+use gatt_laws::MAX_SLOTS;
 use le_hci::CompletedPackets;
 
 /// The slot whose connection has a handle and serves.
@@ -70,8 +71,8 @@ pub(crate) fn first_deadline(slots: &[Slot]) -> Option<u64>
 
 /// Takes in the time, in milliseconds, with the handles of the connections that are timed out by it in
 /// place of what `late` holds.
-pub(crate) fn tick_all(slots: &mut [Slot], now: u64, late: &mut ArrayVec<u16, 8>)
-    requires { length slots.old ≤ 8 }
+pub(crate) fn tick_all(slots: &mut [Slot], now: u64, late: &mut ArrayVec<u16, MAX_SLOTS>)
+    requires { length slots.old ≤ MAX_SLOTS }
     ensures after { slots.new ≡ all_after_time now slots.old }
     ensures late { late.new.items ≡ late_handles now slots.old }
 {
@@ -83,8 +84,8 @@ pub(crate) fn tick_all(slots: &mut [Slot], now: u64, late: &mut ArrayVec<u16, 8>
 }
 
 /// Puts a handle behind others, if there is one.
-fn add(handles: &mut ArrayVec<u16, 8>, handle: Option<u16>)
-    requires { length handles.old.items < 8 }
+fn add(handles: &mut ArrayVec<u16, MAX_SLOTS>, handle: Option<u16>)
+    requires { length handles.old.items < MAX_SLOTS }
     ensures { handles.new.items ≡ handles.old.items ++ option_to_list handle }
 {
     if let Some(handle) = handle {

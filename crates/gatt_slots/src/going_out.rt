@@ -7,6 +7,7 @@ ghost use Rattle.std.specs.Option.{option_and_then, option_map};
 ghost use Rattle.le_hci.specs.Command.{command_of};
 ghost use Rattle.gatt_slots.specs.Commands.{command_due, gives, has_command, packet_of, without_command, without_packet};
 ghost use Rattle.gatt_slots.specs.Slots.{kept_at, slots_at};
+ghost use Rattle.le_h4.specs.declared.packet_buf.TheConstants.{MAX_PACKET_OUT};
 
 use crate::places::{Due, first_due};
 use crate::slot::{Slot, Use};
@@ -82,7 +83,7 @@ impl Slot {
     /// nothing changes, where all is given that may be.
     #[inline(always)]
     pub fn next_into(&mut self, out: &mut [u8]) -> Option<usize>
-        requires room { 260 ≤ length out.old }
+        requires room { MAX_PACKET_OUT ≤ length out.old }
         ensures gives { is_some result ≡ gives self.old }
         ensures packet { IfSome result
             (λ count. option_and_then packet_of self.old ≡ Some (take count out.new)) }
@@ -201,7 +202,7 @@ impl Slots {
     #[inline(always)]
     pub fn next_into(&mut self, place: usize, out: &mut [u8]) -> Option<usize>
         requires place { place < length self.old }
-        requires room { 260 ≤ length out.old }
+        requires room { MAX_PACKET_OUT ≤ length out.old }
         ensures gives { is_some result ≡ gives (kept_at self.old place) }
         ensures packet { IfSome result (λ count.
             option_and_then packet_of (kept_at self.old place) ≡ Some (take count out.new)) }

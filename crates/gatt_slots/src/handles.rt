@@ -7,6 +7,7 @@ ghost use Rattle.gatt_slots.specs.Handles.{AreNoted};
 ghost use Rattle.gatt_slots.specs.Slots.{place_holding, IsThere};
 
 use crate::slot::Slot;
+use gatt_laws::MAX_SLOTS;
 
 /// Stands where a slot is free: it is no handle.
 const FREE: u32 = 0x1_0000;
@@ -14,16 +15,18 @@ const FREE: u32 = 0x1_0000;
 /// The handle of the connection of each slot.
 #[derive(Clone, Copy)]
 pub(crate) struct Handles {
-    pub(crate) noted: [u32; 8],
+    pub(crate) noted: [u32; MAX_SLOTS],
 }
 
 impl Handles {
     /// Of slots that are free.
-    pub(crate) const NONE: Handles = Handles { noted: [FREE; 8] };
+    pub(crate) const NONE: Handles = Handles {
+        noted: [FREE; MAX_SLOTS],
+    };
 
     /// Notes that a connection has come to a slot.
     pub(crate) fn came(&mut self, place: usize, handle: u16)
-        requires { place < 8 }
+        requires { place < MAX_SLOTS }
         ensures { self.new.noted ≡ set self.old.noted place handle }
     {
         self.noted[place] = u32::from(handle);
@@ -31,8 +34,8 @@ impl Handles {
 
     /// Notes that a slot is free.
     pub(crate) fn went(&mut self, place: usize)
-        requires { place < 8 }
-        ensures { self.new.noted ≡ set self.old.noted place 65536 }
+        requires { place < MAX_SLOTS }
+        ensures { self.new.noted ≡ set self.old.noted place FREE }
     {
         self.noted[place] = FREE;
     }

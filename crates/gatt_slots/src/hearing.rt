@@ -12,6 +12,8 @@ ghost use Rattle.gatt_slots.specs.Slots.{heard_by, raised_by};
 ghost use Rattle.gatt_subs.specs.Rows.{owes, row_of};
 ghost use Rattle.le_acl.specs.Outgoing.{with_pdu};
 ghost use Rattle.octets.specs.Number.{two_octets};
+ghost use Rattle.att_pdu.specs.declared.pdu_buf.TheConstants.{MAX_MTU, MIN_MTU};
+ghost use Rattle.le_acl.specs.declared.pdus.TheConstants.{MAX_PDUS};
 
 use crate::slot::{Slot, Use};
 use att_numbers::opcode::{HANDLE_VALUE_INDICATION, HANDLE_VALUE_NOTIFICATION};
@@ -33,8 +35,8 @@ fn raise(
     pending: &mut Pending,
     sender: &mut Sender,
 ) -> bool
-    requires least { 23 ≤ mtu }
-    requires most { mtu ≤ 517 }
+    requires least { MIN_MTU ≤ mtu }
+    requires most { mtu ≤ MAX_MTU }
     ensures told { record { pending = pending.new; outgoing = sender.new.outgoing }
         ≡ told_raised raised.now.table (record { row = row.now; standing = standing.entry.now; mtu = mtu }) raised.now.handle
         (record { pending = pending.old; outgoing = sender.old.outgoing }) }
@@ -64,8 +66,8 @@ fn release(
     pending: &mut Pending,
     sender: &mut Sender,
 )
-    requires least { 23 ≤ mtu }
-    requires most { mtu ≤ 517 }
+    requires least { MIN_MTU ≤ mtu }
+    requires most { mtu ≤ MAX_MTU }
     ensures { record { pending = pending.new; outgoing = sender.new.outgoing }
         ≡ told_released table.now (record { row = row.now; standing = standing.entry.now; mtu = mtu }) now
         (record { pending = pending.old; outgoing = sender.old.outgoing }) }
@@ -83,9 +85,9 @@ fn release(
 
 /// Queues a PDU that tells a value: its opcode, the handle, and as much of the value as fits.
 fn queue_value(opcode: u8, handle: u16, value: &[u8], mtu: u16, sender: &mut Sender)
-    requires least { 23 ≤ mtu }
-    requires most { mtu ≤ 517 }
-    requires room { length sender.old.outgoing.queue < 16 }
+    requires least { MIN_MTU ≤ mtu }
+    requires most { mtu ≤ MAX_MTU }
+    requires room { length sender.old.outgoing.queue < MAX_PDUS }
     ensures { sender.new.outgoing
         ≡ with_pdu sender.old.outgoing
         (ATT, opcode ∷ two_octets handle ++ take (mtu - 3) value.now) }

@@ -18,4 +18,3 @@ mod turn;
 pub use connection::Connection;
 pub use request::Brought;
 pub use slots::Slots;
-pub use turn::{AUTHENTICATION_FAILURE, REMOTE_USER_TERMINATED};

@@ -5,6 +5,7 @@ ghost use Rattle.gatt_slots.specs.Commands.{gives};
 ghost use Rattle.gatt_slots.specs.Kept.{Kept};
 ghost use Rattle.gatt_slots.specs.Places.{may_listen, GoesOn, IsMarked};
 ghost use Rattle.gatt_slots.specs.Slots.{kept_at, Held};
+ghost use Rattle.gatt_laws.specs.declared.TheConstants.{MAX_SLOTS};
 
 use crate::places::Places;
 
@@ -27,7 +28,7 @@ impl Marks {
     /// Anything may be so of any slot.
     #[tactic(auto, using(crate::proofs::Covering::all_marked))]
     pub(crate) fn all() -> Marks
-        ensures { (slots : Held) → length slots ≤ 8 → IsMarked slots result }
+        ensures { (slots : Held) → length slots ≤ MAX_SLOTS → IsMarked slots result }
     {
         Marks {
             commands: Places::ALL,
@@ -40,7 +41,7 @@ impl Marks {
 
     /// Takes in that anything may have become of a slot.
     pub(crate) fn change(&mut self, place: usize)
-        requires { place < 8 }
+        requires { place < MAX_SLOTS }
         ensures { (slots : Held) (slot : Option Kept) → place < length slots
             → IsMarked slots self.old → IsMarked (set slots place slot) self.new }
     {
@@ -54,7 +55,7 @@ impl Marks {
     /// Takes in that a request was served at a slot, and whether its connection was ended.
     #[inline(always)]
     pub(crate) fn serve(&mut self, place: usize, ended: bool)
-        requires { place < 8 }
+        requires { place < MAX_SLOTS }
         ensures { (slots : Held) (slot : Option Kept) → place < length slots
             → IsMarked slots self.old → (ended ≡ false → GoesOn (kept_at slots place) slot)
             → IsMarked (set slots place slot) self.new }
@@ -71,7 +72,7 @@ impl Marks {
     /// Takes in whether a packet may be given at a slot, whose connection goes on.
     #[inline(always)]
     pub(crate) fn go_on(&mut self, place: usize, giving: bool)
-        requires { place < 8 }
+        requires { place < MAX_SLOTS }
         ensures { (slots : Held) (slot : Option Kept) → place < length slots
             → IsMarked slots self.old → GoesOn (kept_at slots place) slot
             → (may_listen slot ≡ true → may_listen (kept_at slots place) ≡ true)

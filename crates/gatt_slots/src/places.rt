@@ -8,6 +8,8 @@ ghost use Rattle.gatt_slots.specs.Places.{is_due, may_listen, Covers, IsFirstPla
 ghost use Rattle.gatt_slots.specs.Slots.{is_own};
 
 use crate::slot::{Slot, Use};
+use gatt_laws::MAX_SLOTS;
+use std::mem::size_of;
 
 /// What may be due at a slot.
 #[derive(Clone, Copy, PartialEq, Eq)]
@@ -20,11 +22,16 @@ pub(crate) enum Due {
     Value,
 }
 
-/// A set of places, each below 8.
+/// The places of a set, a bit each: as many as there may be slots.
+pub(crate) type SlotBits = u8;
+
+const _: () = prove!(8 * size_of::<SlotBits>() == MAX_SLOTS);
+
+/// A set of places of slots.
 #[derive(Clone, Copy)]
 pub(crate) struct Places {
     /// A place is in the set where its bit is set.
-    pub(crate) bits: u8,
+    pub(crate) bits: SlotBits,
 }
 
 impl Places {
@@ -32,7 +39,9 @@ impl Places {
     pub(crate) const NONE: Places = Places { bits: 0 };
 
     /// Every place.
-    pub(crate) const ALL: Places = Places { bits: 0xFF };
+    pub(crate) const ALL: Places = Places {
+        bits: SlotBits::MAX,
+    };
 
     /// No place is in the set.
     #[inline(always)]
@@ -45,7 +54,7 @@ impl Places {
     /// Puts a place into the set.
     #[inline(always)]
     pub(crate) fn add(&mut self, place: usize)
-        requires { place < 8 }
+        requires { place < MAX_SLOTS }
         ensures added { bit_at self.new.bits place ≡ 1 }
         ensures others { (other : ℕ) → other ≢ place
             → bit_at self.new.bits other ≡ bit_at self.old.bits other }
@@ -56,9 +65,9 @@ impl Places {
     /// Takes a place out of the set.
     #[inline(always)]
     pub(crate) fn remove(&mut self, place: usize)
-        requires { place < 8 }
+        requires { place < MAX_SLOTS }
         ensures removed { bit_at self.new.bits place ≡ 0 }
-        ensures others { (other : ℕ) → other < 8 → other ≢ place
+        ensures others { (other : ℕ) → other < MAX_SLOTS → other ≢ place
             → bit_at self.new.bits other ≡ bit_at self.old.bits other }
         ensures fewer { bit_at self.old.bits place ≡ 1 → self.new.bits < self.old.bits }
     {
@@ -119,7 +128,7 @@ impl Slot {
 /// it is not leave the set.
 #[inline(always)]
 pub(crate) fn first_due(slots: &[Slot], due: Due, places: &mut Places) -> Option<usize>
-    requires few { length slots.now ≤ 8 }
+    requires few { length slots.now ≤ MAX_SLOTS }
     requires covers { Covers due places.old.bits slots.now }
     ensures place { result ≡ position (is_due due) slots.now }
     ensures within { IfSome result (λ place. place < length slots.now) }

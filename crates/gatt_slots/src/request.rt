@@ -14,14 +14,14 @@ ghost use Rattle.gatt_subs.specs.Rows.{row_of, ChangesBond};
 
 use crate::hearing::standing;
 use crate::slot::Slot;
-use crate::turn::REMOTE_USER_TERMINATED;
 use arrayvec::ArrayVec;
 use att_pdu::answer_due;
 use att_table::{ConfigRow, Table};
-use gatt_conn::{Conn, Served, answer_into};
+use gatt_conn::{Conn, Served, Touched, answer_into};
 use gatt_subs::{Pending, Rows};
 use le_acl::{MAX_PDUS, Sender};
 use le_hci::Peer;
+use le_hci::reason::REMOTE_USER_TERMINATED;
 use le_l2cap::channel::ATT;
 use le_security::Link;
 
@@ -45,7 +45,7 @@ impl Slot {
         changer: Option<u16>,
         now: u64,
         pdu: &[u8],
-        written: &mut ArrayVec<u16, 32>,
+        written: &mut Touched,
     ) -> Brought
         requires there { IsSome self.old }
         requires row { IfSome self.old
@@ -97,9 +97,9 @@ impl Slot {
 #[inline(always)]
 fn is_full(conn: &Conn, sender: &Sender, pdu: &[u8]) -> bool
     ensures full { result
-        ≡ (is_due (request_of pdu.now conn.now.mtu) && (length sender.now.outgoing.queue == 16)) }
+        ≡ (is_due (request_of pdu.now conn.now.mtu) && (length sender.now.outgoing.queue == MAX_PDUS)) }
     ensures room { OnFalse result
-        (is_due (request_of pdu.now conn.now.mtu) ≡ true → length sender.now.outgoing.queue < 16) }
+        (is_due (request_of pdu.now conn.now.mtu) ≡ true → length sender.now.outgoing.queue < MAX_PDUS) }
 {
     sender.backlog() == MAX_PDUS && answer_due(pdu, conn.mtu())
 }
@@ -147,12 +147,12 @@ fn answer_by_row(
     conn: &mut Conn,
     pdu: &[u8],
     sender: &mut Sender,
-    written: &mut ArrayVec<u16, 32>,
+    written: &mut Touched,
 ) -> Served
     requires row { IsRowOf table.old.attributes
         (row_by_key has_key (row_of rows.old peer.now) own.old) }
     requires room { is_due (request_of pdu.now conn.old.mtu) ≡ true
-        → length sender.old.outgoing.queue < 16 }
+        → length sender.old.outgoing.queue < MAX_PDUS }
     ensures queued { let by = row_by_key has_key (row_of rows.old peer.now) own.old in
         sender.new.outgoing ≡ with_answer sender.old.outgoing
         (answer_to table.old by conn.old (request_of pdu.now conn.old.mtu)) }
@@ -183,11 +183,11 @@ fn answer(
     conn: &mut Conn,
     pdu: &[u8],
     sender: &mut Sender,
-    written: &mut ArrayVec<u16, 32>,
+    written: &mut Touched,
 ) -> Served
     requires row { IsRowOf table.old.attributes row.old }
     requires room { is_due (request_of pdu.now conn.old.mtu) ≡ true
-        → length sender.old.outgoing.queue < 16 }
+        → length sender.old.outgoing.queue < MAX_PDUS }
     ensures queued { sender.new.outgoing ≡ with_answer sender.old.outgoing
         (answer_to table.old row.old conn.old (request_of pdu.now conn.old.mtu)) }
     ensures answered { IsAnswered pdu.now table.old table.new row.old row.new conn.old conn.new
@@ -212,7 +212,7 @@ fn answer_nothing(
     row: &mut ConfigRow,
     conn: &mut Conn,
     pdu: &[u8],
-    written: &mut ArrayVec<u16, 32>,
+    written: &mut Touched,
 ) -> Served
     requires row { IsRowOf table.old.attributes row.old }
     requires none_due { is_due (request_of pdu.now conn.old.mtu) ≡ false }

@@ -16,6 +16,7 @@ ghost use Rattle.gatt_subs.specs.Rows.{owes, row_of, ChangesBond, Subscriptions}
 ghost use Rattle.le_hci.specs.Event.{completed_packets_of};
 ghost use Rattle.le_security.specs.Keys.{answer_of};
 ghost use Rattle.le_security.specs.Link.{after_step, Encryption, Refresh};
+ghost use Rattle.att_pdu.specs.declared.pdu_buf.TheConstants.{MAX_MTU, MIN_MTU};
 
 use crate::connection::{Connection, next_connection};
 use crate::each::{complete_all, find_free, find_serving, first_deadline, replace_all, tick_all};
@@ -28,6 +29,8 @@ use crate::telling::{Heard, hear_all};
 use arrayvec::ArrayVec;
 use att_policy::KeyFacts;
 use att_table::Table;
+use gatt_conn::Touched;
+use gatt_laws::MAX_SLOTS;
 use gatt_subs::Rows;
 use le_hci::Peer;
 use le_security::Keys;
@@ -57,7 +60,7 @@ impl Model for Slots {
 impl Slots {
     /// Slots that are free, each with room for all that it may come to keep.
     pub fn new(alloc: Global, count: usize) -> Result<Slots, AllocError>
-        requires { count ≤ 8 }
+        requires { count ≤ MAX_SLOTS }
         ensures { IfOk result (λ slots. slots ≡ replicate count None) }
     {
         Ok(Slots {
@@ -70,7 +73,7 @@ impl Slots {
     /// How many there are.
     pub fn len(&self) -> usize
         ensures count { result ≡ length self.now }
-        ensures few { result ≤ 8 }
+        ensures few { result ≤ MAX_SLOTS }
     {
         self.slots.len()
     }
@@ -87,7 +90,7 @@ impl Slots {
     pub fn find_serving(&self, handle: u16) -> Option<usize>
         ensures place { result ≡ place_serving self.now handle }
         ensures there { IfSome result (IsThere self.now) }
-        ensures few { IfSome result (λ place. place < 8) }
+        ensures few { IfSome result (λ place. place < MAX_SLOTS) }
     {
         let slots = self.slots.as_slice();
         match self.handles.find(slots, handle) {
@@ -109,7 +112,7 @@ impl Slots {
     pub fn find_free(&self) -> Option<usize>
         ensures place { result ≡ place_free self.now }
         ensures within { IfSome result (λ place. place < length self.now) }
-        ensures few { IfSome result (λ place. place < 8) }
+        ensures few { IfSome result (λ place. place < MAX_SLOTS) }
     {
         find_free(self.slots.as_slice())
     }
@@ -160,8 +163,8 @@ impl Slots {
     )
         requires place { place < length self.old }
         requires handle { handle < 2 ^ 12 }
-        requires rx_mtu_least { 23 ≤ rx_mtu }
-        requires rx_mtu_most { rx_mtu ≤ 517 }
+        requires rx_mtu_least { MIN_MTU ≤ rx_mtu }
+        requires rx_mtu_most { rx_mtu ≤ MAX_MTU }
         requires share { 0 < share }
         requires acl_len_least { 27 ≤ acl_len }
         requires acl_len_most { acl_len ≤ 251 }
@@ -281,7 +284,7 @@ impl Slots {
         changer: Option<u16>,
         now: u64,
         pdu: &[u8],
-        written: &mut ArrayVec<u16, 32>,
+        written: &mut Touched,
     ) -> Brought
         requires place { place < length self.old }
         requires there { IsSome (kept_at self.old place) }
@@ -322,7 +325,7 @@ impl Slots {
 
     /// Takes in the time, in milliseconds, with the handles of the connections that are timed out by it
     /// in place of what `late` holds.
-    pub fn tick(&mut self, now: u64, late: &mut ArrayVec<u16, 8>)
+    pub fn tick(&mut self, now: u64, late: &mut ArrayVec<u16, MAX_SLOTS>)
         ensures after { self.new ≡ all_after_time now self.old }
         ensures late { late.new.items ≡ late_handles now self.old }
     {
@@ -470,7 +473,7 @@ fn hear_in(
     handles: &[u16],
     now: u64,
 ) -> Heard
-    requires few { length slots.old.items ≤ 8 }
+    requires few { length slots.old.items ≤ MAX_SLOTS }
     requires covered { CoversHeard slots.old.items before }
     ensures heard { slots.new.items
         ≡ all_heard table.now now rows.now own here.now handles.now slots.old.items }

@@ -6,6 +6,7 @@ ghost use Rattle.gatt_slots.specs.Kept.{Kept};
 ghost use Rattle.gatt_slots.specs.Places.{waits, Covers, CoversHeard};
 ghost use Rattle.gatt_slots.specs.Slots.{all_heard, all_raised, all_raised_in_turn, heard_by, is_among, kept_at, raised_by, Held};
 ghost use Rattle.gatt_slots.specs.declared.places.Due.TheVariants.{Packet};
+ghost use Rattle.gatt_laws.specs.declared.TheConstants.{MAX_SLOTS};
 
 use crate::places::Places;
 use crate::slot::Slot;
@@ -26,7 +27,7 @@ impl Heard {
     /// a value may wait to be indicated to it.
     #[inline(always)]
     fn take(&mut self, place: usize, told: bool, waiting: bool)
-        requires { place < 8 }
+        requires { place < MAX_SLOTS }
         ensures { (slots : Held) (slot : Option Kept) → CoversHeard slots self.old
             → (told ≡ false → gives slot ≡ gives (kept_at slots place))
             → (waiting ≡ false → waits slot ≡ false) → CoversHeard (set slots place slot) self.new }
@@ -54,7 +55,7 @@ pub(crate) fn hear_all(
     handles: &[u16],
     now: u64,
 ) -> Heard
-    requires few { length slots.old ≤ 8 }
+    requires few { length slots.old ≤ MAX_SLOTS }
     requires covered { CoversHeard slots.old before }
     ensures heard { slots.new
         ≡ all_heard table.now now rows.now own here.now handles.now slots.old }
@@ -82,7 +83,7 @@ fn raise_all(
     handles: &[u16],
     now: u64,
 )
-    requires few { length slots.old ≤ 8 }
+    requires few { length slots.old ≤ MAX_SLOTS }
     requires covered { CoversHeard slots.old heard.old }
     ensures raised { slots.new
         ≡ all_raised_in_turn table.now now rows.now own others handles.now slots.old }
@@ -107,7 +108,7 @@ fn raise_for(
     handle: u16,
     now: u64,
 )
-    requires few { length slots.old ≤ 8 }
+    requires few { length slots.old ≤ MAX_SLOTS }
     requires covered { CoversHeard slots.old heard.old }
     ensures raised { slots.new ≡ all_raised table.now now rows.now own others handle slots.old }
     ensures covered { CoversHeard slots.new heard.new }
@@ -127,7 +128,7 @@ fn raise_each(
     others: bool,
     now: u64,
 )
-    requires few { length slots.old ≤ 8 }
+    requires few { length slots.old ≤ MAX_SLOTS }
     requires covered { CoversHeard slots.old heard.old }
     ensures raised { slots.new
         ≡ all_raised raised.now.table now rows.now own others raised.now.handle slots.old }
@@ -158,7 +159,7 @@ fn raise_at(
     place: usize,
     now: u64,
 )
-    requires few { length slots.old ≤ 8 }
+    requires few { length slots.old ≤ MAX_SLOTS }
     requires place { place < length slots.old }
     requires covered { CoversHeard slots.old heard.old }
     ensures slots { slots.new
@@ -175,7 +176,7 @@ fn raise_at(
 #[inline(never)]
 #[tactic(auto, using(crate::proofs::Covering::none_waits))]
 fn release_all(slots: &mut [Slot], heard: &mut Heard, table: &Table, rows: &Rows, now: u64)
-    requires few { length slots.old ≤ 8 }
+    requires few { length slots.old ≤ MAX_SLOTS }
     requires covers { Covers Packet heard.old.packets.bits slots.old }
     ensures heard { slots.new ≡ all_heard table.now now rows.now None [] [] slots.old }
     ensures covered { CoversHeard slots.new heard.new }
@@ -195,7 +196,7 @@ fn release_at(
     place: usize,
     now: u64,
 )
-    requires few { length slots.old ≤ 8 }
+    requires few { length slots.old ≤ MAX_SLOTS }
     requires place { place < length slots.old }
     ensures slots { slots.new
         ≡ set slots.old place (heard_by table.now now rows.now [] (kept_at slots.old place)) }

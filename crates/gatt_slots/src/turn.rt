@@ -7,6 +7,8 @@ ghost use Rattle.gatt_slots.specs.Turn.{come, after_authorizing, after_completed
 ghost use Rattle.gatt_slots.specs.Slots.{late_handle};
 ghost use Rattle.le_security.specs.Keys.{answer_of};
 ghost use Rattle.le_security.specs.Link.{Encryption, Refresh, after_step};
+ghost use Rattle.att_pdu.specs.declared.pdu_buf.TheConstants.{MAX_MTU, MIN_MTU};
+ghost use Rattle.octets.specs.declared.pdu.TheConstants.{MAX_PDU};
 
 use crate::slot::{Slot, Use};
 use att_table::{ConfigRow, Table};
@@ -14,17 +16,11 @@ use gatt_conn::Conn;
 use gatt_subs::Pending;
 use le_acl::{MAX_PDUS, Sender};
 use le_hci::Peer;
+use le_hci::reason::{AUTHENTICATION_FAILURE, REMOTE_USER_TERMINATED};
 use le_l2cap::channel::{LE_SIGNALLING, SECURITY_MANAGER};
 use le_l2cap::{security, signalling};
 use le_security::{Key, Keys, Link};
 use std::alloc::{AllocError, Global};
-
-/// Why a connection is ended that lost its encryption: Authentication Failure, Core 5.0, Vol 2
-/// Part D, 2.5. Which reason is told is this profile's own.
-pub const AUTHENTICATION_FAILURE: u8 = 0x05;
-/// Why one is ended that has no room for an answer, or that the application ends: Remote User
-/// Terminated Connection, 2.19.
-pub const REMOTE_USER_TERMINATED: u8 = 0x13;
 
 impl Slot {
     /// A free slot, with room for all that it may come to keep.
@@ -62,8 +58,8 @@ impl Slot {
         acl_len: u16,
     )
         requires handle { handle < 2 ^ 12 }
-        requires rx_mtu_least { 23 ≤ rx_mtu }
-        requires rx_mtu_most { rx_mtu ≤ 517 }
+        requires rx_mtu_least { MIN_MTU ≤ rx_mtu }
+        requires rx_mtu_most { rx_mtu ≤ MAX_MTU }
         requires share { 0 < share }
         requires acl_len_least { 27 ≤ acl_len }
         requires acl_len_most { acl_len ≤ 251 }
@@ -167,7 +163,7 @@ impl Slot {
 
     /// Queues an answer, or ends the connection where there is no room for it, and says so.
     fn answer(&mut self, channel: u16, octets: &[u8]) -> bool
-        requires { length octets.now ≤ 517 }
+        requires { length octets.now ≤ MAX_PDU }
         ensures after { self.new ≡ option_map (with_answer channel (Some octets.now)) self.old }
         ensures ended { IfSome self.old (λ kept. result ≡ has_no_room (Some octets.now) kept) }
     {
