@@ -206,8 +206,8 @@ outside : {X : Type 0} (bits place : ℕ) → bits ≡ 0 → bit_at bits place �
 outside bits place none within =
     let e : ◌≡◌ {A = ℕ} 1 0 = sym within ∙ ap (λ (it : ℕ). bit_at it place) none ∙ bit_at-zero place in absurd (omega (arith, e))
 
-pub only_own : (bits others own place : ℕ) → others ≡ 0 → ((other : ℕ) → other < 8 → other ≢ own → bit_at others other ≡ bit_at bits other)
-    → place < 8 → bit_at bits place ≡ 1 → (own == place) ≡ true
+pub only_own : (bits others own place : ℕ) → others ≡ 0 → ((other : ℕ) → other < MAX_SLOTS → other ≢ own → bit_at others other ≡ bit_at bits other)
+    → place < MAX_SLOTS → bit_at bits place ≡ 1 → (own == place) ≡ true
 only_own bits others own place none same few within = ⊎_elim
     (λ is. ⊎_elim (λ it. it.0) (λ it. absurd (it.1 (sym is))) (eqb_tells own place))
     (λ apart. outside others place none (same place few apart ∙ within))

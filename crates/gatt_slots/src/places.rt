@@ -77,12 +77,12 @@ impl Places {
     /// No place is in the set but that of the slot `own`.
     #[inline(always)]
     pub(crate) fn is_empty_but(self, own: Option<usize>) -> bool
-        ensures { OnTrue result ((place : ℕ) → place < 8 → bit_at self.bits place ≡ 1
+        ensures { OnTrue result ((place : ℕ) → place < MAX_SLOTS → bit_at self.bits place ≡ 1
             → is_own own place ≡ true) }
     {
         let mut others = self;
         if let Some(place) = own {
-            if place < 8 {
+            if place < MAX_SLOTS {
                 others.remove(place);
             }
         }

@@ -359,10 +359,8 @@ impl Slots {
         ensures count { length self.new ≡ length self.old }
     {
         // Most events tell no connection anything.
-        if !self.nobody_hears(own, here, handles) {
+        if !self.nobody_hears(own, here, handles) || self.may_wait() {
             self.look_and_hear(table, rows, own, here, handles, now);
-        } else if self.may_wait() {
-            self.release(table, rows, now);
         }
     }
 
@@ -383,15 +381,6 @@ impl Slots {
             → all_heard table now rows None [] [] self.now ≡ self.now) }
     {
         self.marks.waiting
-    }
-
-    /// Has each slot release what waits and is due.
-    #[inline(never)]
-    fn release(&mut self, table: &Table, rows: &Rows, now: u64)
-        ensures released { self.new ≡ all_heard table.now now rows.now None [] [] self.old }
-        ensures count { length self.new ≡ length self.old }
-    {
-        self.hear_each(table, rows, None, &[], &[], now);
     }
 
     /// The first slot whose connection may hear of values. Those before it are marked no more.
@@ -427,6 +416,7 @@ impl Slots {
     }
 
     /// Has each slot hear what is raised, one after another.
+    #[inline(always)]
     fn hear_each(
         &mut self,
         table: &Table,
