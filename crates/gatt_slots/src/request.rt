@@ -97,9 +97,11 @@ impl Slot {
 #[inline(always)]
 fn is_full(conn: &Conn, sender: &Sender, pdu: &[u8]) -> bool
     ensures full { result
-        ≡ (is_due (request_of pdu.now conn.now.mtu) && (length sender.now.outgoing.queue == MAX_PDUS)) }
+        ≡ (is_due (request_of pdu.now conn.now.mtu)
+        && (length sender.now.outgoing.queue == MAX_PDUS)) }
     ensures room { OnFalse result
-        (is_due (request_of pdu.now conn.now.mtu) ≡ true → length sender.now.outgoing.queue < MAX_PDUS) }
+        (is_due (request_of pdu.now conn.now.mtu) ≡ true
+        → length sender.now.outgoing.queue < MAX_PDUS) }
 {
     sender.backlog() == MAX_PDUS && answer_due(pdu, conn.mtu())
 }
