@@ -15,6 +15,7 @@ use Rattle.le_h4.specs.Division.{division}
 use Rattle.le_h4.specs.Packet.{Packet}
 use Rattle.octets.specs.Number.{Octets}
 use Rattle.octets.specs.Stream.{CountsMany, WritesFront}
+use Rattle.gatt_host.specs.declared.serving.TheConstants.{TURN}
 
 -- the octets of packets, one packet after another
 abbrev pub joined : List Octets → Octets
@@ -113,7 +114,7 @@ items_read (Err fault) read = octet_items read
 -- so many reads each gave some octets, and no more than one turn may
 pub record IsReadIn (turns : ℕ) (read : Octets) : Type 0 where
   pub some : turns ≤ length read
-  pub most : length read ≤ 512 * turns
+  pub most : length read ≤ TURN * turns
 
 -- of what the reader had these octets are read and taken in, and what they bring is written
 pub record Serves (result : Result End HostFault) (turns : ℕ) (old new : Whole) (remaining left before after : Option Octets) : Type 0 where

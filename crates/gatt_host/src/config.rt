@@ -7,7 +7,7 @@ use std::fmt;
 /// How many connections a host may have, what it receives, and how it advertises.
 #[derive(Clone, Debug, PartialEq, Eq, Drop)]
 pub struct Config {
-    /// As many connections as there may be at once: 1 to 8.
+    /// As many connections as there may be at once: 1 to `MAX_SLOTS`.
     pub slots: usize,
     /// The largest PDU of the Attribute Protocol that is received, in octets: 23 to 517.
     pub rx_mtu: u16,

@@ -13,6 +13,7 @@ ghost use Rattle.gatt_host.specs.GoingOut.{command_in, command_next, controller_
 ghost use Rattle.gatt_host.specs.Owing.{IsDone, IsOwing, OwesTheRest, OwesWhatAnEventBrings};
 ghost use Rattle.octets.specs.Number.{Octets};
 ghost use Rattle.le_hci.specs.Command.{Commanded, LeSetAdvertiseEnable, command_of, opcode_of};
+ghost use Rattle.le_h4.specs.declared.packet_buf.TheConstants.{MAX_PACKET_OUT};
 
 use crate::controller::Controller;
 use arrayvec::ArrayVec;
@@ -249,7 +250,7 @@ fn either_out(controller: &mut Controller, slots: &mut Slots, out: &mut PacketBu
 /// has.
 #[inline(always)]
 fn packet_into(slots: &mut Slots, out: &mut [u8]) -> Option<usize>
-    requires room { 260 ≤ length out.old }
+    requires room { MAX_PACKET_OUT ≤ length out.old }
     ensures goes { is_some result ≡ is_some (packet_in slots.old) }
     ensures octets { IfSome result (λ count. packet_in slots.old ≡ Some (take count out.new)) }
     ensures within { IfSome result (λ count. count ≤ length out.old) }
@@ -272,7 +273,7 @@ pub(crate) fn next_into(
     packet: &mut PacketBuf,
     out: &mut [u8],
 ) -> Option<usize>
-    requires room { 260 ≤ length out.old }
+    requires room { MAX_PACKET_OUT ≤ length out.old }
     ensures goes { is_some result ≡ is_some (next_out controller.old slots.old) }
     ensures octets { IfSome result
         (λ count. next_out controller.old slots.old ≡ Some (take count out.new)) }

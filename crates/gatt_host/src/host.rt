@@ -25,20 +25,20 @@ ghost use Rattle.gatt_slots.specs.Slots.{slots_deadline};
 ghost use Rattle.le_h4.specs.Division.{is_long};
 ghost use Rattle.le_h4.specs.Packet.{seen};
 ghost use Rattle.octets.specs.Number.{Octets};
+ghost use Rattle.le_h4.specs.declared.packet_buf.TheConstants.{MAX_PACKET_OUT};
 
 use crate::app::{App, AppFault};
 use crate::connections::Connections;
+use crate::frames::Frames;
 use crate::host_fault::HostFault;
 use crate::host_state::HostState;
 use crate::iter::Notices;
 use crate::notice::Notice;
 use crate::{packet, taking};
-use arrayvec::ArrayVec;
 use att_table::Table;
 use gatt_slots::Connection;
 use gatt_subs::Rows;
-use le_acl::Reassembler;
-use le_h4::{Deframer, PacketBuf, PacketRef};
+use le_h4::{Deframer, MAX_ACL_DATA, PacketBuf, PacketOctets, PacketRef};
 use le_security::Keys;
 use octets::overwrite;
 use std::marker::Model;
@@ -49,7 +49,7 @@ use std::marker::Model;
 pub struct Host {
     pub(crate) state: HostState,
     /// The frame that is put together for each slot.
-    pub(crate) frames: [Reassembler; 8],
+    pub(crate) frames: Frames,
     pub(crate) deframer: Deframer,
     pub(crate) fault: Option<HostFault>,
     /// Room for a packet on its way out: what it holds between two calls means nothing.
@@ -66,9 +66,6 @@ impl Model for Host {
     // It stands where some start and some input lead.
     ghost invariant = { λ h. IsReached (record { held = h.state; frames = h.frames; stream = h.deframer; fault = h.fault }) };
 }
-
-/// As many octets of data as a kept ACL packet has at most.
-const LONGEST_DATA: usize = 1024;
 
 impl Host {
     /// Whether all is out: nothing is to go to the controller now, or a fault stands.
@@ -93,7 +90,7 @@ impl Host {
 
     /// Puts the next packet that is to go to the controller in place of what `out` holds, and takes in
     /// that it is out; or answers false where all is out.
-    pub fn next_out(&mut self, out: &mut ArrayVec<u8, 260>) -> bool
+    pub fn next_out(&mut self, out: &mut PacketOctets) -> bool
         ensures goes { result ≡ not (all_out self.old) }
         ensures leads { OnTrue result (Leads [] (out.new.items ∷ []) self.old self.new) }
         // Calls without anything else between them come to an end.
@@ -112,7 +109,7 @@ impl Host {
     /// out: says how many octets it has. None where all is out.
     #[inline(always)]
     pub fn next_into(&mut self, out: &mut [u8]) -> Option<usize>
-        requires room { 260 ≤ length out.old }
+        requires room { MAX_PACKET_OUT ≤ length out.old }
         ensures goes { is_some result ≡ not (all_out self.old) }
         ensures leads { IfSome result
             (λ count. Leads [] (take count out.new ∷ []) self.old self.new) }
@@ -342,7 +339,7 @@ impl Host {
 
 /// Puts the next packet that is to go out in place of what `out` holds, by way of `packet`, and takes in
 /// that it is out.
-fn copy_next(state: &mut HostState, packet: &mut PacketBuf, out: &mut ArrayVec<u8, 260>) -> bool
+fn copy_next(state: &mut HostState, packet: &mut PacketBuf, out: &mut PacketOctets) -> bool
     ensures goes { result ≡ is_some (next_of state.old) }
     ensures octets { OnTrue result (next_of state.old ≡ Some out.new.items) }
     ensures after { state.new ≡ after_out state.old }
@@ -360,7 +357,7 @@ fn copy_next(state: &mut HostState, packet: &mut PacketBuf, out: &mut ArrayVec<u
 /// in that it is out. Says how many octets it has.
 #[inline(always)]
 fn next_into(state: &mut HostState, packet: &mut PacketBuf, out: &mut [u8]) -> Option<usize>
-    requires room { 260 ≤ length out.old }
+    requires room { MAX_PACKET_OUT ≤ length out.old }
     ensures goes { is_some result ≡ is_some (next_of state.old) }
     ensures octets { IfSome result (λ count. next_of state.old ≡ Some (take count out.new)) }
     ensures within { IfSome result (λ count. count ≤ length out.old) }
@@ -376,7 +373,7 @@ fn is_long(packet: &PacketRef<'_>) -> bool
     ensures { result ≡ is_long (seen packet.now) }
 {
     match packet {
-        PacketRef::Acl { octets, .. } => octets.len() > LONGEST_DATA,
+        PacketRef::Acl { octets, .. } => octets.len() > MAX_ACL_DATA,
         _ => false,
     }
 }

@@ -11,6 +11,7 @@ ghost use Rattle.gatt_slots.specs.Slots.{all_heard, place_holding};
 ghost use Rattle.gatt_slots.specs.Hearing.{row_in_force};
 ghost use Rattle.le_hci.specs.Event.{completed_packets_of};
 ghost use Rattle.le_security.specs.Link.{Encryption, Refresh};
+ghost use Rattle.le_h4.specs.declared.packet_buf.TheConstants.{MAX_PACKET_OUT};
 
 use crate::controller::Controller;
 use crate::going_out::{copy, init_out, is_drained, is_init_drained, may_owe, next_into, next_out};
@@ -18,9 +19,12 @@ use crate::last_event::LastEvent;
 use arrayvec::ArrayVec;
 use att_policy::KeyFacts;
 use att_table::Table;
-use gatt_slots::{REMOTE_USER_TERMINATED, Slots};
+use gatt_conn::Touched;
+use gatt_laws::MAX_SLOTS;
+use gatt_slots::Slots;
 use gatt_subs::Rows;
 use le_h4::PacketBuf;
+use le_hci::reason::REMOTE_USER_TERMINATED;
 use le_security::Keys;
 use std::marker::Model;
 use std::mem;
@@ -43,9 +47,9 @@ pub(crate) struct HostState {
     /// What the application is told of the last event.
     pub(crate) last: LastEvent,
     /// The handles that the last request wrote, each once, in the order of their first writes.
-    pub(crate) written: ArrayVec<u16, 32>,
+    pub(crate) written: Touched,
     /// The handles of the connections that the last time told has timed out.
-    pub(crate) late: ArrayVec<u16, 8>,
+    pub(crate) late: ArrayVec<u16, MAX_SLOTS>,
 }
 
 impl Model for HostState {
@@ -55,6 +59,7 @@ impl Model for HostState {
     ghost use Rattle.le_acl.specs.Shares.{acl_len, share};
     ghost use Rattle.le_hci.specs.InitTold.{told_in};
     ghost use Rattle.gatt_host.specs.Held.{after_end, opened, Held};
+    ghost use Rattle.att_pdu.specs.declared.pdu_buf.TheConstants.{MAX_MTU, MIN_MTU};
 
     ghost Value = { Held };
 
@@ -72,7 +77,7 @@ impl Model for HostState {
       late = h.late.items;
     } };
 
-    ghost invariant = { λ h. (23 ≤ h.rx_mtu) × (h.rx_mtu ≤ 517) };
+    ghost invariant = { λ h. (MIN_MTU ≤ h.rx_mtu) × (h.rx_mtu ≤ MAX_MTU) };
 }
 
 // Each event: what it changes, and then what is heard.
@@ -338,7 +343,7 @@ impl HostState {
     /// takes in that it is out. Says how many octets it has.
     #[inline(always)]
     pub(crate) fn next_into(&mut self, packet: &mut PacketBuf, out: &mut [u8]) -> Option<usize>
-        requires room { 260 ≤ length out.old }
+        requires room { MAX_PACKET_OUT ≤ length out.old }
         ensures goes { is_some result ≡ is_some (next_of self.old) }
         ensures octets { IfSome result (λ count. next_of self.old ≡ Some (take count out.new)) }
         ensures within { IfSome result (λ count. count ≤ length out.old) }

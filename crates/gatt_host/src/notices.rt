@@ -14,7 +14,8 @@ use crate::last_event::LastEvent;
 use crate::notice::Notice;
 use att_policy::KeyFacts;
 use att_table::{Role, Table};
-use gatt_slots::{AUTHENTICATION_FAILURE, Brought, REMOTE_USER_TERMINATED};
+use gatt_slots::Brought;
+use le_hci::reason::{AUTHENTICATION_FAILURE, REMOTE_USER_TERMINATED};
 
 impl HostState {
     /// The notice at a place among those of the last event, counted from 0, if there are so many.

@@ -14,7 +14,9 @@ use crate::host::Host;
 use crate::host_state::HostState;
 use crate::last_event::LastEvent;
 use arrayvec::ArrayVec;
+use att_pdu::{MAX_MTU, MIN_MTU};
 use att_table::Table;
+use gatt_laws::MAX_SLOTS;
 use gatt_slots::Slots;
 use gatt_subs::Rows;
 use le_acl::Reassembler;
@@ -83,8 +85,8 @@ impl Host {
 fn is_configured(config: &Config) -> bool
     ensures { result ≡ is_configured config.now }
 {
-    (1..=8).contains(&config.slots)
-        && (23..=517).contains(&config.rx_mtu)
+    (1..=MAX_SLOTS).contains(&config.slots)
+        && (MIN_MTU..=MAX_MTU).contains(&config.rx_mtu)
         && may_be_used(config.address)
 }
 

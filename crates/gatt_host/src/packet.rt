@@ -19,8 +19,10 @@ ghost use Rattle.le_acl.specs.Reassembler.{assembled_of, nothing};
 ghost use Rattle.le_hci.specs.Event.{event_of};
 ghost use Rattle.le_l2cap.specs.Frame.{frame_of};
 
+use crate::frames::Frames;
 use crate::host_fault::HostFault;
 use crate::host_state::HostState;
+use le_acl::boundary::{CONTINUATION, FIRST, FIRST_NOT_FLUSHED};
 use le_acl::{Piece, Reassembler, is_frame};
 use le_h4::PacketRef;
 use le_hci::event_code::NUMBER_OF_COMPLETED_PACKETS;
@@ -28,21 +30,9 @@ use le_hci::{BadEvent, Event, read_event};
 use le_l2cap::channel::{ATT, LE_SIGNALLING, SECURITY_MANAGER};
 use le_l2cap::read_frame;
 
-/// The packet boundary flags of the fragments of a frame from the controller: Core 5.0, Vol 2 Part E,
-/// 5.4.2. That 00 begins a frame too is this profile's own.
-const FIRST_NOT_FLUSHED: u8 = 0b00;
-
-const CONTINUATION: u8 = 0b01;
-
-const FIRST: u8 = 0b10;
-
 impl HostState {
     /// Takes in an event: its code and what follows.
-    pub(crate) fn event(
-        &mut self,
-        frames: &mut [Reassembler; 8],
-        octets: &[u8],
-    ) -> Result<(), HostFault>
+    pub(crate) fn event(&mut self, frames: &mut Frames, octets: &[u8]) -> Result<(), HostFault>
         ensures taken { IsOk result → TakesEvent (event_of octets.now) self.old self.new }
         ensures frames { frames.new ≡ frames_after_event self.old (event_of octets.now) frames.old }
         ensures stops { IfErr result
@@ -59,11 +49,7 @@ impl HostState {
 
     /// Takes in an event of a kind that is rare.
     #[inline(never)]
-    fn take_other_event(
-        &mut self,
-        frames: &mut [Reassembler; 8],
-        octets: &[u8],
-    ) -> Result<(), HostFault>
+    fn take_other_event(&mut self, frames: &mut Frames, octets: &[u8]) -> Result<(), HostFault>
         ensures taken { IsOk result → TakesEvent (event_of octets.now) self.old self.new }
         ensures frames { frames.new ≡ frames_after_event self.old (event_of octets.now) frames.old }
         ensures stops { IfErr result
@@ -76,7 +62,7 @@ impl HostState {
 
     /// Takes in an event of any kind.
     #[inline(always)]
-    fn take_event(&mut self, frames: &mut [Reassembler; 8], octets: &[u8]) -> Result<(), HostFault>
+    fn take_event(&mut self, frames: &mut Frames, octets: &[u8]) -> Result<(), HostFault>
         ensures taken { IsOk result → TakesEvent (event_of octets.now) self.old self.new }
         ensures frames { frames.new ≡ frames_after_event self.old (event_of octets.now) frames.old }
         ensures stops { IfErr result
@@ -131,7 +117,7 @@ impl HostState {
 /// that do not serve are ignored.
 pub(crate) fn acl(
     state: &mut HostState,
-    frames: &mut [Reassembler; 8],
+    frames: &mut Frames,
     handle: u16,
     pb: u8,
     bc: u8,
@@ -229,7 +215,7 @@ fn join(frame: &mut Reassembler, pb: u8, bc: u8, octets: &[u8]) -> Piece
 /// Takes in a packet, or says why the host stops for good, and leads on in the course.
 pub(crate) fn packet(
     state: &mut HostState,
-    frames: &mut [Reassembler; 8],
+    frames: &mut Frames,
     packet: PacketRef<'_>,
 ) -> Result<(), HostFault>
     requires rows { HasRowsOfTheTable state.old }
@@ -246,7 +232,7 @@ pub(crate) fn packet(
 /// Takes in a packet, or says why the host stops for good.
 fn take_packet(
     state: &mut HostState,
-    frames: &mut [Reassembler; 8],
+    frames: &mut Frames,
     packet: PacketRef<'_>,
 ) -> Result<(), HostFault>
     requires rows { HasRowsOfTheTable state.old }

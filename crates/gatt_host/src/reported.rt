@@ -9,20 +9,16 @@ ghost use Rattle.gatt_slots.specs.Slots.{place_holding, place_serving};
 ghost use Rattle.le_hci.specs.Event.{report_of};
 ghost use Rattle.le_hci.specs.InitTold.{told_in};
 
+use crate::frames::Frames;
 use crate::host_state::HostState;
 use le_acl::Reassembler;
-use le_hci::{Event, Peer};
-
-/// The role of this side: Core 5.0, Vol 2 Part E, 7.7.65.1.
-const PERIPHERAL: u8 = 0x01;
-/// The largest handle that a connection may have: 7.7.65.1.
-const LAST_CONNECTION_HANDLE: u16 = 0x0EFF;
+use le_hci::{Event, LAST_CONNECTION_HANDLE, PERIPHERAL, Peer};
 
 impl HostState {
     /// Takes in what is reported of connections. Until the controller is initialised nothing of it
     /// counts.
     #[inline(always)]
-    pub(crate) fn reported(&mut self, frames: &mut [Reassembler; 8], event: &Event<'_>)
+    pub(crate) fn reported(&mut self, frames: &mut Frames, event: &Event<'_>)
         ensures after { IsAfter
             (connection_event_if_ready (context_in self.old) (report_of event.now))
             self.old self.new }
@@ -38,7 +34,7 @@ impl HostState {
 
     /// Takes in what an initialised controller reports of connections.
     #[inline(always)]
-    fn connection_reported(&mut self, frames: &mut [Reassembler; 8], event: &Event<'_>)
+    fn connection_reported(&mut self, frames: &mut Frames, event: &Event<'_>)
         requires { laws.is_ready self.old.controller ≡ true }
         ensures after { IsAfter
             (connection_event (context_in self.old) (report_of event.now)) self.old self.new }
@@ -122,14 +118,7 @@ impl HostState {
     /// A connection was made. It is accepted where this side is the peripheral, its handle is one and
     /// not in use, and a slot is free.
     #[tactic(auto, using(crate::proofs::commands::Readies::ready_told))]
-    fn connected(
-        &mut self,
-        frames: &mut [Reassembler; 8],
-        status: u8,
-        handle: u16,
-        role: u8,
-        peer: Peer,
-    )
+    fn connected(&mut self, frames: &mut Frames, status: u8, handle: u16, role: u8, peer: Peer)
         requires { laws.is_ready self.old.controller ≡ true }
         ensures after { IsAfter
             (coming_event (context_in self.old) status handle role peer) self.old self.new }

@@ -116,7 +116,7 @@ pub fn serve_to<R: Source, W: Sink, L: Listener>(
 
 /// Reads into `octets`, and gives what was read: nothing at the end of the input.
 fn read_turn<'a, R: Source>(reader: &mut R, octets: &'a mut [u8; TURN]) -> Result<&'a [u8], Failed>
-    ensures within { IfOk result (λ read. length read.now ≤ 512) }
+    ensures within { IfOk result (λ read. length read.now ≤ TURN) }
     ensures consumed { IfOk result
         (λ read. Consumes (R.remaining reader.old) (R.remaining reader.new) read.now) }
     ensures at_end { IfOk result (λ read. read.now ≡ [] → IsAtEnd (R.remaining reader.new)) }

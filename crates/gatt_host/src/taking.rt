@@ -11,11 +11,11 @@ ghost use Rattle.gatt_host.specs.Telling.{TellsOfAll};
 ghost use Rattle.gatt_host.specs.Whole.{all_out, going, is_own, Leads};
 ghost use Rattle.le_h4.specs.Packet.{seen};
 
+use crate::frames::Frames;
 use crate::host::Host;
 use crate::host_fault::HostFault;
 use crate::host_state::HostState;
 use crate::packet::packet;
-use le_acl::Reassembler;
 use le_h4::{Deframer, H4Fault, WholePacket};
 
 /// Takes in octets up to the end of the next packet, which is one, and that packet; or all of them,
@@ -51,7 +51,7 @@ pub(crate) fn take(host: &mut Host, octets: &[u8]) -> Result<usize, HostFault>
 #[inline(always)]
 fn take_in(
     state: &mut HostState,
-    frames: &mut [Reassembler; 8],
+    frames: &mut Frames,
     deframer: &mut Deframer,
     octets: &[u8],
 ) -> Result<usize, HostFault>
@@ -113,7 +113,7 @@ fn lent_or_marked<'a>(
 }
 
 /// Why a host stops whose stream cannot be divided any further.
-fn lost_fault(fault: H4Fault) -> HostFault
+pub fn lost_fault(fault: H4Fault) -> HostFault
     ensures { result ≡ lost_fault fault }
 {
     match fault {

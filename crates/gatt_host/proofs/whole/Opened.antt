@@ -33,6 +33,7 @@ use Rattle.le_h4.specs.Division.{division}
 use Rattle.le_security.specs.declared.entry.Entry.{Entry}
 use Rattle.le_security.specs.Keys.{is_known}
 use Rattle.octets.specs.Number.{Octets}
+use Rattle.gatt_laws.specs.declared.TheConstants.{MAX_SLOTS}
 
 -- a row that is fitted to a table is one of it
 entries-fitted : (attributes : List Attr) (row entries : Row) → IsRowOf attributes row → IsRowOf attributes (with_entries row (filter (is_supported attributes) entries))
@@ -107,10 +108,10 @@ module _ (table : Contents) (keys : List Entry) (old new : Subscriptions) (confi
     listed = listed;
   }
 
-  few : is_configured config ≡ true → config.slots ≤ 8
+  few : is_configured config ≡ true → config.slots ≤ MAX_SLOTS
   few configured = grind (arith, configured)
 
-  pub stands_when_opened : (whole : Whole) → is_configured config ≡ true → whole.held ≡ held_at_first table keys new config → length whole.frames ≡ 8
+  pub stands_when_opened : (whole : Whole) → is_configured config ≡ true → whole.held ≡ held_at_first table keys new config → length whole.frames ≡ MAX_SLOTS
       → whole.stream ≡ at_start → whole.fault ≡ None → StandsAt (course (start_of table keys old config) []) [] whole
   unfolding course
   stands_when_opened whole configured held frames stream fault = record {
