@@ -407,8 +407,9 @@ impl Slots {
             ≡ all_heard table.now now rows.now own here.now handles.now self.old }
         ensures count { length self.new ≡ length self.old }
     {
-        self.first_that_listens();
-        if !self.nobody_hears(own, here, handles) {
+        let first = self.first_that_listens();
+        let another_listens = first.is_some() && first != own;
+        if another_listens || !self.nobody_hears(own, here, handles) {
             self.hear_each(table, rows, own, here, handles, now);
         } else if self.may_wait() {
             self.hear_each(table, rows, None, &[], &[], now);
