@@ -2,7 +2,7 @@
 
 use crate::advertising::{self, Data};
 use crate::words::HostWords;
-use gatt_host::Config;
+use gatt_host::{Config, MAX_SLOTS};
 use std::net::SocketAddr;
 
 /// The largest PDU of the Attribute Protocol that the host receives, in octets.
@@ -112,7 +112,7 @@ fn read_slots(word: Option<&str>) -> Result<usize, &'static str> {
         return Ok(SLOTS);
     };
     match word.parse::<usize>() {
-        Ok(slots) if (1..=8).contains(&slots) => Ok(slots),
+        Ok(slots) if (1..=MAX_SLOTS).contains(&slots) => Ok(slots),
         _ => Err("--slots: a number from 1 to 8"),
     }
 }

@@ -1,7 +1,7 @@
 //! Phones without a key, and since when each is silent.
 
 use arrayvec::ArrayVec;
-use gatt_host::{Host, PacketRef};
+use gatt_host::{Host, MAX_SLOTS, PacketRef};
 use le_h4::Deframer;
 
 /// A phone without a key.
@@ -17,7 +17,7 @@ struct Stranger {
 pub(crate) struct Strangers {
     /// How long one may be silent, in milliseconds.
     limit: Option<u64>,
-    known: ArrayVec<Stranger, 8>,
+    known: ArrayVec<Stranger, MAX_SLOTS>,
     deframer: Deframer,
 }
 
@@ -107,7 +107,7 @@ impl Strangers {
 }
 
 /// One of them has said something.
-fn said(known: &mut ArrayVec<Stranger, 8>, handle: u16, now: u64) {
+fn said(known: &mut ArrayVec<Stranger, MAX_SLOTS>, handle: u16, now: u64) {
     for stranger in known.as_mut_slice() {
         if stranger.handle == handle {
             stranger.since = now;

@@ -7,6 +7,7 @@ ghost use Rattle.scripts.specs.Phones.{IsOfPhoneBelow};
 ghost use Rattle.sim_controller.specs.Acts.{Does as SimDoes};
 ghost use Rattle.gatt_commands.specs.Doing.{Calls, Does, NotesAct, NotesReplacing, NotesUnless, PhoneActs, ReplacesBy, sim_act, stage_of};
 ghost use Rattle.gatt_commands.specs.Lines.{IsOfPhone};
+ghost use Rattle.scripts.specs.declared.script.TheConstants.{MAX_PHONES};
 
 use crate::notes::Notes;
 use arrayvec::ArrayVec;
@@ -37,7 +38,7 @@ pub(crate) fn do_act(
     notes: &mut Notes,
 ) -> Option<Refused>
     requires drained { all_out host.old ≡ true }
-    requires phone { IsOfPhoneBelow 8 act.now }
+    requires phone { IsOfPhoneBelow MAX_PHONES act.now }
     ensures does { Does act.now result (stage_of host.old sim.old next.old)
         (stage_of host.new sim.new next.new) }
     ensures noted { NotesAct act.now next.old result host.new notes.old notes.new }
@@ -102,7 +103,7 @@ fn replace(host: &mut Host, next: &mut Option<Table>, notes: &mut Notes) -> Opti
 
 /// What a phone does, unless the controller refuses it.
 fn phone_act(sim: &mut Sim, phone: u8, act: &PhoneAct<'_>) -> Option<Refused>
-    requires { phone < 8 }
+    requires { phone < MAX_PHONES }
     ensures acts { PhoneActs (sim_act phone act.now) result sim.old sim.new }
     ensures named { (count : ℕ) → phone < count → IfSome result (IsOfPhone count) }
     ensures unchanged { IsSome result → sim.new ≡ sim.old }
@@ -118,7 +119,7 @@ fn phone_act(sim: &mut Sim, phone: u8, act: &PhoneAct<'_>) -> Option<Refused>
 
 /// What a phone does to the controller.
 fn do_phone_act(sim: &mut Sim, phone: u8, act: &PhoneAct<'_>) -> Result<(), SimFault>
-    requires { phone < 8 }
+    requires { phone < MAX_PHONES }
     ensures { SimDoes (sim_act phone act.now) sim.old sim.new result }
 {
     match act {

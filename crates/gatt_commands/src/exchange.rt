@@ -2,7 +2,6 @@
 
 ghost use Rattle.std.specs.Prelude.{◌≡◌, [], true, IfErr, IfOk, IsOk, IsSome, None, OnOk};
 ghost use Rattle.std.specs.Bool.{OnFalse, OnTrue};
-ghost use Rattle.gatt_host.specs.Answers.{lost_fault};
 ghost use Rattle.gatt_host.specs.Whole.{all_out, outcome_of, Takes};
 ghost use Rattle.gatt_laws.specs.machine.Input.{APacket};
 ghost use Rattle.le_h4.specs.Packet.{seen};
@@ -13,8 +12,8 @@ ghost use Rattle.gatt_commands.specs.Lines.{IsExchangeFault};
 use crate::notes::Notes;
 use arrayvec::ArrayVec;
 use gatt_files::ShellFault;
-use gatt_host::{Host, HostFault};
-use le_h4::{Deframer, H4Fault, PacketRef};
+use gatt_host::{Host, HostFault, lost_fault};
+use le_h4::{Deframer, PacketRef};
 use sim_controller::Sim;
 
 /// How many packets host and controller may hand each other before a line and the next.
@@ -115,13 +114,4 @@ fn take(host: &mut Host, packet: PacketRef<'_>, notes: &mut Notes) -> Result<(),
     host.packet(packet)?;
     notes.hear(host);
     Ok(())
-}
-
-/// Where octets cannot be divided any further, as the host says it.
-fn lost_fault(fault: H4Fault) -> HostFault
-    ensures { result ≡ lost_fault fault }
-{
-    match fault {
-        H4Fault::Desync(indicator) => HostFault::Desync(indicator),
-    }
 }

@@ -17,6 +17,7 @@ ghost use Rattle.gatt_commands.specs.Runs.{EndsAmong, EndsAtLine, EndsAtNext, En
 ghost use Rattle.gatt_files.specs.ScriptFile.{script_in};
 ghost use Rattle.gatt_files.specs.TableFile.{table_in, IsRefusedAs};
 ghost use Rattle.gatt_files.specs.Turns.{IsPast, OfTable, OfNext, OfKeys, OfRows, OfScript};
+ghost use Rattle.scripts.specs.declared.script.TheConstants.{MAX_PHONES};
 
 use crate::acts::do_act;
 use crate::echo::{Shows, echo, shown_text};
@@ -233,7 +234,7 @@ fn run_acts<W: Write>(
     lines: Option<&[u8]>,
     writer: &mut W,
 ) -> Result<(), ShellFault>
-    requires few { length names.now ≤ 8 }
+    requires few { length names.now ≤ MAX_PHONES }
     requires named { All (IsOfPhoneBelow (length names.now)) acts.now }
     requires drained { all_out host.old ≡ true }
     ensures runs { OnOk result (Runs (shown_of notices (lines_left lines.entry)) names.now acts.now (stage_of host.old sim.old next.old)
@@ -263,7 +264,7 @@ fn run_next<'a, W: Write>(
     lines: Option<&'a [u8]>,
     writer: &mut W,
 ) -> Result<Option<&'a [u8]>, ShellFault>
-    requires few { length names.now ≤ 8 }
+    requires few { length names.now ≤ MAX_PHONES }
     requires named { IsOfPhoneBelow (length names.now) act.now }
     requires drained { all_out host.old ≡ true }
     ensures runs { OnOk result (RunsNext (shown_of notices (lines_left lines.entry)) names.now
@@ -294,7 +295,7 @@ fn run_line<W: Write>(
     notices: bool,
     writer: &mut W,
 ) -> Result<(), ShellFault>
-    requires few { length names.now ≤ 8 }
+    requires few { length names.now ≤ MAX_PHONES }
     requires named { IsOfPhoneBelow (length names.now) act.now }
     requires drained { all_out host.old ≡ true }
     ensures runs { OnOk result (RunsLine notices names.now act.now

@@ -27,7 +27,7 @@ pub(crate) fn print_line<W: Write>(
     notes: &Notes,
     writer: &mut W,
 ) -> Result<(), ShellFault>
-    requires few { length names.now ≤ 8 }
+    requires few { length names.now ≤ MAX_PHONES }
     requires named { IfSome refused (IsOfPhone (length names.now)) }
     ensures ok { OnOk result (Appends (W.contents writer.old) (W.contents writer.new)
         (line_text names.now refused sim.old notes.now)) }
@@ -50,7 +50,7 @@ fn print_outcome<W: Write>(
     refused: Option<Refused>,
     writer: &mut W,
 ) -> Result<(), ShellFault>
-    requires few { length names.now ≤ 8 }
+    requires few { length names.now ≤ MAX_PHONES }
     requires named { IfSome refused (IsOfPhone (length names.now)) }
     ensures ok { OnOk result (Appends (W.contents writer.old) (W.contents writer.new)
         (outcome_text names.now refused sim.old.phones)) }
@@ -72,7 +72,7 @@ fn print_phones<W: Write>(
     names: &[Name<'_>],
     writer: &mut W,
 ) -> Result<(), ShellFault>
-    requires { length names.now ≤ 8 }
+    requires { length names.now ≤ MAX_PHONES }
     ensures ok { OnOk result (Appends (W.contents writer.old) (W.contents writer.new)
         (phones_text names.now sim.old.phones)) }
     ensures told { OnOk result (sim.new ≡ with_told_phones sim.old (length names.now)) }
@@ -122,7 +122,7 @@ fn print_phone<W: Write>(
     name: &Name<'_>,
     writer: &mut W,
 ) -> Result<(), ShellFault>
-    requires { phone < 8 }
+    requires { phone < MAX_PHONES }
     ensures ok { OnOk result (Appends (W.contents writer.old) (W.contents writer.new)
         (phone_text name.now (phone_at sim.old phone))) }
     ensures told { OnOk result (sim.new ≡ with_told_phone sim.old phone) }
