@@ -12,6 +12,7 @@ use Rattle.gihandop_c.specs.Boundary.{fault_status}
 use Rattle.gihandop_c.specs.Seeing.{connection_at, found_by}
 use Rattle.gihandop_c.specs.Telling.{next_notice}
 use Rattle.octets.specs.Number.{Octets}
+use Rattle.gihandop_c.specs.declared.stream.TheConstants.{LONGEST_PACKET}
 
 -- of a handle that is closed, that it is; and else by its host
 abbrev pub if_open : (Opened → ℕ) → Option Opened → ℕ
@@ -41,7 +42,7 @@ WaitsForOutput status opened = (status ≡ OUTPUT_OWED) ↔ (all_out opened.host
 
 -- of the next packet: whether one is owed comes before whether the longest would fit
 abbrev pub out_status : ℕ → Opened → ℕ
-out_status room opened = if all_out opened.host then NOTHING else room_status 260 room
+out_status room opened = if all_out opened.host then NOTHING else room_status LONGEST_PACKET room
 
 -- of the next notice
 abbrev pub notice_status : Opened → ℕ

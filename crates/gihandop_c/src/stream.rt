@@ -9,9 +9,10 @@ ghost use Rattle.gihandop_c.specs.declared.status.TheConstants.{DONE, NOTHING, O
 
 use crate::opened::Opened;
 use crate::status;
+use gatt_host::MAX_PACKET_OUT;
 
 /// The longest packet that goes out, in octets.
-const LONGEST_PACKET: usize = 260;
+const LONGEST_PACKET: usize = MAX_PACKET_OUT;
 
 /// Takes in octets up to the end of the next packet, or all of them where none ends in them, and
 /// says how many. Where the host stops, or had stopped, no more are to be taken in, and it says
@@ -68,7 +69,7 @@ pub(crate) fn next_out(opened: &mut Opened, out: &mut [u8], count: &mut usize) -
     ensures status { result ≡ out_status (length out.old) opened.old }
     ensures goes { result ≡ DONE → LeadsOn [] (take count.new out.new ∷ []) opened.old opened.new }
     ensures within { result ≡ DONE → count.new ≤ length out.old }
-    ensures needs { result ≡ SHORT_BUFFER → count.new ≡ 260 }
+    ensures needs { result ≡ SHORT_BUFFER → count.new ≡ LONGEST_PACKET }
     ensures none { result ≢ DONE → result ≢ SHORT_BUFFER → count.new ≡ 0 }
     ensures unchanged { result ≢ DONE → opened.new.host ≡ opened.old.host }
     ensures told { opened.new.told ≡ opened.old.told }
@@ -91,7 +92,7 @@ pub(crate) fn next_out(opened: &mut Opened, out: &mut [u8], count: &mut usize) -
 #[cold]
 fn too_short(opened: &Opened, count: &mut usize) -> u32
     ensures status { result ≡ (if all_out opened.now.host then NOTHING else SHORT_BUFFER) }
-    ensures needs { result ≡ SHORT_BUFFER → count.new ≡ 260 }
+    ensures needs { result ≡ SHORT_BUFFER → count.new ≡ LONGEST_PACKET }
     ensures none { result ≡ NOTHING → count.new ≡ 0 }
 {
     if opened.is_drained() {

@@ -6,6 +6,7 @@ ghost use Rattle.gihandop_c.specs.Boundary.{HostLeads, HostStays, HostStaysIfSto
 ghost use Rattle.gihandop_c.specs.Statuses.{if_open, notice_status, out_status, take_status};
 ghost use Rattle.gihandop_c.specs.Telling.{HandsOut};
 ghost use Rattle.gihandop_c.specs.declared.status.TheConstants.{CLOSED, DONE, OUTPUT_OWED, SHORT_BUFFER};
+ghost use Rattle.gihandop_c.specs.declared.stream.TheConstants.{LONGEST_PACKET};
 
 use crate::host_pointer::HostPointer;
 use crate::notices::NoticeFields;
@@ -49,7 +50,7 @@ pub extern "C" fn gh_next_out(host: &mut HostPointer, out: &mut [u8], count: &mu
     ensures goes { result ≡ DONE → HostLeads [] (take count.new out.new ∷ [])
         host.old.host host.new.host }
     ensures within { result ≡ DONE → count.new ≤ length out.old }
-    ensures needs { result ≡ SHORT_BUFFER → count.new ≡ 260 }
+    ensures needs { result ≡ SHORT_BUFFER → count.new ≡ LONGEST_PACKET }
     ensures none { result ≢ DONE → result ≢ SHORT_BUFFER → count.new ≡ 0 }
     ensures unchanged { result ≢ DONE → HostStays host.old.host host.new.host }
     ensures untouched { result ≢ DONE → out.new ≡ out.old }
