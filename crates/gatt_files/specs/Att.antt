@@ -15,14 +15,15 @@ use Rattle.att_table.specs.file.TableFile.{table_read, no_attributes}
 use Rattle.gatt_conn.specs.Answer.{Question, answer_to, stored_by, conn_after}
 use Rattle.gatt_conn.specs.Connection.{Connection, new_connection}
 use Rattle.octets.specs.Number.{Octets}
+use Rattle.gatt_files.specs.declared.session.TheConstants.{MAX_DIGITS}
 
 -- the lines of an input, without their line feeds: what stands behind the last one is a line too, which may be blank
 abbrev pub lines_of : Octets → List Octets
 lines_of input = slice_split (λ octet. octet == 10) input
 
--- the PDU that digits spell in hexadecimal, of at most 520 octets
+-- the PDU that digits spell in hexadecimal, no more of them than a line may have
 abbrev pub pdu_of : Octets → Option Octets
-pdu_of digits = if nat_lt 1040 (length digits) then None else result_ok (decode_of digits)
+pdu_of digits = if nat_lt MAX_DIGITS (length digits) then None else result_ok (decode_of digits)
 
 -- the PDU of a line; a blank line has none
 abbrev pub pdu_in : Octets → Option Octets

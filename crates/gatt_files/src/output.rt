@@ -8,6 +8,7 @@ ghost use Rattle.octets.specs.Stream.{WritesFront};
 
 use crate::fault::ShellFault;
 use itoa::Buffer;
+use octets::MAX_PDU;
 use std::io::{ErrorKind, Write};
 
 /// Writes a text out. Where the writer fails, the front of the text is written, and the fault is
@@ -33,17 +34,17 @@ pub fn print<W: Write>(text: &[u8], writer: &mut W) -> Result<(), ShellFault>
     Err(ShellFault::Unwritten)
 }
 
-/// Writes octets out in hexadecimal, at most 517, and a line feed. Where the writer fails, the front
-/// of that is written, and the fault is `Unwritten`.
+/// Writes at most a PDU's octets out in hexadecimal, and a line feed. Where the writer fails, the
+/// front of that is written, and the fault is `Unwritten`.
 pub fn print_hex_line<W: Write>(octets: &[u8], writer: &mut W) -> Result<(), ShellFault>
-    requires { length octets.now ≤ 517 }
+    requires { length octets.now ≤ MAX_PDU }
     ensures ok { OnOk result (Appends (W.contents writer.old) (W.contents writer.new)
         (encode_lower octets.now ++ 10 ∷ [])) }
     ensures front { OnErr result (WritesFront (encode_lower octets.now ++ 10 ∷ [])
         (W.contents writer.old) (W.contents writer.new)) }
     ensures faults { IfErr result (λ fault. fault ≡ ShellFault.Unwritten) }
 {
-    let mut text = [0; 2 * 517 + 1];
+    let mut text = [0; 2 * MAX_PDU + 1];
     let end = 2 * octets.len();
     hex::encode_to_slice(octets, &mut text[..end]).unwrap();
     text[end] = b'\n';

@@ -10,6 +10,7 @@ use arrayvec::ArrayVec;
 use att_table::examples::DOOR;
 use att_table::{ConfigRow, Table, TableFault};
 use gatt_conn::{Conn, answer_into};
+use octets::PduOctets;
 use std::alloc::Global;
 use std::marker::Model;
 
@@ -48,7 +49,7 @@ impl DoorServer {
     }
 
     /// Serves a PDU: puts the answer into `octets` and tells whether one is due.
-    pub(crate) fn answer(&mut self, pdu: &[u8], octets: &mut ArrayVec<u8, 517>) -> bool
+    pub(crate) fn answer(&mut self, pdu: &[u8], octets: &mut PduOctets) -> bool
         ensures answer { option_map sent (answer_from self.old pdu.now)
             ≡ (if result then Some octets.new.items else None) }
         ensures server { self.new ≡ server_after self.old pdu.now }
@@ -63,7 +64,7 @@ fn answer_from(
     row: &mut ConfigRow,
     conn: &mut Conn,
     pdu: &[u8],
-    octets: &mut ArrayVec<u8, 517>,
+    octets: &mut PduOctets,
 ) -> bool
     requires row { IsRowOf table.old.attributes row.old }
     ensures answer { option_map sent (answer_from (server_with table.old row.old conn.old) pdu.now)

@@ -11,12 +11,18 @@ use arrayvec::ArrayVec;
 use std::alloc::Global;
 use std::io::Write;
 
+/// The most octets of the PDU in a line.
+const MAX_LINE_OCTETS: usize = 520;
+
+/// The most digits of a line.
+const MAX_DIGITS: usize = 2 * MAX_LINE_OCTETS;
+
 /// A server of the example door lock, and the line of its input that has begun.
 #[derive(Drop)]
 pub(crate) struct Session {
     server: DoorServer,
-    /// The octets of the line so far: the longest line has 1,040 digits.
-    line: ArrayVec<u8, 1040>,
+    /// The octets of the line so far.
+    line: ArrayVec<u8, MAX_DIGITS>,
     /// The number of the line, from 1.
     number: u64,
 }
@@ -107,7 +113,7 @@ impl Session {
             → BreaksLine self.old (W.contents writer.old) (W.contents writer.new) }
         ensures faults { IfErr result IsLineFault }
     {
-        let mut octets = [0; 520];
+        let mut octets = [0; MAX_LINE_OCTETS];
         let pdu = &mut octets[..self.line.len() / 2];
         if hex::decode_to_slice(self.line.as_slice(), pdu).is_err() {
             return Err(ShellFault::NotHex(self.number));
