@@ -8,9 +8,9 @@ use Rattle.att_pdu.specs.declared.uuid.Uuid.TheVariants.{Short, Long}
 use Rattle.octets.specs.Number.{Octets, two_octets, from_two}
 
 -- the number by which types are compared: Core 5.0, Vol 3 Part B, 2.5.1
-abbrev pub number_of : Uuid → AttributeType
-number_of (Short short) = of_16_bits short
-number_of (Long long) = long
+abbrev pub uuid_number : Uuid → AttributeType
+uuid_number (Short short) = of_16_bits short
+uuid_number (Long long) = long
 
 -- a type as it is sent, the lowest octet first: Core 5.0, Vol 3 Part F, 3.2.1
 abbrev pub uuid_octets : Uuid → Octets

@@ -77,7 +77,8 @@ impl<'a> PduBuf<'a> {
     #[inline(always)]
     pub fn front(&mut self, octets: &[u8])
         ensures appended { contents self.new
-            ≡ contents self.old ++ take (mtu_of self.old - length (contents self.old)) octets.now }
+            ≡ contents self.old ++ take (mtu_of self.old - length (contents self.old))
+            octets.now }
         ensures same_buffer { IsSameBuffer self.old self.new }
     {
         let room = usize::from(self.mtu) - self.octets.len();

@@ -1,5 +1,5 @@
 ghost use Rattle.std.specs.Prelude.{◌≡◌, IfSome};
-ghost use Rattle.att_pdu.specs.Uuid.{number_of, uuid_form, uuid_octets};
+ghost use Rattle.att_pdu.specs.Uuid.{uuid_number, uuid_form, uuid_octets};
 
 use att_numbers::attribute_type;
 
@@ -15,7 +15,7 @@ impl Uuid {
     /// The number of 128 bits by which types are compared, however they were spelled: Core 5.0,
     /// Vol 3 Part B, 2.5.1.
     pub fn number(self) -> u128
-        ensures { result ≡ number_of self }
+        ensures { result ≡ uuid_number self }
     {
         match self {
             Uuid::Short(short) => attribute_type::from_16_bits(short),

@@ -7,7 +7,7 @@ use Rattle.att_policy.specs.declared.policy.Access.{Access}
 use Rattle.att_policy.specs.declared.policy.Rule.{Rule}
 use Rattle.att_policy.specs.declared.policy.Rule.TheVariants.{HandleExists, Property, Encryption, Authentication, KeySize, SecureConnections, Authorization}
 use Rattle.att_policy.specs.declared.standing.Standing.{Standing}
-use Rattle.att_policy.specs.Policy.{rules_in_order, place_of, is_broken, first_broken_rule_of, IsPermitted, IsFirstBroken}
+use Rattle.att_policy.specs.Policy.{rules_in_order, rule_place, is_broken, first_broken_rule_of, IsPermitted, IsFirstBroken}
 
 -- where none is found, none passes
 none_found : (p : Rule → Bool) → find p rules_in_order ≡ None → (rule : Rule) → p rule ≡ false
@@ -30,7 +30,7 @@ found p SecureConnections h = grind arith
 found p Authorization h = grind arith
 
 -- and none before it does
-found_first : (p : Rule → Bool) (rule earlier : Rule) → find p rules_in_order ≡ Some rule → place_of earlier < place_of rule → p earlier ≡ false
+found_first : (p : Rule → Bool) (rule earlier : Rule) → find p rules_in_order ≡ Some rule → rule_place earlier < rule_place rule → p earlier ≡ false
 found_first p rule HandleExists h below = grind arith
 found_first p rule Property h below = grind arith
 found_first p rule Encryption h below = grind arith

@@ -69,14 +69,14 @@ abbrev pub rules_in_order : List Rule
 rules_in_order = HandleExists ∷ Property ∷ rules_of_need
 
 -- the place of a rule in that order
-abbrev pub place_of : Rule → ℕ
-place_of HandleExists = 1
-place_of Property = 2
-place_of Encryption = 3
-place_of Authentication = 4
-place_of KeySize = 5
-place_of SecureConnections = 6
-place_of Authorization = 7
+abbrev pub rule_place : Rule → ℕ
+rule_place HandleExists = 1
+rule_place Property = 2
+rule_place Encryption = 3
+rule_place Authentication = 4
+rule_place KeySize = 5
+rule_place SecureConnections = 6
+rule_place Authorization = 7
 
 -- the error code of an access that the properties do not have
 abbrev pub not_permitted_code : Access → Code
@@ -114,7 +114,7 @@ IsPermitted access guard standing = (rule : Rule) → is_broken access guard sta
 -- this rule is broken, and none before it
 pub record IsFirstBroken (access : Access) (guard : Option Guard) (standing : Standing) (rule : Rule) : Type 0 where
   pub broken : is_broken access guard standing rule ≡ true
-  pub none_before : (earlier : Rule) → place_of earlier < place_of rule → is_broken access guard standing earlier ≡ false
+  pub none_before : (earlier : Rule) → rule_place earlier < rule_place rule → is_broken access guard standing earlier ≡ false
 
 -- the bits that a client characteristic configuration may have, by its value's properties: Core 5.0, Vol 3 Part G, 3.3.3.3
 abbrev pub configuration_bits_of : Properties → ℕ

@@ -24,7 +24,8 @@ impl Flags for Properties {
 
     ghost exact = { ⊤ };
 
-    ghost table = { (codes "READ", 0x02) ∷ (codes "WRITE_WITHOUT_RESPONSE", 0x04) ∷ (codes "WRITE", 0x08)
+    ghost table = { (codes "READ", 0x02) ∷ (codes "WRITE_WITHOUT_RESPONSE", 0x04)
+        ∷ (codes "WRITE", 0x08)
         ∷ (codes "NOTIFY", 0x10) ∷ (codes "INDICATE", 0x20) ∷ [] };
 
     ghost set_of = { λ properties. properties.0 };

@@ -78,7 +78,8 @@ pub fn first_broken(
     guard: Option<&Guard>,
     standing: &Standing,
 ) -> Option<(Rule, u8)>
-    ensures exact { result ≡ first_broken_of access (option_copied guard.entry) standing.entry.now }
+    ensures exact { result
+        ≡ first_broken_of access (option_copied guard.entry) standing.entry.now }
     ensures permitted { IsNone result ↔ IsPermitted access
         (option_copied guard.entry) standing.entry.now }
     ensures first { IfSome result
@@ -102,7 +103,8 @@ pub fn may_hear(guard: &Guard, bits: u8, standing: &Standing) -> bool
 
 #[inline(always)]
 fn first_broken_rule(access: Access, guard: Option<&Guard>, standing: &Standing) -> Option<Rule>
-    ensures { result ≡ first_broken_rule_of access (option_copied guard.entry) standing.entry.now }
+    ensures { result ≡ first_broken_rule_of access (option_copied guard.entry)
+        standing.entry.now }
 {
     let Some(guard) = guard else {
         return Some(Rule::HandleExists);

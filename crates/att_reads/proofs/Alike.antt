@@ -9,7 +9,7 @@ use Rattle.att_numbers.specs.Types.{Handle, AttributeType, Opcode, Mtu, Row, Val
 use Rattle.att_numbers.specs.declared.opcode.TheConstants.{FIND_BY_TYPE_VALUE_REQUEST, READ_BY_TYPE_REQUEST, READ_REQUEST, READ_BLOB_REQUEST, READ_MULTIPLE_REQUEST, READ_BY_GROUP_TYPE_REQUEST}
 use Rattle.att_policy.specs.declared.standing.Standing.{Standing}
 use Rattle.att_policy.specs.Refusal.{Refusal}
-use Rattle.att_pdu.specs.Uuid.{number_of}
+use Rattle.att_pdu.specs.Uuid.{uuid_number}
 use Rattle.att_pdu.specs.Request.{Asked, ExchangeMtuRequest, WriteRequest, PrepareWriteRequest, ExecuteWriteRequest, ConfirmationPdu, WriteCommandPdu, FindInformationRequest, FindByTypeValueRequest, ReadByTypeRequest, ReadRequest, ReadBlobRequest, ReadMultipleRequest, ReadByGroupTypeRequest}
 use Rattle.att_pdu.specs.Response.{Element, Response, FindByTypeValueResponse, ReadResponse, ReadBlobResponse, ReadMultipleResponse, ReadByTypeResponse, ReadByGroupTypeResponse}
 use Rattle.att_attributes.specs.Attributes.{is_configuration_at}
@@ -18,10 +18,10 @@ use Rattle.att_table.specs.ConfigRow.{bits_at}
 use Rattle.att_table.specs.Table.{Contents, value_at}
 use Rattle.att_reads.specs.declared.list.Listing.{Listing}
 use Rattle.att_reads.specs.declared.list.Listing.TheVariants.{Values, Groups}
-use Rattle.att_reads.specs.Access.{refusal_at, refusal_of, value_for, IsAlike}
+use Rattle.att_reads.specs.Access.{refusal_at, read_refusal, value_for, IsAlike}
 use Rattle.att_reads.specs.Answer.{is_match, group_of, information_answer, found_answer, values_answer, value_answer, part_answer, multiple_answer, groups_answer, read_answer}
 use Rattle.att_reads.specs.List.{cut_of, element_of, candidate_of}
-use Rattle.att_reads.specs.Listing.{Candidate, is_listed, size_of, size_of_first, first_refusal, elements, elements_within}
+use Rattle.att_reads.specs.Listing.{Candidate, is_listed, candidate_size, size_of_first, first_refusal, elements, elements_within}
 use Rattle.att_reads.specs.Refusals.{unless_refused, range_refusal, group_type_refusal, not_found, offset_refusal}
 use Rattle.octets.specs.Number.{Octets}
 
@@ -50,7 +50,7 @@ unless_same : (request : Opcode) (refusal : Option Refusal) (some other : List (
 unless_same request (Some refusal) some other x y same = refl
 unless_same request None some other x y same = same refl
 
-permitted_at : (standing : Standing) (table : Contents) (handle : Handle) → refusal_of table.attributes standing handle ≡ None → refusal_at table.attributes standing handle ≡ None
+permitted_at : (standing : Standing) (table : Contents) (handle : Handle) → read_refusal table.attributes standing handle ≡ None → refusal_at table.attributes standing handle ≡ None
 permitted_at standing table handle is =
     elim (refusal_at table.attributes standing handle) as
     (λ code. (elim code as (λ _. Option Refusal) [ None ↦ None | Some n ↦ Some (record { handle = handle; code = n }) ]) ≡ None → code ≡ None) [
@@ -63,26 +63,26 @@ value_same : (standing : Standing) (table : Contents) (values : ValueList) (row 
     → value_answer (with_values table values) row standing mtu handle ≡ value_answer table row standing mtu handle
 unfolding value_answer
 value_same standing table values row mtu handle readable =
-    unless_same READ_REQUEST (refusal_of table.attributes standing handle) [] [] _ _
+    unless_same READ_REQUEST (read_refusal table.attributes standing handle) [] [] _ _
     (λ none. ap (λ value. ReadResponse (take (mtu - 1) value)) (same_value standing table values row readable handle (permitted_at standing table handle none)))
 
 part_same : (standing : Standing) (table : Contents) (values : ValueList) (row : Row) (mtu : Mtu) (handle : Handle) (offset : ℕ) → AreReadable standing table values
     → part_answer (with_values table values) row standing mtu handle offset ≡ part_answer table row standing mtu handle offset
 unfolding part_answer
 part_same standing table values row mtu handle offset readable =
-    unless_same READ_BLOB_REQUEST (refusal_of table.attributes standing handle) _ _ _ _
+    unless_same READ_BLOB_REQUEST (read_refusal table.attributes standing handle) _ _ _ _
     (λ none. ap (λ value. unless_refused READ_BLOB_REQUEST (offset_refusal handle offset value ∷ []) (ReadBlobResponse (take (mtu - 1) (drop offset value))))
     (same_value standing table values row readable handle (permitted_at standing table handle none)))
 
 -- several values, none of which is refused
 values_same : (standing : Standing) (table : Contents) (values : ValueList) (row : Row) (handles : List Handle) (respond : Octets → Response) → AreReadable standing table values
-    → unless_refused READ_MULTIPLE_REQUEST (map (refusal_of table.attributes standing) handles) (respond (flat_map (value_for (with_values table values) row) handles))
-    ≡ unless_refused READ_MULTIPLE_REQUEST (map (refusal_of table.attributes standing) handles) (respond (flat_map (value_for table row) handles))
+    → unless_refused READ_MULTIPLE_REQUEST (map (read_refusal table.attributes standing) handles) (respond (flat_map (value_for (with_values table values) row) handles))
+    ≡ unless_refused READ_MULTIPLE_REQUEST (map (read_refusal table.attributes standing) handles) (respond (flat_map (value_for table row) handles))
 values_same standing table values row [] respond readable = refl
 values_same standing table values row (handle ∷ rest) respond readable =
-    unless_same READ_MULTIPLE_REQUEST (refusal_of table.attributes standing handle) _ _ _ _
+    unless_same READ_MULTIPLE_REQUEST (read_refusal table.attributes standing handle) _ _ _ _
     (λ none.
-    ap (λ value. unless_refused READ_MULTIPLE_REQUEST (map (refusal_of table.attributes standing) rest) (respond (value ++ flat_map (value_for (with_values table values) row) rest)))
+    ap (λ value. unless_refused READ_MULTIPLE_REQUEST (map (read_refusal table.attributes standing) rest) (respond (value ++ flat_map (value_for (with_values table values) row) rest)))
     (same_value standing table values row readable handle (permitted_at standing table handle none))
     ∙ values_same standing table values row rest (λ octets. respond (value_for table row handle ++ octets)) readable)
 
@@ -116,16 +116,16 @@ found_same standing table values row mtu first last type value readable =
 
 -- attributes that may be listed
 candidate_same : (standing : Standing) (table : Contents) (values : ValueList) (row : Row) (mtu : Mtu) (listing : Listing) → AreReadable standing table values
-    → (handle : Handle) → refusal_of table.attributes standing handle ≡ None
+    → (handle : Handle) → read_refusal table.attributes standing handle ≡ None
     → candidate_of listing (with_values table values) row standing mtu handle ≡ candidate_of listing table row standing mtu handle
 candidate_same standing table values row mtu Values readable handle none =
     ap (λ value. record {
-      refusal = refusal_of table.attributes standing handle;
+      refusal = read_refusal table.attributes standing handle;
       element = element_of Values table handle (take (cut_of Values mtu) value);
     }) (same_value standing table values row readable handle (permitted_at standing table handle none))
 candidate_same standing table values row mtu Groups readable handle none =
     ap (λ value. record {
-      refusal = refusal_of table.attributes standing handle;
+      refusal = read_refusal table.attributes standing handle;
       element = element_of Groups table handle (take (cut_of Groups mtu) value);
     }) (same_value standing table values row readable handle (permitted_at standing table handle none))
 
@@ -153,10 +153,10 @@ run_same size new old (handle ∷ rest) refused same =
 -- the whole list, whose first one is not refused
 listed-at : (mtu : Mtu) (new old : Handle → Candidate) (handle : Handle) (rest : List Handle) (respond : ℕ → List Element → Response) → new handle ≡ old handle
     → ((size : ℕ) → take_while (is_listed size) (map new (handle ∷ rest)) ≡ take_while (is_listed size) (map old (handle ∷ rest)))
-    → respond (size_of (new handle)) (elements_within mtu (map new (handle ∷ rest))) ≡ respond (size_of (old handle)) (elements_within mtu (map old (handle ∷ rest)))
+    → respond (candidate_size (new handle)) (elements_within mtu (map new (handle ∷ rest))) ≡ respond (candidate_size (old handle)) (elements_within mtu (map old (handle ∷ rest)))
 listed-at mtu new old handle rest respond first run =
-    ap (λ candidate. respond (size_of candidate) (elements (take ((mtu - 2) / size_of candidate) (take_while (is_listed (size_of candidate)) (map new (handle ∷ rest)))))) first
-    ∙ ap (λ candidates. respond (size_of (old handle)) (elements (take ((mtu - 2) / size_of (old handle)) candidates))) (run (size_of (old handle)))
+    ap (λ candidate. respond (candidate_size candidate) (elements (take ((mtu - 2) / candidate_size candidate) (take_while (is_listed (candidate_size candidate)) (map new (handle ∷ rest)))))) first
+    ∙ ap (λ candidates. respond (candidate_size (old handle)) (elements (take ((mtu - 2) / candidate_size (old handle)) candidates))) (run (candidate_size (old handle)))
 
 list_same : (request : Opcode) (mtu : Mtu) (start : Handle) (new old : Handle → Candidate) (handles : List Handle) (respond : ℕ → List Element → Response)
     → ((handle : Handle) → (new handle).refusal ≡ (old handle).refusal) → ((handle : Handle) → (old handle).refusal ≡ None → new handle ≡ old handle)
@@ -164,7 +164,7 @@ list_same : (request : Opcode) (mtu : Mtu) (start : Handle) (new old : Handle �
     ≡ unless_refused request (not_found start (map old handles) ∷ first_refusal (map old handles) ∷ []) (respond (size_of_first (map old handles)) (elements_within mtu (map old handles)))
 list_same request mtu start new old [] respond refused same = refl
 list_same request mtu start new old (handle ∷ rest) respond refused same =
-    ap (λ refusal. unless_refused request (refusal ∷ []) (respond (size_of (new handle)) (elements_within mtu (map new (handle ∷ rest))))) (refused handle)
+    ap (λ refusal. unless_refused request (refusal ∷ []) (respond (candidate_size (new handle)) (elements_within mtu (map new (handle ∷ rest))))) (refused handle)
     ∙ unless_same request (old handle).refusal [] [] _ _
     (λ none. listed-at mtu new old handle rest respond (same handle none) (λ size. run_same size new old (handle ∷ rest) refused same))
 
@@ -191,11 +191,11 @@ with-same : (standing : Standing) (table : Contents) (values : ValueList) (row :
 with-same standing table values row mtu readable (FindInformationRequest first last) = unfold information_answer in refl
 with-same standing table values row mtu readable (FindByTypeValueRequest first last type value) =
     ap Some (found_same standing table values row mtu first last (of_16_bits type) value readable)
-with-same standing table values row mtu readable (ReadByTypeRequest first last type) = ap Some (values_list_same standing table values row mtu first last (number_of type) readable)
+with-same standing table values row mtu readable (ReadByTypeRequest first last type) = ap Some (values_list_same standing table values row mtu first last (uuid_number type) readable)
 with-same standing table values row mtu readable (ReadRequest handle) = ap Some (value_same standing table values row mtu handle readable)
 with-same standing table values row mtu readable (ReadBlobRequest handle offset) = ap Some (part_same standing table values row mtu handle offset readable)
 with-same standing table values row mtu readable (ReadMultipleRequest handles) = ap Some (multiple_same standing table values row mtu handles readable)
-with-same standing table values row mtu readable (ReadByGroupTypeRequest first last type) = ap Some (groups_list_same standing table values row mtu first last (number_of type) readable)
+with-same standing table values row mtu readable (ReadByGroupTypeRequest first last type) = ap Some (groups_list_same standing table values row mtu first last (uuid_number type) readable)
 with-same standing table values row mtu readable (ExchangeMtuRequest client_rx_mtu) = refl
 with-same standing table values row mtu readable (WriteRequest handle value) = refl
 with-same standing table values row mtu readable (PrepareWriteRequest handle offset part) = refl

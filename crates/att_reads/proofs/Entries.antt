@@ -9,9 +9,9 @@ use Rattle.att_policy.specs.Refusal.{Refusal}
 use Rattle.att_table.specs.Table.{Contents}
 use Rattle.att_reads.specs.declared.list.Listing.{Listing}
 use Rattle.att_reads.specs.declared.list.Listing.TheVariants.{Values, Groups}
-use Rattle.att_reads.specs.Access.{refusal_at, refusal_of, value_for}
-use Rattle.att_reads.specs.List.{request_of, head_of, cut_of, element_of, candidate_of, list_response, list_answer}
-use Rattle.att_reads.specs.Listing.{Candidate, size_of, size_of_first, elements_within, with_listed}
+use Rattle.att_reads.specs.Access.{refusal_at, read_refusal, value_for}
+use Rattle.att_reads.specs.List.{listing_request, head_of, cut_of, element_of, candidate_of, list_response, list_answer}
+use Rattle.att_reads.specs.Listing.{Candidate, candidate_size, size_of_first, elements_within, with_listed}
 use Rattle.att_reads.specs.Refusals.{unless_refused}
 use Rattle.att_reads.proofs.Listed.{list_begun}
 use Rattle.octets.specs.Number.{Octets}
@@ -28,16 +28,16 @@ element_fits : (listing : Listing) (mtu : Mtu) (size : ℕ) → 23 ≤ mtu → s
 element_fits Values mtu size least cut = omega (arith, least, cut)
 element_fits Groups mtu size least cut = omega (arith, least, cut)
 
-sent_list : (listing : Listing) (size : ℕ) (listed : List Element) → sent (list_response listing size listed) ≡ (request_of listing + 1) ∷ size ∷ flat_map element_octets listed
+sent_list : (listing : Listing) (size : ℕ) (listed : List Element) → sent (list_response listing size listed) ≡ (listing_request listing + 1) ∷ size ∷ flat_map element_octets listed
 sent_list Values size listed = refl
 sent_list Groups size listed = refl
 
-pub none_refused : (table : Contents) (standing : Standing) (handle : Handle) → refusal_at table.attributes standing handle ≡ None → refusal_of table.attributes standing handle ≡ None
+pub none_refused : (table : Contents) (standing : Standing) (handle : Handle) → refusal_at table.attributes standing handle ≡ None → read_refusal table.attributes standing handle ≡ None
 none_refused table standing handle permitted = rw permitted refl
 
 pub list_of_first : (listing : Listing) (table : Contents) (row : Row) (standing : Standing) (mtu : Mtu) (start handle : Handle) (rest : List Handle) (front octets : Octets)
     → refusal_at table.attributes standing handle ≡ None → 23 ≤ mtu → front ≡ take (cut_of listing mtu) (value_for table row handle)
-    → octets ≡ (request_of listing + 1) ∷ (head_of listing + length front) ∷ element_octets (element_of listing table handle front)
+    → octets ≡ (listing_request listing + 1) ∷ (head_of listing + length front) ∷ element_octets (element_of listing table handle front)
     → with_listed mtu (head_of listing + length front) octets (map (candidate_of listing table row standing mtu) rest)
     ≡ sent (list_answer listing table row standing mtu start (handle ∷ rest))
 list_of_first listing table row standing mtu start handle rest front octets permitted least front_is begun =
@@ -45,14 +45,14 @@ list_of_first listing table row standing mtu start handle rest front octets perm
     let left = map (candidate_of listing table row standing mtu) rest in
     let refusal : first.refusal ≡ None = none_refused table standing handle permitted in
     let element_is : element_octets first.element ≡ element_octets (element_of listing table handle front) = ap (λ value. element_octets (element_of listing table handle value)) (sym front_is) in
-    let size : size_of first ≡ head_of listing + length front = ap length element_is ∙ element_size listing table handle front in
+    let size : candidate_size first ≡ head_of listing + length front = ap length element_is ∙ element_size listing table handle front in
     let cut : length front ≡ min (cut_of listing mtu) (length (value_for table row handle)) = ap length front_is ∙ length-take (cut_of listing mtu) (value_for table row handle) in
     let within : length front ≤ cut_of listing mtu = omega (arith, cut) in
-    let fits : 2 + size_of first ≤ mtu = let room = element_fits listing mtu (length front) least within in omega (arith, room, size) in
-    let above : 0 < size_of first = let head = head_above listing in omega (arith, head, size) in
+    let fits : 2 + candidate_size first ≤ mtu = let room = element_fits listing mtu (length front) least within in omega (arith, room, size) in
+    let above : 0 < candidate_size first = let head = head_above listing in omega (arith, head, size) in
     ap (λ begin. with_listed mtu (head_of listing + length front) begin left) begun
-    ∙ ap (λ n. with_listed mtu n ((request_of listing + 1) ∷ n ∷ element_octets (element_of listing table handle front)) left) (sym size)
-    ∙ ap (λ element. with_listed mtu (size_of first) ((request_of listing + 1) ∷ size_of first ∷ element) left) (sym element_is)
-    ∙ list_begun (request_of listing + 1) (size_of first) mtu first left refusal above fits
-    ∙ sym (sent_list listing (size_of first) (elements_within mtu (first ∷ left)))
-    ∙ ap (λ refused. sent (unless_refused (request_of listing) (None ∷ refused ∷ []) (list_response listing (size_of first) (elements_within mtu (first ∷ left))))) (sym refusal)
+    ∙ ap (λ n. with_listed mtu n ((listing_request listing + 1) ∷ n ∷ element_octets (element_of listing table handle front)) left) (sym size)
+    ∙ ap (λ element. with_listed mtu (candidate_size first) ((listing_request listing + 1) ∷ candidate_size first ∷ element) left) (sym element_is)
+    ∙ list_begun (listing_request listing + 1) (candidate_size first) mtu first left refusal above fits
+    ∙ sym (sent_list listing (candidate_size first) (elements_within mtu (first ∷ left)))
+    ∙ ap (λ refused. sent (unless_refused (listing_request listing) (None ∷ refused ∷ []) (list_response listing (candidate_size first) (elements_within mtu (first ∷ left))))) (sym refusal)

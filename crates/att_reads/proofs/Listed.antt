@@ -7,7 +7,7 @@ use Rattle.std.proofs.lemmas.List.{append-nil}
 use Rattle.std.proofs.lemmas.List.Sums.{take_while-cons}
 use Rattle.std.specs.List.{flat_map}
 use Rattle.att_pdu.specs.Response.{element_octets}
-use Rattle.att_reads.specs.Listing.{Candidate, size_of, is_listed, run_within, elements, elements_within, with_listed, HasNext, HasNoNext}
+use Rattle.att_reads.specs.Listing.{Candidate, candidate_size, is_listed, run_within, elements, elements_within, with_listed, HasNext, HasNoNext}
 use Rattle.octets.specs.Number.{Octets}
 
 -- the octets of those that are listed
@@ -74,10 +74,10 @@ listed_stop mtu size old new candidate rest stop above =
     stop.unchanged ∙ sym (ap (λ candidates. old ++ joined candidates) none ∙ append-nil old)
 
 -- the first candidate begins the answer
-pub list_begun : (opcode header mtu : ℕ) (first : Candidate) (rest : List Candidate) → first.refusal ≡ None → 0 < size_of first → 2 + size_of first ≤ mtu
-    → with_listed mtu (size_of first) (opcode ∷ header ∷ element_octets first.element) rest ≡ opcode ∷ header ∷ flat_map element_octets (elements_within mtu (first ∷ rest))
+pub list_begun : (opcode header mtu : ℕ) (first : Candidate) (rest : List Candidate) → first.refusal ≡ None → 0 < candidate_size first → 2 + candidate_size first ≤ mtu
+    → with_listed mtu (candidate_size first) (opcode ∷ header ∷ element_octets first.element) rest ≡ opcode ∷ header ∷ flat_map element_octets (elements_within mtu (first ∷ rest))
 list_begun opcode header mtu first rest permitted above fits =
     let octets = opcode ∷ header ∷ [] in
-    let is : is_listed (size_of first) first ≡ true = grind (arith, common_steps, permitted) in
-    let next : HasNext mtu (size_of first) first octets (octets ++ element_octets first.element) = record { listed = is; fits = fits; appended = refl } in
-    listed_next mtu (size_of first) octets (octets ++ element_octets first.element) first rest above next
+    let is : is_listed (candidate_size first) first ≡ true = grind (arith, common_steps, permitted) in
+    let next : HasNext mtu (candidate_size first) first octets (octets ++ element_octets first.element) = record { listed = is; fits = fits; appended = refl } in
+    listed_next mtu (candidate_size first) octets (octets ++ element_octets first.element) first rest above next

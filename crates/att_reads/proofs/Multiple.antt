@@ -9,7 +9,7 @@ use Rattle.att_pdu.specs.Response.{Response, ErrorResponse, ReadMultipleResponse
 use Rattle.att_policy.specs.declared.standing.Standing.{Standing}
 use Rattle.att_policy.specs.Refusal.{Refusal}
 use Rattle.att_table.specs.Table.{Contents}
-use Rattle.att_reads.specs.Access.{refusal_at, refusal_of, value_for}
+use Rattle.att_reads.specs.Access.{refusal_at, read_refusal, value_for}
 use Rattle.att_reads.specs.Answer.{multiple_answer}
 use Rattle.att_reads.specs.Refusals.{unless_refused}
 use Rattle.octets.specs.Number.{Octets}
@@ -23,7 +23,7 @@ abbrev pub values_of : Contents → Row → List Handle → Octets
 values_of table row handles = flat_map (value_for table row) handles
 
 abbrev pub refusals_of : Contents → Standing → List Handle → List (Option Refusal)
-refusals_of table standing handles = map (refusal_of table.attributes standing) handles
+refusals_of table standing handles = map (read_refusal table.attributes standing) handles
 
 -- the answer that has these octets, unless it is refused
 abbrev pub octets_unless : List (Option Refusal) → Octets → Octets
@@ -81,7 +81,7 @@ pub more : (table : Contents) (row : Row) (standing : Standing) (mtu : Mtu) (so_
     → finished table row standing mtu (filled mtu so_far (value_for table row handle)) left
     ≡ finished table row standing mtu so_far (handle ∷ left)
 more table row standing mtu so_far handle left permitted =
-    let none : refusal_of table.attributes standing handle ≡ None = rw permitted refl in
+    let none : read_refusal table.attributes standing handle ≡ None = rw permitted refl in
     ap (octets_unless (refusals_of table standing left)) (filled-twice mtu so_far (value_for table row handle) (values_of table row left))
     ∙ ap (λ first. octets_unless (first ∷ refusals_of table standing left) (filled mtu so_far (values_of table row (handle ∷ left)))) (sym none)
 
@@ -90,7 +90,7 @@ pub refused : (table : Contents) (row : Row) (standing : Standing) (mtu : Mtu) (
     → refusal_at table.attributes standing handle ≡ Some code
     → sent (ErrorResponse READ_MULTIPLE_REQUEST handle code) ≡ finished table row standing mtu so_far (handle ∷ left)
 refused table row standing mtu so_far handle left code is =
-    let found : refusal_of table.attributes standing handle ≡ Some (record { handle = handle; code = code }) = rw is refl in
+    let found : read_refusal table.attributes standing handle ≡ Some (record { handle = handle; code = code }) = rw is refl in
     sym (ap (λ first. octets_unless (first ∷ refusals_of table standing left) (filled mtu so_far (values_of table row (handle ∷ left)))) found)
 
 -- with no handle left the answer stands

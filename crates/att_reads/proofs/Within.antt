@@ -9,17 +9,17 @@ use Rattle.att_numbers.specs.AttributeType.{of_16_bits}
 use Rattle.att_numbers.specs.declared.opcode.TheConstants.{FIND_INFORMATION_REQUEST, FIND_BY_TYPE_VALUE_REQUEST, READ_BY_TYPE_REQUEST, READ_REQUEST, READ_BLOB_REQUEST, READ_MULTIPLE_REQUEST, READ_BY_GROUP_TYPE_REQUEST}
 use Rattle.att_pdu.specs.Request.{Asked, ExchangeMtuRequest, WriteRequest, PrepareWriteRequest, ExecuteWriteRequest, ConfirmationPdu, WriteCommandPdu, FindInformationRequest, FindByTypeValueRequest, ReadByTypeRequest, ReadRequest, ReadBlobRequest, ReadMultipleRequest, ReadByGroupTypeRequest}
 use Rattle.att_pdu.specs.Response.{Response, FindInformationResponse, FindByTypeValueResponse, ReadByTypeResponse, ReadResponse, ReadBlobResponse, ReadMultipleResponse, ReadByGroupTypeResponse, element_octets, sent, sent_if_any}
-use Rattle.att_pdu.specs.Uuid.{number_of}
+use Rattle.att_pdu.specs.Uuid.{uuid_number}
 use Rattle.att_policy.specs.Refusal.{Refusal}
 use Rattle.att_policy.specs.declared.standing.Standing.{Standing}
 use Rattle.att_attributes.specs.Attributes.{attributes_in}
 use Rattle.att_attributes.specs.OfType.{handles_of_type}
 use Rattle.att_table.specs.Table.{Contents}
 use Rattle.att_reads.specs.declared.list.Listing.TheVariants.{Values, Groups}
-use Rattle.att_reads.specs.Access.{refusal_of, value_for}
+use Rattle.att_reads.specs.Access.{read_refusal, value_for}
 use Rattle.att_reads.specs.List.{candidate_of}
 use Rattle.att_reads.specs.Answer.{information_of, information_format, is_match, group_of, information_answer, found_answer, values_answer, value_answer, part_answer, multiple_answer, groups_answer, read_answer}
-use Rattle.att_reads.specs.Listing.{Candidate, size_of, size_of_first, first_refusal, is_listed, elements, elements_within}
+use Rattle.att_reads.specs.Listing.{Candidate, candidate_size, size_of_first, first_refusal, is_listed, elements, elements_within}
 use Rattle.att_reads.specs.Refusals.{unless_refused, range_refusal, group_type_refusal, not_found, offset_refusal}
 use Rattle.att_reads.proofs.Listed.{listed_size}
 use Rattle.octets.specs.Number.{Octets}
@@ -36,7 +36,7 @@ front_within : (octets : Octets) (mtu : Mtu) → 23 ≤ mtu → suc (length (tak
 front_within octets mtu least = let cut = length-take (mtu - 1) octets in omega (arith, cut, least)
 
 -- a run of candidates of one size
-run_size-at : (size n : ℕ) (first : Candidate) (rest : List Candidate) (test : Bool) → is_listed size first ≡ test → (test ≡ true → size_of first ≡ size)
+run_size-at : (size n : ℕ) (first : Candidate) (rest : List Candidate) (test : Bool) → is_listed size first ≡ test → (test ≡ true → candidate_size first ≡ size)
     → length (flat_map element_octets (elements (take n (take_while (is_listed size) rest)))) ≤ size * n
     → length (flat_map element_octets (elements (take (suc n) (take_while (is_listed size) (first ∷ rest))))) ≤ size * suc n
 run_size-at size n first rest true is has later =
@@ -92,24 +92,24 @@ within_mtu table row standing mtu (FindByTypeValueRequest first last type value)
     refused_within FIND_BY_TYPE_VALUE_REQUEST (range_refusal first last ∷ not_found first found ∷ [])
     (FindByTypeValueResponse (map (group_of table) (take ((mtu - 1) / 4) found))) mtu least (groups_within table mtu found least)
 within_mtu table row standing mtu (ReadByTypeRequest first last type) least =
-    let values = map (candidate_of Values table row standing mtu) (handles_of_type table.attributes (number_of type) first last) in
+    let values = map (candidate_of Values table row standing mtu) (handles_of_type table.attributes (uuid_number type) first last) in
     refused_within READ_BY_TYPE_REQUEST (range_refusal first last ∷ not_found first values ∷ first_refusal values ∷ [])
     (ReadByTypeResponse (size_of_first values) (elements_within mtu values)) mtu least (list_within mtu values least)
 within_mtu table row standing mtu (ReadRequest handle) least =
     let value = value_for table row handle in
-    refused_within READ_REQUEST (refusal_of table.attributes standing handle ∷ [])
+    refused_within READ_REQUEST (read_refusal table.attributes standing handle ∷ [])
     (ReadResponse (take (mtu - 1) value)) mtu least (front_within value mtu least)
 within_mtu table row standing mtu (ReadBlobRequest handle offset) least =
     let value = value_for table row handle in
-    refused_within READ_BLOB_REQUEST (refusal_of table.attributes standing handle ∷ offset_refusal handle offset value ∷ [])
+    refused_within READ_BLOB_REQUEST (read_refusal table.attributes standing handle ∷ offset_refusal handle offset value ∷ [])
     (ReadBlobResponse (take (mtu - 1) (drop offset value))) mtu least (front_within (drop offset value) mtu least)
 within_mtu table row standing mtu (ReadMultipleRequest handles) least =
     let values = flat_map (value_for table row) handles in
-    refused_within READ_MULTIPLE_REQUEST (map (refusal_of table.attributes standing) handles)
+    refused_within READ_MULTIPLE_REQUEST (map (read_refusal table.attributes standing) handles)
     (ReadMultipleResponse (take (mtu - 1) values)) mtu least (front_within values mtu least)
 within_mtu table row standing mtu (ReadByGroupTypeRequest first last type) least =
-    let groups = map (candidate_of Groups table row standing mtu) (handles_of_type table.attributes (number_of type) first last) in
-    refused_within READ_BY_GROUP_TYPE_REQUEST (range_refusal first last ∷ group_type_refusal first (number_of type) ∷ not_found first groups ∷ first_refusal groups ∷ [])
+    let groups = map (candidate_of Groups table row standing mtu) (handles_of_type table.attributes (uuid_number type) first last) in
+    refused_within READ_BY_GROUP_TYPE_REQUEST (range_refusal first last ∷ group_type_refusal first (uuid_number type) ∷ not_found first groups ∷ first_refusal groups ∷ [])
     (ReadByGroupTypeResponse (size_of_first groups) (elements_within mtu groups)) mtu least (list_within mtu groups least)
 within_mtu table row standing mtu (ExchangeMtuRequest client_rx_mtu) least = omega arith
 within_mtu table row standing mtu (WriteRequest handle value) least = omega arith

@@ -18,8 +18,8 @@ refusal_at attributes standing handle =
     option_map (λ broken. broken.1) (first_broken_of Read (guard_at attributes handle) standing)
 
 -- the same with the handle
-abbrev pub refusal_of : List Attr → Standing → Handle → Option Refusal
-refusal_of attributes standing handle =
+abbrev pub read_refusal : List Attr → Standing → Handle → Option Refusal
+read_refusal attributes standing handle =
     option_map (λ code. record { handle = handle; code = code }) (refusal_at attributes standing handle)
 
 -- the value that a client reads at a handle: its configurations are its own (Core 5.0, Vol 3 Part G, 3.3.3.3)

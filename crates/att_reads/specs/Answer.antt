@@ -5,7 +5,7 @@ use Rattle.std.specs.Str.{bytes_eq}
 use Rattle.att_numbers.specs.AttributeType.{of_16_bits, type_octets}
 use Rattle.att_numbers.specs.Types.{Handle, AttributeType, Mtu, Row}
 use Rattle.att_numbers.specs.declared.opcode.TheConstants.{FIND_INFORMATION_REQUEST, FIND_BY_TYPE_VALUE_REQUEST, READ_BY_TYPE_REQUEST, READ_REQUEST, READ_BLOB_REQUEST, READ_MULTIPLE_REQUEST, READ_BY_GROUP_TYPE_REQUEST}
-use Rattle.att_pdu.specs.Uuid.{number_of}
+use Rattle.att_pdu.specs.Uuid.{uuid_number}
 use Rattle.att_pdu.specs.Request.{Asked, FindInformationRequest, FindByTypeValueRequest, ReadByTypeRequest, ReadRequest, ReadBlobRequest, ReadMultipleRequest, ReadByGroupTypeRequest}
 use Rattle.att_pdu.specs.Response.{Element, element_octets, OfAttribute, OfGroup, Response, FindInformationResponse, FindByTypeValueResponse, ReadByTypeResponse, ReadResponse, ReadBlobResponse, ReadMultipleResponse, ReadByGroupTypeResponse}
 use Rattle.att_policy.specs.declared.standing.Standing.{Standing}
@@ -14,7 +14,7 @@ use Rattle.att_attributes.specs.Attributes.{attributes_in}
 use Rattle.att_attributes.specs.Group.{group_end_at}
 use Rattle.att_attributes.specs.OfType.{handles_of_type}
 use Rattle.att_table.specs.Table.{Contents}
-use Rattle.att_reads.specs.Access.{refusal_at, refusal_of, value_for}
+use Rattle.att_reads.specs.Access.{refusal_at, read_refusal, value_for}
 use Rattle.att_reads.specs.declared.list.Listing.TheVariants.{Values, Groups}
 use Rattle.att_reads.specs.List.{candidate_of}
 use Rattle.att_reads.specs.Listing.{Candidate, first_refusal, size_of_first, elements_within}
@@ -67,7 +67,7 @@ values_answer table row standing mtu first last type =
 unfoldable pub value_answer : Contents → Row → Standing → Mtu → Handle → Response
 value_answer table row standing mtu handle =
     unless_refused READ_REQUEST
-    (refusal_of table.attributes standing handle ∷ [])
+    (read_refusal table.attributes standing handle ∷ [])
     (ReadResponse (take (mtu - 1) (value_for table row handle)))
 
 -- Read Blob Request: 3.4.4.5. An offset at the end gives an empty part
@@ -75,14 +75,14 @@ unfoldable pub part_answer : Contents → Row → Standing → Mtu → Handle �
 part_answer table row standing mtu handle offset =
     let value = value_for table row handle in
     unless_refused READ_BLOB_REQUEST
-    (refusal_of table.attributes standing handle ∷ offset_refusal handle offset value ∷ [])
+    (read_refusal table.attributes standing handle ∷ offset_refusal handle offset value ∷ [])
     (ReadBlobResponse (take (mtu - 1) (drop offset value)))
 
 -- Read Multiple Request: 3.4.4.7
 unfoldable pub multiple_answer : Contents → Row → Standing → Mtu → List Handle → Response
 multiple_answer table row standing mtu handles =
     unless_refused READ_MULTIPLE_REQUEST
-    (map (refusal_of table.attributes standing) handles)
+    (map (read_refusal table.attributes standing) handles)
     (ReadMultipleResponse (take (mtu - 1) (flat_map (value_for table row) handles)))
 
 -- Read By Group Type Request: 3.4.4.9
@@ -97,9 +97,9 @@ groups_answer table row standing mtu first last type =
 abbrev pub read_answer : Contents → Row → Standing → Mtu → Asked → Option Response
 read_answer table row standing mtu (FindInformationRequest first last) = Some (information_answer table mtu first last)
 read_answer table row standing mtu (FindByTypeValueRequest first last type value) = Some (found_answer table row standing mtu first last (of_16_bits type) value)
-read_answer table row standing mtu (ReadByTypeRequest first last type) = Some (values_answer table row standing mtu first last (number_of type))
+read_answer table row standing mtu (ReadByTypeRequest first last type) = Some (values_answer table row standing mtu first last (uuid_number type))
 read_answer table row standing mtu (ReadRequest handle) = Some (value_answer table row standing mtu handle)
 read_answer table row standing mtu (ReadBlobRequest handle offset) = Some (part_answer table row standing mtu handle offset)
 read_answer table row standing mtu (ReadMultipleRequest handles) = Some (multiple_answer table row standing mtu handles)
-read_answer table row standing mtu (ReadByGroupTypeRequest first last type) = Some (groups_answer table row standing mtu first last (number_of type))
+read_answer table row standing mtu (ReadByGroupTypeRequest first last type) = Some (groups_answer table row standing mtu first last (uuid_number type))
 read_answer table row standing mtu _ = None

@@ -8,14 +8,14 @@ use Rattle.att_attributes.specs.Group.{group_end_at}
 use Rattle.att_table.specs.Table.{Contents}
 use Rattle.att_reads.specs.declared.list.Listing.{Listing}
 use Rattle.att_reads.specs.declared.list.Listing.TheVariants.{Values, Groups}
-use Rattle.att_reads.specs.Access.{refusal_of, value_for}
+use Rattle.att_reads.specs.Access.{read_refusal, value_for}
 use Rattle.att_reads.specs.Listing.{Candidate, first_refusal, size_of_first, elements_within}
 use Rattle.att_reads.specs.Refusals.{unless_refused, not_found}
 use Rattle.octets.specs.Number.{Octets}
 
-abbrev pub request_of : Listing → Opcode
-request_of Values = READ_BY_TYPE_REQUEST
-request_of Groups = READ_BY_GROUP_TYPE_REQUEST
+abbrev pub listing_request : Listing → Opcode
+listing_request Values = READ_BY_TYPE_REQUEST
+listing_request Groups = READ_BY_GROUP_TYPE_REQUEST
 
 -- how many octets stand before a value
 abbrev pub head_of : Listing → ℕ
@@ -33,7 +33,7 @@ element_of Groups table handle front = OfGroup handle (group_end_at table.attrib
 
 abbrev pub candidate_of : Listing → Contents → Row → Standing → Mtu → Handle → Candidate
 candidate_of listing table row standing mtu handle = record {
-  refusal = refusal_of table.attributes standing handle;
+  refusal = read_refusal table.attributes standing handle;
   element = element_of listing table handle (take (cut_of listing mtu) (value_for table row handle));
 }
 
@@ -45,6 +45,6 @@ list_response Groups size groups = ReadByGroupTypeResponse size groups
 abbrev pub list_answer : Listing → Contents → Row → Standing → Mtu → Handle → List Handle → Response
 list_answer listing table row standing mtu start handles =
     let candidates = map (candidate_of listing table row standing mtu) handles in
-    unless_refused (request_of listing)
+    unless_refused (listing_request listing)
     (not_found start candidates ∷ first_refusal candidates ∷ [])
     (list_response listing (size_of_first candidates) (elements_within mtu candidates))

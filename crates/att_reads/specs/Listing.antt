@@ -14,11 +14,11 @@ pub record Candidate : Type 0 where
   pub refusal : Option Refusal
   pub element : Element
 
-abbrev pub size_of : Candidate → ℕ
-size_of candidate = length (element_octets candidate.element)
+abbrev pub candidate_size : Candidate → ℕ
+candidate_size candidate = length (element_octets candidate.element)
 
 abbrev pub is_listed : ℕ → Candidate → Bool
-is_listed size candidate = is_none candidate.refusal && (size_of candidate == size)
+is_listed size candidate = is_none candidate.refusal && (candidate_size candidate == size)
 
 -- the longest run of candidates, from the first on, that are not refused, have this size, and fit into the room
 abbrev pub run_within : ℕ → ℕ → List Candidate → List Candidate
@@ -27,7 +27,7 @@ run_within room size candidates = take (room / size) (take_while (is_listed size
 -- the first of them has the size of all
 abbrev pub size_of_first : List Candidate → ℕ
 size_of_first [] = 0
-size_of_first (first ∷ rest) = size_of first
+size_of_first (first ∷ rest) = candidate_size first
 
 abbrev pub first_refusal : List Candidate → Option Refusal
 first_refusal [] = None

@@ -1,6 +1,6 @@
 ghost use Rattle.std.specs.Prelude.{◌≡◌, ◌≤◌, [], nat_lt, ◌==◌, ◌||◌, not, length};
 ghost use Rattle.att_numbers.specs.AttributeType.{of_16_bits};
-ghost use Rattle.att_pdu.specs.Uuid.{number_of};
+ghost use Rattle.att_pdu.specs.Uuid.{uuid_number};
 ghost use Rattle.att_pdu.specs.PduBuf.{contents, mtu_of, IsSameBuffer};
 ghost use Rattle.att_pdu.specs.Request.{asked};
 ghost use Rattle.att_pdu.specs.Response.{sent, sent_if_any};
@@ -36,7 +36,8 @@ pub fn answer_read(
         ≡ sent_if_any (read_answer table.now row.now standing.entry.now mtu (asked request.now)) }
     // The answer tells nothing of values that the client may not read.
     ensures undisclosed { (other : Contents) → IsAlike standing.entry.now table.now other
-        → contents out.new ≡ sent_if_any (read_answer other row.now standing.entry.now mtu (asked request.now)) }
+        → contents out.new ≡ sent_if_any
+        (read_answer other row.now standing.entry.now mtu (asked request.now)) }
     ensures fits { length (sent_if_any
         (read_answer table.now row.now standing.entry.now mtu (asked request.now))) ≤ mtu }
     ensures same_buffer { IsSameBuffer out.old out.new }
@@ -159,7 +160,7 @@ fn read_by_type(
     requires { contents out.old ≡ [] }
     ensures answer { contents out.new ≡ sent
         (values_answer reader.entry.table.now reader.entry.row.now reader.entry.standing.now
-        (mtu_of out.old) first last (number_of attribute_type)) }
+        (mtu_of out.old) first last (uuid_number attribute_type)) }
     ensures same_buffer { IsSameBuffer out.old out.new }
 {
     if !is_range(first, last) {
@@ -188,7 +189,7 @@ fn read_by_group_type(
     requires { contents out.old ≡ [] }
     ensures answer { contents out.new ≡ sent
         (groups_answer reader.entry.table.now reader.entry.row.now reader.entry.standing.now
-        (mtu_of out.old) first last (number_of attribute_type)) }
+        (mtu_of out.old) first last (uuid_number attribute_type)) }
     ensures same_buffer { IsSameBuffer out.old out.new }
 {
     if !is_range(first, last) {

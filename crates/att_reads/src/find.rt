@@ -26,8 +26,10 @@ const LONG_TYPES: u8 = 2;
 pub fn information(attributes: &[Attr], start: u16, out: &mut PduBuf<'_>)
     requires { contents out.old ≡ [] }
     ensures answer { let types = map information_of attributes.now in
-        contents out.new ≡ sent (unless_refused FIND_INFORMATION_REQUEST (not_found start types ∷ [])
-        (FindInformationResponse (information_format (size_of_first types)) (elements_within (mtu_of out.old) types))) }
+        contents out.new ≡ sent
+        (unless_refused FIND_INFORMATION_REQUEST (not_found start types ∷ [])
+        (FindInformationResponse (information_format (size_of_first types))
+        (elements_within (mtu_of out.old) types))) }
     ensures same_buffer { IsSameBuffer out.old out.new }
 {
     let Some(first) = attributes.first() else {
@@ -51,7 +53,8 @@ pub fn information(attributes: &[Attr], start: u16, out: &mut PduBuf<'_>)
 fn append_all(attributes: &[Attr], size: usize, out: &mut PduBuf<'_>)
     requires { 0 < size }
     ensures appended { contents out.new
-        ≡ with_listed (mtu_of out.old) size (contents out.old) (map information_of attributes.now) }
+        ≡ with_listed (mtu_of out.old) size (contents out.old)
+        (map information_of attributes.now) }
     ensures same_buffer { IsSameBuffer out.old out.new }
 {
     for attr in attributes {
@@ -82,9 +85,13 @@ pub fn by_type_value(
     out: &mut PduBuf<'_>,
 )
     requires { contents out.old ≡ [] }
-    ensures answer { let found = filter (is_match reader.entry.table.now reader.entry.row.now reader.entry.standing.now value.now) handles.now in
-        contents out.new ≡ sent (unless_refused FIND_BY_TYPE_VALUE_REQUEST (not_found start found ∷ [])
-        (FindByTypeValueResponse (map (group_of reader.entry.table.now) (take ((mtu_of out.old - 1) / 4) found)))) }
+    ensures answer { let found = filter
+        (is_match reader.entry.table.now reader.entry.row.now reader.entry.standing.now value.now)
+        handles.now in
+        contents out.new ≡ sent
+        (unless_refused FIND_BY_TYPE_VALUE_REQUEST (not_found start found ∷ [])
+        (FindByTypeValueResponse
+        (map (group_of reader.entry.table.now) (take ((mtu_of out.old - 1) / 4) found)))) }
     ensures same_buffer { IsSameBuffer out.old out.new }
 {
     out.value(&[opcode::FIND_BY_TYPE_VALUE_RESPONSE]);
@@ -100,10 +107,13 @@ pub fn by_type_value(
 /// Appends the groups of these attributes that have the value, as many as fit, and tells whether
 /// there are any.
 fn append_matches(reader: Reader<'_>, handles: &[u16], value: &[u8], out: &mut PduBuf<'_>) -> bool
-    ensures any { result ≡ list_any (is_match reader.entry.table.now reader.entry.row.now reader.entry.standing.now value.now) handles.now }
+    ensures any { result
+        ≡ list_any (is_match reader.entry.table.now reader.entry.row.now reader.entry.standing.now
+        value.now) handles.now }
     ensures appended { contents out.new
         ≡ with_groups reader.entry.table.now (mtu_of out.old) (contents out.old)
-        (filter (is_match reader.entry.table.now reader.entry.row.now reader.entry.standing.now value.now) handles.now) }
+        (filter (is_match reader.entry.table.now reader.entry.row.now reader.entry.standing.now
+        value.now) handles.now) }
     ensures same_buffer { IsSameBuffer out.old out.new }
 {
     let mut found = false;
@@ -128,7 +138,8 @@ fn append_group(table: &Table, handle: u16, out: &mut PduBuf<'_>) -> bool
 
 /// Whether the client may read the attribute at a handle, and its whole value is this one.
 fn is_match(reader: Reader<'_>, handle: u16, value: &[u8]) -> bool
-    ensures is { result ≡ is_match reader.entry.table.now reader.entry.row.now reader.entry.standing.now value.now handle }
+    ensures is { result ≡ is_match reader.entry.table.now reader.entry.row.now
+        reader.entry.standing.now value.now handle }
     ensures exists { OnTrue result
         (IsSome (attribute_at reader.entry.table.now.attributes handle)) }
 {

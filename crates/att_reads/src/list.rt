@@ -5,7 +5,7 @@ ghost use Rattle.std.specs.Prelude.{◌≡◌, ◌+◌, ◌≤◌, ◌<◌, ◌�
 ghost use Rattle.att_pdu.specs.PduBuf.{contents, mtu_of, IsSameBuffer, AppendsWhereFits};
 ghost use Rattle.att_pdu.specs.Response.{element_octets, sent};
 ghost use Rattle.att_attributes.specs.Attributes.{attribute_at};
-ghost use Rattle.att_reads.specs.List.{request_of, head_of, cut_of, element_of, candidate_of, list_answer};
+ghost use Rattle.att_reads.specs.List.{listing_request, head_of, cut_of, element_of, candidate_of, list_answer};
 ghost use Rattle.att_reads.specs.Listing.{with_listed, AppendsNext};
 
 use crate::reader::Reader;
@@ -25,7 +25,7 @@ pub enum Listing {
 impl Listing {
     /// The opcode of the request.
     fn request(self) -> u8
-        ensures { result ≡ request_of self }
+        ensures { result ≡ listing_request self }
     {
         match self {
             Listing::Values => opcode::READ_BY_TYPE_REQUEST,
@@ -105,7 +105,8 @@ fn begin(listing: Listing, table: &Table, handle: u16, front: &[u8], out: &mut P
     requires exists { IsSome (attribute_at table.now.attributes handle) }
     requires cut { length front.now ≤ cut_of listing (mtu_of out.old) }
     ensures begun { contents out.new
-        ≡ (request_of listing + 1) ∷ (head_of listing + length front.now) ∷ element_octets
+        ≡ (listing_request listing + 1) ∷ (head_of listing + length front.now)
+        ∷ element_octets
         (element_of listing table.now handle front.now) }
     ensures same_buffer { IsSameBuffer out.old out.new }
 {
@@ -126,7 +127,8 @@ fn append_all(
 )
     requires { 0 < size }
     ensures appended { contents out.new ≡ with_listed (mtu_of out.old) size (contents out.old)
-        (map (candidate_of listing reader.entry.table.now reader.entry.row.now reader.entry.standing.now (mtu_of out.old)) handles.now) }
+        (map (candidate_of listing reader.entry.table.now reader.entry.row.now
+        reader.entry.standing.now (mtu_of out.old)) handles.now) }
     ensures same_buffer { IsSameBuffer out.old out.new }
 {
     for &handle in handles {
@@ -146,7 +148,8 @@ fn append_next(
     out: &mut PduBuf<'_>,
 ) -> bool
     ensures { AppendsNext out.old out.new size
-        (candidate_of listing reader.entry.table.now reader.entry.row.now reader.entry.standing.now (mtu_of out.old) handle) result }
+        (candidate_of listing reader.entry.table.now reader.entry.row.now reader.entry.standing.now
+        (mtu_of out.old) handle) result }
 {
     let Ok(value) = reader.read(handle) else {
         return false;

@@ -15,7 +15,7 @@ use Rattle.att_attributes.specs.declared.attr.Role.{Role}
 use Rattle.att_attributes.specs.declared.attr.Role.TheVariants.{Declaration, Value, Configuration, Descriptor}
 use Rattle.att_attributes.specs.Attributes.{attribute_at, largest_at, is_configuration, is_configuration_at, is_fixed_at, is_value, is_value_at}
 use Rattle.att_table.specs.Facts.{IsTable}
-use Rattle.att_table.specs.Table.{Contents, value_at, room_at, values_of, most_octets, counted_octets, octets_of, StandBehind, last_role, AreExact, IsKept, IsNext, IsWhole}
+use Rattle.att_table.specs.Table.{Contents, value_at, room_at, values_of, most_octets, counted_octets, value_octets, StandBehind, last_role, AreExact, IsKept, IsNext, IsWhole}
 use Rattle.att_attributes.proofs.OfType.{numbered_pushed}
 use Rattle.att_table.proofs.Configurations.{room_in_row}
 use Rattle.att_table.proofs.Services.{attribute_at-within}
@@ -45,7 +45,7 @@ counted-or-declared Value largest within = omega arith
 counted-or-declared Configuration largest within = omega arith
 counted-or-declared Descriptor largest within = omega arith
 
-pub sum-largest : (attributes : List Attr) → All IsLargest attributes → sum_by (λ (attr : Attr). attr.largest) attributes ≤ octets_of attributes + MAX_DECLARATION * length attributes
+pub sum-largest : (attributes : List Attr) → All IsLargest attributes → sum_by (λ (attr : Attr). attr.largest) attributes ≤ value_octets attributes + MAX_DECLARATION * length attributes
 sum-largest [] all = omega arith
 sum-largest (attr ∷ rest) all =
     let later = sum-largest rest (All-tail IsLargest attr rest all) in

@@ -17,9 +17,9 @@ use Rattle.att_attributes.specs.declared.attr.Role.TheVariants.{Value as ValueRo
 use Rattle.att_table.specs.declared.table_fault.TableKey.TheVariants.{Service as ServiceName, Uuid, Properties as PropertiesName, Value}
 use Rattle.att_table.specs.declared.table_fault.TableFault.{TableFault}
 use Rattle.att_table.specs.declared.table_fault.TableFault.TheVariants.{NotToml, Missing, BadUuid, BadSecurity, BadProperty, BadInclude, TooLong, TooMany, Shape}
-use Rattle.att_table.specs.file.Field.{value_decoded, largest_of, property_named, has_all, key_size_of}
-use Rattle.att_table.specs.file.Fields.{type_at, value_type_at, no_properties, property_step, properties_at, value_read_at, placed_of}
-use Rattle.att_table.specs.file.Keys.{root_keys, service_keys, characteristic_keys, descriptor_keys, need_keys}
+use Rattle.att_table.specs.file.Field.{value_decoded, largest_of, property_named, has_all, key_size_asked}
+use Rattle.att_table.specs.file.Fields.{attribute_type_in, value_type_at, no_properties, property_step, properties_at, value_read_at, placed_of}
+use Rattle.att_table.specs.file.Keys.{table_file_keys, service_keys, characteristic_keys, descriptor_keys, need_keys}
 use Rattle.att_table.specs.file.Limits.{is_within_limits}
 use Rattle.att_table.specs.file.Needs.{need_read, need_at}
 use Rattle.att_table.specs.file.Placed.{next_handle, add, declaration, declare}
@@ -59,7 +59,7 @@ walked-either true first second one other = one
 walked-either false first second one other = other
 
 -- the fields
-walked-key_size_of : (size : Option ℤ) → IsWalked (key_size_of size)
+walked-key_size_of : (size : Option ℤ) → IsWalked (key_size_asked size)
 walked-key_size_of None = tt
 walked-key_size_of (Some (pos size)) = walked-if (nat_le 7 size && nat_le size 16) (Some size) BadSecurity (λ e. cc e)
 walked-key_size_of (Some (negsuc size)) = λ e. cc e
@@ -68,16 +68,16 @@ walked-need_read : (found : Option Members) → IsWalked (need_read found)
 walked-need_read None = tt
 walked-need_read (Some needs) =
     walked-then (unless (is_shaped need_keys needs) BadSecurity) _ (walked-unless _ _ (λ e. cc e))
-    (λ _. walked-then (key_size_of (integer_at (codes "key_size") needs)) _ (walked-key_size_of (integer_at (codes "key_size") needs)) (λ size. tt))
+    (λ _. walked-then (key_size_asked (integer_at (codes "key_size") needs)) _ (walked-key_size_of (integer_at (codes "key_size") needs)) (λ size. tt))
 
-walked-type_at : (table : Members) → IsWalked (type_at table)
+walked-type_at : (table : Members) → IsWalked (attribute_type_in table)
 walked-type_at table =
     walked-then (require (text_at (codes "uuid") table) (Missing Uuid)) _ (walked-required _ _ (λ e. cc e))
     (λ text. walked-required (type_named text) _ (λ e. cc e))
 
 walked-value_type_at : (table : Members) → IsWalked (value_type_at table)
 walked-value_type_at table =
-    walked-then (type_at table) _ (walked-type_at table)
+    walked-then (attribute_type_in table) _ (walked-type_at table)
     (λ kind. walked-then (unless (is_type_of_value kind) BadUuid) _ (walked-unless _ _ (λ e. cc e)) (λ _. tt))
 
 walked-property_step : (allowed properties : Properties) (value : Data) → IsWalked (property_step allowed properties value)
@@ -164,14 +164,14 @@ walked-service_step : (draft : Contents) (value : Data) → IsWalked (service_st
 walked-service_step draft value =
     walked-then (require (as_table value) Shape) _ (walked-required _ _ (λ e. cc e))
     (λ table. walked-then (unless (is_shaped service_keys table) Shape) _ (walked-unless _ _ (λ e. cc e))
-    (λ _. walked-then (type_at table) _ (walked-type_at table)
+    (λ _. walked-then (attribute_type_in table) _ (walked-type_at table)
     (λ kind. walked-then (declare draft (service_type_at table) (type_octets kind)) _ (walked-declare draft (service_type_at table) (type_octets kind))
     (λ declared. walked-then (each include_step declared (items_at (codes "include") table)) _ (walked-each include_step declared (items_at (codes "include") table) walked-include_step)
     (λ included. walked-each characteristic_step included (items_at (codes "characteristic") table) walked-characteristic_step)))))
 
 walked-table_of : (document : Members) → IsWalked (table_of document)
 walked-table_of document =
-    walked-then (unless (is_shaped root_keys document) Shape) _ (walked-unless _ _ (λ e. cc e))
+    walked-then (unless (is_shaped table_file_keys document) Shape) _ (walked-unless _ _ (λ e. cc e))
     (λ _. walked-then (require (array_at (codes "service") document) (Missing ServiceName)) _ (walked-required _ _ (λ e. cc e))
     (λ services. walked-each service_step no_attributes services walked-service_step))
 

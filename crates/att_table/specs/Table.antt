@@ -50,8 +50,8 @@ counted_octets Value largest = largest
 counted_octets Configuration largest = 0
 counted_octets Descriptor largest = largest
 
-abbrev pub octets_of : List Attr → ℕ
-octets_of attributes = sum_by (λ (attr : Attr). counted_octets attr.role attr.largest) attributes
+abbrev pub value_octets : List Attr → ℕ
+value_octets attributes = sum_by (λ (attr : Attr). counted_octets attr.role attr.largest) attributes
 
 -- each configuration stands behind a characteristic value, the first attribute behind one of this role
 abbrev pub StandBehind : Role → List Attr → Type 0
@@ -91,6 +91,6 @@ pub record IsKept (attributes : List Attr) (cells : List Cell) : Type 0 where
 pub record IsWhole (attributes : List Attr) (cells : List Cell) (group_ends by_type : List Handle) : Type 0 where
   pub kept : IsKept attributes cells
   pub few : configurations_of attributes ≤ MAX_CONFIGURATIONS
-  pub counted : octets_of attributes ≤ MAX_VALUES_OCTETS
+  pub counted : value_octets attributes ≤ MAX_VALUES_OCTETS
   pub ends : group_ends ≡ group_ends_of attributes
   pub types : by_type ≡ handles_by_type attributes

@@ -59,7 +59,8 @@ fn is_changer(attr: &Attr, attributes: &[Attr], values: &FlatStore) -> bool
 fn declares_generic_attribute(attr: &Attr, values: &FlatStore) -> bool
     requires { IsUsed values.now attr.now.handle }
     ensures { result ≡ ((attr.now.kind == PRIMARY_SERVICE)
-        && bytes_eq (value_at (values_of values.now) attr.now.handle) (two_octets GENERIC_ATTRIBUTE_SERVICE)) }
+        && bytes_eq (value_at (values_of values.now) attr.now.handle)
+        (two_octets GENERIC_ATTRIBUTE_SERVICE)) }
 {
     let uuid = GENERIC_ATTRIBUTE_SERVICE.to_le_bytes();
     attr.kind == PRIMARY_SERVICE && values.value_at(attr.handle) == uuid.as_slice()

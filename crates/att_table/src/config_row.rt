@@ -26,7 +26,8 @@ impl Model for ConfigRow {
 
     ghost view = { λ row. row.entries.items };
 
-    ghost invariant = { λ row. All IsEntry row.entries.items × HasOneEntryEach row.entries.items };
+    ghost invariant = { λ row. All IsEntry row.entries.items
+        × HasOneEntryEach row.entries.items };
 }
 
 impl ConfigRow {
@@ -96,7 +97,8 @@ impl ConfigRow {
 
 // Drops the entries that do not stay when a table is replaced.
 fn retain_kept(entries: &mut ArrayVec<(u16, u8), MAX_CONFIGURATIONS>, old: &Table, new: &Table)
-    ensures { entries.new.items ≡ kept_row old.now.attributes new.now.attributes entries.old.items }
+    ensures { entries.new.items
+        ≡ kept_row old.now.attributes new.now.attributes entries.old.items }
 {
     entries.retain(|&mut (handle, bits)| new.supports(handle, bits)
         && has_its_meaning(old, new, handle));

@@ -9,7 +9,7 @@ ghost use Rattle.att_table.specs.Changer.{changer_of, IsOfAChanger};
 ghost use Rattle.att_table.specs.ConfigRow.{is_supported, HasRowRoom};
 ghost use Rattle.att_table.specs.Facts.{IsTable};
 ghost use Rattle.att_table.specs.Find.{value_found, value_where};
-ghost use Rattle.att_table.specs.Table.{Contents, octets_of, value_at, room_at, with_value, values_of, IsKept, IsWhole};
+ghost use Rattle.att_table.specs.Table.{Contents, value_octets, value_at, room_at, with_value, values_of, IsKept, IsWhole};
 ghost use Rattle.att_numbers.specs.declared.limit.TheConstants.{MAX_ATTRIBUTES, MAX_CONFIGURATIONS, MAX_TABLE_OCTETS, MAX_VALUES_OCTETS};
 
 use crate::{changer, find};
@@ -29,9 +29,11 @@ pub struct Table {
 impl Model for Table {
     ghost Value = { Contents };
 
-    ghost view = { λ table. record { attributes = table.attributes.items; values = values_of table.values } };
+    ghost view = { λ table.
+        record { attributes = table.attributes.items; values = values_of table.values } };
 
-    ghost invariant = { λ table. IsWhole table.attributes.items table.values table.group_ends.items table.by_type.items };
+    ghost invariant = { λ table. IsWhole table.attributes.items table.values table.group_ends.items
+        table.by_type.items };
 }
 
 impl Table {
@@ -45,7 +47,7 @@ impl Table {
     ) -> Self
         requires kept { IsKept attributes.items values }
         requires few { configurations_of attributes.items ≤ MAX_CONFIGURATIONS }
-        requires counted { octets_of attributes.items ≤ MAX_VALUES_OCTETS }
+        requires counted { value_octets attributes.items ≤ MAX_VALUES_OCTETS }
         requires ends { group_ends.items ≡ group_ends_of attributes.items }
         requires types { by_type.items ≡ handles_by_type attributes.items }
         ensures attributes { result.attributes ≡ attributes.items }
@@ -182,7 +184,8 @@ impl Table {
         requires fits { offset + length part.now ≤ room_at self.old handle }
         ensures attributes { self.new.attributes ≡ self.old.attributes }
         ensures values { self.new.values ≡ with_value self.old.values handle
-            (value_with_part (is_fixed_at self.old.attributes handle) (value_at self.old.values handle) offset part.now) }
+            (value_with_part (is_fixed_at self.old.attributes handle)
+            (value_at self.old.values handle) offset part.now) }
     {
         let fixed = self.is_fixed(handle);
         self.values

@@ -2,7 +2,7 @@
 
 ghost use Rattle.std.specs.Prelude.{◌≡◌, ◌+◌, ◌<◌, ◌≤◌, ◌∷◌, ◌++◌, [], length, IfOk, IsSome, OnOk, OnErr};
 ghost use Rattle.att_attributes.specs.Attributes.{attribute_at, configurations_of};
-ghost use Rattle.att_table.specs.Table.{Contents, octets_of, value_at, values_of, IsKept, IsNext};
+ghost use Rattle.att_table.specs.Table.{Contents, value_octets, value_at, values_of, IsKept, IsNext};
 ghost use Rattle.att_numbers.specs.declared.limit.TheConstants.{MAX_ATTRIBUTES, MAX_CONFIGURATIONS, MAX_VALUES_OCTETS};
 
 use crate::table::Table;
@@ -21,7 +21,8 @@ pub struct TableBuilder {
 impl Model for TableBuilder {
     ghost Value = { Contents };
 
-    ghost view = { λ table. record { attributes = table.attributes.items; values = values_of table.values } };
+    ghost view = { λ table.
+        record { attributes = table.attributes.items; values = values_of table.values } };
 
     ghost invariant = { λ table. IsKept table.attributes.items table.values };
 }
@@ -43,7 +44,8 @@ impl TableBuilder {
     pub fn push(&mut self, attr: Attr, value: &[u8]) -> Result<(), AllocError>
         requires room { length self.old.attributes < MAX_ATTRIBUTES }
         requires next { IsNext self.old.attributes attr value.now }
-        ensures attributes { OnOk result (self.new.attributes ≡ self.old.attributes ++ attr ∷ []) }
+        ensures attributes { OnOk result
+            (self.new.attributes ≡ self.old.attributes ++ attr ∷ []) }
         ensures values { OnOk result (self.new.values ≡ self.old.values ++ value.now ∷ []) }
         ensures err { OnErr result (self.new ≡ self.old) }
     {
@@ -79,7 +81,7 @@ impl TableBuilder {
     /// with the ends of their groups and their handles by type.
     pub fn finish(self, alloc: Global) -> Result<Table, AllocError>
         requires few { configurations_of self.attributes ≤ MAX_CONFIGURATIONS }
-        requires counted { octets_of self.attributes ≤ MAX_VALUES_OCTETS }
+        requires counted { value_octets self.attributes ≤ MAX_VALUES_OCTETS }
         ensures { IfOk result (λ table. table ≡ self) }
     {
         let group_ends = att_attributes::group_ends(alloc, &self.attributes)?;

@@ -1,6 +1,6 @@
 ghost use Rattle.std.specs.Prelude.{◌≡◌};
 ghost use Rattle.att_table.specs.declared.table_fault.TableFault.TheVariants.{OutOfMemory};
-ghost use Rattle.att_table.specs.TableFault.{number_of};
+ghost use Rattle.att_table.specs.TableFault.{table_fault_number};
 
 use std::alloc::AllocError;
 use std::error::Error;
@@ -53,7 +53,7 @@ pub enum TableFault {
 impl TableFault {
     /// The number by which the fault is told, from 1.
     pub fn number(self) -> u8
-        ensures { result ≡ number_of self }
+        ensures { result ≡ table_fault_number self }
     {
         match self {
             TableFault::NotToml => 1,

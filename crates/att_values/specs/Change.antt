@@ -8,24 +8,24 @@ use Rattle.att_values.specs.Cell.{value_with_part}
 use Rattle.att_values.specs.ValueStore.{ByHandle, value_in}
 
 -- a change fits: its handle has a value, with room for what it becomes
-abbrev pub Fits : (Handle → ℕ) → ByHandle → Change → Type 0
-Fits room contents (Set handle octets) =
+abbrev pub ChangeFits : (Handle → ℕ) → ByHandle → Change → Type 0
+ChangeFits room contents (Set handle octets) =
     IsSome (get contents handle) × (length octets.now ≤ room handle)
-Fits room contents (Patch handle offset part keep) =
+ChangeFits room contents (Patch handle offset part keep) =
     IsSome (get contents handle) × (offset ≤ length (value_in contents handle)) × (offset + length part.now ≤ room handle)
 
 -- the values after a change
-abbrev pub after : Change → ByHandle → ByHandle
-after (Set handle octets) contents = insert contents handle octets.now
-after (Patch handle offset part keep) contents =
+abbrev pub after_change : Change → ByHandle → ByHandle
+after_change (Set handle octets) contents = insert contents handle octets.now
+after_change (Patch handle offset part keep) contents =
     insert contents handle (value_with_part keep (value_in contents handle) offset part.now)
 
 -- each change fits in its turn
-abbrev pub AllFit : (Handle → ℕ) → ByHandle → List Change → Type 0
-AllFit room contents [] = Unit
-AllFit room contents (change ∷ changes) = Fits room contents change × AllFit room (after change contents) changes
+abbrev pub ChangesFit : (Handle → ℕ) → ByHandle → List Change → Type 0
+ChangesFit room contents [] = Unit
+ChangesFit room contents (change ∷ changes) = ChangeFits room contents change × ChangesFit room (after_change change contents) changes
 
 -- the values after all changes
 abbrev pub contents_after : List Change → ByHandle → ByHandle
 contents_after [] contents = contents
-contents_after (change ∷ changes) contents = contents_after changes (after change contents)
+contents_after (change ∷ changes) contents = contents_after changes (after_change change contents)

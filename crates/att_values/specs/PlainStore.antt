@@ -13,5 +13,5 @@ abbrev pub cells_of : List Slot → List Cell
 cells_of slots = map cell_of slots
 
 -- a value has at most its room, at most that of the largest value
-abbrev pub IsSound : Slot → Type 0
-IsSound slot = (array_vec_len slot.octets ≤ slot.room) × (slot.room ≤ MAX_VALUE)
+abbrev pub IsWithinRoom : Slot → Type 0
+IsWithinRoom slot = (array_vec_len slot.octets ≤ slot.room) × (slot.room ≤ MAX_VALUE)

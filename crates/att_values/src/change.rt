@@ -1,5 +1,5 @@
 ghost use Rattle.std.specs.Prelude.{◌≡◌};
-ghost use Rattle.att_values.specs.Change.{Fits, AllFit, after, contents_after};
+ghost use Rattle.att_values.specs.Change.{ChangeFits, ChangesFit, after_change, contents_after};
 
 use crate::value_store::ValueStore;
 
@@ -23,8 +23,8 @@ pub enum Change<'a> {
 
 /// Makes one change.
 pub fn apply<S: ValueStore>(store: &mut S, change: &Change<'_>)
-    requires { Fits (S.room store.old) (S.contents store.old) change.now }
-    ensures contents { S.contents store.new ≡ after change.now (S.contents store.old) }
+    requires { ChangeFits (S.room store.old) (S.contents store.old) change.now }
+    ensures contents { S.contents store.new ≡ after_change change.now (S.contents store.old) }
     ensures room { S.room store.new ≡ S.room store.old }
 {
     match *change {
@@ -41,7 +41,7 @@ pub fn apply<S: ValueStore>(store: &mut S, change: &Change<'_>)
 /// Makes changes in order. What the store then contains depends on what it contained, and not on how
 /// it keeps it.
 pub fn run<S: ValueStore>(store: &mut S, changes: &[Change<'_>])
-    requires { AllFit (S.room store.old) (S.contents store.old) changes.now }
+    requires { ChangesFit (S.room store.old) (S.contents store.old) changes.now }
     ensures contents { S.contents store.new ≡ contents_after changes.now (S.contents store.old) }
     ensures room { S.room store.new ≡ S.room store.old }
 {

@@ -25,13 +25,13 @@ pub struct PlainStore {
 impl Model for PlainStore {
     ghost use Rattle.std.specs.Prelude.{List, All};
     ghost use Rattle.att_values.specs.Cell.{Cell};
-    ghost use Rattle.att_values.specs.PlainStore.{cells_of, IsSound};
+    ghost use Rattle.att_values.specs.PlainStore.{cells_of, IsWithinRoom};
 
     ghost Value = { List Cell };
 
     ghost view = { λ store. cells_of store.slots.items };
 
-    ghost invariant = { λ store. All IsSound store.slots.items };
+    ghost invariant = { λ store. All IsWithinRoom store.slots.items };
 }
 
 impl PlainStore {

@@ -5,7 +5,7 @@ use Rattle.std.proofs.lemmas.List.{take-append-le, drop-append-le, take_all, nil
 use Rattle.std.proofs.lemmas.List.Sums.{sum_by-cons}
 use Rattle.att_writes.specs.declared.queue.Place.{Place}
 use Rattle.att_writes.specs.Entry.{Entry}
-use Rattle.att_writes.specs.Queue.{entries_in, sizes_of, octets_of}
+use Rattle.att_writes.specs.Queue.{entries_in, sizes_of, prepared_octets}
 
 pub sizes_cons : (place : Place) (places : List Place) → sizes_of (place ∷ places) ≡ place.len + sizes_of places
 sizes_cons place places = sum_by-cons (λ (of : Place). of.len) place places
@@ -14,7 +14,7 @@ pub length_entries : (places : List Place) (octets : List ℕ) → length (entri
 length_entries [] octets = refl
 length_entries (place ∷ places) octets = grind (arith, length_entries places (drop place.len octets))
 
-pub octets_laid : (places : List Place) (octets : List ℕ) → sizes_of places ≡ length octets → octets_of (entries_in places octets) ≡ length octets
+pub octets_laid : (places : List Place) (octets : List ℕ) → sizes_of places ≡ length octets → prepared_octets (entries_in places octets) ≡ length octets
 octets_laid [] octets sizes = grind (arith, common_steps)
 octets_laid (place ∷ places) octets sizes =
     let all = sizes_cons place places in

@@ -11,9 +11,9 @@ use Rattle.att_values.specs.Cell.{value_with_part}
 use Rattle.att_attributes.specs.Attributes.{attribute_at, is_configuration_at, is_fixed_at}
 use Rattle.att_table.specs.ConfigRow.{with_bits}
 use Rattle.att_table.specs.Table.{value_at, with_value}
-use Rattle.att_writes.specs.Applied.{Stored, after_entry, after_entries, first_octet, unless_refused}
+use Rattle.att_writes.specs.Applied.{Stored, after_entry, after_entries, first_octet, unless_entry_refused}
 use Rattle.att_writes.specs.Entry.{Entry}
-use Rattle.att_writes.specs.Fault.{fault_of}
+use Rattle.att_writes.specs.Fault.{entry_fault}
 use Rattle.att_writes.specs.SameBut.{SameBut, SameApplied}
 use Rattle.att_writes.proofs.AtOnce.{fits_unless_refused, applied_more, refused_more, applied_none}
 use Rattle.att_writes.proofs.Reached.{same_by_then}
@@ -97,8 +97,8 @@ entry_both hidden attributes some other entry is_used same rows =
 
 -- a refusal, or what is written, over values that differ in the octets of hidden ones alone
 applied_both-at : (hidden : Handle → Bool) (access : Access) (attributes : List Attr) (standing : Standing) (some other : Stored) (entry : Entry) (rest : List Entry) (fault : Option Code)
-    → fault_of access attributes standing (length (value_at some.values entry.handle)) entry ≡ fault
-    → fault_of access attributes standing (length (value_at other.values entry.handle)) entry ≡ fault
+    → entry_fault access attributes standing (length (value_at some.values entry.handle)) entry ≡ fault
+    → entry_fault access attributes standing (length (value_at other.values entry.handle)) entry ≡ fault
     → (fault ≡ None → SameApplied hidden (after_entries access attributes standing (after_entry attributes some entry) rest) (after_entries access attributes standing (after_entry attributes other entry) rest))
     → SameApplied hidden (after_entries access attributes standing some (entry ∷ rest)) (after_entries access attributes standing other (entry ∷ rest))
 unfolding after_entries
@@ -113,9 +113,9 @@ applied_both hidden access attributes standing [] some other same rows = (same, 
 applied_both hidden access attributes standing (entry ∷ rest) some other same rows =
     let one = length (value_at some.values entry.handle) in
     let own = length (value_at other.values entry.handle) in
-    let judged : fault_of access attributes standing one entry ≡ fault_of access attributes standing own entry =
+    let judged : entry_fault access attributes standing one entry ≡ entry_fault access attributes standing own entry =
     same_by_then access attributes standing one own entry (λ is_used not_own. same.lengths entry.handle is_used) in
-    applied_both-at hidden access attributes standing some other entry rest (fault_of access attributes standing own entry) judged refl
+    applied_both-at hidden access attributes standing some other entry rest (entry_fault access attributes standing own entry) judged refl
     (λ none.
     let fit = fits_unless_refused access attributes standing other entry none in
     let after = entry_both hidden attributes some other entry (used attributes entry.handle fit.exists) same rows in

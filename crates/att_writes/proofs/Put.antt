@@ -9,9 +9,9 @@ use Rattle.att_policy.specs.declared.policy.Access.{Access}
 use Rattle.att_policy.specs.declared.standing.Standing.{Standing}
 use Rattle.att_attributes.specs.declared.attr.Attr.{Attr}
 use Rattle.att_table.specs.Table.{value_at, with_value}
-use Rattle.att_writes.specs.Applied.{Stored, after_entry, after_entries, unless_refused}
+use Rattle.att_writes.specs.Applied.{Stored, after_entry, after_entries, unless_entry_refused}
 use Rattle.att_writes.specs.Entry.{Entry}
-use Rattle.att_writes.specs.Fault.{fault_of}
+use Rattle.att_writes.specs.Fault.{entry_fault}
 use Rattle.att_writes.specs.SameBut.{KeepsOthers, is_touched, values_put}
 use Rattle.att_writes.proofs.AtOnce.{fits_unless_refused}
 use Rattle.att_writes.proofs.Lengths.{behind}
@@ -83,8 +83,8 @@ put_count (handle ∷ rest) from into = put_count rest from (with_value into han
 
 -- entries that are written are of handles in use
 used-at : (access : Access) (attributes : List Attr) (standing : Standing) (stored new : Stored) (entry : Entry) (rest : List Entry) (fault : Option Code)
-    → fault_of access attributes standing (length (value_at stored.values entry.handle)) entry ≡ fault
-    → unless_refused entry fault (after_entries access attributes standing (after_entry attributes stored entry) rest) ≡ Ok new
+    → entry_fault access attributes standing (length (value_at stored.values entry.handle)) entry ≡ fault
+    → unless_entry_refused entry fault (after_entries access attributes standing (after_entry attributes stored entry) rest) ≡ Ok new
     → (after_entries access attributes standing (after_entry attributes stored entry) rest ≡ Ok new → AllUsed rest)
     → AllUsed (entry ∷ rest)
 used-at access attributes standing stored new entry rest (Some code) judged is later = cc is
@@ -96,7 +96,7 @@ all_used : (access : Access) (attributes : List Attr) (standing : Standing) (ent
 unfolding after_entries
 all_used access attributes standing [] stored new is = tt
 all_used access attributes standing (entry ∷ rest) stored new is =
-    used-at access attributes standing stored new entry rest (fault_of access attributes standing (length (value_at stored.values entry.handle)) entry) refl is
+    used-at access attributes standing stored new entry rest (entry_fault access attributes standing (length (value_at stored.values entry.handle)) entry) refl is
     (all_used access attributes standing rest (after_entry attributes stored entry) new)
 
 no_value : (values : Values) (n : ℕ) → length values ≤ n → value_at values (n + 1) ≡ []

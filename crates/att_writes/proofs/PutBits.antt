@@ -11,9 +11,9 @@ use Rattle.att_attributes.specs.Attributes.{is_configuration_at, is_fixed_at}
 use Rattle.att_table.specs.Cell.{value_with_part}
 use Rattle.att_table.specs.ConfigRow.{bits_at, with_bits, has_entry}
 use Rattle.att_table.specs.Table.{value_at, with_value}
-use Rattle.att_writes.specs.Applied.{Stored, after_entry, after_entries, first_octet, unless_refused}
+use Rattle.att_writes.specs.Applied.{Stored, after_entry, after_entries, first_octet, unless_entry_refused}
 use Rattle.att_writes.specs.Entry.{Entry}
-use Rattle.att_writes.specs.Fault.{fault_of}
+use Rattle.att_writes.specs.Fault.{entry_fault}
 use Rattle.att_writes.specs.SameBut.{KeepsOthers, is_touched, bits_put}
 use Rattle.att_writes.proofs.Untouched.{keeps_others}
 
@@ -179,7 +179,7 @@ row-at access attributes standing stored new entry rest false is written later =
     later ∙ ap (bits_put (configured attributes rest) new.row) after ∙ ap (λ handles. bits_put handles new.row stored.row) (sym all)
 
 judged-at : (access : Access) (attributes : List Attr) (standing : Standing) (stored new : Stored) (entry : Entry) (rest : List Entry) (fault : Option Code)
-    → unless_refused entry fault (after_entries access attributes standing (after_entry attributes stored entry) rest) ≡ Ok new
+    → unless_entry_refused entry fault (after_entries access attributes standing (after_entry attributes stored entry) rest) ≡ Ok new
     → (after_entries access attributes standing (after_entry attributes stored entry) rest ≡ Ok new → new.row ≡ bits_put (configured attributes rest) new.row (after_entry attributes stored entry).row)
     → new.row ≡ bits_put (configured attributes (entry ∷ rest)) new.row stored.row
 judged-at access attributes standing stored new entry rest (Some code) is later = absurd (cc is)
@@ -191,5 +191,5 @@ pub row_touched : (access : Access) (attributes : List Attr) (standing : Standin
 unfolding after_entries
 row_touched access attributes standing [] stored new is = let same : stored ≡ new = cc is in sym (ap (λ (of : Stored). of.row) same)
 row_touched access attributes standing (entry ∷ rest) stored new is =
-    judged-at access attributes standing stored new entry rest (fault_of access attributes standing (length (value_at stored.values entry.handle)) entry) is
+    judged-at access attributes standing stored new entry rest (entry_fault access attributes standing (length (value_at stored.values entry.handle)) entry) is
     (row_touched access attributes standing rest (after_entry attributes stored entry) new)

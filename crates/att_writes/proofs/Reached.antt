@@ -17,8 +17,8 @@ use Rattle.att_table.specs.Table.{value_at, with_value}
 use Rattle.att_writes.specs.declared.queue.Place.{Place}
 use Rattle.att_writes.specs.Applied.{Stored, after_entries, after_entry, first_octet}
 use Rattle.att_writes.specs.Entry.{Entry}
-use Rattle.att_writes.specs.Fault.{unless_broken, value_fault, configuration_fault, room_of, form_fault, fault_of}
-use Rattle.att_writes.specs.Fits.{AllFit, after_all}
+use Rattle.att_writes.specs.Fault.{unless_broken, value_fault, configuration_fault, room_for, form_fault, entry_fault}
+use Rattle.att_writes.specs.Fits.{EntriesFit, after_all}
 use Rattle.att_writes.specs.Queue.{entries_in, sizes_of}
 use Rattle.att_writes.specs.Sizes.{size_with, size_after}
 use Rattle.att_writes.proofs.AtOnce.{size_at_first, attribute_there, fits_unless_refused, applied_more, refused_more, applied_none}
@@ -29,7 +29,7 @@ use Rattle.att_writes.proofs.Sizes.{same_form, used, size_with_more, after_part}
 pub record IsReached (access : Access) (attributes : List Attr) (standing : Standing) (stored : Stored) (all rest : List Entry) (visited : List Place) (by : Stored) : Type 0 where
   pub same : after_entries access attributes standing stored all ≡ after_entries access attributes standing by rest
   pub after : after_all attributes stored all ≡ after_all attributes by rest
-  pub fits : AllFit attributes by rest → AllFit attributes stored all
+  pub fits : EntriesFit attributes by rest → EntriesFit attributes stored all
   pub count : length by.values ≡ length stored.values
   pub sizes : (handle : ℕ) → 0 < handle → is_configuration_at attributes handle ≡ false → length (value_at by.values handle) ≡ size_after attributes stored.values handle visited
 
@@ -45,7 +45,7 @@ begin access attributes standing stored all = record {
 -- an entry is refused by what stands by then as it is by the lengths; where it has no attribute, whatever they are
 pub same_by_then : (access : Access) (attributes : List Attr) (standing : Standing) (one other : ℕ) (entry : Entry)
     → (0 < entry.handle → is_configuration_at attributes entry.handle ≡ false → one ≡ other)
-    → fault_of access attributes standing one entry ≡ fault_of access attributes standing other entry
+    → entry_fault access attributes standing one entry ≡ entry_fault access attributes standing other entry
 same_by_then access attributes standing one other entry same =
     elim (first_broken_of access (guard_at attributes entry.handle) standing)
     as (λ broken. first_broken_of access (guard_at attributes entry.handle) standing ≡ broken → unless_broken broken (form_fault attributes one entry) ≡ unless_broken broken (form_fault attributes other entry)) [
@@ -56,21 +56,21 @@ same_by_then access attributes standing one other entry same =
 
 fault_by_then : (access : Access) (attributes : List Attr) (standing : Standing) (stored : Stored) (all rest : List Entry) (visited : List Place) (by : Stored) (entry : Entry) (fault : Option ℕ)
     → IsReached access attributes standing stored all (entry ∷ rest) visited by
-    → fault_of access attributes standing (size_after attributes stored.values entry.handle visited) entry ≡ fault
-    → fault_of access attributes standing (length (value_at by.values entry.handle)) entry ≡ fault
+    → entry_fault access attributes standing (size_after attributes stored.values entry.handle visited) entry ≡ fault
+    → entry_fault access attributes standing (length (value_at by.values entry.handle)) entry ≡ fault
 fault_by_then access attributes standing stored all rest visited by entry fault reached is =
     same_by_then access attributes standing (length (value_at by.values entry.handle)) (size_after attributes stored.values entry.handle visited) entry (reached.sizes entry.handle) ∙ is
 
 pub refused : (access : Access) (attributes : List Attr) (standing : Standing) (stored : Stored) (all rest : List Entry) (visited : List Place) (by : Stored) (entry : Entry) (code : ℕ)
     → IsReached access attributes standing stored all (entry ∷ rest) visited by
-    → fault_of access attributes standing (size_after attributes stored.values entry.handle visited) entry ≡ Some code
+    → entry_fault access attributes standing (size_after attributes stored.values entry.handle visited) entry ≡ Some code
     → after_entries access attributes standing stored all ≡ Err (record { handle = entry.handle; code = code })
 refused access attributes standing stored all rest visited by entry code reached is =
     reached.same ∙ refused_more access attributes standing by entry rest code (fault_by_then access attributes standing stored all rest visited by entry (Some code) reached is)
 
 pub finished : (access : Access) (attributes : List Attr) (standing : Standing) (stored : Stored) (all : List Entry) (visited : List Place) (by : Stored)
     → IsReached access attributes standing stored all [] visited by
-    → (after_entries access attributes standing stored all ≡ Ok (after_all attributes stored all)) × AllFit attributes stored all
+    → (after_entries access attributes standing stored all ≡ Ok (after_all attributes stored all)) × EntriesFit attributes stored all
 finished access attributes standing stored all visited by reached =
     (reached.same ∙ applied_none access attributes standing by ∙ ap Ok (sym reached.after), reached.fits tt)
 
@@ -88,7 +88,7 @@ values_kept true by row handle value = refl
 values_kept false by row handle value = length-set by.values (handle - 1) value
 
 value_fits : (attributes : List Attr) (size : ℕ) (entry : Entry) → value_fault attributes size entry ≡ None
-    → (entry.offset ≤ size) × (entry.offset + length entry.part ≤ room_of attributes entry.handle size)
+    → (entry.offset ≤ size) × (entry.offset + length entry.part ≤ room_for attributes entry.handle size)
 value_fits attributes size entry is = (grind (arith, nat_tests), grind (arith, nat_tests))
 
 -- the length of another value than a configuration
@@ -123,7 +123,7 @@ sizes_more attributes stored by visited place entry false other is not_other is_
 pub one_more_judged : (access : Access) (attributes : List Attr) (standing : Standing) (stored : Stored) (all rest : List Entry) (visited : List Place) (place : Place) (by : Stored) (entry : Entry)
     → entry.handle ≡ place.handle → entry.offset ≡ place.offset → length entry.part ≡ place.len
     → IsReached access attributes standing stored all (entry ∷ rest) visited by → entry.handle ≤ length stored.values
-    → fault_of access attributes standing (size_after attributes stored.values entry.handle visited) entry ≡ None
+    → entry_fault access attributes standing (size_after attributes stored.values entry.handle visited) entry ≡ None
     → IsReached access attributes standing stored all rest (visited ++ place ∷ []) (after_entry attributes by entry)
 one_more_judged access attributes standing stored all rest visited place by entry same_handle same_offset same_size reached within is =
     let then_none = fault_by_then access attributes standing stored all rest visited by entry None reached is in
@@ -148,7 +148,7 @@ pub judged_at : (access : Access) (attributes : List Attr) (standing : Standing)
     → i < length places → sizes_of (drop i places) ≡ length octets
     → IsReached access attributes standing stored all (entries_in (drop i places) octets) (take i places) by
     → (get_or places i no_place).handle ≤ length stored.values
-    → fault_of access attributes standing (size_after attributes stored.values (get_or places i no_place).handle (take i places)) (entry_at places i octets) ≡ None
+    → entry_fault access attributes standing (size_after attributes stored.values (get_or places i no_place).handle (take i places)) (entry_at places i octets) ≡ None
     → IsReached access attributes standing stored all (entries_in (drop (i + 1) places) (drop (get_or places i no_place).len octets)) (take (i + 1) places)
     (after_entry attributes by (entry_at places i octets))
 judged_at access attributes standing stored all places i octets by below sizes reached within is =
@@ -164,7 +164,7 @@ judged_at access attributes standing stored all places i octets by below sizes r
 pub refused_at : (access : Access) (attributes : List Attr) (standing : Standing) (stored : Stored) (all : List Entry) (places : List Place) (i : ℕ) (octets : List ℕ) (by : Stored) (code : ℕ)
     → i < length places
     → IsReached access attributes standing stored all (entries_in (drop i places) octets) (take i places) by
-    → fault_of access attributes standing (size_after attributes stored.values (get_or places i no_place).handle (take i places)) (entry_at places i octets) ≡ Some code
+    → entry_fault access attributes standing (size_after attributes stored.values (get_or places i no_place).handle (take i places)) (entry_at places i octets) ≡ Some code
     → after_entries access attributes standing stored all ≡ Err (record { handle = (get_or places i no_place).handle; code = code })
 refused_at access attributes standing stored all places i octets by code below reached is =
     let entry = entry_at places i octets in
@@ -176,7 +176,7 @@ refused_at access attributes standing stored all places i octets by code below r
 pub finished_at : (access : Access) (attributes : List Attr) (standing : Standing) (stored : Stored) (all : List Entry) (places : List Place) (i : ℕ) (octets : List ℕ) (visited : List Place) (by : Stored)
     → length places ≤ i
     → IsReached access attributes standing stored all (entries_in (drop i places) octets) visited by
-    → (after_entries access attributes standing stored all ≡ Ok (after_all attributes stored all)) × AllFit attributes stored all
+    → (after_entries access attributes standing stored all ≡ Ok (after_all attributes stored all)) × EntriesFit attributes stored all
 finished_at access attributes standing stored all places i octets visited by over reached =
     finished access attributes standing stored all visited by
     (subst (λ left. IsReached access attributes standing stored all (entries_in left octets) visited by) (drop_all i places over) reached)

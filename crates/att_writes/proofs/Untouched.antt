@@ -13,9 +13,9 @@ use Rattle.att_values.specs.Cell.{value_with_part}
 use Rattle.att_attributes.specs.Attributes.{is_configuration_at, is_fixed_at}
 use Rattle.att_table.specs.ConfigRow.{bits_at, with_bits}
 use Rattle.att_table.specs.Table.{value_at, with_value}
-use Rattle.att_writes.specs.Applied.{Stored, after_entry, after_entries, first_octet, unless_refused}
+use Rattle.att_writes.specs.Applied.{Stored, after_entry, after_entries, first_octet, unless_entry_refused}
 use Rattle.att_writes.specs.Entry.{Entry}
-use Rattle.att_writes.specs.Fault.{fault_of}
+use Rattle.att_writes.specs.Fault.{entry_fault}
 use Rattle.att_writes.specs.SameBut.{KeepsOthers, is_touched}
 use Rattle.att_writes.proofs.AtOnce.{fits_unless_refused}
 use Rattle.att_writes.proofs.Sizes.{used}
@@ -60,8 +60,8 @@ rest_untouched : (entry : Entry) (rest : List Entry) (handle : Handle) → is_to
 rest_untouched entry rest handle is = grind (arith, common_steps)
 
 more-at : (access : Access) (attributes : List Attr) (standing : Standing) (stored new : Stored) (entry : Entry) (rest : List Entry) (fault : Option Code)
-    → fault_of access attributes standing (length (value_at stored.values entry.handle)) entry ≡ fault
-    → unless_refused entry fault (after_entries access attributes standing (after_entry attributes stored entry) rest) ≡ Ok new
+    → entry_fault access attributes standing (length (value_at stored.values entry.handle)) entry ≡ fault
+    → unless_entry_refused entry fault (after_entries access attributes standing (after_entry attributes stored entry) rest) ≡ Ok new
     → (after_entries access attributes standing (after_entry attributes stored entry) rest ≡ Ok new → KeepsOthers rest (after_entry attributes stored entry) new)
     → KeepsOthers (entry ∷ rest) stored new
 more-at access attributes standing stored new entry rest (Some code) judged is later = cc is
@@ -84,5 +84,5 @@ keeps_others access attributes standing [] stored new is =
     let same : stored ≡ new = cc is in
     subst (λ of. KeepsOthers [] stored of) same (record { count = refl; values = λ handle handle_used not_touched. refl; row = λ handle not_touched. refl })
 keeps_others access attributes standing (entry ∷ rest) stored new is =
-    more-at access attributes standing stored new entry rest (fault_of access attributes standing (length (value_at stored.values entry.handle)) entry) refl is
+    more-at access attributes standing stored new entry rest (entry_fault access attributes standing (length (value_at stored.values entry.handle)) entry) refl is
     (keeps_others access attributes standing rest (after_entry attributes stored entry) new)

@@ -11,7 +11,7 @@ use Rattle.att_table.specs.ConfigRow.{with_bits}
 use Rattle.att_table.specs.Table.{Contents, value_at, with_value}
 use Rattle.att_writes.specs.Entry.{Entry}
 use Rattle.octets.specs.Number.{Octets}
-use Rattle.att_writes.specs.Fault.{fault_of}
+use Rattle.att_writes.specs.Fault.{entry_fault}
 
 -- what a client can write: the values of the table, and its own configurations
 pub record Stored : Type 0 where
@@ -34,15 +34,15 @@ after_entry attributes stored entry =
     }
 
 -- one entry is refused, with its handle, or leads to what follows it
-abbrev pub unless_refused : Entry → Option Code → Result Stored Refusal → Result Stored Refusal
-unless_refused entry (Some code) after_entries = Err (record { handle = entry.handle; code = code })
-unless_refused entry None after_entries = after_entries
+abbrev pub unless_entry_refused : Entry → Option Code → Result Stored Refusal → Result Stored Refusal
+unless_entry_refused entry (Some code) after_entries = Err (record { handle = entry.handle; code = code })
+unless_entry_refused entry None after_entries = after_entries
 
 -- entries in their order, each against what stands by then
 unfoldable pub after_entries : Access → List Attr → Standing → Stored → List Entry → Result Stored Refusal
 after_entries access attributes standing stored [] = Ok stored
 after_entries access attributes standing stored (entry ∷ rest) =
-    unless_refused entry (fault_of access attributes standing (length (value_at stored.values entry.handle)) entry)
+    unless_entry_refused entry (entry_fault access attributes standing (length (value_at stored.values entry.handle)) entry)
     (after_entries access attributes standing (after_entry attributes stored entry) rest)
 
 -- what stands afterwards: where one entry is refused, all stays as it was

@@ -11,8 +11,8 @@ pub record Entry : Type 0 where
   pub part : Octets
 
 -- a write of a whole value
-abbrev pub whole : Handle → Octets → Entry
-whole handle value = record { handle = handle; offset = 0; part = value }
+abbrev pub whole_value : Handle → Octets → Entry
+whole_value handle value = record { handle = handle; offset = 0; part = value }
 
 -- a write that borrows its part
 abbrev pub entry_of : EntryRef → Entry

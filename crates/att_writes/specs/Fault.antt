@@ -28,8 +28,8 @@ configuration_fault attributes entry =
     else Some OUT_OF_RANGE
 
 -- how many octets a value of this length may come to have: a fixed value keeps its length
-abbrev pub room_of : List Attr → Handle → ℕ → ℕ
-room_of attributes handle size =
+abbrev pub room_for : List Attr → Handle → ℕ → ℕ
+room_for attributes handle size =
     if is_fixed_at attributes handle then size
     else option_map_or (λ (attr : Attr). attr.largest) (attribute_at attributes handle) 0
 
@@ -37,7 +37,7 @@ room_of attributes handle size =
 abbrev pub value_fault : List Attr → ℕ → Entry → Option Code
 value_fault attributes size entry =
     if nat_lt size entry.offset then Some INVALID_OFFSET
-    else if nat_lt (room_of attributes entry.handle size) (entry.offset + length entry.part) then Some INVALID_ATTRIBUTE_VALUE_LENGTH
+    else if nat_lt (room_for attributes entry.handle size) (entry.offset + length entry.part) then Some INVALID_ATTRIBUTE_VALUE_LENGTH
     else None
 
 abbrev pub form_fault : List Attr → ℕ → Entry → Option Code
@@ -51,6 +51,6 @@ unless_broken (Some broken) fault = Some broken.1
 unless_broken None fault = fault
 
 -- the code by which a client is refused a write, if it is, where the value has this length
-abbrev pub fault_of : Access → List Attr → Standing → ℕ → Entry → Option Code
-fault_of access attributes standing size entry =
+abbrev pub entry_fault : Access → List Attr → Standing → ℕ → Entry → Option Code
+entry_fault access attributes standing size entry =
     unless_broken (first_broken_of access (guard_at attributes entry.handle) standing) (form_fault attributes size entry)

@@ -8,14 +8,14 @@ use Rattle.att_writes.specs.Entry.{Entry}
 use Rattle.att_writes.specs.Fault.{form_fault}
 
 -- an entry has an attribute, and a form that the attribute takes
-pub record Fits (attributes : List Attr) (stored : Stored) (entry : Entry) : Type 0 where
+pub record EntryFits (attributes : List Attr) (stored : Stored) (entry : Entry) : Type 0 where
   pub exists : IsSome (attribute_at attributes entry.handle)
   pub taken : form_fault attributes (length (value_at stored.values entry.handle)) entry ≡ None
 
 -- each entry fits what stands by then
-abbrev pub AllFit : List Attr → Stored → List Entry → Type 0
-AllFit attributes stored [] = Unit
-AllFit attributes stored (entry ∷ rest) = Fits attributes stored entry × AllFit attributes (after_entry attributes stored entry) rest
+abbrev pub EntriesFit : List Attr → Stored → List Entry → Type 0
+EntriesFit attributes stored [] = Unit
+EntriesFit attributes stored (entry ∷ rest) = EntryFits attributes stored entry × EntriesFit attributes (after_entry attributes stored entry) rest
 
 -- what stands after all entries
 abbrev pub after_all : List Attr → Stored → List Entry → Stored

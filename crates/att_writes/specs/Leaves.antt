@@ -6,7 +6,7 @@ use Rattle.att_table.specs.Table.{Contents}
 use Rattle.att_writes.specs.Applied.{Stored}
 
 -- these values and this row, which is still one of the table; and the same attributes
-pub record Leaves (stored : Stored) (before after : Contents) (row_after : Row) : Type 0 where
+pub record LeavesStored (stored : Stored) (before after : Contents) (row_after : Row) : Type 0 where
   pub values : after.values ≡ stored.values
   pub row : row_after ≡ stored.row
   pub attributes : after.attributes ≡ before.attributes

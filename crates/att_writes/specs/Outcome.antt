@@ -7,6 +7,6 @@ use Rattle.att_writes.specs.Applied.{Stored}
 use Rattle.att_policy.specs.Refusal.{Refusal}
 
 -- a request with this opcode
-abbrev pub outcome_of : Opcode → Result Stored Refusal → Outcome
-outcome_of opcode (Ok stored) = Written
-outcome_of opcode (Err refusal) = Denied opcode refusal.handle refusal.code
+abbrev pub write_outcome : Opcode → Result Stored Refusal → Outcome
+write_outcome opcode (Ok stored) = Written
+write_outcome opcode (Err refusal) = Denied opcode refusal.handle refusal.code

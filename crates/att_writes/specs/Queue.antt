@@ -19,19 +19,19 @@ use Rattle.octets.specs.Number.{Octets}
 use Rattle.att_writes.specs.declared.queue.TheConstants.{MAX_PREPARED, MAX_PREPARED_OCTETS}
 
 -- how many octets the parts of prepared writes have together, and whether one more has room: this profile's own
-abbrev pub octets_of : List Entry → ℕ
-octets_of entries = sum_by (λ (entry : Entry). length entry.part) entries
+abbrev pub prepared_octets : List Entry → ℕ
+prepared_octets entries = sum_by (λ (entry : Entry). length entry.part) entries
 
-abbrev pub has_room : List Entry → Octets → Bool
-has_room entries part = nat_lt (length entries) MAX_PREPARED && nat_le (octets_of entries + length part) MAX_PREPARED_OCTETS
+abbrev pub has_queue_room : List Entry → Octets → Bool
+has_queue_room entries part = nat_lt (length entries) MAX_PREPARED && nat_le (prepared_octets entries + length part) MAX_PREPARED_OCTETS
 
 -- the handles that writes are of, each once, in the order of their first writes
 abbrev pub once_each : List Handle → List Handle
 once_each [] = []
 once_each (handle ∷ rest) = handle ∷ filter (λ other. not (other == handle)) (once_each rest)
 
-abbrev pub handles_of : List Entry → List Handle
-handles_of entries = once_each (map (λ (entry : Entry). entry.handle) entries)
+abbrev pub handles_of_entries : List Entry → List Handle
+handles_of_entries entries = once_each (map (λ (entry : Entry). entry.handle) entries)
 
 -- prepared writes whose parts stand one behind the other
 abbrev pub entries_in : List Place → Octets → List Entry
@@ -43,7 +43,7 @@ abbrev pub sizes_of : List Place → ℕ
 sizes_of places = sum_by (λ (place : Place). place.len) places
 
 -- the parts have the lengths that their places say, within the limits, for which there is room
-pub record IsLaidOut (places : List Place) (octets : Octets) (place_room octet_room : ℕ) : Type 0 where
+pub record PartsAreLaidOut (places : List Place) (octets : Octets) (place_room octet_room : ℕ) : Type 0 where
   pub sizes : sizes_of places ≡ length octets
   pub few_entries : length places ≤ MAX_PREPARED
   pub few_octets : length octets ≤ MAX_PREPARED_OCTETS
@@ -51,13 +51,13 @@ pub record IsLaidOut (places : List Place) (octets : Octets) (place_room octet_r
   pub has_octet_room : MAX_PREPARED_OCTETS ≤ octet_room
 
 -- why a write is not prepared, if it is not: the policy goes before the room
-abbrev pub unless_broken : Option (Rule × Code) → Bool → Option Code
-unless_broken (Some broken) fits = Some broken.1
-unless_broken None fits = if fits then None else Some PREPARE_QUEUE_FULL
+abbrev pub broken_or_full : Option (Rule × Code) → Bool → Option Code
+broken_or_full (Some broken) fits = Some broken.1
+broken_or_full None fits = if fits then None else Some PREPARE_QUEUE_FULL
 
 abbrev pub prepare_fault : List Attr → Standing → List Entry → Entry → Option Code
 prepare_fault attributes standing entries entry =
-    unless_broken (first_broken_of Write (guard_at attributes entry.handle) standing) (has_room entries entry.part)
+    broken_or_full (first_broken_of Write (guard_at attributes entry.handle) standing) (has_queue_room entries entry.part)
 
 -- a prepared write is added at the end, or refused
 abbrev pub queue_after : List Entry → Entry → Option Code → List Entry
@@ -70,5 +70,5 @@ prepare_outcome entry None = Queued
 
 -- the handles that an execution wrote
 abbrev pub touched_by : List Entry → Result Stored Refusal → List Handle
-touched_by entries (Ok stored) = handles_of entries
+touched_by entries (Ok stored) = handles_of_entries entries
 touched_by entries (Err refusal) = []

@@ -7,10 +7,10 @@ ghost use Rattle.att_table.specs.ConfigRow.{IsRowOf};
 ghost use Rattle.att_writes.specs.declared.queue.Place.{Place};
 ghost use Rattle.att_writes.specs.Applied.{applied_to, written_to, stored_in};
 ghost use Rattle.att_writes.specs.Entry.{entry_of};
-ghost use Rattle.att_writes.specs.Fits.{AllFit, after_all};
-ghost use Rattle.att_writes.specs.Leaves.{Leaves};
-ghost use Rattle.att_writes.specs.Outcome.{outcome_of};
-ghost use Rattle.att_writes.specs.Queue.{entries_in, sizes_of, handles_of, once_each, prepare_fault, queue_after, prepare_outcome, touched_by};
+ghost use Rattle.att_writes.specs.Fits.{EntriesFit, after_all};
+ghost use Rattle.att_writes.specs.Leaves.{LeavesStored};
+ghost use Rattle.att_writes.specs.Outcome.{write_outcome};
+ghost use Rattle.att_writes.specs.Queue.{entries_in, sizes_of, handles_of_entries, once_each, prepare_fault, queue_after, prepare_outcome, touched_by};
 ghost use Rattle.att_writes.specs.declared.queue.TheConstants.{MAX_PREPARED};
 
 use crate::entry::EntryRef;
@@ -34,10 +34,12 @@ pub fn prepare(
 ) -> Outcome
     ensures outcome { result
         ≡ prepare_outcome (record { handle = handle; offset = offset; part = part.now })
-        (prepare_fault table.now.attributes standing.entry.now queue.old (record { handle = handle; offset = offset; part = part.now })) }
+        (prepare_fault table.now.attributes standing.entry.now queue.old
+        (record { handle = handle; offset = offset; part = part.now })) }
     ensures queue { queue.new
         ≡ queue_after queue.old (record { handle = handle; offset = offset; part = part.now })
-        (prepare_fault table.now.attributes standing.entry.now queue.old (record { handle = handle; offset = offset; part = part.now })) }
+        (prepare_fault table.now.attributes standing.entry.now queue.old
+        (record { handle = handle; offset = offset; part = part.now })) }
 {
     let guard = table.get(handle).map(|attr| &attr.guard);
     if let Some((_, code)) = first_broken(Access::Write, guard, standing) {
@@ -70,13 +72,15 @@ pub fn execute(
 ) -> Outcome
     requires row { IsRowOf table.old.attributes row.old }
     ensures outcome { result
-        ≡ outcome_of EXECUTE_WRITE_REQUEST
+        ≡ write_outcome EXECUTE_WRITE_REQUEST
         (applied_to Access.Write table.old row.old standing.entry.now queue.old) }
     ensures touched { touched.new.items
         ≡ touched_by queue.old
         (applied_to Access.Write table.old row.old standing.entry.now queue.old) }
     ensures queue { queue.new ≡ [] }
-    ensures left { Leaves (written_to Access.Write table.old row.old standing.entry.now queue.old) table.old table.new row.new }
+    ensures left { LeavesStored
+        (written_to Access.Write table.old row.old standing.entry.now queue.old) table.old table.new
+        row.new }
 {
     touched.clear();
     let (places, octets) = queue.parts();
@@ -102,12 +106,17 @@ fn first_refused(
 ) -> Option<(u16, u8)>
     requires { sizes_of places.now ≡ length octets.now }
     ensures refused { IfSome result (λ refusal. (row : Row)
-        → applied_to Access.Write table.now row standing.entry.now (entries_in places.now octets.now) ≡ Err (record { handle = refusal.0; code = refusal.1 })) }
+        → applied_to Access.Write table.now row standing.entry.now
+        (entries_in places.now octets.now)
+        ≡ Err (record { handle = refusal.0; code = refusal.1 })) }
     ensures written { IsNone result → (row : Row)
-        → applied_to Access.Write table.now row standing.entry.now (entries_in places.now octets.now)
-        ≡ Ok (after_all table.now.attributes (stored_in table.now row) (entries_in places.now octets.now)) }
+        → applied_to Access.Write table.now row standing.entry.now
+        (entries_in places.now octets.now)
+        ≡ Ok (after_all table.now.attributes (stored_in table.now row)
+        (entries_in places.now octets.now)) }
     ensures fits { IsNone result → (row : Row)
-        → AllFit table.now.attributes (stored_in table.now row) (entries_in places.now octets.now) }
+        → EntriesFit table.now.attributes (stored_in table.now row)
+        (entries_in places.now octets.now) }
 {
     let mut rest = octets;
     for (index, place) in places.iter().enumerate() {
@@ -125,9 +134,9 @@ fn first_refused(
 fn put_all(table: &mut Table, row: &mut ConfigRow, places: &[Place], octets: &[u8])
     requires sizes { sizes_of places.now ≡ length octets.now }
     requires row { IsRowOf table.old.attributes row.old }
-    requires fits { AllFit table.old.attributes (stored_in table.old row.old)
+    requires fits { EntriesFit table.old.attributes (stored_in table.old row.old)
         (entries_in places.now octets.now) }
-    ensures { Leaves (after_all table.old.attributes (stored_in table.old row.old)
+    ensures { LeavesStored (after_all table.old.attributes (stored_in table.old row.old)
         (entries_in places.now octets.now)) table.old table.new row.new }
 {
     let mut rest = octets;

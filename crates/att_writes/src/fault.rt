@@ -3,7 +3,7 @@
 ghost use Rattle.std.specs.Prelude.{◌≡◌, ◌≤◌, length, Some, IsNone};
 ghost use Rattle.att_attributes.specs.Attributes.{attribute_at};
 ghost use Rattle.att_writes.specs.Entry.{entry_of};
-ghost use Rattle.att_writes.specs.Fault.{configuration_fault, value_fault, fault_of};
+ghost use Rattle.att_writes.specs.Fault.{configuration_fault, value_fault, entry_fault};
 ghost use Rattle.att_writes.specs.Sizes.{size_with, size_after};
 
 use crate::entry::EntryRef;
@@ -22,8 +22,9 @@ pub(crate) fn fault_of(
     earlier: &[Place],
     entry: EntryRef<'_>,
 ) -> Option<u8>
-    ensures fault { result ≡ fault_of access table.now.attributes standing.entry.now
-        (size_after table.now.attributes table.now.values entry.entry.handle earlier.now) (entry_of entry.entry) }
+    ensures fault { result ≡ entry_fault access table.now.attributes standing.entry.now
+        (size_after table.now.attributes table.now.values entry.entry.handle earlier.now)
+        (entry_of entry.entry) }
     ensures value { IsNone result → entry.entry.handle ≤ length table.now.values }
 {
     let attr = table.get(entry.handle);
@@ -42,7 +43,8 @@ pub(crate) fn fault_of(
 fn value_fault(table: &Table, attr: &Attr, earlier: &[Place], entry: EntryRef<'_>) -> Option<u8>
     requires { attribute_at table.now.attributes entry.handle ≡ Some attr.now }
     ensures { result ≡ value_fault table.now.attributes
-        (size_after table.now.attributes table.now.values entry.entry.handle earlier.now) (entry_of entry.entry) }
+        (size_after table.now.attributes table.now.values entry.entry.handle earlier.now)
+        (entry_of entry.entry) }
 {
     let size = size_after(table, attr, earlier, entry.handle);
     let room = if attr.fixed {

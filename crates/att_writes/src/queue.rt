@@ -1,6 +1,6 @@
 ghost use Rattle.std.specs.Prelude.{◌≡◌, ◌+◌, ◌<◌, ◌≤◌, [], ◌∷◌, ◌++◌, length, vec_capacity, IfOk, IsTrue};
 ghost use Rattle.att_writes.specs.Entry.{entry_of};
-ghost use Rattle.att_writes.specs.Queue.{entries_in, sizes_of, has_room};
+ghost use Rattle.att_writes.specs.Queue.{entries_in, sizes_of, has_queue_room};
 ghost use Rattle.att_writes.specs.SameBut.{JudgesByLengths, LeavesOthers, StoresTouched, SetsTouched};
 
 use crate::entry::EntryRef;
@@ -54,13 +54,14 @@ pub struct Queue {
 impl Model for Queue {
     ghost use Rattle.std.specs.Prelude.{List, vec_capacity};
     ghost use Rattle.att_writes.specs.Entry.{Entry};
-    ghost use Rattle.att_writes.specs.Queue.{entries_in, IsLaidOut};
+    ghost use Rattle.att_writes.specs.Queue.{entries_in, PartsAreLaidOut};
 
     ghost Value = { List Entry };
 
     ghost view = { λ queue. entries_in queue.places.items queue.octets.items };
 
-    ghost invariant = { λ queue. IsLaidOut queue.places.items queue.octets.items (vec_capacity queue.places) (vec_capacity queue.octets) };
+    ghost invariant = { λ queue. PartsAreLaidOut queue.places.items queue.octets.items
+        (vec_capacity queue.places) (vec_capacity queue.octets) };
 }
 
 impl Queue {
@@ -83,7 +84,7 @@ impl Queue {
     /// Whether the queue takes one more entry, with this part.
     #[tactic(auto, using(crate::proofs::Laid::laid))]
     pub(crate) fn has_room(&self, part: &[u8]) -> bool
-        ensures { result ≡ has_room self.now part.now }
+        ensures { result ≡ has_queue_room self.now part.now }
     {
         self.places.len() < MAX_PREPARED && self.octets.len() + part.len() <= MAX_PREPARED_OCTETS
     }
@@ -91,7 +92,7 @@ impl Queue {
     /// Adds an entry at the end. It takes no memory.
     #[tactic(auto, using(crate::proofs::Laid::laid))]
     pub(crate) fn push(&mut self, entry: EntryRef<'_>)
-        requires room { IsTrue (has_room self.old entry.part.now) }
+        requires room { IsTrue (has_queue_room self.old entry.part.now) }
         ensures { self.new ≡ self.old ++ entry_of entry.entry ∷ [] }
     {
         let place = Place {

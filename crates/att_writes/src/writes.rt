@@ -5,10 +5,10 @@ ghost use Rattle.att_numbers.specs.declared.opcode.TheConstants.{WRITE_REQUEST, 
 ghost use Rattle.att_attributes.specs.Attributes.{is_configuration_at};
 ghost use Rattle.att_table.specs.ConfigRow.{IsRowOf, HasRowRoom};
 ghost use Rattle.att_writes.specs.Applied.{after_entry, stored_in, applied_to, written_to};
-ghost use Rattle.att_writes.specs.Entry.{entry_of, whole};
-ghost use Rattle.att_writes.specs.Fits.{Fits};
-ghost use Rattle.att_writes.specs.Leaves.{Leaves};
-ghost use Rattle.att_writes.specs.Outcome.{outcome_of};
+ghost use Rattle.att_writes.specs.Entry.{entry_of, whole_value};
+ghost use Rattle.att_writes.specs.Fits.{EntryFits};
+ghost use Rattle.att_writes.specs.Leaves.{LeavesStored};
+ghost use Rattle.att_writes.specs.Outcome.{write_outcome};
 
 use crate::entry::EntryRef;
 use crate::fault::fault_of;
@@ -29,10 +29,11 @@ pub fn write(
 ) -> Outcome
     requires row { IsRowOf table.old.attributes row.old }
     ensures outcome { result
-        ≡ outcome_of WRITE_REQUEST (applied_to Access.Write table.old row.old standing.entry.now
-        (whole handle value.now ∷ [])) }
-    ensures left { Leaves (written_to Access.Write table.old row.old standing.entry.now
-        (whole handle value.now ∷ [])) table.old table.new row.new }
+        ≡ write_outcome WRITE_REQUEST
+        (applied_to Access.Write table.old row.old standing.entry.now
+        (whole_value handle value.now ∷ [])) }
+    ensures left { LeavesStored (written_to Access.Write table.old row.old standing.entry.now
+        (whole_value handle value.now ∷ [])) table.old table.new row.new }
 {
     let entry = EntryRef {
         handle,
@@ -59,10 +60,11 @@ pub fn command(
 ) -> Outcome
     requires row { IsRowOf table.old.attributes row.old }
     ensures outcome { result
-        ≡ outcome_of WRITE_COMMAND (applied_to Access.Command table.old row.old standing.entry.now
-        (whole handle value.now ∷ [])) }
-    ensures left { Leaves (written_to Access.Command table.old row.old standing.entry.now
-        (whole handle value.now ∷ [])) table.old table.new row.new }
+        ≡ write_outcome WRITE_COMMAND
+        (applied_to Access.Command table.old row.old standing.entry.now
+        (whole_value handle value.now ∷ [])) }
+    ensures left { LeavesStored (written_to Access.Command table.old row.old standing.entry.now
+        (whole_value handle value.now ∷ [])) table.old table.new row.new }
 {
     let entry = EntryRef {
         handle,
@@ -92,9 +94,9 @@ fn write_at_once(
 ) -> Outcome
     requires row { IsRowOf table.old.attributes row.old }
     ensures outcome { result
-        ≡ outcome_of opcode
+        ≡ write_outcome opcode
         (applied_to access table.old row.old standing.entry.now (entry_of entry.entry ∷ [])) }
-    ensures left { Leaves (written_to access table.old row.old standing.entry.now
+    ensures left { LeavesStored (written_to access table.old row.old standing.entry.now
         (entry_of entry.entry ∷ [])) table.old table.new row.new }
 {
     match fault_of(access, table, standing, &[], entry) {
@@ -109,8 +111,8 @@ fn write_at_once(
 /// Writes an entry that fits.
 pub(crate) fn put(table: &mut Table, row: &mut ConfigRow, entry: EntryRef<'_>)
     requires row { IsRowOf table.old.attributes row.old }
-    requires fits { Fits table.old.attributes (stored_in table.old row.old) (entry_of entry) }
-    ensures { Leaves (after_entry table.old.attributes (stored_in table.old row.old)
+    requires fits { EntryFits table.old.attributes (stored_in table.old row.old) (entry_of entry) }
+    ensures { LeavesStored (after_entry table.old.attributes (stored_in table.old row.old)
         (entry_of entry.entry)) table.old table.new row.new }
 {
     if is_configuration(table, entry.handle) {

@@ -6,7 +6,7 @@ use Rattle.std.proofs.lemmas.List.{length-append, take_at, drop_at}
 use Rattle.std.proofs.lemmas.List.Elements.{All-head, All-tail}
 use Rattle.le_h4.specs.declared.indicator.TheConstants.{COMMAND, ACL, SCO, EVENT}
 use Rattle.octets.specs.Number.{Octets}
-use Rattle.btsnoop.specs.Packet.{needed_behind_two, acl_needed, event_needed, needed_of, IsPacket, IsUnfinished, joined}
+use Rattle.btsnoop.specs.Packet.{needed_behind_two, acl_needed, event_needed, needed_of, IsPacket, IsUnfinished, joined_packets}
 use Rattle.btsnoop.proofs.Beginning.{pick}
 
 -- a packet that is whole needs as much, whatever follows
@@ -61,25 +61,25 @@ not_whole left packet more unfinished is parts =
     absurd (omega (arith, needed, unfinished.lacks, ap length parts, length-append packet more))
 
 pub only_these : (xs ys : List Octets) (left rest : Octets) → All IsPacket xs → All IsPacket ys → IsUnfinished left → IsUnfinished rest
-    → joined xs ++ left ≡ joined ys ++ rest → xs ≡ ys
+    → joined_packets xs ++ left ≡ joined_packets ys ++ rest → xs ≡ ys
 only_these [] [] left rest whole wholes unfinished ends parts = refl
 only_these [] (y ∷ ys) left rest whole wholes unfinished ends parts =
-    not_whole left y (joined ys ++ rest) unfinished (All-head IsPacket y ys wholes) (parts ∙ append_assoc y (joined ys) rest)
+    not_whole left y (joined_packets ys ++ rest) unfinished (All-head IsPacket y ys wholes) (parts ∙ append_assoc y (joined_packets ys) rest)
 only_these (x ∷ xs) [] left rest whole wholes unfinished ends parts =
-    not_whole rest x (joined xs ++ left) ends (All-head IsPacket x xs whole) (sym parts ∙ append_assoc x (joined xs) left)
+    not_whole rest x (joined_packets xs ++ left) ends (All-head IsPacket x xs whole) (sym parts ∙ append_assoc x (joined_packets xs) left)
 only_these (x ∷ xs) (y ∷ ys) left rest whole wholes unfinished ends parts =
-    let both : x ++ (joined xs ++ left) ≡ y ++ (joined ys ++ rest) =
-    sym (append_assoc x (joined xs) left) ∙ parts ∙ append_assoc y (joined ys) rest in
+    let both : x ++ (joined_packets xs ++ left) ≡ y ++ (joined_packets ys ++ rest) =
+    sym (append_assoc x (joined_packets xs) left) ∙ parts ∙ append_assoc y (joined_packets ys) rest in
     let sizes : length x ≡ length y =
     some_same (length x) (length y)
-    (sym (packet_needed x (joined xs ++ left) (All-head IsPacket x xs whole)) ∙ ap needed_of both
-    ∙ packet_needed y (joined ys ++ rest) (All-head IsPacket y ys wholes)) in
+    (sym (packet_needed x (joined_packets xs ++ left) (All-head IsPacket x xs whole)) ∙ ap needed_of both
+    ∙ packet_needed y (joined_packets ys ++ rest) (All-head IsPacket y ys wholes)) in
     let firsts : x ≡ y =
-    sym (take_at x (joined xs ++ left) (length x) refl) ∙ ap (λ (octets : Octets). take (length x) octets) both
-    ∙ ap (λ (count : ℕ). take count (y ++ (joined ys ++ rest))) sizes ∙ take_at y (joined ys ++ rest) (length y) refl in
-    let others : joined xs ++ left ≡ joined ys ++ rest =
-    sym (drop_at x (joined xs ++ left) (length x) refl) ∙ ap (λ (octets : Octets). drop (length x) octets) both
-    ∙ ap (λ (count : ℕ). drop count (y ++ (joined ys ++ rest))) sizes ∙ drop_at y (joined ys ++ rest) (length y) refl in
+    sym (take_at x (joined_packets xs ++ left) (length x) refl) ∙ ap (λ (octets : Octets). take (length x) octets) both
+    ∙ ap (λ (count : ℕ). take count (y ++ (joined_packets ys ++ rest))) sizes ∙ take_at y (joined_packets ys ++ rest) (length y) refl in
+    let others : joined_packets xs ++ left ≡ joined_packets ys ++ rest =
+    sym (drop_at x (joined_packets xs ++ left) (length x) refl) ∙ ap (λ (octets : Octets). drop (length x) octets) both
+    ∙ ap (λ (count : ℕ). drop count (y ++ (joined_packets ys ++ rest))) sizes ∙ drop_at y (joined_packets ys ++ rest) (length y) refl in
     ap (λ (packet : Octets). packet ∷ xs) firsts
     ∙ ap (λ (packets : List Octets). y ∷ packets)
     (only_these xs ys left rest (All-tail IsPacket x xs whole) (All-tail IsPacket y ys wholes) unfinished ends others)

@@ -4,7 +4,7 @@ use Rattle.std.specs.Prelude.{◌==◌, if◌then◌else◌}
 use Rattle.std.proofs.lemmas.List.{length-append}
 use Rattle.le_h4.specs.declared.indicator.TheConstants.{COMMAND, ACL, SCO, EVENT}
 use Rattle.octets.specs.Number.{Octets}
-use Rattle.btsnoop.specs.Packet.{needed_behind_two, acl_needed, event_needed, needed_of, within_needed, IsBegun}
+use Rattle.btsnoop.specs.Packet.{needed_behind_two, acl_needed, event_needed, needed_of, within_needed, IsBegunPacket}
 
 -- a header at least is needed
 header_behind_two : (octets : Octets) → 4 ≤ needed_behind_two octets
@@ -74,7 +74,7 @@ more_needed (x ∷ octets) more count few =
     (more_acl octets more count) (more_behind_two octets more count) (more_event octets more count) few
 
 -- so octets that are missing lead no further than one packet
-pub goes_on : (octets more : Octets) (missing : ℕ) → needed_of octets ≡ Some (length octets + missing) → length more ≤ missing → IsBegun (octets ++ more)
+pub goes_on : (octets more : Octets) (missing : ℕ) → needed_of octets ≡ Some (length octets + missing) → length more ≤ missing → IsBegunPacket (octets ++ more)
 goes_on octets more missing is few =
     let all : length (octets ++ more) ≤ length octets + missing = omega (arith, few, length-append octets more) in
     more_needed octets more (length (octets ++ more)) (subst (within_needed (length (octets ++ more))) (sym is) all)

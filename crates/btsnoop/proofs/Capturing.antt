@@ -9,7 +9,7 @@ use Rattle.std.specs.List.{All}
 use Rattle.octets.specs.Number.{Octets}
 use Rattle.octets.specs.Stream.{WritesFront}
 use Rattle.btsnoop.specs.Capture.{CapturesAll, CapturesFront, CapturesUpTo}
-use Rattle.btsnoop.specs.Packet.{IsPacket, IsUnfinished, IsLost, joined}
+use Rattle.btsnoop.specs.Packet.{IsPacket, IsUnfinished, IsLostPacket, joined_packets}
 use Rattle.btsnoop.specs.Record.{record_of, records_of}
 use Rattle.btsnoop.specs.declared.record.Direction.{Direction}
 
@@ -17,21 +17,21 @@ use Rattle.btsnoop.specs.declared.record.Direction.{Direction}
 pub record SoFar (direction : Direction) (time : ℕ) (first octets begun rest : Octets) (held holds : Option Octets) : Type 0 where
   pub packets : List Octets
   pub whole : All IsPacket packets
-  pub parts : first ++ octets ≡ joined packets ++ (begun ++ rest)
+  pub parts : first ++ octets ≡ joined_packets packets ++ (begun ++ rest)
   pub recorded : Appends held holds (records_of direction time packets)
 
-joined-more : (packets : List Octets) (packet : Octets) → joined (packets ++ packet ∷ []) ≡ joined packets ++ packet
+joined-more : (packets : List Octets) (packet : Octets) → joined_packets (packets ++ packet ∷ []) ≡ joined_packets packets ++ packet
 joined-more packets packet =
     flat_map-append (λ (packet : Octets). packet) packets (packet ∷ [])
-    ∙ ap (λ (octets : Octets). joined packets ++ octets) (append-nil packet)
+    ∙ ap (λ (octets : Octets). joined_packets packets ++ octets) (append-nil packet)
 
 whole-more : (packets : List Octets) (packet : Octets) → All IsPacket packets → IsPacket packet → All IsPacket (packets ++ packet ∷ [])
 whole-more packets packet whole is = All-append IsPacket packets (packet ∷ []) whole (All-cons IsPacket packet [] is (All-nil IsPacket))
 
-parts-more : (all : Octets) (packets : List Octets) (packet rest : Octets) → all ≡ joined packets ++ (packet ++ rest)
-    → all ≡ joined (packets ++ packet ∷ []) ++ rest
+parts-more : (all : Octets) (packets : List Octets) (packet rest : Octets) → all ≡ joined_packets packets ++ (packet ++ rest)
+    → all ≡ joined_packets (packets ++ packet ∷ []) ++ rest
 parts-more all packets packet rest parts =
-    parts ∙ sym (append_assoc (joined packets) packet rest) ∙ ap (λ (octets : Octets). octets ++ rest) (sym (joined-more packets packet))
+    parts ∙ sym (append_assoc (joined_packets packets) packet rest) ∙ ap (λ (octets : Octets). octets ++ rest) (sym (joined-more packets packet))
 
 module _ (direction : Direction) (time : ℕ) where
   records-more : (packets : List Octets) (packet : Octets)
@@ -51,8 +51,8 @@ module _ (direction : Direction) (time : ℕ) where
     whole = so_far.whole;
     parts =
         so_far.parts
-        ∙ ap (λ (rest : Octets). joined so_far.packets ++ (begun ++ rest)) (sym (take-append-drop count rest))
-        ∙ ap (λ (octets : Octets). joined so_far.packets ++ octets) (sym (append_assoc begun (take count rest) (drop count rest)));
+        ∙ ap (λ (rest : Octets). joined_packets so_far.packets ++ (begun ++ rest)) (sym (take-append-drop count rest))
+        ∙ ap (λ (octets : Octets). joined_packets so_far.packets ++ octets) (sym (append_assoc begun (take count rest) (drop count rest)));
     recorded = so_far.recorded;
   }
 
@@ -74,7 +74,7 @@ module _ (direction : Direction) (time : ℕ) where
   captures_all first octets begins held holds so_far unfinished = record {
     packets = so_far.packets;
     whole = so_far.whole;
-    parts = so_far.parts ∙ ap (λ (octets : Octets). joined so_far.packets ++ octets) (append-nil begins);
+    parts = so_far.parts ∙ ap (λ (octets : Octets). joined_packets so_far.packets ++ octets) (append-nil begins);
     unfinished = unfinished;
     recorded = so_far.recorded;
   }
@@ -99,7 +99,7 @@ module _ (direction : Direction) (time : ℕ) where
   }
 
   pub captures_up_to : (first octets lost rest : Octets) (held holds : Option Octets)
-      → SoFar direction time first octets lost rest held holds → IsLost lost
+      → SoFar direction time first octets lost rest held holds → IsLostPacket lost
       → CapturesUpTo direction time first octets held holds
   captures_up_to first octets lost rest held holds so_far is_lost = record {
     packets = so_far.packets;

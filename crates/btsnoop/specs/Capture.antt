@@ -4,7 +4,7 @@ use Rattle.std.specs.Io.KnownBytes.{Appends}
 use Rattle.std.specs.List.{All}
 use Rattle.octets.specs.Number.{Octets}
 use Rattle.octets.specs.Stream.{WritesFront}
-use Rattle.btsnoop.specs.Packet.{IsPacket, IsUnfinished, IsLost, joined}
+use Rattle.btsnoop.specs.Packet.{IsPacket, IsUnfinished, IsLostPacket, joined_packets}
 use Rattle.btsnoop.specs.Record.{file_header, records_of}
 use Rattle.btsnoop.specs.declared.record.Direction.{Direction}
 use Rattle.btsnoop.specs.declared.capture.Capture.{Capture}
@@ -15,11 +15,11 @@ use Rattle.btsnoop.specs.declared.capture.CaptureFault.TheVariants.{Write, Packe
 abbrev pub sink_of : {C : Type 0} → Capture C → C
 sink_of capture = capture.sink
 
-abbrev pub fault_of : {C : Type 0} → Capture C → Option CaptureFault
-fault_of capture = capture.fault
+abbrev pub capture_fault : {C : Type 0} → Capture C → Option CaptureFault
+capture_fault capture = capture.fault
 
-abbrev pub sent_of : {C : Type 0} → Capture C → Octets
-sent_of capture = capture.sent
+abbrev pub sent_by_capture : {C : Type 0} → Capture C → Octets
+sent_by_capture capture = capture.sent
 
 abbrev pub received_of : {C : Type 0} → Capture C → Octets
 received_of capture = capture.received
@@ -34,7 +34,7 @@ Begins (Some Packet) held holds = ⊥
 pub record CapturesAll (direction : Direction) (time : ℕ) (begun octets begins : Octets) (held holds : Option Octets) : Type 0 where
   pub packets : List Octets
   pub whole : All IsPacket packets
-  pub parts : begun ++ octets ≡ joined packets ++ begins
+  pub parts : begun ++ octets ≡ joined_packets packets ++ begins
   pub unfinished : IsUnfinished begins
   pub recorded : Appends held holds (records_of direction time packets)
 
@@ -43,7 +43,7 @@ pub record CapturesFront (direction : Direction) (time : ℕ) (begun octets : Oc
   pub packets : List Octets
   pub whole : All IsPacket packets
   pub left : Octets
-  pub parts : begun ++ octets ≡ joined packets ++ left
+  pub parts : begun ++ octets ≡ joined_packets packets ++ left
   pub recorded : WritesFront (records_of direction time packets) held holds
 
 -- they begin with these packets, all recorded, and then with octets with which no packet begins
@@ -51,9 +51,9 @@ pub record CapturesUpTo (direction : Direction) (time : ℕ) (begun octets : Oct
   pub packets : List Octets
   pub whole : All IsPacket packets
   pub lost : Octets
-  pub is_lost : IsLost lost
+  pub is_lost : IsLostPacket lost
   pub left : Octets
-  pub parts : begun ++ octets ≡ joined packets ++ (lost ++ left)
+  pub parts : begun ++ octets ≡ joined_packets packets ++ (lost ++ left)
   pub recorded : Appends held holds (records_of direction time packets)
 
 -- octets are captured behind those that were begun, at a time, which ends so
@@ -69,7 +69,7 @@ fault_of_next (Some Write) = Some Write
 fault_of_next (Some Packet) = None
 
 -- a record could not be written
-abbrev pub is_write : Option CaptureFault → Bool
-is_write (Some Write) = true
-is_write (Some Packet) = false
-is_write None = false
+abbrev pub is_write_failure : Option CaptureFault → Bool
+is_write_failure (Some Write) = true
+is_write_failure (Some Packet) = false
+is_write_failure None = false

@@ -4,13 +4,13 @@ use Rattle.std.specs.Io.KnownBytes.{Appends}
 use Rattle.std.specs.List.{All, flat_map}
 use Rattle.octets.specs.Number.{Octets}
 use Rattle.btsnoop.specs.Capture.{CapturesAll}
-use Rattle.btsnoop.specs.Packet.{IsPacket, IsUnfinished, joined}
+use Rattle.btsnoop.specs.Packet.{IsPacket, IsUnfinished, joined_packets}
 use Rattle.btsnoop.specs.Record.{records_of}
 use Rattle.btsnoop.specs.declared.record.Direction.{Direction}
 use Rattle.btsnoop.specs.declared.record.Direction.TheVariants.{Sent, Received}
 
 -- a call: octets that went by one way, at a time, and the packets that they ended
-pub record Call : Type 0 where
+pub record CaptureCall : Type 0 where
   pub direction : Direction
   pub time : ℕ
   pub octets : Octets
@@ -33,7 +33,7 @@ with_begun Sent begun unfinished = record unfinished { sent = begun }
 with_begun Received begun unfinished = record unfinished { received = begun }
 
 -- these calls, one after another and without a fault, lead from what is begun, and from what the sink holds, to these
-abbrev pub Leads : List Call → Unfinished → Option Octets → Unfinished → Option Octets → Type 0
+abbrev pub Leads : List CaptureCall → Unfinished → Option Octets → Unfinished → Option Octets → Type 0
 Leads [] old held new holds = (new ≡ old) × (holds ≡ held)
 Leads (call ∷ calls) old held new holds =
     (begins : Octets) × (mid : Option Octets)
@@ -47,14 +47,14 @@ one_way Received Received xs = xs
 one_way Sent Received xs = []
 one_way Received Sent xs = []
 
-abbrev pub octets_of : Direction → List Call → Octets
-octets_of direction calls = flat_map (λ call. one_way direction call.direction call.octets) calls
+abbrev pub octets_one_way : Direction → List CaptureCall → Octets
+octets_one_way direction calls = flat_map (λ call. one_way direction call.direction call.octets) calls
 
-abbrev pub packets_of : Direction → List Call → List Octets
-packets_of direction calls = flat_map (λ call. one_way direction call.direction call.packets) calls
+abbrev pub packets_one_way : Direction → List CaptureCall → List Octets
+packets_one_way direction calls = flat_map (λ call. one_way direction call.direction call.packets) calls
 
 -- the records of all that calls ended
-abbrev pub records_in : List Call → Octets
+abbrev pub records_in : List CaptureCall → Octets
 records_in calls = flat_map (λ call. records_of call.direction call.time call.packets) calls
 
 -- what goes one way consists of these packets, and of one that is unfinished, and of no others
@@ -62,15 +62,15 @@ pub record ConsistsOf (octets : Octets) (packets : List Octets) : Type 0 where
   pub left : Octets
   pub whole : All IsPacket packets
   pub unfinished : IsUnfinished left
-  pub parts : octets ≡ joined packets ++ left
+  pub parts : octets ≡ joined_packets packets ++ left
   pub alone : (others : List Octets) (rest : Octets) → All IsPacket others → IsUnfinished rest
-      → octets ≡ joined others ++ rest → others ≡ packets
+      → octets ≡ joined_packets others ++ rest → others ≡ packets
 
 -- the sink holds the records of the packets that the calls ended, in their order, and these are those of both ways
-pub record Records (calls : List Call) (held holds : Option Octets) : Type 0 where
+pub record RecordsCalls (calls : List CaptureCall) (held holds : Option Octets) : Type 0 where
   pub recorded : Appends held holds (records_in calls)
-  pub each_way : (direction : Direction) → ConsistsOf (octets_of direction calls) (packets_of direction calls)
+  pub each_way : (direction : Direction) → ConsistsOf (octets_one_way direction calls) (packets_one_way direction calls)
 
 abbrev pub RecordsThePackets : Type 0
-RecordsThePackets = (calls : List Call) (new : Unfinished) (held holds : Option Octets) → Leads calls nothing_begun held new holds
-    → Records calls held holds
+RecordsThePackets = (calls : List CaptureCall) (new : Unfinished) (held holds : Option Octets) → Leads calls nothing_begun held new holds
+    → RecordsCalls calls held holds

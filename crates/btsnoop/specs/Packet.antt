@@ -46,24 +46,24 @@ abbrev pub none_needed : Option ℕ → Type 0
 none_needed None = ⊤
 none_needed (Some needed) = MAX_PACKET_IN < needed
 
-abbrev pub IsLost : Octets → Type 0
-IsLost octets = none_needed (needed_of octets)
+abbrev pub IsLostPacket : Octets → Type 0
+IsLostPacket octets = none_needed (needed_of octets)
 
 -- the octets of packets, one behind the other
-abbrev pub joined : List Octets → Octets
-joined packets = flat_map (λ packet. packet) packets
+abbrev pub joined_packets : List Octets → Octets
+joined_packets packets = flat_map (λ packet. packet) packets
 
 -- these octets go no further than one packet
 abbrev pub within_needed : ℕ → Option ℕ → Type 0
 within_needed count None = ⊤
 within_needed count (Some needed) = count ≤ needed
 
-abbrev pub IsBegun : Octets → Type 0
-IsBegun octets = within_needed (length octets) (needed_of octets)
+abbrev pub IsBegunPacket : Octets → Type 0
+IsBegunPacket octets = within_needed (length octets) (needed_of octets)
 
 -- how far they have come
 abbrev pub Progresses : Octets → Progress → Type 0
 Progresses octets (Lacks missing) =
     (needed_of octets ≡ Some (length octets + missing)) × (0 < missing) × (length octets + missing ≤ MAX_PACKET_IN)
 Progresses octets Whole = IsPacket octets
-Progresses octets Lost = IsLost octets
+Progresses octets Lost = IsLostPacket octets

@@ -19,11 +19,11 @@ impl Model for Begun {
 
     ghost Value = { Octets };
 
-    ghost use Rattle.btsnoop.specs.Packet.{IsBegun};
+    ghost use Rattle.btsnoop.specs.Packet.{IsBegunPacket};
 
     ghost view = { λ begun. begun.octets.items };
 
-    ghost invariant = { λ begun. IsBegun begun.octets.items };
+    ghost invariant = { λ begun. IsBegunPacket begun.octets.items };
 }
 
 impl Begun {

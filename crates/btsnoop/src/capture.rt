@@ -4,7 +4,7 @@ ghost use Rattle.std.specs.Prelude.{◌≡◌, [], None, IsSome};
 ghost use Rattle.std.specs.Result.{result_err};
 ghost use Rattle.octets.specs.Stream.{CountsIf};
 ghost use Rattle.btsnoop.specs.Record.{SpellsTheExample};
-ghost use Rattle.btsnoop.specs.Capture.{fault_of, is_write, received_of, sent_of, sink_of};
+ghost use Rattle.btsnoop.specs.Capture.{capture_fault, is_write_failure, received_of, sent_by_capture, sink_of};
 ghost use Rattle.btsnoop.specs.Capture.{fault_of_next, Begins, Captures};
 ghost use Rattle.btsnoop.specs.Course.{RecordsThePackets};
 
@@ -39,10 +39,11 @@ impl<C: Sink> Capture<C> {
     /// Begins a capture: writes what stands before all records.
     #[tactic(auto, using(crate::proofs::Example::spells, crate::proofs::Course::records_the_packets))]
     pub fn begin(sink: C) -> Self
-        ensures sent { sent_of result ≡ [] }
+        ensures sent { sent_by_capture result ≡ [] }
         ensures received { received_of result ≡ [] }
-        ensures header { Begins (fault_of result) (C.contents sink) (C.contents (sink_of result)) }
-        ensures failures { CountsIf (is_write (fault_of result)) (C.failures sink)
+        ensures header { Begins (capture_fault result) (C.contents sink)
+            (C.contents (sink_of result)) }
+        ensures failures { CountsIf (is_write_failure (capture_fault result)) (C.failures sink)
             (C.failures (sink_of result)) }
         // What a capture is, by an example.
         ensures example { SpellsTheExample }
@@ -66,14 +67,16 @@ impl<C: Sink> Capture<C> {
     /// packets, and records each packet that they end, at a time in microseconds since the start of
     /// 1970. After a fault nothing changes.
     pub fn went(&mut self, octets: &[u8], time: u64)
-        ensures captured { fault_of self.old ≡ None
-            → Captures Direction.Sent time (sent_of self.old) octets.now (fault_of self.new)
-            (sent_of self.new) (C.contents (sink_of self.old)) (C.contents (sink_of self.new)) }
+        ensures captured { capture_fault self.old ≡ None
+            → Captures Direction.Sent time (sent_by_capture self.old) octets.now
+            (capture_fault self.new)
+            (sent_by_capture self.new) (C.contents (sink_of self.old))
+            (C.contents (sink_of self.new)) }
         ensures received { received_of self.new ≡ received_of self.old }
-        ensures failures { fault_of self.old ≡ None
-            → CountsIf (is_write (fault_of self.new)) (C.failures (sink_of self.old))
+        ensures failures { capture_fault self.old ≡ None
+            → CountsIf (is_write_failure (capture_fault self.new)) (C.failures (sink_of self.old))
             (C.failures (sink_of self.new)) }
-        ensures stopped { IsSome (fault_of self.old) → self.new ≡ self.old }
+        ensures stopped { IsSome (capture_fault self.old) → self.new ≡ self.old }
     {
         if self.fault.is_none() {
             let captured = record_each(
@@ -89,15 +92,15 @@ impl<C: Sink> Capture<C> {
 
     /// Records octets that have come from the controller, as `went` does those that go to it.
     pub fn came(&mut self, octets: &[u8], time: u64)
-        ensures captured { fault_of self.old ≡ None
+        ensures captured { capture_fault self.old ≡ None
             → Captures Direction.Received time (received_of self.old) octets.now
-            (fault_of self.new) (received_of self.new) (C.contents (sink_of self.old))
+            (capture_fault self.new) (received_of self.new) (C.contents (sink_of self.old))
             (C.contents (sink_of self.new)) }
-        ensures sent { sent_of self.new ≡ sent_of self.old }
-        ensures failures { fault_of self.old ≡ None
-            → CountsIf (is_write (fault_of self.new)) (C.failures (sink_of self.old))
+        ensures sent { sent_by_capture self.new ≡ sent_by_capture self.old }
+        ensures failures { capture_fault self.old ≡ None
+            → CountsIf (is_write_failure (capture_fault self.new)) (C.failures (sink_of self.old))
             (C.failures (sink_of self.new)) }
-        ensures stopped { IsSome (fault_of self.old) → self.new ≡ self.old }
+        ensures stopped { IsSome (capture_fault self.old) → self.new ≡ self.old }
     {
         if self.fault.is_none() {
             let captured = record_each(
@@ -116,9 +119,9 @@ impl<C> Capture<C> {
     /// A new stream begins, both ways: what is unfinished of the one before is dropped. A capture that
     /// could not divide that one goes on; one that could not be written does not.
     pub fn next_stream(&mut self)
-        ensures sent { sent_of self.new ≡ [] }
+        ensures sent { sent_by_capture self.new ≡ [] }
         ensures received { received_of self.new ≡ [] }
-        ensures fault { fault_of self.new ≡ fault_of_next (fault_of self.old) }
+        ensures fault { capture_fault self.new ≡ fault_of_next (capture_fault self.old) }
         ensures sink { sink_of self.new ≡ sink_of self.old }
     {
         self.sent.clear();
@@ -130,7 +133,7 @@ impl<C> Capture<C> {
 
     /// Why no more packets are recorded, if that is so.
     pub fn fault(&self) -> Option<CaptureFault>
-        ensures { result ≡ fault_of self.now }
+        ensures { result ≡ capture_fault self.now }
     {
         self.fault
     }
@@ -154,7 +157,7 @@ fn record_each<C: Sink>(
 ) -> Result<(), CaptureFault>
     ensures captured { Captures direction time begun.old octets.now (result_err result)
         begun.new (C.contents sink.old) (C.contents sink.new) }
-    ensures failures { CountsIf (is_write (result_err result)) (C.failures sink.old)
+    ensures failures { CountsIf (is_write_failure (result_err result)) (C.failures sink.old)
         (C.failures sink.new) }
 {
     let mut rest = octets;

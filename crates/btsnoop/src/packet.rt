@@ -1,7 +1,7 @@
 //! How far the octets of one packet have come, whichever way it goes.
 
 ghost use Rattle.std.specs.Prelude.{◌≡◌};
-ghost use Rattle.btsnoop.specs.Packet.{needed_behind_two, needed_of, IsBegun, Progresses};
+ghost use Rattle.btsnoop.specs.Packet.{needed_behind_two, needed_of, IsBegunPacket, Progresses};
 
 use le_h4::{MAX_PACKET_IN, indicator};
 
@@ -18,7 +18,7 @@ pub(crate) enum Progress {
 
 /// How far a packet has come of which these octets are there, from its indicator on.
 pub(crate) fn progress_at(octets: &[u8]) -> Progress
-    requires { IsBegun octets.now }
+    requires { IsBegunPacket octets.now }
     ensures { Progresses octets.now result }
 {
     let Some(needed) = needed(octets) else {

@@ -5,38 +5,38 @@ use Rattle.std.specs.Str.{bytes_eq}
 use Rattle.octets.specs.Number.{Octets}
 use Rattle.octets.specs.Missing.{◌>>=◌}
 use Rattle.scripts.specs.Line.{words_of}
-use Rattle.scripts.specs.Numeral.{number_of}
+use Rattle.scripts.specs.Numeral.{numeral_of}
 use Rattle.scripts.specs.Payload.{payload_of}
 use Rattle.device_lines.specs.declared.asked.Asked.{Asked}
 use Rattle.device_lines.specs.declared.asked.Asked.TheVariants.{Update, Allow, Deny, Disconnect, Value, Connections}
 
 -- a handle in decimal
-abbrev pub handle_of : Octets → Option ℕ
-handle_of word = number_of (2 ^ 16) word
+abbrev pub handle_of_word : Octets → Option ℕ
+handle_of_word word = numeral_of (2 ^ 16) word
 
 unfoldable pub one_word : Octets → Option Asked
 one_word first = if bytes_eq first (codes "connections") then Some Connections else None
 
 unfoldable pub two_words : Octets → Octets → Option Asked
 two_words first second =
-    if bytes_eq first (codes "allow") then option_map (λ handle. Allow handle None) (handle_of second)
-    else if bytes_eq first (codes "deny") then option_map Deny (handle_of second)
-    else if bytes_eq first (codes "disconnect") then option_map Disconnect (handle_of second)
-    else if bytes_eq first (codes "value") then option_map Value (handle_of second)
+    if bytes_eq first (codes "allow") then option_map (λ handle. Allow handle None) (handle_of_word second)
+    else if bytes_eq first (codes "deny") then option_map Deny (handle_of_word second)
+    else if bytes_eq first (codes "disconnect") then option_map Disconnect (handle_of_word second)
+    else if bytes_eq first (codes "value") then option_map Value (handle_of_word second)
     else None
 
 -- `update HANDLE HEX`
 abbrev pub update_asked : Octets → Octets → Option Asked
 update_asked handle value = do
-  place ← handle_of handle
+  place ← handle_of_word handle
   octets ← payload_of value
   Some (Update place octets)
 
 -- `allow HANDLE MS`
 abbrev pub allow_asked : Octets → Octets → Option Asked
 allow_asked handle lasting = do
-  connection ← handle_of handle
-  milliseconds ← number_of (2 ^ 64) lasting
+  connection ← handle_of_word handle
+  milliseconds ← numeral_of (2 ^ 64) lasting
   Some (Allow connection (Some milliseconds))
 
 unfoldable pub three_words : Octets → Octets → Octets → Option Asked

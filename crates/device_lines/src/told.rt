@@ -39,7 +39,7 @@ pub fn add_told(text: &mut Vec<u8>, told: &Told<'_>) -> Result<(), AllocError>
 /// and what its key is worth, if it has one.
 pub fn add_connections(text: &mut Vec<u8>, host: &Host) -> Result<(), AllocError>
     ensures ok { OnOk result (text.new.items
-        ≡ text.old.items ++ flat_map connection_lines (connections_in host.now.held.slots)) }
+        ≡ text.old.items ++ flat_map connection_lines (connections_in host.now.server.slots)) }
 {
     for connection in host.connections() {
         add_connection(text, &connection)?;

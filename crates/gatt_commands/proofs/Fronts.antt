@@ -7,11 +7,11 @@ use Rattle.gatt_files.proofs.Fronts.{front_first, front_then}
 use Rattle.gatt_commands.proofs.Telling.{HasTold, HasToldPhones, any_default, heard_split, heard_then, phone_still, text_next}
 use Rattle.gatt_commands.specs.declared.acts.Refused.{Refused}
 use Rattle.gatt_commands.specs.declared.acts.Refused.TheVariants.{Act, Call}
-use Rattle.gatt_commands.specs.Lines.{ended_line, ended_text, frame_line, frame_line_if, heard_line, heard_text, phone_text, phones_text, refused_line, IsOfPhone}
+use Rattle.gatt_commands.specs.Lines.{ended_line, ended_text, frame_line, frame_line_if, heard_line, heard_lines, phone_text, phones_text, refused_line, IsOfPhone}
 use Rattle.le_l2cap.specs.Frame.{BasicFrame, frame_of}
 use Rattle.octets.specs.Number.{Octets}
 use Rattle.octets.specs.Stream.{WritesFront}
-use Rattle.sim_controller.specs.Phone.{Phone, after_hearing}
+use Rattle.sim_controller.specs.Phone.{Phone, phone_after_hearing}
 use Rattle.sim_controller.specs.Simulated.{Simulated, phone_at, with_phone}
 
 -- of what is refused
@@ -43,30 +43,30 @@ pub frame_front : (name frame : Octets) (place : ℕ) (old mid : Simulated) (hel
     → slice_get (phone_at mid place).heard 0 ≡ Some frame → WritesFront (heard_line name frame) between holds
     → WritesFront (phone_text name (phone_at old place)) held holds
 frame_front name frame place old mid held between holds so_far first front =
-    front_first (heard_text name (phone_at old place).heard) (ended_text name (phone_at old place).ended) held holds
+    front_first (heard_lines name (phone_at old place).heard) (ended_text name (phone_at old place).ended) held holds
     (subst (λ (octets : Octets). WritesFront octets held holds) (sym so_far.parts)
-    (front_then so_far.told (heard_text name (phone_at mid place).heard) held between holds so_far.appended
+    (front_then so_far.told (heard_lines name (phone_at mid place).heard) held between holds so_far.appended
     (subst (λ (octets : Octets). WritesFront octets between holds) (sym (heard_split name frame (phone_at mid place).heard first))
-    (front_first (heard_line name frame) (heard_text name (drop 1 (phone_at mid place).heard)) between holds front))))
+    (front_first (heard_line name frame) (heard_lines name (drop 1 (phone_at mid place).heard)) between holds front))))
 
 -- of the end of its connection
 end-front : (name : Octets) (reason place : ℕ) (old mid : Simulated) (held between holds : Option Octets) → HasTold name place old mid held between
     → (phone_at mid place).heard ≡ [] → (phone_at mid place).ended ≡ Some reason → WritesFront (ended_line name reason) between holds
     → WritesFront (phone_text name (phone_at old place)) held holds
 end-front name reason place old mid held between holds so_far none is front =
-    let heard : heard_text name (phone_at old place).heard ≡ so_far.told =
-    so_far.parts ∙ ap (λ (heard : List Octets). so_far.told ++ heard_text name heard) none ∙ append-nil so_far.told in
+    let heard : heard_lines name (phone_at old place).heard ≡ so_far.told =
+    so_far.parts ∙ ap (λ (heard : List Octets). so_far.told ++ heard_lines name heard) none ∙ append-nil so_far.told in
     let ended : ended_text name (phone_at old place).ended ≡ ended_line name reason =
     ap (λ (ended : Option ℕ). ended_text name ended) (sym so_far.ended ∙ is) in
     subst (λ (octets : Octets). WritesFront octets held holds) (sym (λ i. heard i ++ ended i))
     (front_then so_far.told (ended_line name reason) held between holds so_far.appended front)
 
 pub end_front : {T E : Type 0} (result : Result T E) (name : Octets) (told : Option ℕ) (reason place : ℕ) (old mid new : Simulated) (held between holds : Option Octets)
-    → HasTold name place old mid held between → (phone_at mid place).heard ≡ [] → new ≡ with_phone mid place (after_hearing (phone_at mid place))
+    → HasTold name place old mid held between → (phone_at mid place).heard ≡ [] → new ≡ with_phone mid place (phone_after_hearing (phone_at mid place))
     → told ≡ (phone_at new place).ended → told ≡ Some reason → OnErr result (WritesFront (ended_line name reason) between holds)
     → OnErr result (WritesFront (phone_text name (phone_at old place)) held holds)
 end_front result name told reason place old mid new held between holds so_far none after tells is =
-    let hears : phone_at new place ≡ after_hearing (phone_at mid place) = ap (λ (sim : Simulated). phone_at sim place) after ∙ heard_then mid.phones place in
+    let hears : phone_at new place ≡ phone_after_hearing (phone_at mid place) = ap (λ (sim : Simulated). phone_at sim place) after ∙ heard_then mid.phones place in
     on_err_weaker result
     (end-front name reason place old mid held between holds so_far none (sym (ap (λ (phone : Phone). phone.ended) hears) ∙ sym tells ∙ is))
 

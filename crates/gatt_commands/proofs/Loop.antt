@@ -7,13 +7,13 @@ use Rattle.std.proofs.lemmas.List.{append_cancel_right}
 use Rattle.std.proofs.lemmas.List.Concat.{flat_map-append}
 use Rattle.att_table.specs.Table.{Contents}
 use Rattle.gatt_host.proofs.meaning.Drained.{all_gone}
-use Rattle.gatt_host.proofs.whole.Items.{drained_where}
+use Rattle.gatt_host.proofs.model.Items.{drained_where}
 use Rattle.gatt_host.specs.declared.host_fault.HostFault.{HostFault}
 use Rattle.gatt_host.specs.Opening.{start_of}
 use Rattle.gatt_host.specs.Telling.{silent, silent_unless}
-use Rattle.gatt_host.specs.Whole.{Leads, StandsAt, Takes, Whole}
+use Rattle.gatt_host.specs.HostModel.{Refines, RefinesRun, Takes, HostModel}
 use Rattle.gatt_laws.specs.machine.Calls as why
-use Rattle.gatt_laws.specs.machine.Input.{ACall, APacket, ATable, Item, course}
+use Rattle.gatt_laws.specs.machine.Input.{ACall, APacket, ATable, Item, run}
 use Rattle.gatt_laws.specs.machine.Start.{Start}
 use Rattle.gatt_subs.specs.Rows.{Subscriptions}
 use Rattle.le_h4.specs.Division.{End, Lost, Unfinished, division}
@@ -25,43 +25,43 @@ use Rattle.scripts.specs.declared.act.Act.TheVariants as line
 use Rattle.sim_controller.proofs.HeardFrames.{hears_its_frames}
 use Rattle.sim_controller.specs.Acts as by_phone
 use Rattle.sim_controller.specs.Answers.{after_host, host_fault}
-use Rattle.sim_controller.specs.Calls.{Call, Acts, Gives, Takes as TakesFrom, after, after_call, given_in, if_accepted}
+use Rattle.sim_controller.specs.Calls.{SimulatedCall, Acts, Gives, Takes as TakesFrom, after_calls, after_call, given_in_calls, if_accepted}
 use Rattle.sim_controller.specs.declared.fault.SimFault.{SimFault}
 use Rattle.sim_controller.specs.declared.told.Told.{Told}
 use Rattle.sim_controller.specs.FromHost.{host_packet_of}
 use Rattle.sim_controller.specs.Hearing.{frames_heard_in}
 use Rattle.sim_controller.specs.Phones.{handle_of_phone}
-use Rattle.sim_controller.specs.Simulated.{Simulated, at_start, phone_at}
-use Rattle.sim_controller.specs.Told.{octets_of, sent_of}
+use Rattle.sim_controller.specs.Simulated.{Simulated, simulated_at_start, phone_at}
+use Rattle.sim_controller.specs.Told.{sent_octets, sent_of}
 use Rattle.gatt_commands.proofs.Hearing.{Adds, adds_none, adds_one, tells_all}
 use Rattle.gatt_commands.proofs.Running.{keeps_all}
 use Rattle.gatt_commands.specs.declared.acts.Refused.{Refused}
 use Rattle.gatt_files.specs.declared.fault.ShellFault.{ShellFault}
 use Rattle.gatt_commands.specs.declared.notes.Notes.{Notes}
-use Rattle.gatt_commands.specs.Doing.{ByCall, Does, ReplacesBy, Stage, refused_call, sim_act}
+use Rattle.gatt_commands.specs.Doing.{ByCall, DoesLine, ReplacesBy, Stage, refused_call, sim_act}
 use Rattle.gatt_commands.specs.Echo.{Shown, shown_after, shown_behind}
 use Rattle.gatt_commands.specs.Exchange.{ControllerGives, ControllerTakes, Exchanges, ExchangesAll, HandsOver, HostTakes, Pair, TakesFirst, pair_of}
 use Rattle.gatt_commands.specs.Lines.{with_told_phones}
-use Rattle.gatt_commands.specs.Loop.{ClosesTheLoop, IsJoined, IsJoinedUpTo, SoFar, acts_in, after_doing, after_line, after_lines, after_printing, asked_unless, nothing, nothing_yet, other_in, others_in, packet_in, packets_in, packets_taken, printed_of, read_of, replacement_of, taken_by}
-use Rattle.gatt_commands.specs.Opening.{IsOpened, configuration}
+use Rattle.gatt_commands.specs.Loop.{ClosesTheLoop, IsJoined, IsJoinedUpTo, SoFar, acts_in, after_line_done, after_line, after_lines, after_printing, asked_unless, nothing_heard, nothing_yet, other_in, others_in, packets_of_item, packets_of_items, packets_taken, printed_of, read_of, replacement_of, taken_by}
+use Rattle.gatt_commands.specs.Opening.{IsOpened, command_configuration}
 use Rattle.gatt_commands.specs.Runs.{EndsAmong, EndsAtNext, Runs, RunsLine, simulated}
 
 -- joined, by what was heard
-record Joins (start : Start) (host : Whole) (sim : Simulated) (so_far : SoFar) : Type 0 where
+record Joins (start : Start) (host : HostModel) (sim : Simulated) (so_far : SoFar) : Type 0 where
   input : List Item
-  calls : List Call
-  stands : StandsAt (course start input) (packets_taken simulated calls) host
-  controller : sim ≡ after simulated calls
-  given : packets_in input ≡ flat_map read_of (given_in simulated calls)
+  calls : List SimulatedCall
+  refines : RefinesRun (run start input) (packets_taken simulated calls) host
+  controller : sim ≡ after_calls simulated calls
+  given : packets_of_items input ≡ flat_map read_of (given_in_calls simulated calls)
   asked : others_in input ≡ so_far.asked
   acts : acts_in calls ≡ so_far.acts
   heard_so : (phone : ℕ) → phone < 8 → so_far.heard phone ≡ frames_heard_in simulated phone calls
 
-joins : (start : Start) (host : Whole) (sim : Simulated) (so_far : SoFar) → IsJoined start host sim so_far → Joins start host sim so_far
+joins : (start : Start) (host : HostModel) (sim : Simulated) (so_far : SoFar) → IsJoined start host sim so_far → Joins start host sim so_far
 joins start host sim so_far is = record {
   input = is.input;
   calls = is.calls;
-  stands = is.stands;
+  refines = is.refines;
   controller = is.controller;
   given = is.given;
   asked = is.asked;
@@ -72,11 +72,11 @@ joins start host sim so_far is = record {
       ∙ ap (λ (sim : Simulated). frames_heard_in simulated phone is.calls ++ (phone_at sim phone).heard) (sym is.controller));
 }
 
-is-joined : (start : Start) (host : Whole) (sim : Simulated) (so_far : SoFar) → Joins start host sim so_far → IsJoined start host sim so_far
+is-joined : (start : Start) (host : HostModel) (sim : Simulated) (so_far : SoFar) → Joins start host sim so_far → IsJoined start host sim so_far
 is-joined start host sim so_far is = record {
   input = is.input;
   calls = is.calls;
-  stands = is.stands;
+  refines = is.refines;
   controller = is.controller;
   given = is.given;
   asked = is.asked;
@@ -88,46 +88,46 @@ is-joined start host sim so_far is = record {
 }
 
 -- the host takes in items, these packets and these others, and these packets go out
-record Goes (start : Start) (input : List Item) (gone : List Octets) (packets : List Packet) (asked : List Item) (taken : List Octets) (new : Whole) : Type 0 where
+record Goes (start : Start) (input : List Item) (sent : List Octets) (packets : List Packet) (asked : List Item) (taken : List Octets) (new : HostModel) : Type 0 where
   items : List Item
-  stands : StandsAt (course start (input ++ items)) (gone ++ taken) new
-  read : packets_in items ≡ packets
+  refines : RefinesRun (run start (input ++ items)) (sent ++ taken) new
+  read : packets_of_items items ≡ packets
   others : others_in items ≡ asked
 
-goes-nowhere : (start : Start) (input : List Item) (gone : List Octets) (old new : Whole) → new ≡ old → StandsAt (course start input) gone old
-    → Goes start input gone [] [] [] new
-goes-nowhere start input gone old new same stands = record {
+goes-nowhere : (start : Start) (input : List Item) (sent : List Octets) (old new : HostModel) → new ≡ old → RefinesRun (run start input) sent old
+    → Goes start input sent [] [] [] new
+goes-nowhere start input sent old new same refines = record {
   items = [];
-  stands =
-      subst (λ (whole : Whole). StandsAt (course start (input ++ [])) (gone ++ []) whole) (sym same)
-      (subst (λ (input' : List Item). StandsAt (course start input') (gone ++ []) old) (sym (append-nil input))
-      (subst (λ (gone' : List Octets). StandsAt (course start input) gone' old) (sym (append-nil gone)) stands));
+  refines =
+      subst (λ (whole : HostModel). RefinesRun (run start (input ++ [])) (sent ++ []) whole) (sym same)
+      (subst (λ (input' : List Item). RefinesRun (run start input') (sent ++ []) old) (sym (append-nil input))
+      (subst (λ (gone' : List Octets). RefinesRun (run start input) gone' old) (sym (append-nil sent)) refines));
   read = refl;
   others = refl;
 }
 
-goes-on : (start : Start) (input : List Item) (gone : List Octets) (item : Item) (old new : Whole) → Takes item old new
-    → StandsAt (course start input) gone old → Goes start input gone (packets_in (item ∷ [])) (others_in (item ∷ [])) [] new
-goes-on start input gone item old new takes stands = record { items = item ∷ []; stands = takes start input gone stands; read = refl; others = refl }
+goes-on : (start : Start) (input : List Item) (sent : List Octets) (item : Item) (old new : HostModel) → Takes item old new
+    → RefinesRun (run start input) sent old → Goes start input sent (packets_of_items (item ∷ [])) (others_in (item ∷ [])) [] new
+goes-on start input sent item old new takes refines = record { items = item ∷ []; refines = takes start input sent refines; read = refl; others = refl }
 
-goes-out : (start : Start) (input : List Item) (gone : List Octets) (packet : Octets) (old new : Whole) → Leads [] (packet ∷ []) old new
-    → StandsAt (course start input) gone old → Goes start input gone [] [] (packet ∷ []) new
-goes-out start input gone packet old new leads stands = record { items = []; stands = leads start input gone stands; read = refl; others = refl }
+goes-out : (start : Start) (input : List Item) (sent : List Octets) (packet : Octets) (old new : HostModel) → Refines [] (packet ∷ []) old new
+    → RefinesRun (run start input) sent old → Goes start input sent [] [] (packet ∷ []) new
+goes-out start input sent packet old new leads refines = record { items = []; refines = leads start input sent refines; read = refl; others = refl }
 
-abbrev with_more : SoFar → List by_phone.Act → List Item → (ℕ → List Octets) → SoFar
+abbrev with_more : SoFar → List by_phone.SimulatedAct → List Item → (ℕ → List Octets) → SoFar
 with_more so_far acts asked heard =
     record { acts = so_far.acts ++ acts; asked = so_far.asked ++ asked; heard = λ phone. so_far.heard phone ++ heard phone }
 
 -- without more
-same-still : (so_far : SoFar) → with_more so_far [] [] nothing ≡ so_far
+same-still : (so_far : SoFar) → with_more so_far [] [] nothing_heard ≡ so_far
 same-still so_far = λ i. record {
   acts = append-nil so_far.acts i;
   asked = append-nil so_far.asked i;
   heard = λ phone. append-nil (so_far.heard phone) i;
 }
 
-same-heard : (so_far : SoFar) (acts : List by_phone.Act) (asked : List Item)
-    → with_more so_far acts asked nothing ≡ record so_far { acts = so_far.acts ++ acts; asked = so_far.asked ++ asked }
+same-heard : (so_far : SoFar) (acts : List by_phone.SimulatedAct) (asked : List Item)
+    → with_more so_far acts asked nothing_heard ≡ record so_far { acts = so_far.acts ++ acts; asked = so_far.asked ++ asked }
 same-heard so_far acts asked = λ i. record { acts = so_far.acts ++ acts; asked = so_far.asked ++ asked; heard = λ phone. append-nil (so_far.heard phone) i }
 
 same-acts : (so_far : SoFar) (heard : ℕ → List Octets) → with_more so_far [] [] heard ≡ record so_far { heard = λ phone. so_far.heard phone ++ heard phone }
@@ -137,29 +137,29 @@ same-acts so_far heard = λ i. record {
   heard = λ phone. so_far.heard phone ++ heard phone;
 }
 
-module _ (start : Start) (host new : Whole) (sim sim' : Simulated) (so_far : SoFar) (was : Joins start host sim so_far) where
+module _ (start : Start) (host new : HostModel) (sim sim' : Simulated) (so_far : SoFar) (was : Joins start host sim so_far) where
   abbrev gone-so-far : List Octets
   gone-so-far = packets_taken simulated was.calls
 
-  more : (later : List Call) (taken : List Octets) (told : List Told) (acts : List by_phone.Act) (asked : List Item) (heard : ℕ → List Octets)
+  more : (later : List SimulatedCall) (taken : List Octets) (told : List Told) (acts : List by_phone.SimulatedAct) (asked : List Item) (heard : ℕ → List Octets)
       → Adds was.calls later taken told acts heard → Goes start was.input gone-so-far (flat_map read_of told) asked taken new
-      → sim' ≡ after simulated later → Joins start new sim' (with_more so_far acts asked heard)
+      → sim' ≡ after_calls simulated later → Joins start new sim' (with_more so_far acts asked heard)
   more later taken told acts asked heard adds goes then_so = record {
     input = was.input ++ goes.items;
     calls = later;
-    stands = subst (λ (gone : List Octets). StandsAt (course start (was.input ++ goes.items)) gone new) (sym adds.taken_then) goes.stands;
+    refines = subst (λ (sent : List Octets). RefinesRun (run start (was.input ++ goes.items)) sent new) (sym adds.taken_then) goes.refines;
     controller = then_so;
     given =
-        flat_map-append packet_in was.input goes.items
-        ∙ ap (λ (packets : List Packet). packets ++ packets_in goes.items) was.given
-        ∙ ap (λ (packets : List Packet). flat_map read_of (given_in simulated was.calls) ++ packets) goes.read
-        ∙ sym (flat_map-append read_of (given_in simulated was.calls) told)
+        flat_map-append packets_of_item was.input goes.items
+        ∙ ap (λ (packets : List Packet). packets ++ packets_of_items goes.items) was.given
+        ∙ ap (λ (packets : List Packet). flat_map read_of (given_in_calls simulated was.calls) ++ packets) goes.read
+        ∙ sym (flat_map-append read_of (given_in_calls simulated was.calls) told)
         ∙ sym (ap (λ (told : List Told). flat_map read_of told) adds.given_then);
     asked =
         flat_map-append other_in was.input goes.items
         ∙ ap (λ (items : List Item). items ++ others_in goes.items) was.asked
         ∙ ap (λ (items : List Item). so_far.asked ++ items) goes.others;
-    acts = adds.acts_then ∙ ap (λ (done : List by_phone.Act). done ++ acts) was.acts;
+    acts = adds.acts_then ∙ ap (λ (done : List by_phone.SimulatedAct). done ++ acts) was.acts;
     heard_so = λ phone below. ap (λ (frames : List Octets). frames ++ heard phone) (was.heard_so phone below) ∙ sym (adds.heard_so phone);
   }
 
@@ -167,96 +167,96 @@ module _ (start : Start) (host new : Whole) (sim sim' : Simulated) (so_far : SoF
   as-so-far then_far same is joined = subst (λ (so_far : SoFar). Joins start new sim' so_far) is joined
 
   -- the controller takes a packet of the host
-  takes-packet : (packet : Octets) → Leads [] (packet ∷ []) host new → ControllerTakes packet sim sim' → Joins start new sim' so_far
+  takes-packet : (packet : Octets) → Refines [] (packet ∷ []) host new → ControllerTakes packet sim sim' → Joins start new sim' so_far
   takes-packet packet leads takes =
-      let old : Simulated = after simulated was.calls in
+      let old : Simulated = after_calls simulated was.calls in
       let accepted : host_fault old (host_packet_of packet) ≡ None =
       ap (λ (sim : Simulated). host_fault sim (host_packet_of packet)) (sym was.controller) ∙ takes.accepted in
       let taken : taken_by old (TakesFrom packet) ≡ packet ∷ [] = ap (λ (fault : Option SimFault). if_accepted fault (packet ∷ []) []) accepted in
       let then_so : sim' ≡ after_call old (TakesFrom packet) =
       takes.after ∙ ap (λ (sim : Simulated). after_host sim (host_packet_of packet)) was.controller
       ∙ sym (ap (λ (fault : Option SimFault). if_accepted fault (after_host old (host_packet_of packet)) old) accepted) in
-      as-so-far (with_more so_far [] [] nothing) so_far (same-still so_far)
-      (more (TakesFrom packet ∷ was.calls) (taken_by old (TakesFrom packet)) [] [] [] nothing (adds_one was.calls (TakesFrom packet))
+      as-so-far (with_more so_far [] [] nothing_heard) so_far (same-still so_far)
+      (more (TakesFrom packet ∷ was.calls) (taken_by old (TakesFrom packet)) [] [] [] nothing_heard (adds_one was.calls (TakesFrom packet))
       (subst (λ (packets : List Octets). Goes start was.input gone-so-far [] [] packets new) (sym taken)
-      (goes-out start was.input gone-so-far packet host new leads was.stands))
+      (goes-out start was.input gone-so-far packet host new leads was.refines))
       then_so)
 
   -- the host takes one of the controller
-  first-read : (waiting : List Told) (packet : Octets) → option_map (λ told. octets_of (sent_of told)) (slice_get waiting 0) ≡ Some packet
+  first-read : (waiting : List Told) (packet : Octets) → option_map (λ told. sent_octets (sent_of told)) (slice_get waiting 0) ≡ Some packet
       → take 1 (division packet).packets ≡ flat_map read_of (take 1 waiting)
   first-read [] packet is = absurd cc
   first-read (told ∷ rest) packet is =
-      let same : octets_of (sent_of told) ≡ packet = cc in
+      let same : sent_octets (sent_of told) ≡ packet = cc in
       sym (append-nil (read_of told) ∙ ap (λ (octets : Octets). take 1 (division octets).packets) same)
 
   first-goes : (packets : List Packet) (end : End) → TakesFirst packets end host new → Goes start was.input gone-so-far (take 1 packets) [] [] new
-  first-goes (packet ∷ packets) end goes = goes-on start was.input gone-so-far (APacket packet) host new goes.takes was.stands
-  first-goes [] Unfinished goes = goes-nowhere start was.input gone-so-far host new goes was.stands
+  first-goes (packet ∷ packets) end goes = goes-on start was.input gone-so-far (APacket packet) host new goes.takes was.refines
+  first-goes [] Unfinished goes = goes-nowhere start was.input gone-so-far host new goes was.refines
   first-goes [] (Lost indicator) goes = absurd goes
 
   gives-packet : (packet : Octets) → ControllerGives packet sim sim' → HostTakes packet host new → Joins start new sim' so_far
   gives-packet packet gives takes =
-      let old : Simulated = after simulated was.calls in
-      let first : option_map (λ told. octets_of (sent_of told)) (slice_get old.waiting 0) ≡ Some packet =
-      subst (λ (sim : Simulated). option_map (λ told. octets_of (sent_of told)) (slice_get sim.waiting 0) ≡ Some packet) was.controller gives.first in
+      let old : Simulated = after_calls simulated was.calls in
+      let first : option_map (λ told. sent_octets (sent_of told)) (slice_get old.waiting 0) ≡ Some packet =
+      subst (λ (sim : Simulated). option_map (λ told. sent_octets (sent_of told)) (slice_get sim.waiting 0) ≡ Some packet) was.controller gives.first in
       let then_so : sim' ≡ after_call old Gives =
       gives.after ∙ ap (λ (sim : Simulated). record sim { waiting = drop 1 sim.waiting }) was.controller in
-      as-so-far (with_more so_far [] [] nothing) so_far (same-still so_far)
-      (more (Gives ∷ was.calls) [] (take 1 old.waiting) [] [] nothing (adds_one was.calls Gives)
+      as-so-far (with_more so_far [] [] nothing_heard) so_far (same-still so_far)
+      (more (Gives ∷ was.calls) [] (take 1 old.waiting) [] [] nothing_heard (adds_one was.calls Gives)
       (subst (λ (packets : List Packet). Goes start was.input gone-so-far packets [] [] new) (first-read old.waiting packet first)
       (first-goes (division packet).packets (division packet).end takes))
       then_so)
 
   -- a phone acts
-  phone-acts : (act : by_phone.Act) → new ≡ host → sim' ≡ after_call sim (Acts act)
+  phone-acts : (act : by_phone.SimulatedAct) → new ≡ host → sim' ≡ after_call sim (Acts act)
       → Joins start new sim' (record so_far { acts = so_far.acts ++ act ∷ []; asked = so_far.asked ++ [] })
   phone-acts act same then_so =
-      as-so-far (with_more so_far (act ∷ []) [] nothing) (record so_far { acts = so_far.acts ++ act ∷ []; asked = so_far.asked ++ [] }) (same-heard so_far (act ∷ []) [])
-      (more (Acts act ∷ was.calls) [] [] (act ∷ []) [] nothing (adds_one was.calls (Acts act))
-      (goes-nowhere start was.input gone-so-far host new same was.stands)
+      as-so-far (with_more so_far (act ∷ []) [] nothing_heard) (record so_far { acts = so_far.acts ++ act ∷ []; asked = so_far.asked ++ [] }) (same-heard so_far (act ∷ []) [])
+      (more (Acts act ∷ was.calls) [] [] (act ∷ []) [] nothing_heard (adds_one was.calls (Acts act))
+      (goes-nowhere start was.input gone-so-far host new same was.refines)
       (then_so ∙ ap (λ (sim : Simulated). after_call sim (Acts act)) was.controller))
 
   -- the application calls: the host takes it in, or had stopped
   host-goes : (asked : List Item) → Goes start was.input gone-so-far [] asked [] new → sim' ≡ sim
       → Joins start new sim' (record so_far { acts = so_far.acts ++ []; asked = so_far.asked ++ asked })
   host-goes asked goes same =
-      as-so-far (with_more so_far [] asked nothing) (record so_far { acts = so_far.acts ++ []; asked = so_far.asked ++ asked }) (same-heard so_far [] asked)
-      (more was.calls [] [] [] asked nothing (adds_none was.calls) goes (same ∙ was.controller))
+      as-so-far (with_more so_far [] asked nothing_heard) (record so_far { acts = so_far.acts ++ []; asked = so_far.asked ++ asked }) (same-heard so_far [] asked)
+      (more was.calls [] [] [] asked nothing_heard (adds_none was.calls) goes (same ∙ was.controller))
 
   app-calls : (item : Item) (told : Option Refused) (refused : Refused) (kept : Option HostFault) → host.fault ≡ kept
-      → packets_in (item ∷ []) ≡ [] → others_in (item ∷ []) ≡ item ∷ []
+      → packets_of_items (item ∷ []) ≡ [] → others_in (item ∷ []) ≡ item ∷ []
       → (host.fault ≡ None → Takes item host new) → (IsSome host.fault → told ≡ Some refused) → (IsSome told → new ≡ silent host)
       → Goes start was.input gone-so-far [] (asked_unless kept item) [] new
   app-calls item told refused None is none one takes stopped unchanged =
       subst (λ (packets : List Packet). Goes start was.input gone-so-far packets (item ∷ []) [] new) none
-      (subst (λ (items : List Item). Goes start was.input gone-so-far (packets_in (item ∷ [])) items [] new) one
-      (goes-on start was.input gone-so-far item host new (takes is) was.stands))
+      (subst (λ (items : List Item). Goes start was.input gone-so-far (packets_of_items (item ∷ [])) items [] new) one
+      (goes-on start was.input gone-so-far item host new (takes is) was.refines))
   app-calls item told refused (Some fault) is none one takes stopped unchanged =
-      let stands : IsSome host.fault = ap is_some is in
-      let same : new ≡ silent host = unchanged (ap is_some (stopped stands)) in
-      goes-nowhere start was.input gone-so-far host new (same ∙ ap (λ (fault : Option HostFault). silent_unless fault host) is) was.stands
+      let refines : IsSome host.fault = ap is_some is in
+      let same : new ≡ silent host = unchanged (ap is_some (stopped refines)) in
+      goes-nowhere start was.input gone-so-far host new (same ∙ ap (λ (fault : Option HostFault). silent_unless fault host) is) was.refines
 
   replaces : (next : Option Contents) (told : Option Refused) (next' : Option Contents) → ReplacesBy next told host new next'
       → Goes start was.input gone-so-far [] (replacement_of next host.fault) [] new
-  replaces None told next' is = goes-nowhere start was.input gone-so-far host new is.same was.stands
+  replaces None told next' is = goes-nowhere start was.input gone-so-far host new is.same was.refines
   replaces (Some table) told next' is =
       app-calls (ATable table) told (refused_call why.Stopped) host.fault refl refl refl is.takes is.stopped is.unchanged
 
 module _ (start : Start) (so_far : SoFar) where
-  abbrev JoinsAt : Whole → Simulated → Type 0
+  abbrev JoinsAt : HostModel → Simulated → Type 0
   JoinsAt host sim = Joins start host sim so_far
 
   -- packets are handed over
-  hands : (before after : Pair) → HandsOver before after → JoinsAt before.host before.sim → JoinsAt after.host after.sim
-  hands before after (inl out) was =
-      takes-packet start before.host after.host before.sim after.sim so_far was out.packet out.gives.goes out.takes
-  hands before after (inr taken) was =
-      gives-packet start before.host after.host before.sim after.sim so_far was taken.packet taken.gives taken.takes
+  hands : (before after_calls : Pair) → HandsOver before after_calls → JoinsAt before.host before.sim → JoinsAt after_calls.host after_calls.sim
+  hands before after_calls (inl out) was =
+      takes-packet start before.host after_calls.host before.sim after_calls.sim so_far was out.packet out.gives.goes out.takes
+  hands before after_calls (inr taken) was =
+      gives-packet start before.host after_calls.host before.sim after_calls.sim so_far was taken.packet taken.gives taken.takes
 
-  exchanges : (count : ℕ) (before after : Pair) → Exchanges count before after → JoinsAt before.host before.sim → JoinsAt after.host after.sim
-  exchanges zero before after is was = subst (λ (pair : Pair). JoinsAt pair.host pair.sim) (sym is) was
-  exchanges (suc count) before after (middle, first, rest) was = exchanges count middle after rest (hands before middle first was)
+  exchanges : (count : ℕ) (before after_calls : Pair) → Exchanges count before after_calls → JoinsAt before.host before.sim → JoinsAt after_calls.host after_calls.sim
+  exchanges zero before after_calls is was = subst (λ (pair : Pair). JoinsAt pair.host pair.sim) (sym is) was
+  exchanges (suc count) before after_calls (middle, first, rest) was = exchanges count middle after_calls rest (hands before middle first was)
 
   -- a line does what it says
   by-call : (call : why.Call) (told : Option Refused) (old acted : Stage) → ByCall call told old acted → JoinsAt old.host old.sim
@@ -267,8 +267,8 @@ module _ (start : Start) (so_far : SoFar) where
       does.calls.takes does.calls.stopped does.calls.unchanged)
       does.sim
 
-  does-act : (act : Act) (told : Option Refused) (old acted : Stage) → Does act told old acted → JoinsAt old.host old.sim
-      → Joins start acted.host acted.sim (after_doing old act so_far)
+  does-act : (act : Act) (told : Option Refused) (old acted : Stage) → DoesLine act told old acted → JoinsAt old.host old.sim
+      → Joins start acted.host acted.sim (after_line_done old act so_far)
   does-act (line.Phone phone act) told old acted does was =
       phone-acts start old.host acted.host old.sim acted.sim so_far was (sim_act phone act) does.host does.acts.after
   does-act (line.Authorize phone until) told old acted does was = by-call (why.AuthorizeCall (handle_of_phone phone) until) told old acted does was
@@ -279,14 +279,14 @@ module _ (start : Start) (so_far : SoFar) where
       (replaces start old.host acted.host old.sim acted.sim so_far was old.next told acted.next does.replaces) does.sim
 
   -- the phones are told what they have heard
-  tells : (count : ℕ) (host : Whole) (quiet sim : Simulated) → sim ≡ with_told_phones quiet count → JoinsAt host quiet
+  tells : (count : ℕ) (host : HostModel) (quiet sim : Simulated) → sim ≡ with_told_phones quiet count → JoinsAt host quiet
       → Joins start host sim (after_printing count quiet so_far)
   tells count host quiet sim is was =
       let told = tells_all count was.calls in
-      let printed : ℕ → List Octets = printed_of count (after simulated was.calls) in
+      let printed : ℕ → List Octets = printed_of count (after_calls simulated was.calls) in
       let now : Joins start host sim (with_more so_far [] [] printed) =
       more start host host quiet sim so_far was told.later [] [] [] [] printed told.adds
-      (goes-nowhere start was.input (packets_taken simulated was.calls) host host refl was.stands)
+      (goes-nowhere start was.input (packets_taken simulated was.calls) host host refl was.refines)
       (is ∙ ap (λ (sim : Simulated). with_told_phones sim count) was.controller ∙ sym told.then_so) in
       subst (λ (quiet : Simulated). Joins start host sim (after_printing count quiet so_far)) (sym was.controller)
       (subst (λ (then_far : SoFar). Joins start host sim then_far) (same-acts so_far printed) now)
@@ -295,9 +295,9 @@ joins-line : (start : Start) (so_far : SoFar) (shows : Bool) (names : List Octet
     (runs : RunsLine shows names act old new held holds) → Joins start old.host old.sim so_far → Joins start new.host new.sim (after_line runs so_far)
 joins-line start so_far shows names act old new held holds runs was =
     let done = does-act start so_far act runs.refused old runs.acted runs.done.does was in
-    let handed = exchanges start (after_doing old act so_far) runs.exchanges.count (pair_of runs.acted.host runs.acted.sim runs.heard)
+    let handed = exchanges start (after_line_done old act so_far) runs.exchanges.count (pair_of runs.acted.host runs.acted.sim runs.heard)
     (pair_of new.host runs.quiet runs.last) runs.exchanges.exchanges done in
-    tells start (after_doing old act so_far) (length names) new.host runs.quiet new.sim runs.told handed
+    tells start (after_line_done old act so_far) (length names) new.host runs.quiet new.sim runs.told handed
 
 joins-lines : (start : Start) (so_far : SoFar) (shown : Shown) (names : List Octets) (lines : List Act) (old new : Stage) (held holds : Option Octets)
     (runs : Runs shown names lines old new held holds) → Joins start old.host old.sim so_far
@@ -307,12 +307,12 @@ joins-lines start so_far shown names (act ∷ lines) old new held holds (middle,
     joins-lines start (after_line first.runs so_far) (shown_behind shown) names lines middle new between holds rest
     (joins-line start so_far shown.notices names act old middle first.echoed between first.runs was)
 
-joins-opened : (table : Contents) (keys : List Entry) (rows : Subscriptions) (host : Whole) → IsOpened table keys rows host
-    → Joins (start_of table keys rows configuration) host (at_start simulated) nothing_yet
+joins-opened : (table : Contents) (keys : List Entry) (rows : Subscriptions) (host : HostModel) → IsOpened table keys rows host
+    → Joins (start_of table keys rows command_configuration) host (simulated_at_start simulated) nothing_yet
 joins-opened table keys rows host is = record {
   input = [];
   calls = [];
-  stands = is.stands;
+  refines = is.refines;
   controller = refl;
   given = refl;
   asked = refl;
@@ -321,11 +321,11 @@ joins-opened table keys rows host is = record {
 }
 
 -- the lines of a run: all of them, or those before one that ends it
-joins-begun : (table : Contents) (keys : List Entry) (rows : Subscriptions) (host : Whole) → IsOpened table keys rows host
-    → (begun : Stage) (silent last : Notes) → ExchangesAll (pair_of host (at_start simulated) silent) (pair_of begun.host begun.sim last)
-    → Joins (start_of table keys rows configuration) begun.host begun.sim nothing_yet
+joins-begun : (table : Contents) (keys : List Entry) (rows : Subscriptions) (host : HostModel) → IsOpened table keys rows host
+    → (begun : Stage) (silent last : Notes) → ExchangesAll (pair_of host (simulated_at_start simulated) silent) (pair_of begun.host begun.sim last)
+    → Joins (start_of table keys rows command_configuration) begun.host begun.sim nothing_yet
 joins-begun table keys rows host opened begun silent last is =
-    exchanges (start_of table keys rows configuration) nothing_yet is.count (pair_of host (at_start simulated) silent) (pair_of begun.host begun.sim last)
+    exchanges (start_of table keys rows command_configuration) nothing_yet is.count (pair_of host (simulated_at_start simulated) silent) (pair_of begun.host begun.sim last)
     is.exchanges (joins-opened table keys rows host opened)
 
 -- the lines before the one that ends a run
@@ -378,13 +378,13 @@ joined-up-to start fault shown names lines old new held holds ends was =
 pub closes_the_loop : ClosesTheLoop
 closes_the_loop = record {
   opened = λ table keys rows host is.
-      is-joined (start_of table keys rows configuration) host (at_start simulated) nothing_yet (joins-opened table keys rows host is);
+      is-joined (start_of table keys rows command_configuration) host (simulated_at_start simulated) nothing_yet (joins-opened table keys rows host is);
   does_line = λ start so_far act told old new does was.
-      is-joined start new.host new.sim (after_doing old act so_far) (does-act start so_far act told old new does (joins start old.host old.sim so_far was));
-  exchanges = λ start so_far count before after is was.
-      is-joined start after.host after.sim so_far (exchanges start so_far count before after is (joins start before.host before.sim so_far was));
+      is-joined start new.host new.sim (after_line_done old act so_far) (does-act start so_far act told old new does (joins start old.host old.sim so_far was));
+  exchanges = λ start so_far count before after_calls is was.
+      is-joined start after_calls.host after_calls.sim so_far (exchanges start so_far count before after_calls is (joins start before.host before.sim so_far was));
   all_gone = λ start so_far host sim joined none out.
-      all_gone (course start joined.input) (packets_taken simulated joined.calls) host.held host.frames joined.stands.stands (drained_where host none out);
+      all_gone (run start joined.input) (packets_taken simulated joined.calls) host.server host.frames joined.refines.refines (drained_where host none out);
   each_line = λ start so_far shown names act old new held holds runs was.
       is-joined start new.host new.sim (after_line runs so_far)
       (joins-line start so_far shown names act old new held holds runs (joins start old.host old.sim so_far was));
@@ -392,11 +392,11 @@ closes_the_loop = record {
       is-joined start new.host new.sim (after_lines shown names lines old new held holds runs so_far)
       (joins-lines start so_far shown names lines old new held holds runs (joins start old.host old.sim so_far was));
   whole_run = λ table keys rows shown script host next new held holds opened runs.
-      is-joined (start_of table keys rows configuration) new.host new.sim
+      is-joined (start_of table keys rows command_configuration) new.host new.sim
       (after_lines shown script.names script.acts runs.begun new held holds runs.lines nothing_yet)
-      (joins-lines (start_of table keys rows configuration) nothing_yet shown script.names script.acts runs.begun new held holds runs.lines
+      (joins-lines (start_of table keys rows command_configuration) nothing_yet shown script.names script.acts runs.begun new held holds runs.lines
       (joins-begun table keys rows host opened runs.begun runs.silent runs.last runs.exchanges));
   early_end = λ table keys rows fault shown script host next new held holds opened ends.
-      joined-up-to (start_of table keys rows configuration) fault shown script.names script.acts ends.begun new held holds ends.lines
+      joined-up-to (start_of table keys rows command_configuration) fault shown script.names script.acts ends.begun new held holds ends.lines
       (joins-begun table keys rows host opened ends.begun ends.silent ends.last ends.exchanges);
 }

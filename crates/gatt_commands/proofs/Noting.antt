@@ -6,12 +6,12 @@ use Rattle.att_table.specs.Table.{Contents}
 use Rattle.gatt_host.specs.declared.notice.Notice.{Notice}
 use Rattle.gatt_host.specs.Notices.{HasTheValue, notice_of}
 use Rattle.gatt_host.specs.Telling.{notices_told}
-use Rattle.gatt_host.specs.Whole.{Whole}
+use Rattle.gatt_host.specs.HostModel.{HostModel}
 use Rattle.gatt_laws.specs.machine.Notice as law
 use Rattle.octets.specs.Number.{Octets}
 use Rattle.gatt_commands.specs.declared.notes.Notes.{Notes}
 use Rattle.notice_lines.specs.NoticeText.{notice_line}
-use Rattle.gatt_commands.specs.Notices.{HaveTheirValues, Hears, NotesLines, NotesOne}
+use Rattle.gatt_commands.specs.Notices.{HaveTheirValues, NotesWhatIsTold, NotesLines, NotesOne}
 
 values-append : (table : Contents) (first : List Notice) (notice : Notice) → HaveTheirValues table first → HasTheValue table notice
     → HaveTheirValues table (first ++ notice ∷ [])
@@ -80,10 +80,10 @@ noted-lines notices rest table old now so_far none = record {
 }
 
 -- all of what a host tells, where it is shown
-pub noted_all : (host : Whole) (rest : List law.Notice) (old now : Notes) → old.shows ≡ true → HasNoted (notices_told host) rest host.held.table old now
-    → rest ≡ [] → Hears host old now
+pub noted_all : (host : HostModel) (rest : List law.Notice) (old now : Notes) → old.shows ≡ true → HasNoted (notices_told host) rest host.server.table old now
+    → rest ≡ [] → NotesWhatIsTold host old now
 noted_all host rest old now shown so_far none = record {
   shows = so_far.shows;
   deaf = λ deaf. cc (shown, deaf);
-  lines = λ _ kept. noted-lines (notices_told host) rest host.held.table old now (so_far.some kept) none;
+  lines = λ _ kept. noted-lines (notices_told host) rest host.server.table old now (so_far.some kept) none;
 }

@@ -8,7 +8,7 @@ use Rattle.gatt_files.specs.declared.fault.ShellFault.{ShellFault}
 use Rattle.gatt_files.specs.declared.fault.ShellFault.TheVariants.{Table, Keys, Rows, Next, Script, Host, Controller, TooLong, NotHex, Unreadable, Unwritten, Listen, Memory}
 use Rattle.gatt_commands.specs.Echo.{lines_shown}
 use Rattle.gatt_files.specs.ScriptFile.{script_in, IsScriptRefusal}
-use Rattle.gatt_files.specs.Turns.{IsPast, OfScript, place_of, place_of_fault}
+use Rattle.gatt_files.specs.Turns.{IsPast, OfScript, turn_place, place_of_fault}
 
 -- what is judged is all of the input
 pub judged_all : (known : Option (List ℕ)) (items text : List ℕ) (judged given : Bool) (wanted : Result Acts ScriptFault)
@@ -32,7 +32,7 @@ refused_at has_next text (Ok done) fault line was refusal is = absurd was
 refused_at has_next text (Err passed_on) fault line was refusal is =
     let same : fault ≡ Script line = cc (was, is) in subst (IsScriptRefusal has_next text) same refusal
 
-past : (has_next : Bool) (text : List ℕ) (fault : ShellFault) → IsScriptRefusal has_next text fault → place_of OfScript < place_of_fault fault → ⊥
+past : (has_next : Bool) (text : List ℕ) (fault : ShellFault) → IsScriptRefusal has_next text fault → turn_place OfScript < place_of_fault fault → ⊥
 past has_next text (Script line) refusal later = omega (arith, later)
 past has_next text Memory refusal later = omega (arith, later)
 past has_next text (Table number) refusal later = refusal
@@ -52,14 +52,14 @@ pub never_past : (has_next : Bool) (text : List ℕ) (outer : Result Unit ShellF
     → IsErrAnd outer (λ passed_on. passed_on ≡ fault) → IsScriptRefusal has_next text fault → IsPast OfScript outer → ⊥
 never_past has_next text (Ok done) fault was refusal later = absurd was
 never_past has_next text (Err passed_on) fault was refusal later =
-    past has_next text fault refusal (subst (λ (f : ShellFault). place_of OfScript < place_of_fault f) was later)
+    past has_next text fault refusal (subst (λ (f : ShellFault). turn_place OfScript < place_of_fault f) was later)
 
 -- nor where memory is refused before
 pub refused_never_past : (outer : Result Unit ShellFault) (fault : ShellFault)
     → IsErrAnd outer (λ passed_on. passed_on ≡ fault) → fault ≡ Memory → IsPast OfScript outer → ⊥
 refused_never_past (Ok done) fault was is later = absurd was
 refused_never_past (Err passed_on) fault was is later =
-    let past : place_of OfScript < place_of_fault Memory = subst (λ (f : ShellFault). place_of OfScript < place_of_fault f) (was ∙ is) later in
+    let past : turn_place OfScript < place_of_fault Memory = subst (λ (f : ShellFault). turn_place OfScript < place_of_fault f) (was ∙ is) later in
     omega (arith, past)
 
 -- what is judged where a next table was read is judged where one was given

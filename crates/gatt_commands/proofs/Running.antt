@@ -13,10 +13,10 @@ use Rattle.gatt_files.specs.declared.fault.ShellFault.{ShellFault}
 use Rattle.gatt_files.specs.declared.fault.ShellFault.TheVariants.{Table, Keys, Rows, Next, Script, Host, Controller, TooLong, NotHex, Unreadable, Unwritten, Listen, Memory}
 use Rattle.gatt_commands.specs.declared.notes.Notes.{Notes}
 use Rattle.gatt_commands.specs.Doing.{Stage}
-use Rattle.gatt_commands.specs.Echo.{Shown, behind, echo_of, shown_of}
+use Rattle.gatt_commands.specs.Echo.{Shown, lines_behind, echo_of, shown_of}
 use Rattle.gatt_commands.specs.Exchange.{ExchangesAll, pair_of}
 use Rattle.gatt_commands.specs.Lines.{IsExchangeFault, with_told_phones}
-use Rattle.gatt_commands.specs.Runs.{EndsAmong, EndsAtLine, EndsAtNext, EndsEarly, Fails, FailsToExchange, FailsToNote, IsDone, Runs, RunsAll, RunsLine, RunsNext, line_text}
+use Rattle.gatt_commands.specs.Runs.{EndsAmong, EndsAtLine, EndsAtNext, EndsEarly, Fails, FailsToExchange, FailsToNote, LineIsDone, Runs, RunsAll, RunsLine, RunsNext, line_text}
 
 pub keeps_all : (held : Option Octets) → Keeps held held
 keeps_all None = tt
@@ -46,7 +46,7 @@ fails-exchanging Memory shows names refused heard old new held holds is fails = 
 fails-exchanging Unwritten shows names refused heard old new held holds is fails = absurd is
 
 module _ (shows : Bool) (names : List Octets) (act : Act) (refused : Option Refused) (heard : Notes) (old acted new : Stage) (held holds : Option Octets)
-    (done : IsDone shows act refused old acted heard) where
+    (done : LineIsDone shows act refused old acted heard) where
   pub ends_exchanging : (result : Result (Unit {0}) ShellFault) (fault : ShellFault) → IsErrAnd result (λ passed. passed ≡ fault)
       → IsExchangeFault fault → FailsToExchange fault heard acted new held holds → IfErr result (λ fault. EndsAtLine fault shows names act old new held holds)
   ends_exchanging result fault was is fails =
@@ -104,7 +104,7 @@ module _ (shown left : Shown) (names : List Octets) (acts : List Act) (index : �
   next-line : act ∷ drop (index + 1) acts ≡ drop index acts
   next-line = ap (λ (first : Act). first ∷ drop (index + 1) acts) same ∙ sym (drop_more acts index act below)
 
-  pub run_more : (lines : List Octets) → lines ≡ behind left.lines → (next : Stage) (holds : Option Octets) → RunsNext left names act now next between holds
+  pub run_more : (lines : List Octets) → lines ≡ lines_behind left.lines → (next : Stage) (holds : Option Octets) → RunsNext left names act now next between holds
       → HasRun shown (shown_of left.notices lines) names acts (drop (index + 1) acts) old next held holds
   run_more lines are_left next holds line = subst (λ (lines : List Octets). HasRun shown (shown_of left.notices lines) names acts (drop (index + 1) acts) old next held holds)
       (sym are_left) (record {

@@ -4,12 +4,12 @@ use Rattle.std.specs.Prelude.{IfErr}
 use Rattle.gatt_host.specs.declared.host_fault.HostFault.{HostFault}
 use Rattle.gatt_host.specs.Numbers.{number_of_fault}
 use Rattle.gatt_subs.specs.Rows.{Subscriptions}
-use Rattle.gatt_subs.specs.RowsText.{text_of}
+use Rattle.gatt_subs.specs.RowsText.{rows_text}
 use Rattle.octets.specs.Number.{Octets}
 use Rattle.gatt_files.specs.declared.fault.ShellFault.{ShellFault}
 use Rattle.gatt_files.specs.declared.fault.ShellFault.TheVariants.{Host, Unwritten}
 use Rattle.gatt_files.specs.Saving.{Save, Saves, SavesAfter}
-use Rattle.gatt_commands.specs.Serving.{told_of, SavesBy}
+use Rattle.gatt_commands.specs.Serving.{fault_told_of, SavesBy}
 
 module _ (text : Octets) (saves saves_then : Option (List Save)) where
   by-answer : (ran result : Result (Unit {0}) ShellFault) → ran ≡ Ok tt → IfErr result (λ fault. fault ≡ Unwritten)
@@ -19,7 +19,7 @@ module _ (text : Octets) (saves saves_then : Option (List Save)) where
       subst (λ (fault : ShellFault). SavesBy (Err fault) text saves saves_then) (sym unwritten)
       (subst (λ (is_done : Bool). Saves text is_done saves saves_then) (saved.answered well) saved.saves)
 
-  by-fault : (stands : Option HostFault) (ran result : Result (Unit {0}) ShellFault) → ran ≡ told_of stands
+  by-fault : (refines : Option HostFault) (ran result : Result (Unit {0}) ShellFault) → ran ≡ fault_told_of refines
       → ((fault : ShellFault) → ran ≡ Err fault → result ≡ Err fault) → (ran ≡ Ok tt → IfErr result (λ fault. fault ≡ Unwritten))
       → SavesAfter ran result text saves saves_then → SavesBy result text saves saves_then
   by-fault None ran result told failed unwritten saved = by-answer ran result told (unwritten told) saved
@@ -28,9 +28,9 @@ module _ (text : Octets) (saves saves_then : Option (List Save)) where
       (saved.is_done, saved.saves)
 
 -- of the rows that stand
-pub saves_rows : (rows held : Subscriptions) (saves saves_then : Option (List Save)) (stands : Option HostFault) (ran result : Result (Unit {0}) ShellFault) → rows ≡ held
-    → ran ≡ told_of stands → ((fault : ShellFault) → ran ≡ Err fault → result ≡ Err fault) → (ran ≡ Ok tt → IfErr result (λ fault. fault ≡ Unwritten))
-    → SavesAfter ran result (text_of rows) saves saves_then → SavesBy result (text_of held) saves saves_then
-saves_rows rows held saves saves_then stands ran result same told failed unwritten saved =
-    by-fault (text_of held) saves saves_then stands ran result told failed unwritten
-    (subst (λ (rows : Subscriptions). SavesAfter ran result (text_of rows) saves saves_then) same saved)
+pub saves_rows : (rows held : Subscriptions) (saves saves_then : Option (List Save)) (refines : Option HostFault) (ran result : Result (Unit {0}) ShellFault) → rows ≡ held
+    → ran ≡ fault_told_of refines → ((fault : ShellFault) → ran ≡ Err fault → result ≡ Err fault) → (ran ≡ Ok tt → IfErr result (λ fault. fault ≡ Unwritten))
+    → SavesAfter ran result (rows_text rows) saves saves_then → SavesBy result (rows_text held) saves saves_then
+saves_rows rows held saves saves_then refines ran result same told failed unwritten saved =
+    by-fault (rows_text held) saves saves_then refines ran result told failed unwritten
+    (subst (λ (rows : Subscriptions). SavesAfter ran result (rows_text rows) saves saves_then) same saved)

@@ -1,7 +1,7 @@
 -- Where no notice is shown nothing is noted, and so no memory is refused for it.
 use Rattle.std.proofs.Common.{◌≡◌, ℕ, zero, suc, Bool, true, false, List, [], ◌∷◌, ◌++◌, Option, Some, None, refl, ap, subst, inl, inr, ◌∙◌, append-nil}
 use Rattle.att_table.specs.Table.{Contents}
-use Rattle.gatt_host.specs.Whole.{Whole}
+use Rattle.gatt_host.specs.HostModel.{HostModel}
 use Rattle.le_h4.specs.Division.{division}
 use Rattle.le_h4.specs.Packet.{Packet}
 use Rattle.scripts.specs.declared.act.Act.{Act}
@@ -11,21 +11,21 @@ use Rattle.gatt_commands.specs.declared.notes.Notes.{Notes}
 use Rattle.gatt_commands.specs.Doing.{NotesAct, NotesReplacing, NotesUnless}
 use Rattle.gatt_commands.specs.Exchange.{Exchanges, ExchangesAll, HandsOver, NotesFirst, Pair, pair_of}
 use Rattle.gatt_commands.specs.Lines.{outcome_text}
-use Rattle.gatt_commands.specs.Notices.{IsBegun}
+use Rattle.gatt_commands.specs.Notices.{NotesNothingYet}
 use Rattle.gatt_commands.specs.Runs.{ShowsNothingUnasked}
 use Rattle.octets.specs.Number.{Octets}
 use Rattle.std.specs.Io.KnownBytes.{Appends}
 
-unless-unshown : (told : Option Refused) (host : Whole) (old new : Notes) → NotesUnless told host old new → old.shows ≡ false → new ≡ old
+unless-unshown : (told : Option Refused) (host : HostModel) (old new : Notes) → NotesUnless told host old new → old.shows ≡ false → new ≡ old
 unless-unshown None host old new noted unshown = noted.deaf unshown
 unless-unshown (Some refused) host old new noted unshown = noted
 
-replacing-unshown : (next : Option Contents) (told : Option Refused) (host : Whole) (old new : Notes) → NotesReplacing next told host old new → old.shows ≡ false
+replacing-unshown : (next : Option Contents) (told : Option Refused) (host : HostModel) (old new : Notes) → NotesReplacing next told host old new → old.shows ≡ false
     → new ≡ old
 replacing-unshown None told host old new noted unshown = noted
 replacing-unshown (Some table) told host old new noted unshown = unless-unshown told host old new noted unshown
 
-act-unshown : (act : Act) (next : Option Contents) (told : Option Refused) (host : Whole) (old new : Notes) → NotesAct act next told host old new
+act-unshown : (act : Act) (next : Option Contents) (told : Option Refused) (host : HostModel) (old new : Notes) → NotesAct act next told host old new
     → old.shows ≡ false → new ≡ old
 act-unshown (line.Phone phone act) next told host old new noted unshown = noted
 act-unshown (line.Authorize phone until) next told host old new noted unshown = unless-unshown told host old new noted unshown
@@ -33,7 +33,7 @@ act-unshown (line.Update handle value) next told host old new noted unshown = un
 act-unshown (line.Tick time) next told host old new noted unshown = unless-unshown told host old new noted unshown
 act-unshown line.Replace next told host old new noted unshown = replacing-unshown next told host old new noted unshown
 
-first-unshown : (packets : List Packet) (host : Whole) (old new : Notes) → NotesFirst packets host old new → old.shows ≡ false → new ≡ old
+first-unshown : (packets : List Packet) (host : HostModel) (old new : Notes) → NotesFirst packets host old new → old.shows ≡ false → new ≡ old
 first-unshown [] host old new noted unshown = noted
 first-unshown (packet ∷ packets) host old new noted unshown = noted.deaf unshown
 
@@ -49,7 +49,7 @@ exchanges-unshown (suc count) before after (middle, hands, rest) unshown =
     exchanges-unshown count middle after rest (ap (λ (notes : Notes). notes.shows) first ∙ unshown) ∙ first
 
 -- so where it was refused, notices are shown
-pub shown_where : (shows : Bool) (act : Act) (next : Option Contents) (told : Option Refused) (begun heard : Notes) (before after : Pair) → IsBegun shows begun
+pub shown_where : (shows : Bool) (act : Act) (next : Option Contents) (told : Option Refused) (begun heard : Notes) (before after : Pair) → NotesNothingYet shows begun
     → NotesAct act next told before.host begun heard → before.notes ≡ heard → ExchangesAll before after → after.notes.is_refused ≡ true → shows ≡ true
 shown_where true act next told begun heard before after fresh noted same exchanges refused = refl
 shown_where false act next told begun heard before after fresh noted same exchanges refused =

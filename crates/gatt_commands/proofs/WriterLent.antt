@@ -5,7 +5,7 @@ use Rattle.std.specs.Result.{result_err}
 use Rattle.gatt_host.specs.declared.host_fault.HostFault.{HostFault}
 use Rattle.gatt_host.specs.declared.serving.End.{End}
 use Rattle.gatt_host.specs.Feeding.{Serves}
-use Rattle.gatt_host.specs.Whole.{Whole}
+use Rattle.gatt_host.specs.HostModel.{HostModel}
 use Rattle.octets.specs.Number.{Octets}
 use Rattle.gatt_commands.specs.Serving.{turns, ServesBy}
 
@@ -15,7 +15,7 @@ pub stands_by : (result : Result End HostFault) (fault : Option HostFault) → (
 stands_by (Ok end) fault going stops = going refl
 stands_by (Err answered) fault going stops = stops
 
-pub served_by : {R W : Type 0} (result : Result End HostFault) (old new : Whole) (remaining : R → Option Octets) (contents : W → Option Octets)
+pub served_by : {R W : Type 0} (result : Result End HostFault) (old new : HostModel) (remaining : R → Option Octets) (contents : W → Option Octets)
     (reader first_reader last_reader : R) (writer first_writer last_writer : W) → first_reader ≡ reader → first_writer ≡ writer
     → Serves result turns old new (remaining first_reader) (remaining last_reader) (contents first_writer) (contents last_writer)
     → (IsOk result → new.fault ≡ None) → IfErr result (λ answered. new.fault ≡ Some answered) → ServesBy remaining contents reader writer old new
@@ -26,6 +26,6 @@ served_by result old new remaining contents reader first_reader last_reader writ
     ended = result;
     serves = subst (λ (from : _). Serves result turns old new (remaining from) (remaining last_reader) (contents writer) (contents last_writer)) same_reader
         (subst (λ (from : _). Serves result turns old new (remaining first_reader) (remaining last_reader) (contents from) (contents last_writer)) same_writer serves);
-    stands = stands_by result new.fault going stops;
+    refines = stands_by result new.fault going stops;
   };
 }

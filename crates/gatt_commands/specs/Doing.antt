@@ -3,10 +3,10 @@ use Rattle.std.specs.Prelude.{◌≡◌, ℕ, if◌then◌else◌, is_some, List
 use Rattle.std.specs.Option.{option_map}
 use Rattle.att_table.specs.Table.{Contents}
 use Rattle.gatt_host.specs.Telling.{silent}
-use Rattle.gatt_host.specs.Whole.{Takes, Whole, StandsAt}
+use Rattle.gatt_host.specs.HostModel.{Takes, HostModel, RefinesRun}
 use Rattle.gatt_laws.specs.machine.Calls.{Call, UpdateCall, AuthorizeCall, TickCall}
 use Rattle.gatt_laws.specs.machine.Calls as why
-use Rattle.gatt_laws.specs.machine.Input.{Item, ACall, ATable, call_refusal, course, replacement_refusal}
+use Rattle.gatt_laws.specs.machine.Input.{Item, ACall, ATable, call_refusal, run, replacement_refusal}
 use Rattle.gatt_laws.specs.machine.Start.{Start}
 use Rattle.octets.specs.Number.{Octets}
 use Rattle.scripts.specs.declared.act.Act.{Act}
@@ -18,24 +18,24 @@ use Rattle.sim_controller.specs.Acts.{act_fault, phone_in}
 use Rattle.sim_controller.specs.Calls.{Acts, after_call}
 use Rattle.sim_controller.specs.declared.fault.SimFault.{SimFault}
 use Rattle.sim_controller.specs.Phones.{handle_of_phone}
-use Rattle.sim_controller.specs.SimFault.{number_of}
+use Rattle.sim_controller.specs.SimFault.{sim_fault_number}
 use Rattle.sim_controller.specs.Simulated.{Simulated}
 use Rattle.gatt_commands.specs.declared.acts.Refused.{Refused}
 use Rattle.gatt_commands.specs.declared.acts.Refused.TheVariants as refused
 use Rattle.gatt_commands.specs.declared.notes.Notes.{Notes}
-use Rattle.gatt_commands.specs.Notices.{Hears}
+use Rattle.gatt_commands.specs.Notices.{NotesWhatIsTold}
 
 -- what stands between two lines: a host, its controller, and the table by which the next replacement replaces
 pub record Stage : Type 0 where
-  pub host : Whole
+  pub host : HostModel
   pub sim : Simulated
   pub next : Option Contents
 
-abbrev pub stage_of : Whole → Simulated → Option Contents → Stage
+abbrev pub stage_of : HostModel → Simulated → Option Contents → Stage
 stage_of host sim next = record { host = host; sim = sim; next = next }
 
 -- what the phone of a number does to the controller
-abbrev pub sim_act : ℕ → PhoneAct → sim.Act
+abbrev pub sim_act : ℕ → PhoneAct → sim.SimulatedAct
 sim_act phone (does.Connect peer) = sim.Connect phone peer
 sim_act phone does.Drop = sim.Drop phone
 sim_act phone (does.Encrypt random_number diversifier) = sim.Encrypt phone random_number diversifier
@@ -46,9 +46,9 @@ sim_act phone (does.Done packets) = sim.Done phone packets
 
 -- an act that is refused is told with its phone and the number of the fault, and changes nothing
 abbrev pub refused_act : ℕ → SimFault → Refused
-refused_act phone fault = refused.Act phone (number_of fault)
+refused_act phone fault = refused.Act phone (sim_fault_number fault)
 
-pub record PhoneActs (act : sim.Act) (told : Option Refused) (old new : Simulated) : Type 0 where
+pub record PhoneActs (act : sim.SimulatedAct) (told : Option Refused) (old new : Simulated) : Type 0 where
   pub refused : told ≡ option_map (refused_act (phone_in act)) (act_fault old act)
   pub after : new ≡ after_call old (Acts act)
 
@@ -66,42 +66,42 @@ abbrev pub refused_call : why.Refused → Refused
 refused_call reason = refused.Call (number_of_why reason)
 
 -- wherever the host stood, what is told is why the call is refused
-abbrev pub TellsWhy : Call → Option Refused → Whole → Type 0
-TellsWhy call told old = (start : Start) (input : List Item) (gone : List Octets) → StandsAt (course start input) gone old
-    → told ≡ option_map refused_call (call_refusal (course start input).intake call)
+abbrev pub TellsWhy : Call → Option Refused → HostModel → Type 0
+TellsWhy call told old = (start : Start) (input : List Item) (sent : List Octets) → RefinesRun (run start input) sent old
+    → told ≡ option_map refused_call (call_refusal (run start input).intake call)
 
 -- the host takes in a call of the application, or refuses it, and then only what was told last is forgotten
-pub record Calls (call : Call) (told : Option Refused) (old new : Whole) : Type 0 where
+pub record Calls (call : Call) (told : Option Refused) (old new : HostModel) : Type 0 where
   pub takes : old.fault ≡ None → Takes (ACall call) old new
   pub refused : old.fault ≡ None → TellsWhy call told old
   pub stopped : IsSome old.fault → told ≡ Some (refused_call why.Stopped)
   pub unchanged : IsSome told → new ≡ silent old
 
 -- the same of a table that replaces the one that stands
-abbrev pub TellsWhyNot : Contents → Option Refused → Whole → Type 0
-TellsWhyNot table told old = (start : Start) (input : List Item) (gone : List Octets) → StandsAt (course start input) gone old
-    → told ≡ option_map refused_call (replacement_refusal (course start input).intake table)
+abbrev pub TellsWhyNot : Contents → Option Refused → HostModel → Type 0
+TellsWhyNot table told old = (start : Start) (input : List Item) (sent : List Octets) → RefinesRun (run start input) sent old
+    → told ≡ option_map refused_call (replacement_refusal (run start input).intake table)
 
 -- the two tables change places, unless the replacement is refused
-pub record Replaces (table : Contents) (told : Option Refused) (old new : Whole) (next : Option Contents) : Type 0 where
+pub record Replaces (table : Contents) (told : Option Refused) (old new : HostModel) (next : Option Contents) : Type 0 where
   pub takes : old.fault ≡ None → Takes (ATable table) old new
   pub refused : old.fault ≡ None → TellsWhyNot table told old
   pub stopped : IsSome old.fault → told ≡ Some (refused_call why.Stopped)
   pub unchanged : IsSome told → new ≡ silent old
-  pub next_then : next ≡ Some (if is_some told then table else old.held.table)
+  pub next_then : next ≡ Some (if is_some told then table else old.server.table)
 
 -- without another table nothing is done
-pub record ReplacesNone (told : Option Refused) (old new : Whole) (next : Option Contents) : Type 0 where
+pub record ReplacesNone (told : Option Refused) (old new : HostModel) (next : Option Contents) : Type 0 where
   pub not_told : told ≡ None
   pub same : new ≡ old
   pub still_none : next ≡ None
 
-abbrev pub ReplacesBy : Option Contents → Option Refused → Whole → Whole → Option Contents → Type 0
+abbrev pub ReplacesBy : Option Contents → Option Refused → HostModel → HostModel → Option Contents → Type 0
 ReplacesBy None told old new next = ReplacesNone told old new next
 ReplacesBy (Some table) told old new next = Replaces table told old new next
 
 -- what one line does, and what is told of it where it is refused
-pub record ByPhone (act : sim.Act) (told : Option Refused) (old new : Stage) : Type 0 where
+pub record ByPhone (act : sim.SimulatedAct) (told : Option Refused) (old new : Stage) : Type 0 where
   pub acts : PhoneActs act told old.sim new.sim
   pub host : new.host ≡ old.host
   pub next : new.next ≡ old.next
@@ -115,24 +115,24 @@ pub record ByReplacing (told : Option Refused) (old new : Stage) : Type 0 where
   pub replaces : ReplacesBy old.next told old.host new.host new.next
   pub sim : new.sim ≡ old.sim
 
-abbrev pub Does : Act → Option Refused → Stage → Stage → Type 0
-Does (line.Phone phone act) told old new = ByPhone (sim_act phone act) told old new
-Does (line.Authorize phone until) told old new = ByCall (AuthorizeCall (handle_of_phone phone) until) told old new
-Does (line.Update handle value) told old new = ByCall (UpdateCall handle value) told old new
-Does (line.Tick time) told old new = ByCall (TickCall time) told old new
-Does line.Replace told old new = ByReplacing told old new
+abbrev pub DoesLine : Act → Option Refused → Stage → Stage → Type 0
+DoesLine (line.Phone phone act) told old new = ByPhone (sim_act phone act) told old new
+DoesLine (line.Authorize phone until) told old new = ByCall (AuthorizeCall (handle_of_phone phone) until) told old new
+DoesLine (line.Update handle value) told old new = ByCall (UpdateCall handle value) told old new
+DoesLine (line.Tick time) told old new = ByCall (TickCall time) told old new
+DoesLine line.Replace told old new = ByReplacing told old new
 
 -- what the host tells of a call that is not refused is noted
-abbrev pub NotesUnless : Option Refused → Whole → Notes → Notes → Type 0
-NotesUnless None host old new = Hears host old new
+abbrev pub NotesUnless : Option Refused → HostModel → Notes → Notes → Type 0
+NotesUnless None host old new = NotesWhatIsTold host old new
 NotesUnless (Some refused) host old new = new ≡ old
 
-abbrev pub NotesReplacing : Option Contents → Option Refused → Whole → Notes → Notes → Type 0
+abbrev pub NotesReplacing : Option Contents → Option Refused → HostModel → Notes → Notes → Type 0
 NotesReplacing None told host old new = new ≡ old
 NotesReplacing (Some table) told host old new = NotesUnless told host old new
 
 -- of what a line does, which the host takes in at once or not at all
-abbrev pub NotesAct : Act → Option Contents → Option Refused → Whole → Notes → Notes → Type 0
+abbrev pub NotesAct : Act → Option Contents → Option Refused → HostModel → Notes → Notes → Type 0
 NotesAct (line.Phone phone act) next told host old new = new ≡ old
 NotesAct line.Replace next told host old new = NotesReplacing next told host old new
 NotesAct act next told host old new = NotesUnless told host old new

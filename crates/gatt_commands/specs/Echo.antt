@@ -3,7 +3,7 @@ use Rattle.std.specs.Prelude.{◌==◌, ◌++◌, Bool, false, not, if◌then◌
 use Rattle.std.specs.Borrow.{Bor}
 use Rattle.std.specs.Option.{option_map_or}
 use Rattle.octets.specs.Number.{Octets}
-use Rattle.scripts.specs.Script.{lines_of, number_sign}
+use Rattle.scripts.specs.Script.{lines_of_script, number_sign}
 use Rattle.scripts.specs.declared.act.Act.{Act}
 use Rattle.gatt_commands.specs.Lines.{line_feed}
 
@@ -18,17 +18,17 @@ echo_of [] = []
 echo_of (line ∷ lines) = (line ++ line_feed) ++ (if says line then [] else echo_of lines)
 
 -- the lines behind it
-abbrev pub behind : List Octets → List Octets
-behind [] = []
-behind (line ∷ lines) = if says line then lines else behind lines
+abbrev pub lines_behind : List Octets → List Octets
+lines_behind [] = []
+lines_behind (line ∷ lines) = if says line then lines else lines_behind lines
 
 -- the lines of a text, as far as there is one
 abbrev pub lines_left : Option (Bor Octets) → List Octets
-lines_left text = option_map_or (λ text. lines_of text.now) text []
+lines_left text = option_map_or (λ text. lines_of_script text.now) text []
 
 -- the lines of a script that are printed: none, unless that is asked for
 abbrev pub lines_shown : Bool → Octets → List Octets
-lines_shown shows text = if shows then lines_of text else []
+lines_shown shows text = if shows then lines_of_script text else []
 
 -- what is printed beside what phones hear: the notices, where they are asked for, and the lines of the script that are left
 pub record Shown : Type 0 where
@@ -40,7 +40,7 @@ shown_of notices lines = record { notices = notices; lines = lines }
 
 -- what is left of it behind a line that says something, and behind so many as there are acts
 abbrev pub shown_behind : Shown → Shown
-shown_behind shown = record shown { lines = behind shown.lines }
+shown_behind shown = record shown { lines = lines_behind shown.lines }
 
 abbrev pub shown_after : List Act → Shown → Shown
 shown_after [] shown = shown

@@ -4,39 +4,39 @@ use Rattle.std.specs.Option.{option_map}
 use Rattle.gatt_host.specs.declared.host_fault.HostFault.{HostFault}
 use Rattle.gatt_host.specs.declared.host_fault.HostFault.TheVariants.{Desync}
 use Rattle.gatt_host.specs.Numbers.{number_of_fault}
-use Rattle.gatt_host.specs.Whole.{Leads, Takes, Whole, all_out}
+use Rattle.gatt_host.specs.HostModel.{Refines, Takes, HostModel, all_out}
 use Rattle.gatt_laws.specs.machine.Input.{APacket}
 use Rattle.le_h4.specs.Division.{End, Unfinished, Lost, division}
 use Rattle.le_h4.specs.Packet.{Packet}
 use Rattle.octets.specs.Number.{Octets}
 use Rattle.sim_controller.specs.Answers.{after_host, host_fault}
 use Rattle.sim_controller.specs.FromHost.{host_packet_of}
-use Rattle.sim_controller.specs.SimFault.{number_of}
+use Rattle.sim_controller.specs.SimFault.{sim_fault_number}
 use Rattle.sim_controller.specs.Simulated.{Simulated}
-use Rattle.sim_controller.specs.Told.{octets_of, sent_of}
+use Rattle.sim_controller.specs.Told.{sent_octets, sent_of}
 use Rattle.gatt_files.specs.declared.fault.ShellFault.{ShellFault}
 use Rattle.gatt_commands.specs.declared.notes.Notes.{Notes}
-use Rattle.gatt_commands.specs.Notices.{Hears}
+use Rattle.gatt_commands.specs.Notices.{NotesWhatIsTold}
 use Rattle.gatt_files.specs.declared.fault.ShellFault.TheVariants.{Host, Controller, TooLong}
 
 -- a host and its controller, and what is noted of what the host tells
 pub record Pair : Type 0 where
-  pub host : Whole
+  pub host : HostModel
   pub sim : Simulated
   pub notes : Notes
 
-abbrev pub pair_of : Whole → Simulated → Notes → Pair
+abbrev pub pair_of : HostModel → Simulated → Notes → Pair
 pair_of host sim notes = record { host = host; sim = sim; notes = notes }
 
 -- neither has a packet to give
-pub record IsQuiet (host : Whole) (sim : Simulated) : Type 0 where
+pub record IsQuiet (host : HostModel) (sim : Simulated) : Type 0 where
   pub out : all_out host ≡ true
   pub taken : sim.waiting ≡ []
 
 -- the host gives its next packet
-pub record HostGives (packet : Octets) (old new : Whole) : Type 0 where
+pub record HostGives (packet : Octets) (old new : HostModel) : Type 0 where
   pub due : all_out old ≡ false
-  pub goes : Leads [] (packet ∷ []) old new
+  pub goes : Refines [] (packet ∷ []) old new
   pub going : new.fault ≡ None
 
 -- the controller takes it, or refuses it for a fault of this number, and then does not change
@@ -45,60 +45,60 @@ pub record ControllerTakes (packet : Octets) (old new : Simulated) : Type 0 wher
   pub after : new ≡ after_host old (host_packet_of packet)
 
 pub record ControllerRefuses (number : ℕ) (packet : Octets) (old new : Simulated) : Type 0 where
-  pub refused : option_map number_of (host_fault old (host_packet_of packet)) ≡ Some number
+  pub refused : option_map sim_fault_number (host_fault old (host_packet_of packet)) ≡ Some number
   pub unchanged : new ≡ old
 
 -- the controller gives the first packet that waits
 pub record ControllerGives (packet : Octets) (old new : Simulated) : Type 0 where
-  pub first : option_map (λ told. octets_of (sent_of told)) (slice_get old.waiting 0) ≡ Some packet
+  pub first : option_map (λ told. sent_octets (sent_of told)) (slice_get old.waiting 0) ≡ Some packet
   pub after : new ≡ record old { waiting = drop 1 old.waiting }
 
 -- the host takes in the first packet of a division, and goes on
-pub record GoesOn (packet : Packet) (old new : Whole) : Type 0 where
+pub record TakesAndGoesOn (packet : Packet) (old new : HostModel) : Type 0 where
   pub takes : Takes (APacket packet) old new
   pub going : new.fault ≡ None
 
-abbrev pub TakesFirst : List Packet → End → Whole → Whole → Type 0
-TakesFirst (packet ∷ packets) end old new = GoesOn packet old new
+abbrev pub TakesFirst : List Packet → End → HostModel → HostModel → Type 0
+TakesFirst (packet ∷ packets) end old new = TakesAndGoesOn packet old new
 TakesFirst [] Unfinished old new = new ≡ old
 TakesFirst [] (Lost indicator) old new = ⊥
 
 -- what it tells of that packet is noted
-abbrev pub NotesFirst : List Packet → Whole → Notes → Notes → Type 0
-NotesFirst (packet ∷ packets) host old new = Hears host old new
+abbrev pub NotesFirst : List Packet → HostModel → Notes → Notes → Type 0
+NotesFirst (packet ∷ packets) host old new = NotesWhatIsTold host old new
 NotesFirst [] host old new = new ≡ old
 
 -- or it stops there for a fault, or had stopped before, or an octet begins no packet
-pub record Stops (fault : HostFault) (packet : Packet) (old new : Whole) : Type 0 where
+pub record Stops (fault : HostFault) (packet : Packet) (old new : HostModel) : Type 0 where
   pub takes : old.fault ≡ None → Takes (APacket packet) old new
   pub stopped : IsSome old.fault → new ≡ old
   pub fault_then : new.fault ≡ Some fault
 
-pub record IsLost (fault : HostFault) (indicator : ℕ) (old new : Whole) : Type 0 where
+pub record LosesTheStream (fault : HostFault) (indicator : ℕ) (old new : HostModel) : Type 0 where
   pub desync : fault ≡ Desync indicator
   pub unchanged : new ≡ old
 
-abbrev pub StopsAtFirst : HostFault → List Packet → End → Whole → Whole → Type 0
+abbrev pub StopsAtFirst : HostFault → List Packet → End → HostModel → HostModel → Type 0
 StopsAtFirst fault (packet ∷ packets) end old new = Stops fault packet old new
 StopsAtFirst fault [] Unfinished old new = ⊥
-StopsAtFirst fault [] (Lost indicator) old new = IsLost fault indicator old new
+StopsAtFirst fault [] (Lost indicator) old new = LosesTheStream fault indicator old new
 
 -- octets are to the host what they divide into
-abbrev pub HostTakes : Octets → Whole → Whole → Type 0
+abbrev pub HostTakes : Octets → HostModel → HostModel → Type 0
 HostTakes octets old new = TakesFirst (division octets).packets (division octets).end old new
 
-abbrev pub NotesTaken : Octets → Whole → Notes → Notes → Type 0
+abbrev pub NotesTaken : Octets → HostModel → Notes → Notes → Type 0
 NotesTaken octets host old new = NotesFirst (division octets).packets host old new
 
-abbrev pub HostStops : HostFault → Octets → Whole → Whole → Type 0
+abbrev pub HostStops : HostFault → Octets → HostModel → HostModel → Type 0
 HostStops fault octets old new = StopsAtFirst fault (division octets).packets (division octets).end old new
 
-abbrev pub HostHears : Octets → Result (Unit {0}) HostFault → Whole → Whole → Type 0
+abbrev pub HostHears : Octets → Result (Unit {0}) HostFault → HostModel → HostModel → Type 0
 HostHears octets (Ok done) old new = HostTakes octets old new
 HostHears octets (Err fault) old new = HostStops fault octets old new
 
 -- a fault is told by its number
-pub record StopsFor (number : ℕ) (packet : Octets) (old new : Whole) : Type 0 where
+pub record StopsForNumber (number : ℕ) (packet : Octets) (old new : HostModel) : Type 0 where
   pub fault : HostFault
   pub numbered : number ≡ number_of_fault fault
   pub stops : HostStops fault packet old new
@@ -109,9 +109,9 @@ ControllerAnswers packet (Ok done) old new = ControllerTakes packet old new
 ControllerAnswers packet (Err (Controller number)) old new = ControllerRefuses number packet old new
 ControllerAnswers packet (Err fault) old new = ⊥
 
-abbrev pub HostAnswers : Octets → Result (Unit {0}) ShellFault → Whole → Whole → Type 0
+abbrev pub HostAnswers : Octets → Result (Unit {0}) ShellFault → HostModel → HostModel → Type 0
 HostAnswers packet (Ok done) old new = HostTakes packet old new
-HostAnswers packet (Err (Host number)) old new = StopsFor number packet old new
+HostAnswers packet (Err (Host number)) old new = StopsForNumber number packet old new
 HostAnswers packet (Err fault) old new = ⊥
 
 -- one packet is handed over: one of the host while there is one, and else one of the controller
@@ -141,7 +141,7 @@ pub record IsStopped (number : ℕ) (before after : Pair) : Type 0 where
   pub packet : Octets
   pub out : all_out before.host ≡ true
   pub gives : ControllerGives packet before.sim after.sim
-  pub stops : StopsFor number packet before.host after.host
+  pub stops : StopsForNumber number packet before.host after.host
 
 -- so many packets are handed over
 abbrev pub Exchanges : ℕ → Pair → Pair → Type 0
@@ -156,7 +156,7 @@ pub record ExchangesAll (before after : Pair) : Type 0 where
   pub quiet : IsQuiet after.host after.sim
 
 -- as many as there may be, with another one to give
-pub record ExchangesTooMany (before : Pair) (host : Whole) : Type 0 where
+pub record ExchangesTooMany (before : Pair) (host : HostModel) : Type 0 where
   pub last : Pair
   pub exchanges : Exchanges 100000 before last
   pub more : IsQuiet last.host last.sim → ⊥

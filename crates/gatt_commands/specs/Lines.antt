@@ -48,14 +48,14 @@ abbrev pub ended_line : Octets → ℕ → Octets
 ended_line name reason = name ++ codes " ended " ++ encode_lower (reason ∷ []) ++ line_feed
 
 -- the frames that a phone of a name has heard, and then the end of its connection, where the host ended it
-abbrev pub heard_text : Octets → List Octets → Octets
-heard_text name heard = flat_map (heard_line name) heard
+abbrev pub heard_lines : Octets → List Octets → Octets
+heard_lines name heard = flat_map (heard_line name) heard
 
 abbrev pub ended_text : Octets → Option ℕ → Octets
 ended_text name ended = option_map_or (ended_line name) ended []
 
 abbrev pub phone_text : Octets → Phone → Octets
-phone_text name phone = heard_text name phone.heard ++ ended_text name phone.ended
+phone_text name phone = heard_lines name phone.heard ++ ended_text name phone.ended
 
 -- once that is told, nothing is left to hear
 abbrev pub told_phone : Phone → Phone

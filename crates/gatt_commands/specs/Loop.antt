@@ -4,9 +4,9 @@ use Rattle.std.specs.List.{flat_map}
 use Rattle.att_table.specs.Table.{Contents}
 use Rattle.gatt_host.specs.declared.host_fault.HostFault.{HostFault}
 use Rattle.gatt_host.specs.Opening.{start_of}
-use Rattle.gatt_host.specs.Whole.{StandsAt, Whole, all_out}
+use Rattle.gatt_host.specs.HostModel.{RefinesRun, HostModel, all_out}
 use Rattle.gatt_laws.specs.machine.Calls.{AuthorizeCall, TickCall, UpdateCall}
-use Rattle.gatt_laws.specs.machine.Input.{ACall, APacket, ATable, Item, course}
+use Rattle.gatt_laws.specs.machine.Input.{ACall, APacket, ATable, Item, run}
 use Rattle.gatt_laws.specs.machine.Start.{Start}
 use Rattle.gatt_subs.specs.Rows.{Subscriptions}
 use Rattle.le_h4.specs.Division.{division}
@@ -18,88 +18,88 @@ use Rattle.scripts.specs.declared.act.Act.TheVariants as line
 use Rattle.scripts.specs.Script as scripts
 use Rattle.sim_controller.specs.Acts as by_phone
 use Rattle.sim_controller.specs.Answers.{host_fault}
-use Rattle.sim_controller.specs.Calls.{Call, Acts, Takes, after, given_in, if_accepted}
+use Rattle.sim_controller.specs.Calls.{SimulatedCall, Acts, Takes, after_calls, given_in_calls, if_accepted}
 use Rattle.sim_controller.specs.declared.config.SimConfig.{SimConfig}
 use Rattle.sim_controller.specs.declared.told.Told.{Told}
 use Rattle.sim_controller.specs.FromHost.{host_packet_of}
 use Rattle.sim_controller.specs.Hearing.{frames_for}
 use Rattle.sim_controller.specs.Phones.{handle_of_phone}
-use Rattle.sim_controller.specs.Simulated.{Simulated, at_start, phone_at}
-use Rattle.sim_controller.specs.Told.{octets_of, sent_of}
+use Rattle.sim_controller.specs.Simulated.{Simulated, simulated_at_start, phone_at}
+use Rattle.sim_controller.specs.Told.{sent_octets, sent_of}
 use Rattle.gatt_commands.specs.declared.acts.Refused.{Refused}
 use Rattle.gatt_files.specs.declared.fault.ShellFault.{ShellFault}
-use Rattle.gatt_commands.specs.Doing.{Does, Stage, sim_act, stage_of}
+use Rattle.gatt_commands.specs.Doing.{DoesLine, Stage, sim_act, stage_of}
 use Rattle.gatt_commands.specs.Echo.{Shown, shown_after, shown_behind}
 use Rattle.gatt_commands.specs.Exchange.{Exchanges, Pair}
-use Rattle.gatt_commands.specs.Opening.{IsOpened, configuration}
+use Rattle.gatt_commands.specs.Opening.{IsOpened, command_configuration}
 use Rattle.gatt_commands.specs.Runs.{EndsAtNext, EndsInLines, Runs, RunsAll, RunsLine, simulated}
 
 -- the packets that a controller took from its host, in their order: a packet that it refused is none of them
-abbrev pub taken_by : Simulated → Call → List Octets
+abbrev pub taken_by : Simulated → SimulatedCall → List Octets
 taken_by old (Takes octets) = if_accepted (host_fault old (host_packet_of octets)) (octets ∷ []) []
 taken_by old _ = []
 
-abbrev pub packets_taken : SimConfig → List Call → List Octets
+abbrev pub packets_taken : SimConfig → List SimulatedCall → List Octets
 packets_taken config [] = []
-packets_taken config (call ∷ earlier) = packets_taken config earlier ++ taken_by (after config earlier) call
+packets_taken config (call ∷ earlier) = packets_taken config earlier ++ taken_by (after_calls config earlier) call
 
 -- what its phones did, or were refused to do
-abbrev pub acts_by : Call → List by_phone.Act
+abbrev pub acts_by : SimulatedCall → List by_phone.SimulatedAct
 acts_by (Acts act) = act ∷ []
 acts_by _ = []
 
-abbrev pub acts_in : List Call → List by_phone.Act
+abbrev pub acts_in : List SimulatedCall → List by_phone.SimulatedAct
 acts_in [] = []
 acts_in (call ∷ earlier) = acts_in earlier ++ acts_by call
 
 -- the packets that a host took in, and what else
-abbrev pub packet_in : Item → List Packet
-packet_in (APacket packet) = packet ∷ []
-packet_in _ = []
+abbrev pub packets_of_item : Item → List Packet
+packets_of_item (APacket packet) = packet ∷ []
+packets_of_item _ = []
 
 abbrev pub other_in : Item → List Item
 other_in (APacket packet) = []
 other_in item = item ∷ []
 
-abbrev pub packets_in : List Item → List Packet
-packets_in input = flat_map packet_in input
+abbrev pub packets_of_items : List Item → List Packet
+packets_of_items input = flat_map packets_of_item input
 
 abbrev pub others_in : List Item → List Item
 others_in input = flat_map other_in input
 
 -- what a host reads of a packet that a controller gives
 abbrev pub read_of : Told → List Packet
-read_of told = take 1 (division (octets_of (sent_of told))).packets
+read_of told = take 1 (division (sent_octets (sent_of told))).packets
 
 -- what the lines of a run did so far: the acts of phones, what the application asked of the host, and for each phone the
 -- frames that it heard, as far as they are printed
 pub record SoFar : Type 0 where
-  pub acts : List by_phone.Act
+  pub acts : List by_phone.SimulatedAct
   pub asked : List Item
   pub heard : ℕ → List Octets
 
 -- A host and its controller from a start on. What has gone out of the host is what the controller took. What came into
 -- the host is what the controller gave, and what the application asked. And each phone heard, with what waits for it, the
 -- frames of the data that the controller took for its connections.
-pub record IsJoined (start : Start) (host : Whole) (sim : Simulated) (so_far : SoFar) : Type 0 where
+pub record IsJoined (start : Start) (host : HostModel) (sim : Simulated) (so_far : SoFar) : Type 0 where
   pub input : List Item
-  pub calls : List Call
-  pub stands : StandsAt (course start input) (packets_taken simulated calls) host
-  pub controller : sim ≡ after simulated calls
-  pub given : packets_in input ≡ flat_map read_of (given_in simulated calls)
+  pub calls : List SimulatedCall
+  pub refines : RefinesRun (run start input) (packets_taken simulated calls) host
+  pub controller : sim ≡ after_calls simulated calls
+  pub given : packets_of_items input ≡ flat_map read_of (given_in_calls simulated calls)
   pub asked : others_in input ≡ so_far.asked
   pub acts : acts_in calls ≡ so_far.acts
   pub hears : (phone : ℕ) → phone < 8 → so_far.heard phone ++ (phone_at sim phone).heard ≡ frames_for simulated phone calls
 
 -- before the first line
-abbrev pub nothing : ℕ → List Octets
-nothing phone = []
+abbrev pub nothing_heard : ℕ → List Octets
+nothing_heard phone = []
 
 abbrev pub nothing_yet : SoFar
-nothing_yet = record { acts = []; asked = []; heard = nothing }
+nothing_yet = record { acts = []; asked = []; heard = nothing_heard }
 
 -- what a line has the phones do
-abbrev pub acts_of_line : Act → List by_phone.Act
+abbrev pub acts_of_line : Act → List by_phone.SimulatedAct
 acts_of_line (line.Phone phone act) = sim_act phone act ∷ []
 acts_of_line _ = []
 
@@ -119,8 +119,8 @@ asked_by_line old (line.Update handle value) = asked_unless old.host.fault (ACal
 asked_by_line old (line.Tick time) = asked_unless old.host.fault (ACall (TickCall time))
 asked_by_line old line.Replace = replacement_of old.next old.host.fault
 
-abbrev pub after_doing : Stage → Act → SoFar → SoFar
-after_doing old act so_far = record so_far { acts = so_far.acts ++ acts_of_line act; asked = so_far.asked ++ asked_by_line old act }
+abbrev pub after_line_done : Stage → Act → SoFar → SoFar
+after_line_done old act so_far = record so_far { acts = so_far.acts ++ acts_of_line act; asked = so_far.asked ++ asked_by_line old act }
 
 -- what it prints of what the phones that have names have heard
 abbrev pub printed_of : ℕ → Simulated → ℕ → List Octets
@@ -132,7 +132,7 @@ after_printing count quiet so_far = record so_far { heard = λ phone. so_far.hea
 -- after a line, and after all lines of a run
 abbrev pub after_line : {shows : Bool} {names : List Octets} {act : Act} {old new : Stage} {held holds : Option Octets}
     → RunsLine shows names act old new held holds → SoFar → SoFar
-after_line {names = names} {act = act} {old = old} runs so_far = after_printing (length names) runs.quiet (after_doing old act so_far)
+after_line {names = names} {act = act} {old = old} runs so_far = after_printing (length names) runs.quiet (after_line_done old act so_far)
 
 abbrev pub after_lines : (shown : Shown) (names : List Octets) (lines : List Act) (old new : Stage) (held holds : Option Octets)
     → Runs shown names lines old new held holds → SoFar → SoFar
@@ -155,28 +155,28 @@ pub record IsJoinedUpTo (start : Start) (fault : ShellFault) (shown : Shown) (na
 
 -- Host and controller are joined when they are opened, and stay so when a line does what it says, while they hand each
 -- other packets, and when what was heard is printed: so they are after each line and at the end of a run, and before a
--- line that ends it early. Where all is out, the controller took all that the course of the host has.
+-- line that ends it early. Where all is out, the controller took all that the run of the host has.
 pub record ClosesTheLoop : Type 0 where
-  pub opened : (table : Contents) (keys : List Entry) (rows : Subscriptions) (host : Whole) → IsOpened table keys rows host
-      → IsJoined (start_of table keys rows configuration) host (at_start simulated) nothing_yet
-  pub does_line : (start : Start) (so_far : SoFar) (act : Act) (told : Option Refused) (old new : Stage) → Does act told old new
-      → IsJoined start old.host old.sim so_far → IsJoined start new.host new.sim (after_doing old act so_far)
-  pub exchanges : (start : Start) (so_far : SoFar) (count : ℕ) (before after : Pair) → Exchanges count before after
-      → IsJoined start before.host before.sim so_far → IsJoined start after.host after.sim so_far
-  pub all_gone : (start : Start) (so_far : SoFar) (host : Whole) (sim : Simulated) (joined : IsJoined start host sim so_far)
-      → host.fault ≡ None → all_out host ≡ true → (course start joined.input).gone ≡ packets_taken simulated joined.calls
+  pub opened : (table : Contents) (keys : List Entry) (rows : Subscriptions) (host : HostModel) → IsOpened table keys rows host
+      → IsJoined (start_of table keys rows command_configuration) host (simulated_at_start simulated) nothing_yet
+  pub does_line : (start : Start) (so_far : SoFar) (act : Act) (told : Option Refused) (old new : Stage) → DoesLine act told old new
+      → IsJoined start old.host old.sim so_far → IsJoined start new.host new.sim (after_line_done old act so_far)
+  pub exchanges : (start : Start) (so_far : SoFar) (count : ℕ) (before after_calls : Pair) → Exchanges count before after_calls
+      → IsJoined start before.host before.sim so_far → IsJoined start after_calls.host after_calls.sim so_far
+  pub all_gone : (start : Start) (so_far : SoFar) (host : HostModel) (sim : Simulated) (joined : IsJoined start host sim so_far)
+      → host.fault ≡ None → all_out host ≡ true → (run start joined.input).sent ≡ packets_taken simulated joined.calls
   pub each_line : (start : Start) (so_far : SoFar) (shows : Bool) (names : List Octets) (act : Act) (old new : Stage) (held holds : Option Octets)
       (runs : RunsLine shows names act old new held holds) → IsJoined start old.host old.sim so_far
       → IsJoined start new.host new.sim (after_line runs so_far)
   pub all_lines : (start : Start) (so_far : SoFar) (shown : Shown) (names : List Octets) (lines : List Act) (old new : Stage) (held holds : Option Octets)
       (runs : Runs shown names lines old new held holds) → IsJoined start old.host old.sim so_far
       → IsJoined start new.host new.sim (after_lines shown names lines old new held holds runs so_far)
-  pub whole_run : (table : Contents) (keys : List Entry) (rows : Subscriptions) (shown : Shown) (script : scripts.Acts) (host : Whole) (next : Option Contents)
+  pub whole_run : (table : Contents) (keys : List Entry) (rows : Subscriptions) (shown : Shown) (script : scripts.Acts) (host : HostModel) (next : Option Contents)
       (new : Stage) (held holds : Option Octets) → IsOpened table keys rows host
-      → (runs : RunsAll shown script (stage_of host (at_start simulated) next) new held holds)
-      → IsJoined (start_of table keys rows configuration) new.host new.sim
+      → (runs : RunsAll shown script (stage_of host (simulated_at_start simulated) next) new held holds)
+      → IsJoined (start_of table keys rows command_configuration) new.host new.sim
       (after_lines shown script.names script.acts runs.begun new held holds runs.lines nothing_yet)
-  pub early_end : (table : Contents) (keys : List Entry) (rows : Subscriptions) (fault : ShellFault) (shown : Shown) (script : scripts.Acts) (host : Whole)
+  pub early_end : (table : Contents) (keys : List Entry) (rows : Subscriptions) (fault : ShellFault) (shown : Shown) (script : scripts.Acts) (host : HostModel)
       (next : Option Contents) (new : Stage) (held holds : Option Octets) → IsOpened table keys rows host
-      → (ends : EndsInLines fault shown script (stage_of host (at_start simulated) next) new held holds)
-      → IsJoinedUpTo (start_of table keys rows configuration) fault shown script.names script.acts ends.begun new held holds
+      → (ends : EndsInLines fault shown script (stage_of host (simulated_at_start simulated) next) new held holds)
+      → IsJoinedUpTo (start_of table keys rows command_configuration) fault shown script.names script.acts ends.begun new held holds

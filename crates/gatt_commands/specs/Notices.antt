@@ -5,13 +5,13 @@ use Rattle.att_table.specs.Table.{Contents}
 use Rattle.gatt_host.specs.declared.notice.Notice.{Notice}
 use Rattle.gatt_host.specs.Notices.{HasTheValue, notice_of}
 use Rattle.gatt_host.specs.Telling.{notices_told}
-use Rattle.gatt_host.specs.Whole.{Whole}
+use Rattle.gatt_host.specs.HostModel.{HostModel}
 use Rattle.gatt_laws.specs.machine.Notice as law
 use Rattle.notice_lines.specs.NoticeText.{notice_line}
 use Rattle.gatt_commands.specs.declared.notes.Notes.{Notes}
 
 -- nothing is noted yet
-pub record IsBegun (shows : Bool) (notes : Notes) : Type 0 where
+pub record NotesNothingYet (shows : Bool) (notes : Notes) : Type 0 where
   pub shown : notes.shows ≡ shows
   pub none : notes.text.items ≡ []
   pub kept : notes.is_refused ≡ false
@@ -36,7 +36,7 @@ pub record NotesLines (notices : List law.Notice) (table : Contents) (old new : 
   pub lines : new.text.items ≡ old.text.items ++ flat_map notice_line told
 
 -- what a host tells of what it took in last is noted, unless memory is refused; where no notice is shown nothing is
-pub record Hears (host : Whole) (old new : Notes) : Type 0 where
+pub record NotesWhatIsTold (host : HostModel) (old new : Notes) : Type 0 where
   pub shows : new.shows ≡ old.shows
   pub deaf : old.shows ≡ false → new ≡ old
-  pub lines : old.shows ≡ true → new.is_refused ≡ false → NotesLines (notices_told host) host.held.table old new
+  pub lines : old.shows ≡ true → new.is_refused ≡ false → NotesLines (notices_told host) host.server.table old new

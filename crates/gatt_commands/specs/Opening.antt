@@ -4,8 +4,8 @@ use Rattle.arrayvec.specs.ArrayVec.{ArrayVec}
 use Rattle.att_table.specs.Table.{Contents}
 use Rattle.gatt_host.specs.declared.config.Config.{Config}
 use Rattle.gatt_host.specs.Opening.{start_of}
-use Rattle.gatt_host.specs.Whole.{StandsAt, Whole}
-use Rattle.gatt_laws.specs.machine.Input.{course}
+use Rattle.gatt_host.specs.HostModel.{RefinesRun, HostModel}
+use Rattle.gatt_laws.specs.machine.Input.{run}
 use Rattle.gatt_subs.specs.Rows.{Subscriptions}
 use Rattle.le_security.specs.declared.entry.Entry.{Entry}
 use Rattle.octets.specs.Number.{Octets}
@@ -18,16 +18,16 @@ abbrev pub flags : ArrayVec ℕ
 flags = record { items = 0x02 ∷ 0x01 ∷ 0x06 ∷ [] }
 
 -- it has four connections at most, receives PDUs of at most 247 octets, and has the public address of its controller
-abbrev pub configuration : Config
-configuration = record { slots = 4; rx_mtu = 247; address = None; advertising = flags }
+abbrev pub command_configuration : Config
+command_configuration = record { slots = 4; rx_mtu = 247; address = None; advertising = flags }
 
 -- a host is open: it goes on, nothing has come in, and nothing has gone out
-pub record IsOpened (table : Contents) (keys : List Entry) (rows : Subscriptions) (host : Whole) : Type 0 where
-  pub stands : StandsAt (course (start_of table keys rows configuration) []) [] host
+pub record IsOpened (table : Contents) (keys : List Entry) (rows : Subscriptions) (host : HostModel) : Type 0 where
+  pub refines : RefinesRun (run (start_of table keys rows command_configuration) []) [] host
   pub going : host.fault ≡ None
 
 -- it is opened with what files say, as far as their octets are known
-pub record IsOpenedWith (table_file key_file rows_file : Option Octets) (host : Whole) : Type 0 where
+pub record IsOpenedWithFiles (table_file key_file rows_file : Option Octets) (host : HostModel) : Type 0 where
   pub table : Contents
   pub keys : List Entry
   pub rows : Subscriptions

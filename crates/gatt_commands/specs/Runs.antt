@@ -2,42 +2,42 @@
 use Rattle.std.specs.Prelude.{◌≡◌, ◌≢◌, ◌⊎◌, ◌++◌, Bool, true, false, is_some, List, [], ◌∷◌, length, Option, Result, Ok, Err, IfSome}
 use Rattle.std.specs.Io.KnownBytes.{Appends, Keeps}
 use Rattle.att_table.specs.Table.{Contents}
-use Rattle.gatt_host.specs.Whole.{Whole}
+use Rattle.gatt_host.specs.HostModel.{HostModel}
 use Rattle.gatt_subs.specs.Rows.{Subscriptions}
-use Rattle.gatt_subs.specs.RowsText.{text_of}
+use Rattle.gatt_subs.specs.RowsText.{rows_text}
 use Rattle.le_security.specs.declared.entry.Entry.{Entry}
 use Rattle.octets.specs.Number.{Octets}
 use Rattle.octets.specs.Stream.{WritesFront}
 use Rattle.scripts.specs.declared.act.Act.{Act}
 use Rattle.scripts.specs.Script.{Acts}
 use Rattle.sim_controller.specs.declared.config.SimConfig.{SimConfig}
-use Rattle.sim_controller.specs.Simulated.{Simulated, at_start}
+use Rattle.sim_controller.specs.Simulated.{Simulated, simulated_at_start}
 use Rattle.gatt_commands.specs.declared.acts.Refused.{Refused}
 use Rattle.gatt_files.specs.declared.fault.ShellFault.{ShellFault}
 use Rattle.gatt_files.specs.declared.fault.ShellFault.TheVariants.{Memory, Unwritten}
 use Rattle.gatt_commands.specs.declared.notes.Notes.{Notes}
 use Rattle.gatt_commands.specs.declared.echo.Shows.{Shows}
-use Rattle.gatt_commands.specs.Doing.{Does, NotesAct, Stage, stage_of}
+use Rattle.gatt_commands.specs.Doing.{DoesLine, NotesAct, Stage, stage_of}
 use Rattle.gatt_commands.specs.Echo.{Shown, echo_of, lines_shown, shown_behind, shown_of}
 use Rattle.gatt_commands.specs.Exchange.{ExchangesAll, ExchangesUntil, pair_of}
 use Rattle.gatt_files.specs.KeyFile.{keys_in}
 use Rattle.gatt_commands.specs.Lines.{outcome_text, with_told_phones}
-use Rattle.gatt_commands.specs.Notices.{IsBegun}
+use Rattle.gatt_commands.specs.Notices.{NotesNothingYet}
 use Rattle.gatt_commands.specs.Opening.{IsOpened}
 use Rattle.gatt_files.specs.RowsFile.{rows_in}
 use Rattle.gatt_files.specs.Saving.{Save, Saves}
 use Rattle.gatt_files.specs.ScriptFile.{script_in}
-use Rattle.gatt_files.specs.TableFile.{table_in, HasNext}
+use Rattle.gatt_files.specs.TableFile.{table_in, HasNextTable}
 
 -- the controller has buffers for LE connections alone, 8 of 27 octets, and cuts data for the host into pieces of 27 octets
 abbrev pub simulated : SimConfig
 simulated = record { acl_len = 27; packets = 8; shared = false; cut = 27 }
 
 -- a line: what it says is done, and what the host tells of it is noted
-pub record IsDone (shows : Bool) (act : Act) (refused : Option Refused) (old acted : Stage) (heard : Notes) : Type 0 where
+pub record LineIsDone (shows : Bool) (act : Act) (refused : Option Refused) (old acted : Stage) (heard : Notes) : Type 0 where
   pub begun : Notes
-  pub fresh : IsBegun shows begun
-  pub does : Does act refused old acted
+  pub fresh : NotesNothingYet shows begun
+  pub does : DoesLine act refused old acted
   pub noted : NotesAct act old.next refused acted.host begun heard
 
 -- what a line has brought, and then what was noted
@@ -51,7 +51,7 @@ pub record RunsLine (shows : Bool) (names : List Octets) (act : Act) (old new : 
   pub quiet : Simulated
   pub heard : Notes
   pub last : Notes
-  pub done : IsDone shows act refused old acted heard
+  pub done : LineIsDone shows act refused old acted heard
   pub exchanges : ExchangesAll (pair_of acted.host acted.sim heard) (pair_of new.host quiet last)
   pub kept : last.is_refused ≡ false
   pub printed : Appends held holds (line_text names refused quiet last)
@@ -61,7 +61,7 @@ pub record RunsLine (shows : Bool) (names : List Octets) (act : Act) (old new : 
 -- where no notice is asked for, what is printed is what the line has brought, and nothing else
 abbrev pub ShowsNothingUnasked : Type 0
 ShowsNothingUnasked = (names : List Octets) (act : Act) (old new : Stage) (held holds : Option Octets) → RunsLine false names act old new held holds
-    → (refused : Option Refused) × (acted : Stage) × (quiet : Simulated) × Does act refused old acted × Appends held holds (outcome_text names refused quiet.phones)
+    → (refused : Option Refused) × (acted : Stage) × (quiet : Simulated) × DoesLine act refused old acted × Appends held holds (outcome_text names refused quiet.phones)
 
 -- or host and controller do not come to an end, and nothing is printed
 pub record FailsToExchange (fault : ShellFault) (heard : Notes) (old new : Stage) (held holds : Option Octets) : Type 0 where
@@ -96,7 +96,7 @@ pub record EndsAtLine (fault : ShellFault) (shows : Bool) (names : List Octets) 
   pub refused : Option Refused
   pub acted : Stage
   pub heard : Notes
-  pub done : IsDone shows act refused old acted heard
+  pub done : LineIsDone shows act refused old acted heard
   pub fails : Fails fault shows names refused heard acted new held holds
 
 -- where the lines of the script are shown, the next one that says something is printed before it is done
@@ -158,22 +158,22 @@ abbrev pub EndsEarly : ShellFault → Shown → Acts → Stage → Stage → Opt
 EndsEarly fault shown script old new held holds = ((silent : Notes) × FailsToExchange fault silent old new held holds) ⊎ EndsInLines fault shown script old new held holds
 
 -- with a new controller; and then a store is asked to save the rows that stand, and does
-pub record RunsHost (shown : Shown) (script : Acts) (old new : Whole) (next next_then : Option Contents) (held holds : Option Octets) (saves saves_then : Option (List Save)) : Type 0 where
+pub record RunsHost (shown : Shown) (script : Acts) (old new : HostModel) (next next_then : Option Contents) (held holds : Option Octets) (saves saves_then : Option (List Save)) : Type 0 where
   pub sim : Simulated
-  pub runs : RunsAll shown script (stage_of old (at_start simulated) next) (stage_of new sim next_then) held holds
-  pub saved : Saves (text_of new.held.rows) true saves saves_then
+  pub runs : RunsAll shown script (stage_of old (simulated_at_start simulated) next) (stage_of new sim next_then) held holds
+  pub saved : Saves (rows_text new.server.rows) true saves saves_then
 
 -- or the run ends early, and the store is asked then; or it does not save the rows
-pub record EndsHost (fault : ShellFault) (shown : Shown) (script : Acts) (old new : Whole) (next next_then : Option Contents) (held holds : Option Octets) (saves saves_then : Option (List Save)) : Type 0 where
+pub record EndsHost (fault : ShellFault) (shown : Shown) (script : Acts) (old new : HostModel) (next next_then : Option Contents) (held holds : Option Octets) (saves saves_then : Option (List Save)) : Type 0 where
   pub sim : Simulated
   pub is_saved : Bool
   pub ends :
-      EndsEarly fault shown script (stage_of old (at_start simulated) next) (stage_of new sim next_then) held holds
-      ⊎ ((fault ≡ Unwritten) × (is_saved ≡ false) × RunsAll shown script (stage_of old (at_start simulated) next) (stage_of new sim next_then) held holds)
-  pub saved : Saves (text_of new.held.rows) is_saved saves saves_then
+      EndsEarly fault shown script (stage_of old (simulated_at_start simulated) next) (stage_of new sim next_then) held holds
+      ⊎ ((fault ≡ Unwritten) × (is_saved ≡ false) × RunsAll shown script (stage_of old (simulated_at_start simulated) next) (stage_of new sim next_then) held holds)
+  pub saved : Saves (rows_text new.server.rows) is_saved saves saves_then
 
 -- by what is answered
-abbrev pub HostRuns : Result (Unit {0}) ShellFault → Shown → Acts → Whole → Whole → Option Contents → Option Contents
+abbrev pub HostRuns : Result (Unit {0}) ShellFault → Shown → Acts → HostModel → HostModel → Option Contents → Option Contents
     → Option Octets → Option Octets → Option (List Save) → Option (List Save) → Type 0
 HostRuns (Ok done) shown script old new next next_then held holds saves saves_then = RunsHost shown script old new next next_then held holds saves saves_then
 HostRuns (Err fault) shown script old new next next_then held holds saves saves_then = EndsHost fault shown script old new next next_then held holds saves saves_then
@@ -184,9 +184,9 @@ pub record RunsFile (result : Result (Unit {0}) ShellFault) (shows : Shows) (tab
   pub has_script : IfSome script_file (λ octets. script_in (is_some next) octets ≡ Ok script)
   pub lines : List Octets
   pub has_lines : IfSome script_file (λ octets. lines ≡ lines_shown shows.lines octets)
-  pub host : Whole
+  pub host : HostModel
   pub opened : IsOpened table keys rows host
-  pub last : Whole
+  pub last : HostModel
   pub next_then : Option Contents
   pub runs : HostRuns result (shown_of shows.notices lines) script host last next next_then held holds saves saves_then
 
@@ -208,7 +208,7 @@ pub record RunsFiles (result : Result (Unit {0}) ShellFault) (shows : Shows) (fi
   pub keys : List Entry
   pub rows : Subscriptions
   pub has_table : IfSome files.table_file (λ octets. table_in octets ≡ Ok table)
-  pub has_next : HasNext files.next_file next
+  pub has_next : HasNextTable files.next_file next
   pub has_keys : IfSome files.key_file (λ octets. keys_in octets ≡ Ok keys)
   pub has_rows : IfSome files.rows_file (λ octets. rows_in octets ≡ Ok rows)
   pub runs : RunsFile result shows table next keys rows files.script_file held holds saves saves_then

@@ -5,7 +5,7 @@ use Rattle.gatt_host.specs.declared.host_fault.HostFault.{HostFault}
 use Rattle.gatt_host.specs.declared.serving.End.{End}
 use Rattle.gatt_host.specs.Feeding.{Serves}
 use Rattle.gatt_host.specs.Numbers.{number_of_fault}
-use Rattle.gatt_host.specs.Whole.{Whole}
+use Rattle.gatt_host.specs.HostModel.{HostModel}
 use Rattle.octets.specs.Number.{Octets}
 use Rattle.gatt_files.specs.declared.fault.ShellFault.{ShellFault}
 use Rattle.gatt_files.specs.declared.fault.ShellFault.TheVariants.{Table, Keys, Rows, Host, Unreadable, Unwritten, Listen, Memory}
@@ -16,21 +16,21 @@ abbrev pub turns : ℕ
 turns = 1000000000
 
 -- a host takes in what it reads and writes what that brings, to the end of the stream or to the fault that stands then
-pub record ServesStream (old new : Whole) (remaining left before after : Option Octets) : Type 0 where
+pub record ServesStream (old new : HostModel) (remaining left before after : Option Octets) : Type 0 where
   pub ended : Result End HostFault
   pub serves : Serves ended turns old new remaining left before after
-  pub stands : new.fault ≡ result_err ended
+  pub refines : new.fault ≡ result_err ended
 
 -- a reader and a writer that began as these have come to this
-pub record ServesBy {R W : Type 0} (remaining : R → Option Octets) (contents : W → Option Octets) (reader : R) (writer : W) (old new : Whole) : Type 0 where
+pub record ServesBy {R W : Type 0} (remaining : R → Option Octets) (contents : W → Option Octets) (reader : R) (writer : W) (old new : HostModel) : Type 0 where
   pub reader_then : R
   pub writer_then : W
   pub serves : ServesStream old new (remaining reader) (remaining reader_then) (contents writer) (contents writer_then)
 
 -- that fault is told by its number
-abbrev pub told_of : Option HostFault → Result (Unit {0}) ShellFault
-told_of None = Ok tt
-told_of (Some fault) = Err (Host (number_of_fault fault))
+abbrev pub fault_told_of : Option HostFault → Result (Unit {0}) ShellFault
+fault_told_of None = Ok tt
+fault_told_of (Some fault) = Err (Host (number_of_fault fault))
 
 -- then a store was asked to save this text: it did where all ends well, and did not where that ends unwritten; where the host
 -- stopped with a fault, that is told, whether it did or not

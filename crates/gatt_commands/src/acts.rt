@@ -2,10 +2,10 @@
 
 ghost use Rattle.std.specs.Prelude.{◌≡◌, ◌<◌, ◌≤◌, ℕ, true, IfSome, IsSome};
 ghost use Rattle.gatt_host.specs.Asked.{call_of};
-ghost use Rattle.gatt_host.specs.Whole.{all_out};
+ghost use Rattle.gatt_host.specs.HostModel.{all_out};
 ghost use Rattle.scripts.specs.Phones.{IsOfPhoneBelow};
-ghost use Rattle.sim_controller.specs.Acts.{Does as SimDoes};
-ghost use Rattle.gatt_commands.specs.Doing.{Calls, Does, NotesAct, NotesReplacing, NotesUnless, PhoneActs, ReplacesBy, sim_act, stage_of};
+ghost use Rattle.sim_controller.specs.Acts.{DoesAct};
+ghost use Rattle.gatt_commands.specs.Doing.{Calls, DoesLine, NotesAct, NotesReplacing, NotesUnless, PhoneActs, ReplacesBy, sim_act, stage_of};
 ghost use Rattle.gatt_commands.specs.Lines.{IsOfPhone};
 ghost use Rattle.scripts.specs.declared.script.TheConstants.{MAX_PHONES};
 
@@ -39,10 +39,11 @@ pub(crate) fn do_act(
 ) -> Option<Refused>
     requires drained { all_out host.old ≡ true }
     requires phone { IsOfPhoneBelow MAX_PHONES act.now }
-    ensures does { Does act.now result (stage_of host.old sim.old next.old)
+    ensures does { DoesLine act.now result (stage_of host.old sim.old next.old)
         (stage_of host.new sim.new next.new) }
     ensures noted { NotesAct act.now next.old result host.new notes.old notes.new }
-    ensures named { (count : ℕ) → IsOfPhoneBelow count act.now → IfSome result (IsOfPhone count) }
+    ensures named { (count : ℕ) → IsOfPhoneBelow count act.now
+        → IfSome result (IsOfPhone count) }
     // What is refused leaves the controller and the table as they are.
     ensures sim { IsSome result → sim.new ≡ sim.old }
     ensures next { IsSome result → next.new ≡ next.old }
@@ -120,7 +121,7 @@ fn phone_act(sim: &mut Sim, phone: u8, act: &PhoneAct<'_>) -> Option<Refused>
 /// What a phone does to the controller.
 fn do_phone_act(sim: &mut Sim, phone: u8, act: &PhoneAct<'_>) -> Result<(), SimFault>
     requires { phone < MAX_PHONES }
-    ensures { SimDoes (sim_act phone act.now) sim.old sim.new result }
+    ensures { DoesAct (sim_act phone act.now) sim.old sim.new result }
 {
     match act {
         PhoneAct::Connect { peer } => sim.act(sim_controller::PhoneAct::Connect {

@@ -3,8 +3,8 @@
 ghost use Rattle.std.specs.Prelude.{◌≡◌, ◌≢◌, ◌<◌, [], ◌∷◌, ◌++◌, length, not, IfErr, IfOk, IfSome, OnErr, OnOk};
 ghost use Rattle.std.specs.Io.KnownBytes.{Appends};
 ghost use Rattle.octets.specs.Stream.{WritesFront};
-ghost use Rattle.scripts.specs.Script.{lines_of};
-ghost use Rattle.gatt_commands.specs.Echo.{behind, echo_of, lines_left, lines_shown, says};
+ghost use Rattle.scripts.specs.Script.{lines_of_script};
+ghost use Rattle.gatt_commands.specs.Echo.{lines_behind, echo_of, lines_left, lines_shown, says};
 ghost use Rattle.gatt_commands.specs.Lines.{line_feed};
 
 use gatt_files::{ShellFault, print};
@@ -35,7 +35,7 @@ pub(crate) fn echo<'a, W: Write>(
 ) -> Result<Option<&'a [u8]>, ShellFault>
     ensures ok { OnOk result (Appends (W.contents writer.old) (W.contents writer.new)
         (echo_of (lines_left text.entry))) }
-    ensures left { IfOk result (λ left. lines_left left ≡ behind (lines_left text.entry)) }
+    ensures left { IfOk result (λ left. lines_left left ≡ lines_behind (lines_left text.entry)) }
     ensures front { OnErr result (WritesFront (echo_of (lines_left text.entry))
         (W.contents writer.old) (W.contents writer.new)) }
     ensures faults { IfErr result (λ fault. fault ≡ ShellFault.Unwritten) }
@@ -68,7 +68,7 @@ fn print_line<W: Write>(line: &[u8], writer: &mut W) -> Result<(), ShellFault>
 
 /// The first line of a text, without its line feed, and what stands behind that, where there is one.
 fn first_line(text: &[u8]) -> (&[u8], Option<&[u8]>)
-    ensures lines { lines_of text.now ≡ result.0.now ∷ lines_left result.1 }
+    ensures lines { lines_of_script text.now ≡ result.0.now ∷ lines_left result.1 }
     ensures shorter { IfSome result.1 (λ rest. length rest.now < length text.now) }
 {
     match memchr(b'\n', text) {

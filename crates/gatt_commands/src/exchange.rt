@@ -2,10 +2,10 @@
 
 ghost use Rattle.std.specs.Prelude.{◌≡◌, [], true, IfErr, IfOk, IsOk, IsSome, None, OnOk};
 ghost use Rattle.std.specs.Bool.{OnFalse, OnTrue};
-ghost use Rattle.gatt_host.specs.Whole.{all_out, outcome_of, Takes};
+ghost use Rattle.gatt_host.specs.HostModel.{all_out, fault_outcome, Takes};
 ghost use Rattle.gatt_laws.specs.machine.Input.{APacket};
-ghost use Rattle.le_h4.specs.Packet.{seen};
-ghost use Rattle.gatt_commands.specs.Notices.{Hears};
+ghost use Rattle.le_h4.specs.Packet.{packet_of_ref};
+ghost use Rattle.gatt_commands.specs.Notices.{NotesWhatIsTold};
 ghost use Rattle.gatt_commands.specs.Exchange.{ControllerAnswers, ExchangesUntil, HandsNext, HostAnswers, HostHears, IsQuiet, NotesTaken, pair_of};
 ghost use Rattle.gatt_commands.specs.Lines.{IsExchangeFault};
 
@@ -106,10 +106,11 @@ fn hear(host: &mut Host, octets: &[u8], notes: &mut Notes) -> Result<(), HostFau
 /// The host takes in a packet, and what it tells of it is noted.
 fn take(host: &mut Host, packet: PacketRef<'_>, notes: &mut Notes) -> Result<(), HostFault>
     requires { all_out host.old ≡ true }
-    ensures outcome { result ≡ outcome_of host.new.fault }
-    ensures takes { host.old.fault ≡ None → Takes (APacket (seen packet.entry)) host.old host.new }
+    ensures outcome { result ≡ fault_outcome host.new.fault }
+    ensures takes { host.old.fault ≡ None
+        → Takes (APacket (packet_of_ref packet.entry)) host.old host.new }
     ensures stopped { IsSome host.old.fault → host.new ≡ host.old }
-    ensures noted { OnOk result (Hears host.new notes.old notes.new) }
+    ensures noted { OnOk result (NotesWhatIsTold host.new notes.old notes.new) }
 {
     host.packet(packet)?;
     notes.hear(host);

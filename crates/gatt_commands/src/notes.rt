@@ -1,7 +1,7 @@
 //! What is noted of what the host tells while a line is done.
 
 ghost use Rattle.std.specs.Prelude.{◌≡◌, true};
-ghost use Rattle.gatt_commands.specs.Notices.{Hears, IsBegun, NotesOne};
+ghost use Rattle.gatt_commands.specs.Notices.{NotesWhatIsTold, NotesNothingYet, NotesOne};
 
 use gatt_host::{Host, Notice};
 use notice_lines::add_line;
@@ -21,7 +21,7 @@ pub(crate) struct Notes {
 impl Notes {
     /// Nothing is noted yet.
     pub(crate) fn new(alloc: Global, shows: bool) -> Notes
-        ensures begun { IsBegun shows result }
+        ensures begun { NotesNothingYet shows result }
     {
         Notes {
             shows,
@@ -32,7 +32,7 @@ impl Notes {
 
     /// Notes what a host tells of what it took in last.
     pub(crate) fn hear(&mut self, host: &Host)
-        ensures hears { Hears host.now self.old self.new }
+        ensures hears { NotesWhatIsTold host.now self.old self.new }
     {
         if self.shows {
             self.note_all(host);
@@ -41,7 +41,7 @@ impl Notes {
 
     /// Notes each notice of a host, where notices are shown.
     fn note_all(&mut self, host: &Host)
-        ensures hears { self.old.shows ≡ true → Hears host.now self.old self.new }
+        ensures hears { self.old.shows ≡ true → NotesWhatIsTold host.now self.old self.new }
     {
         for notice in host.notices() {
             self.note(&notice);

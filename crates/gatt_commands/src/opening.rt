@@ -1,7 +1,7 @@
 //! The host that the commands open.
 
 ghost use Rattle.std.specs.Prelude.{◌≡◌, IfErr, IfOk};
-ghost use Rattle.gatt_commands.specs.Opening.{configuration, IsOpened};
+ghost use Rattle.gatt_commands.specs.Opening.{command_configuration, IsOpened};
 
 use arrayvec::ArrayVec;
 use att_table::Table;
@@ -35,7 +35,7 @@ pub(crate) fn open_host(
 
 /// What the host is opened with, beside its files.
 fn configured() -> Config
-    ensures { result ≡ configuration }
+    ensures { result ≡ command_configuration }
 {
     let mut advertising = ArrayVec::new();
     advertising.try_extend_from_slice(&ADVERTISING).unwrap();

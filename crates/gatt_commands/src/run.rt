@@ -3,19 +3,19 @@
 ghost use Rattle.std.specs.Prelude.{◌≡◌, ◌≢◌, ◌⊎◌, ◌≤◌, ℕ, true, length, is_some, Err, IfErr, IfOk, IfSome, IsOk, OnOk};
 ghost use Rattle.std.specs.List.{All};
 ghost use Rattle.std.specs.Option.{option_map};
-ghost use Rattle.gatt_host.specs.Whole.{all_out};
+ghost use Rattle.gatt_host.specs.HostModel.{all_out};
 ghost use Rattle.scripts.specs.Phones.{HasNamedPhones, IsOfPhoneBelow};
 ghost use Rattle.scripts.specs.declared.script_fault.ScriptFault.TheVariants.{BadLine};
-ghost use Rattle.sim_controller.specs.Simulated.{at_start};
+ghost use Rattle.sim_controller.specs.Simulated.{simulated_at_start};
 ghost use Rattle.gatt_commands.specs.Doing.{stage_of};
-ghost use Rattle.gatt_commands.specs.Echo.{behind, lines_left, shown_of};
-ghost use Rattle.gatt_files.specs.KeyFile.{keys_in, AreRefusedAs as KeysAreRefusedAs};
+ghost use Rattle.gatt_commands.specs.Echo.{lines_behind, lines_left, shown_of};
+ghost use Rattle.gatt_files.specs.KeyFile.{keys_in, KeysAreRefusedAs};
 ghost use Rattle.gatt_commands.specs.Lines.{IsRunCommandFault, IsRunFault, IsScriptRunFault};
 ghost use Rattle.gatt_commands.specs.Loop.{ClosesTheLoop};
-ghost use Rattle.gatt_files.specs.RowsFile.{rows_in, AreRefusedAs};
+ghost use Rattle.gatt_files.specs.RowsFile.{rows_in, RowsAreRefusedAs};
 ghost use Rattle.gatt_commands.specs.Runs.{EndsAmong, EndsAtLine, EndsAtNext, EndsEarly, HostRuns, Runs, RunsAll, RunsFile, RunsFiles, RunsLine, RunsNext, ShowsNothingUnasked, files_of, simulated};
 ghost use Rattle.gatt_files.specs.ScriptFile.{script_in};
-ghost use Rattle.gatt_files.specs.TableFile.{table_in, IsRefusedAs};
+ghost use Rattle.gatt_files.specs.TableFile.{table_in, TableIsRefusedAs};
 ghost use Rattle.gatt_files.specs.Turns.{IsPast, OfTable, OfNext, OfKeys, OfRows, OfScript};
 ghost use Rattle.scripts.specs.declared.script.TheConstants.{MAX_PHONES};
 
@@ -64,27 +64,31 @@ pub fn run_script<T: Read, N: Read, K: Read, R: Read, S: Read, V: RowsStore, W: 
 ) -> Result<(), ShellFault>
     // A file is refused for its first fault, or for want of memory.
     ensures table { (number : ℕ) → result ≡ Err (ShellFault.Table number) → number ≢ 10
-        → IfSome (T.remaining table.old) (λ octets. IsRefusedAs number (table_in octets)) }
+        → IfSome (T.remaining table.old) (λ octets. TableIsRefusedAs number (table_in octets)) }
     ensures next { (number : ℕ) → result ≡ Err (ShellFault.Next number) → number ≢ 10
-        → IfSome next.old (λ file. IfSome (N.remaining file) (λ octets. IsRefusedAs number (table_in octets))) }
+        → IfSome next.old (λ file. IfSome (N.remaining file)
+        (λ octets. TableIsRefusedAs number (table_in octets))) }
     ensures keys { (number : ℕ) → result ≡ Err (ShellFault.Keys number) → number ≢ 8
         → IfSome (K.remaining keys.old) (λ octets. KeysAreRefusedAs number (keys_in octets)) }
     ensures rows { (number : ℕ) → result ≡ Err (ShellFault.Rows number) → number ≢ 4
-        → IfSome (R.remaining rows.old) (λ octets. AreRefusedAs number (rows_in octets)) }
+        → IfSome (R.remaining rows.old) (λ octets. RowsAreRefusedAs number (rows_in octets)) }
     ensures script { (line : ℕ) → result ≡ Err (ShellFault.Script line)
-        → IfSome (S.remaining script.old) (λ octets. script_in (is_some next.old) octets ≡ Err (BadLine line)) }
+        → IfSome (S.remaining script.old)
+        (λ octets. script_in (is_some next.old) octets ≡ Err (BadLine line)) }
     // And only where those in front of it are accepted: table, next, keys, rows, script. Then the run
     // begins.
     ensures table_first { IsPast OfTable result
         → IfSome (T.remaining table.old) (λ octets. IsOk (table_in octets)) }
     ensures next_second { IsPast OfNext result
-        → IfSome next.old (λ file. IfSome (N.remaining file) (λ octets. IsOk (table_in octets))) }
+        → IfSome next.old (λ file. IfSome (N.remaining file)
+        (λ octets. IsOk (table_in octets))) }
     ensures keys_third { IsPast OfKeys result
         → IfSome (K.remaining keys.old) (λ octets. IsOk (keys_in octets)) }
     ensures rows_fourth { IsPast OfRows result
         → IfSome (R.remaining rows.old) (λ octets. IsOk (rows_in octets)) }
     ensures script_last { IsPast OfScript result
-        → IfSome (S.remaining script.old) (λ octets. IsOk (script_in (is_some next.old) octets)) }
+        → IfSome (S.remaining script.old)
+        (λ octets. IsOk (script_in (is_some next.old) octets)) }
     // Then all that the files say is run, up to the fault that ends the run, and the rows are saved.
     ensures runs { IsPast OfScript result → RunsFiles result shows
         (files_of (T.remaining table.old) (option_map N.remaining next.old)
@@ -131,7 +135,8 @@ fn run_files<S: Read, V: RowsStore, W: Write>(
         (S.remaining script.old) (W.contents writer.old) (W.contents writer.new)
         (V.saves store.old) (V.saves store.new) }
     ensures script { (line : ℕ) → result ≡ Err (ShellFault.Script line)
-        → IfSome (S.remaining script.old) (λ octets. script_in (is_some next) octets ≡ Err (BadLine line)) }
+        → IfSome (S.remaining script.old)
+        (λ octets. script_in (is_some next) octets ≡ Err (BadLine line)) }
     ensures script_last { IsPast OfScript result
         → IfSome (S.remaining script.old) (λ octets. IsOk (script_in (is_some next) octets)) }
     ensures faults { IfErr result IsScriptRunFault }
@@ -168,8 +173,9 @@ fn run_host<V: RowsStore, W: Write>(
     writer: &mut W,
 ) -> Result<(), ShellFault>
     requires named { HasNamedPhones script.now }
-    requires fresh { sim.old ≡ at_start simulated }
-    ensures runs { HostRuns result (shown_of notices (lines_left lines.entry)) script.now host.old host.new next.old next.new
+    requires fresh { sim.old ≡ simulated_at_start simulated }
+    ensures runs { HostRuns result (shown_of notices (lines_left lines.entry)) script.now host.old
+        host.new next.old next.new
         (W.contents writer.old) (W.contents writer.new)
         (V.saves store.old) (V.saves store.new) }
     ensures faults { IfErr result IsRunFault }
@@ -180,7 +186,7 @@ fn run_host<V: RowsStore, W: Write>(
 
 /// A simulated controller, to which nothing has happened yet.
 fn open_sim(alloc: Global) -> Result<Sim, ShellFault>
-    ensures start { IfOk result (λ sim. sim ≡ at_start simulated) }
+    ensures start { IfOk result (λ sim. sim ≡ simulated_at_start simulated) }
     ensures faults { IfErr result (λ fault. fault ≡ ShellFault.Memory) }
 {
     Sim::new(alloc, SIMULATED).map_err(|_| ShellFault::Memory)
@@ -199,10 +205,13 @@ fn run_lines<W: Write>(
     writer: &mut W,
 ) -> Result<(), ShellFault>
     requires { HasNamedPhones script.now }
-    ensures runs { OnOk result (RunsAll (shown_of notices (lines_left lines.entry)) script.now (stage_of host.old sim.old next.old)
+    ensures runs { OnOk result
+        (RunsAll (shown_of notices (lines_left lines.entry)) script.now
+        (stage_of host.old sim.old next.old)
         (stage_of host.new sim.new next.new)
         (W.contents writer.old) (W.contents writer.new)) }
-    ensures ends { IfErr result (λ fault. EndsEarly fault (shown_of notices (lines_left lines.entry)) script.now
+    ensures ends { IfErr result
+        (λ fault. EndsEarly fault (shown_of notices (lines_left lines.entry)) script.now
         (stage_of host.old sim.old next.old) (stage_of host.new sim.new next.new)
         (W.contents writer.old) (W.contents writer.new)) }
     ensures faults { IfErr result IsRunFault }
@@ -237,10 +246,13 @@ fn run_acts<W: Write>(
     requires few { length names.now ≤ MAX_PHONES }
     requires named { All (IsOfPhoneBelow (length names.now)) acts.now }
     requires drained { all_out host.old ≡ true }
-    ensures runs { OnOk result (Runs (shown_of notices (lines_left lines.entry)) names.now acts.now (stage_of host.old sim.old next.old)
+    ensures runs { OnOk result
+        (Runs (shown_of notices (lines_left lines.entry)) names.now acts.now
+        (stage_of host.old sim.old next.old)
         (stage_of host.new sim.new next.new)
         (W.contents writer.old) (W.contents writer.new)) }
-    ensures ends { IfErr result (λ fault. EndsAmong fault (shown_of notices (lines_left lines.entry)) names.now acts.now
+    ensures ends { IfErr result
+        (λ fault. EndsAmong fault (shown_of notices (lines_left lines.entry)) names.now acts.now
         (stage_of host.old sim.old next.old) (stage_of host.new sim.new next.new)
         (W.contents writer.old) (W.contents writer.new)) }
     ensures faults { IfErr result IsRunFault }
@@ -270,7 +282,8 @@ fn run_next<'a, W: Write>(
     ensures runs { OnOk result (RunsNext (shown_of notices (lines_left lines.entry)) names.now
         act.now (stage_of host.old sim.old next.old) (stage_of host.new sim.new next.new)
         (W.contents writer.old) (W.contents writer.new)) }
-    ensures left { IfOk result (λ left. lines_left left ≡ behind (lines_left lines.entry)) }
+    ensures left { IfOk result
+        (λ left. lines_left left ≡ lines_behind (lines_left lines.entry)) }
     ensures ends { IfErr result (λ fault. EndsAtNext fault
         (shown_of notices (lines_left lines.entry)) names.now act.now
         (stage_of host.old sim.old next.old) (stage_of host.new sim.new next.new)

@@ -2,12 +2,12 @@
 
 ghost use Rattle.std.specs.Prelude.{◌≡◌, ◌≢◌, ℕ, None, Err, IfErr, IfOk, IfSome, OnOk};
 ghost use Rattle.gatt_host.specs.Numbers.{number_of_fault};
-ghost use Rattle.gatt_subs.specs.RowsText.{text_of};
-ghost use Rattle.gatt_files.specs.KeyFile.{keys_in, AreRefusedAs as KeysAreRefusedAs};
-ghost use Rattle.gatt_commands.specs.Opening.{IsOpenedWith};
-ghost use Rattle.gatt_files.specs.RowsFile.{rows_in, AreRefusedAs};
-ghost use Rattle.gatt_commands.specs.Serving.{told_of, IsOpeningFault, IsServeFault, IsServedFault, SavesBy, ServesBy, ServesStream};
-ghost use Rattle.gatt_files.specs.TableFile.{table_in, IsRefusedAs};
+ghost use Rattle.gatt_subs.specs.RowsText.{rows_text};
+ghost use Rattle.gatt_files.specs.KeyFile.{keys_in, KeysAreRefusedAs};
+ghost use Rattle.gatt_commands.specs.Opening.{IsOpenedWithFiles};
+ghost use Rattle.gatt_files.specs.RowsFile.{rows_in, RowsAreRefusedAs};
+ghost use Rattle.gatt_commands.specs.Serving.{fault_told_of, IsOpeningFault, IsServeFault, IsServedFault, SavesBy, ServesBy, ServesStream};
+ghost use Rattle.gatt_files.specs.TableFile.{table_in, TableIsRefusedAs};
 
 use crate::opening::open_host;
 use gatt_files::{
@@ -42,7 +42,8 @@ pub fn serve_on<V: RowsStore>(
         → IfSome host.new.fault (λ fault. number ≡ number_of_fault fault) }
     // Then the rows that stood at its end were saved.
     ensures saved { result ≢ Err ShellFault.Listen
-        → SavesBy result (text_of host.new.held.rows) (V.saves store.old) (V.saves store.new) }
+        → SavesBy result (rows_text host.new.server.rows) (V.saves store.old)
+        (V.saves store.new) }
     ensures faults { IfErr result IsServedFault }
 {
     let Ok((stream, _)) = listener.accept() else {
@@ -62,7 +63,7 @@ fn serve_stream<R: Read, W: Write>(
 ) -> Result<(), ShellFault>
     ensures serves { host.old.fault ≡ None
         → ServesBy R.remaining W.contents reader.old writer.old host.old host.new }
-    ensures told { result ≡ told_of host.new.fault }
+    ensures told { result ≡ fault_told_of host.new.fault }
     ensures faults { IfErr result (λ fault. IsServedFault fault × (fault ≢ ShellFault.Listen)) }
 {
     let mut source = Reader::new(reader);
@@ -119,7 +120,7 @@ pub fn serve_paths<F: Files + Net<Listener = TcpListener, Stream = TcpStream>>(
 
 /// A host with the files at these paths. None of them is opened before its turn.
 fn open_paths<F: Files>(alloc: Global, files: &F, paths: ServePaths<'_>) -> Result<Host, ShellFault>
-    ensures opened { IfOk result (IsOpenedWith None None None) }
+    ensures opened { IfOk result (IsOpenedWithFiles None None None) }
     ensures faults { IfErr result IsOpeningFault }
 {
     open_files(
@@ -138,14 +139,14 @@ fn open_files<T: Read, K: Read, R: Read>(
     rows: &mut R,
 ) -> Result<Host, ShellFault>
     ensures opened { IfOk result
-        (IsOpenedWith (T.remaining table.old) (K.remaining keys.old) (R.remaining rows.old)) }
+        (IsOpenedWithFiles (T.remaining table.old) (K.remaining keys.old) (R.remaining rows.old)) }
     // A file is refused for its first fault, or for want of memory.
     ensures table { (number : ℕ) → result ≡ Err (ShellFault.Table number) → number ≢ 10
-        → IfSome (T.remaining table.old) (λ octets. IsRefusedAs number (table_in octets)) }
+        → IfSome (T.remaining table.old) (λ octets. TableIsRefusedAs number (table_in octets)) }
     ensures keys { (number : ℕ) → result ≡ Err (ShellFault.Keys number) → number ≢ 8
         → IfSome (K.remaining keys.old) (λ octets. KeysAreRefusedAs number (keys_in octets)) }
     ensures rows { (number : ℕ) → result ≡ Err (ShellFault.Rows number) → number ≢ 4
-        → IfSome (R.remaining rows.old) (λ octets. AreRefusedAs number (rows_in octets)) }
+        → IfSome (R.remaining rows.old) (λ octets. RowsAreRefusedAs number (rows_in octets)) }
     ensures faults { IfErr result IsOpeningFault }
 {
     let table = read_table(alloc, table)?;

@@ -146,7 +146,8 @@ fn print_phone<W: Write>(
 fn print_frame<W: Write>(name: &Name<'_>, octets: &[u8], writer: &mut W) -> Result<(), ShellFault>
     requires { length octets.now ≤ 521 }
     ensures ok { (frame : BasicFrame) → frame_of octets.now ≡ Ok frame
-        → OnOk result (Appends (W.contents writer.old) (W.contents writer.new) (frame_line name.now frame)) }
+        → OnOk result (Appends (W.contents writer.old) (W.contents writer.new)
+        (frame_line name.now frame)) }
     ensures line { OnOk result
         (Appends (W.contents writer.old) (W.contents writer.new) (heard_line name.now octets.now)) }
     ensures front { OnErr result (WritesFront (heard_line name.now octets.now)

@@ -9,10 +9,10 @@ use Rattle.att_pdu.specs.Request.{ExchangeMtuRequest, FindInformationRequest, Fi
 use Rattle.att_pdu.specs.Response.{Response, sent, sent_if_any}
 use Rattle.att_table.specs.Table.{Contents}
 use Rattle.gatt_conn.specs.Answer.{Question, answer_to}
-use Rattle.gatt_conn.specs.Connection.{Connection}
+use Rattle.gatt_conn.specs.Connection.{Bearer}
 use Rattle.octets.specs.Number.{Octets}
 
-pub answered_where_due : (table : Contents) (row : Row) (conn : Connection) (asked : Question) → is_some (answer_to table row conn asked) ≡ is_due asked
+pub answered_where_due : (table : Contents) (row : Row) (conn : Bearer) (asked : Question) → is_some (answer_to table row conn asked) ≡ is_due asked
 answered_where_due table row conn (Ok (ExchangeMtuRequest client_rx_mtu)) = refl
 answered_where_due table row conn (Ok (FindInformationRequest first last)) = refl
 answered_where_due table row conn (Ok (FindByTypeValueRequest first last kind value)) = refl

@@ -12,8 +12,8 @@ use Rattle.att_table.specs.Table.{Contents}
 use Rattle.att_writes.specs.Entry.{Entry}
 use Rattle.att_writes.specs.Queue.{prepare_fault, queue_after}
 use Rattle.gatt_conn.specs.Answer.{Question, entry_at, prepare_response, answer_to, conn_after}
-use Rattle.gatt_conn.specs.Connection.{Connection, new_connection, mtu_between, after_exchange}
-use Rattle.gatt_conn.specs.Transcript.{Said, Answered, Dropped, is_exchange, is_acceptance, exchange_asked, first_exchange, mtu_in, part_asked, asks_execution, prepared_in, Follows, Act, Sends, Stands, Cancels, after_act, said_by, after_acts, said_in, TranscriptTells}
+use Rattle.gatt_conn.specs.Connection.{Bearer, new_connection, mtu_between, after_exchange}
+use Rattle.gatt_conn.specs.Transcript.{Said, Answered, Dropped, is_exchange, is_acceptance, exchange_asked, first_exchange, mtu_in, part_asked, asks_execution, prepared_in, Follows, BearerAct, Sends, Stands, Cancels, after_act, said_by, after_acts, said_in, TranscriptTells}
 
 no_exchange : (first : Option Mtu) (test : Bool) (more : Option Mtu) → more ≡ None → option_or first (if test then more else None) ≡ first
 no_exchange (Some mtu) test more none = refl
@@ -29,7 +29,7 @@ abbrev mtu_by : Mtu → Option Mtu → Mtu
 mtu_by rx_mtu first = option_map_or (λ client_rx_mtu. mtu_between client_rx_mtu rx_mtu) first 23
 
 -- what asks neither to exchange, nor to prepare, nor to execute, says nothing of either
-neutral : (conn : Connection) (asked : Question) (answer : Option Response) (all : List Said)
+neutral : (conn : Bearer) (asked : Question) (answer : Option Response) (all : List Said)
     → exchange_asked asked ≡ None → part_asked asked ≡ [] → asks_execution asked ≡ false → Follows conn all → Follows conn (Answered asked answer ∷ all)
 neutral conn asked answer all none empty no_end follows =
     let same : first_exchange (Answered asked answer ∷ all) ≡ first_exchange all = no_exchange (first_exchange all) (is_exchange answer) (exchange_asked asked) none in
@@ -50,7 +50,7 @@ first_comes (Some mtu) more is = cc is
 first_comes None more is = refl
 
 -- the first exchange sets the ATT_MTU, and later ones do not
-exchange : (conn : Connection) (client_rx_mtu : Mtu) (all : List Said) (exchanged : Bool) → conn.exchanged ≡ exchanged → Follows conn all
+exchange : (conn : Bearer) (client_rx_mtu : Mtu) (all : List Said) (exchanged : Bool) → conn.exchanged ≡ exchanged → Follows conn all
     → Follows (if exchanged then conn else record conn { mtu = mtu_between client_rx_mtu conn.rx_mtu; exchanged = true })
     (Answered (Ok (ExchangeMtuRequest client_rx_mtu)) (Some (ExchangeMtuResponse conn.rx_mtu)) ∷ all)
 exchange conn client_rx_mtu all true is follows =
@@ -69,7 +69,7 @@ exchange conn client_rx_mtu all false is follows =
     }
 
 -- a part that is accepted is prepared last
-prepare : (conn : Connection) (handle : Handle) (offset : ℕ) (part : List ℕ) (fault : Option Code) (all : List Said) → Follows conn all
+prepare : (conn : Bearer) (handle : Handle) (offset : ℕ) (part : List ℕ) (fault : Option Code) (all : List Said) → Follows conn all
     → Follows (record conn { queue = queue_after conn.queue (entry_at handle offset part) fault })
     (Answered (Ok (PrepareWriteRequest handle offset part)) (Some (prepare_response (entry_at handle offset part) fault)) ∷ all)
 prepare conn handle offset part None all follows =
@@ -88,7 +88,7 @@ prepare conn handle offset part (Some code) all follows =
     }
 
 -- nothing is left prepared
-ended : (conn : Connection) (said : Said) (all : List Said) → option_or (first_exchange all) None ≡ first_exchange (said ∷ all) → prepared_in (said ∷ all) ≡ []
+ended : (conn : Bearer) (said : Said) (all : List Said) → option_or (first_exchange all) None ≡ first_exchange (said ∷ all) → prepared_in (said ∷ all) ≡ []
     → Follows conn all → Follows (record conn { queue = [] }) (said ∷ all)
 ended conn said all first none follows =
     let same : first_exchange all ≡ first_exchange (said ∷ all) = sym (no_exchange (first_exchange all) false None refl) ∙ first in
@@ -103,7 +103,7 @@ no_matter first true = refl
 no_matter first false = refl
 
 -- a PDU
-pub asked_next : (table : Contents) (row : Row) (conn : Connection) (asked : Question) (all : List Said)
+pub asked_next : (table : Contents) (row : Row) (conn : Bearer) (asked : Question) (all : List Said)
     → Follows conn all → Follows (conn_after table.attributes conn asked) (Answered asked (answer_to table row conn asked) ∷ all)
 asked_next table row conn (Ok (ExchangeMtuRequest client_rx_mtu)) all follows = exchange conn client_rx_mtu all conn.exchanged refl follows
 asked_next table row conn (Ok (FindInformationRequest first last)) all follows = neutral conn _ _ all refl refl refl follows
@@ -125,7 +125,7 @@ asked_next table row conn (Err (Invalid opcode)) all follows = neutral conn _ _ 
 asked_next table row conn (Err (Unsupported opcode)) all follows = neutral conn _ _ all refl refl refl follows
 
 -- any act
-act_next : (conn : Connection) (act : Act) (all : List Said) → Follows conn all → Follows (after_act conn act) (said_by conn act ++ all)
+act_next : (conn : Bearer) (act : BearerAct) (all : List Said) → Follows conn all → Follows (after_act conn act) (said_by conn act ++ all)
 act_next conn (Sends table row pdu) all follows = asked_next table row conn (request_of pdu conn.mtu) all follows
 act_next conn (Stands standing) all follows = record { mtu = follows.mtu; exchanged = follows.exchanged; queue = follows.queue }
 act_next conn Cancels all follows = ended conn Dropped all refl refl follows

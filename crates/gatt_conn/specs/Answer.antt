@@ -17,9 +17,9 @@ use Rattle.att_attributes.specs.declared.attr.Attr.{Attr}
 use Rattle.att_table.specs.Table.{Contents}
 use Rattle.att_policy.specs.Refusal.{Refusal}
 use Rattle.att_writes.specs.Applied.{Stored, stored_in, applied_to, written_to}
-use Rattle.att_writes.specs.Entry.{Entry, whole}
+use Rattle.att_writes.specs.Entry.{Entry, whole_value}
 use Rattle.att_writes.specs.Queue.{prepare_fault, queue_after, touched_by}
-use Rattle.gatt_conn.specs.Connection.{Connection, after_exchange}
+use Rattle.gatt_conn.specs.Connection.{Bearer, after_exchange}
 use Rattle.octets.specs.Number.{Octets}
 
 -- what a PDU asks for at a connection's ATT_MTU, or what is wrong with it
@@ -34,7 +34,7 @@ written_response request granted (Err refusal) = ErrorResponse request refusal.h
 -- a Write Request: Core 5.0, Vol 3 Part F, 3.4.5.1
 abbrev pub write_response : Contents → Row → Standing → Handle → Octets → Response
 write_response table row standing handle value =
-    written_response WRITE_REQUEST WriteResponse (applied_to Write table row standing (whole handle value ∷ []))
+    written_response WRITE_REQUEST WriteResponse (applied_to Write table row standing (whole_value handle value ∷ []))
 
 -- a Prepare Write Request is repeated in the answer, or refused: 3.4.6.1
 abbrev pub prepare_response : Entry → Option Code → Response
@@ -52,7 +52,7 @@ abbrev pub entry_at : Handle → ℕ → Octets → Entry
 entry_at handle offset part = record { handle = handle; offset = offset; part = part }
 
 -- the answer to what is asked, where one is due: what asks for none of these reads, or is a confirmation or a command, which are not answered
-abbrev pub response_to : Contents → Row → Connection → Asked → Option Response
+abbrev pub response_to : Contents → Row → Bearer → Asked → Option Response
 response_to table row conn (ExchangeMtuRequest client_rx_mtu) = Some (ExchangeMtuResponse conn.rx_mtu)
 response_to table row conn (WriteRequest handle value) = Some (write_response table row conn.standing handle value)
 response_to table row conn (PrepareWriteRequest handle offset part) =
@@ -62,7 +62,7 @@ response_to table row conn (ExecuteWriteRequest flags) = Some (execute_response 
 response_to table row conn asked = read_answer table row conn.standing conn.mtu asked
 
 -- the answer to a PDU, if one is due
-abbrev pub answer_to : Contents → Row → Connection → Question → Option Response
+abbrev pub answer_to : Contents → Row → Bearer → Question → Option Response
 answer_to table row conn (Ok asked) = response_to table row conn asked
 answer_to table row conn (Err Ignored) = None
 answer_to table row conn (Err (Invalid opcode)) = Some (ErrorResponse opcode 0 INVALID_PDU)
@@ -75,18 +75,18 @@ pub record Writing : Type 0 where
 
 -- an execution asks to write what is prepared
 abbrev pub writing_asked : List Entry → Question → Option Writing
-writing_asked queue (Ok (WriteRequest handle value)) = Some (record { access = Write; entries = whole handle value ∷ [] })
+writing_asked queue (Ok (WriteRequest handle value)) = Some (record { access = Write; entries = whole_value handle value ∷ [] })
 writing_asked queue (Ok (ExecuteWriteRequest flags.Write)) = Some (record { access = Write; entries = queue })
-writing_asked queue (Ok (WriteCommandPdu handle value)) = Some (record { access = Command; entries = whole handle value ∷ [] })
+writing_asked queue (Ok (WriteCommandPdu handle value)) = Some (record { access = Command; entries = whole_value handle value ∷ [] })
 writing_asked queue _ = None
 
 -- the values of the table and the client's row afterwards
-abbrev pub stored_after : Contents → Row → Standing → Option Writing → Stored
-stored_after table row standing None = stored_in table row
-stored_after table row standing (Some writing) = written_to writing.access table row standing writing.entries
+abbrev pub stored_after_writing : Contents → Row → Standing → Option Writing → Stored
+stored_after_writing table row standing None = stored_in table row
+stored_after_writing table row standing (Some writing) = written_to writing.access table row standing writing.entries
 
-abbrev pub stored_by : Contents → Row → Connection → Question → Stored
-stored_by table row conn asked = stored_after table row conn.standing (writing_asked conn.queue asked)
+abbrev pub stored_by : Contents → Row → Bearer → Question → Stored
+stored_by table row conn asked = stored_after_writing table row conn.standing (writing_asked conn.queue asked)
 
 -- the handles that are written, each once, in the order of their first entries
 abbrev pub handles_after : Contents → Row → Standing → Option Writing → List Handle
@@ -94,11 +94,11 @@ handles_after table row standing None = []
 handles_after table row standing (Some writing) =
     touched_by writing.entries (applied_to writing.access table row standing writing.entries)
 
-abbrev pub handles_by : Contents → Row → Connection → Question → List Handle
+abbrev pub handles_by : Contents → Row → Bearer → Question → List Handle
 handles_by table row conn asked = handles_after table row conn.standing (writing_asked conn.queue asked)
 
 -- the connection afterwards, which no value and no row decides: an exchange sets its ATT_MTU, and a part that is accepted joins its prepared writes, of which an execution leaves none
-abbrev pub conn_after : List Attr → Connection → Question → Connection
+abbrev pub conn_after : List Attr → Bearer → Question → Bearer
 conn_after attributes conn (Ok (ExchangeMtuRequest client_rx_mtu)) = after_exchange conn client_rx_mtu
 conn_after attributes conn (Ok (PrepareWriteRequest handle offset part)) =
     let entry = entry_at handle offset part in

@@ -6,7 +6,7 @@ use Rattle.att_writes.specs.Entry.{Entry}
 use Rattle.att_pdu.specs.declared.pdu_buf.TheConstants.{MIN_MTU}
 
 -- what the policy sees of it; its ATT_MTU; the largest PDU that the server receives; whether a client has exchanged its own for it; and its prepared writes, in their order
-pub record Connection : Type 0 where
+pub record Bearer : Type 0 where
   pub standing : Standing
   pub mtu : Mtu
   pub rx_mtu : Mtu
@@ -14,7 +14,7 @@ pub record Connection : Type 0 where
   pub queue : List Entry
 
 -- a new one to a server that receives PDUs of this many octets: the peer is unknown, the link is not encrypted, nobody is authorized, the ATT_MTU is the least (Core 5.0, Vol 3 Part G, 5.2.1), and nothing is prepared
-abbrev pub new_connection : Mtu → Connection
+abbrev pub new_connection : Mtu → Bearer
 new_connection rx_mtu = record {
   standing = record { key = None; key_known = false; until = 0; now = 0 };
   mtu = MIN_MTU;
@@ -28,7 +28,7 @@ abbrev pub mtu_between : Mtu → Mtu → Mtu
 mtu_between client_rx_mtu server_rx_mtu = max MIN_MTU (min client_rx_mtu server_rx_mtu)
 
 -- the first exchange sets it. Later ones change nothing, by this profile's own rule
-abbrev pub after_exchange : Connection → Mtu → Connection
+abbrev pub after_exchange : Bearer → Mtu → Bearer
 after_exchange conn client_rx_mtu =
     if conn.exchanged then conn
     else record conn { mtu = mtu_between client_rx_mtu conn.rx_mtu; exchanged = true }

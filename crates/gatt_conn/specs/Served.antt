@@ -6,23 +6,23 @@ use Rattle.att_pdu.specs.Grammar.{request_of}
 use Rattle.att_pdu.specs.PduBuf.{contents, IsSameBuffer}
 use Rattle.att_pdu.specs.Response.{Response, sent_if_any}
 use Rattle.att_table.specs.Table.{Contents}
-use Rattle.att_writes.specs.Leaves.{Leaves}
+use Rattle.att_writes.specs.Leaves.{LeavesStored}
 use Rattle.gatt_conn.specs.declared.answered.Served.{Served}
 use Rattle.gatt_conn.specs.Answer.{stored_by, handles_by, conn_after, is_confirmation}
-use Rattle.gatt_conn.specs.Connection.{Connection}
+use Rattle.gatt_conn.specs.Connection.{Bearer}
 use Rattle.octets.specs.Number.{Octets}
 
 -- this is the answer, if one is due, in the same buffer
-pub record Serves (answer : Option Response) (before after : PduBuf) (result : Served) : Type 0 where
+pub record ServesPdu (answer : Option Response) (before after : PduBuf) (result : Served) : Type 0 where
   pub content : contents after ≡ sent_if_any answer
   pub due : result.due ≡ is_some answer
   pub same_buffer : IsSameBuffer before after
 
 -- what a PDU led to, beside the answer itself: from the old table, row and connection to the new ones, with these handles written
-pub record IsAnswered (pdu : Octets) (old_table new_table : Contents) (old_row new_row : Row) (old_conn new_conn : Connection)
+pub record IsAnswered (pdu : Octets) (old_table new_table : Contents) (old_row new_row : Row) (old_conn new_conn : Bearer)
     (written : List Handle) (confirms : Bool) : Type 0 where
   -- the values and the row are what it stored, and the attributes stay
-  pub left : Leaves (stored_by old_table old_row old_conn (request_of pdu old_conn.mtu)) old_table new_table new_row
+  pub left : LeavesStored (stored_by old_table old_row old_conn (request_of pdu old_conn.mtu)) old_table new_table new_row
   -- what became of the connection
   pub conn : new_conn ≡ conn_after old_table.attributes old_conn (request_of pdu old_conn.mtu)
   -- the handles that were written, each once, in the order of their first writes

@@ -9,7 +9,7 @@ use Rattle.att_policy.specs.declared.standing.Standing.{Standing}
 use Rattle.att_table.specs.Table.{Contents}
 use Rattle.att_writes.specs.Entry.{Entry}
 use Rattle.gatt_conn.specs.Answer.{Question, entry_at, answer_to, conn_after}
-use Rattle.gatt_conn.specs.Connection.{Connection, new_connection, mtu_between}
+use Rattle.gatt_conn.specs.Connection.{Bearer, new_connection, mtu_between}
 use Rattle.octets.specs.Number.{Octets}
 use Rattle.att_pdu.specs.declared.pdu_buf.TheConstants.{MIN_MTU}
 
@@ -69,38 +69,38 @@ prepared_in [] = []
 prepared_in (said ∷ earlier) = if is_end said then [] else prepared_in earlier ++ part_by said
 
 -- a connection is what its transcript says
-pub record Follows (conn : Connection) (all : List Said) : Type 0 where
+pub record Follows (conn : Bearer) (all : List Said) : Type 0 where
   pub mtu : conn.mtu ≡ mtu_in conn.rx_mtu all
   pub exchanged : conn.exchanged ≡ is_some (first_exchange all)
   pub queue : conn.queue ≡ prepared_in all
 
 -- what happens to a connection: it sends a PDU, to whatever the table and its row then are; what the policy sees of it changes; or its prepared writes are dropped
-pub data Act : Type 0 where
-  Sends : (table : Contents) (row : Row) (pdu : Octets) → Act
-  Stands : (standing : Standing) → Act
-  Cancels : Act
+pub data BearerAct : Type 0 where
+  Sends : (table : Contents) (row : Row) (pdu : Octets) → BearerAct
+  Stands : (standing : Standing) → BearerAct
+  Cancels : BearerAct
 
-abbrev pub after_act : Connection → Act → Connection
+abbrev pub after_act : Bearer → BearerAct → Bearer
 after_act conn (Sends table row pdu) = conn_after table.attributes conn (request_of pdu conn.mtu)
 after_act conn (Stands standing) = record conn { standing = standing }
 after_act conn Cancels = record conn { queue = [] }
 
-abbrev pub said_by : Connection → Act → List Said
+abbrev pub said_by : Bearer → BearerAct → List Said
 said_by conn (Sends table row pdu) =
     let asked = request_of pdu conn.mtu in Answered asked (answer_to table row conn asked) ∷ []
 said_by conn (Stands standing) = []
 said_by conn Cancels = Dropped ∷ []
 
 -- the same of any acts, the newest first
-abbrev pub after_acts : Connection → List Act → Connection
+abbrev pub after_acts : Bearer → List BearerAct → Bearer
 after_acts conn [] = conn
 after_acts conn (act ∷ earlier) = after_act (after_acts conn earlier) act
 
-abbrev pub said_in : Connection → List Act → List Said
+abbrev pub said_in : Bearer → List BearerAct → List Said
 said_in conn [] = []
 said_in conn (act ∷ earlier) = said_by (after_acts conn earlier) act ++ said_in conn earlier
 
 -- whatever happens to a new connection, and whatever others do to the table meanwhile: its own transcript tells its ATT_MTU and what it has prepared
 abbrev pub TranscriptTells : Type 0
-TranscriptTells = (rx_mtu : Mtu) (acts : List Act) →
+TranscriptTells = (rx_mtu : Mtu) (acts : List BearerAct) →
     Follows (after_acts (new_connection rx_mtu) acts) (said_in (new_connection rx_mtu) acts)

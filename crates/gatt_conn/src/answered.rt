@@ -6,7 +6,7 @@ ghost use Rattle.att_pdu.specs.Response.{ErrorResponse, ExchangeMtuResponse, sen
 ghost use Rattle.att_table.specs.ConfigRow.{IsRowOf};
 ghost use Rattle.gatt_conn.specs.Answer.{answer_to};
 ghost use Rattle.gatt_conn.specs.Connection.{after_exchange};
-ghost use Rattle.gatt_conn.specs.Served.{Serves, IsAnswered};
+ghost use Rattle.gatt_conn.specs.Served.{ServesPdu, IsAnswered};
 
 use crate::conn::Conn;
 use crate::writing::{cancel, command, execute, prepare, write};
@@ -85,7 +85,7 @@ fn serve(
     requires mtu { mtu_of out.old ≡ conn.old.mtu }
     requires row { IsRowOf table.old.attributes row.old }
 
-    ensures served { Serves
+    ensures served { ServesPdu
         (answer_to table.old row.old conn.old (request_of pdu.now conn.old.mtu)) out.old out.new
         result }
     ensures answered { IsAnswered pdu.now table.old table.new row.old row.new conn.old conn.new
@@ -127,7 +127,7 @@ fn serve_form(
     requires mtu { mtu_of out.old ≡ conn.old.mtu }
     requires row { IsRowOf table.old.attributes row.old }
 
-    ensures served { Serves
+    ensures served { ServesPdu
         (answer_to table.old row.old conn.old (request_of pdu.now conn.old.mtu)) out.old out.new
         result }
     ensures answered { IsAnswered pdu.now table.old table.new row.old row.new conn.old conn.new
@@ -231,7 +231,7 @@ pub(crate) fn with_answer() -> Served
 /// Serves an Exchange MTU Request: Core 5.0, Vol 3 Part F, 3.4.2.
 fn exchange_mtu(conn: &mut Conn, client_rx_mtu: u16, out: &mut PduBuf<'_>) -> Served
     requires empty { contents out.old ≡ [] }
-    ensures served { Serves (Some (ExchangeMtuResponse conn.old.rx_mtu)) out.old out.new result }
+    ensures served { ServesPdu (Some (ExchangeMtuResponse conn.old.rx_mtu)) out.old out.new result }
     ensures confirmed { result.confirmed ≡ false }
     ensures conn { conn.new ≡ after_exchange conn.old client_rx_mtu }
 {
@@ -243,7 +243,7 @@ fn exchange_mtu(conn: &mut Conn, client_rx_mtu: u16, out: &mut PduBuf<'_>) -> Se
 
 /// Answers a request by an error.
 pub(crate) fn refuse(request_opcode: u8, handle: u16, code: u8, out: &mut PduBuf<'_>) -> Served
-    ensures served { Serves (Some (ErrorResponse request_opcode handle code)) out.old out.new
+    ensures served { ServesPdu (Some (ErrorResponse request_opcode handle code)) out.old out.new
         result }
     ensures confirmed { result.confirmed ≡ false }
 {

@@ -1,8 +1,8 @@
 ghost use Rattle.std.specs.Prelude.{◌≡◌, ◌≤◌, false, [], IfOk};
 ghost use Rattle.att_table.specs.ConfigRow.{IsRowOf};
 ghost use Rattle.att_writes.specs.Applied.{applied_to, written_to};
-ghost use Rattle.att_writes.specs.Leaves.{Leaves};
-ghost use Rattle.att_writes.specs.Outcome.{outcome_of};
+ghost use Rattle.att_writes.specs.Leaves.{LeavesStored};
+ghost use Rattle.att_writes.specs.Outcome.{write_outcome};
 ghost use Rattle.att_writes.specs.Queue.{prepare_fault, queue_after, prepare_outcome, touched_by};
 ghost use Rattle.gatt_conn.specs.Answer.{entry_at};
 ghost use Rattle.gatt_conn.specs.Connection.{new_connection, after_exchange};
@@ -43,13 +43,21 @@ pub struct Conn {
 impl Model for Conn {
     ghost use Rattle.std.specs.Prelude.{◌≤◌};
     ghost use Rattle.att_pdu.specs.declared.pdu_buf.TheConstants.{MAX_MTU, MIN_MTU};
-    ghost use Rattle.gatt_conn.specs.Connection.{Connection};
+    ghost use Rattle.gatt_conn.specs.Connection.{Bearer};
 
-    ghost Value = { Connection };
+    ghost Value = { Bearer };
 
-    ghost view = { λ conn. record { standing = conn.standing; mtu = conn.mtu; rx_mtu = conn.rx_mtu; exchanged = conn.exchanged; queue = conn.queue } };
+    ghost view = { λ conn.
+        record {
+          standing = conn.standing;
+          mtu = conn.mtu;
+          rx_mtu = conn.rx_mtu;
+          exchanged = conn.exchanged;
+          queue = conn.queue;
+        } };
 
-    ghost invariant = { λ conn. (MIN_MTU ≤ conn.mtu) × (conn.mtu ≤ MAX_MTU) × (MIN_MTU ≤ conn.rx_mtu) × (conn.rx_mtu ≤ MAX_MTU) };
+    ghost invariant = { λ conn. (MIN_MTU ≤ conn.mtu) × (conn.mtu ≤ MAX_MTU)
+        × (MIN_MTU ≤ conn.rx_mtu) × (conn.rx_mtu ≤ MAX_MTU) };
 }
 
 impl Conn {
@@ -149,10 +157,12 @@ impl Conn {
         part: &[u8],
     ) -> Outcome
         ensures outcome { result ≡ prepare_outcome (entry_at handle offset part.now)
-            (prepare_fault table.now.attributes self.old.standing self.old.queue (entry_at handle offset part.now)) }
+            (prepare_fault table.now.attributes self.old.standing self.old.queue
+            (entry_at handle offset part.now)) }
         ensures conn { self.new ≡ record self.old {
           queue = queue_after self.old.queue (entry_at handle offset part.now)
-              (prepare_fault table.now.attributes self.old.standing self.old.queue (entry_at handle offset part.now));
+              (prepare_fault table.now.attributes self.old.standing self.old.queue
+              (entry_at handle offset part.now));
         } }
     {
         att_writes::prepare(table, &self.standing, &mut self.queue, handle, offset, part)
@@ -167,9 +177,9 @@ impl Conn {
     ) -> Outcome
         requires row { IsRowOf table.old.attributes row.old }
         ensures outcome { result
-            ≡ outcome_of 0x18
+            ≡ write_outcome 0x18
             (applied_to Access.Write table.old row.old self.old.standing self.old.queue) }
-        ensures left { Leaves
+        ensures left { LeavesStored
             (written_to Access.Write table.old row.old self.old.standing self.old.queue) table.old
             table.new row.new }
         ensures touched { touched.new.items

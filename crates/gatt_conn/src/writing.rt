@@ -5,10 +5,10 @@ ghost use Rattle.att_pdu.specs.PduBuf.{contents, mtu_of};
 ghost use Rattle.att_pdu.specs.Request.{WriteRequest, ExecuteWriteRequest, WriteCommandPdu};
 ghost use Rattle.att_pdu.specs.Response.{ExecuteWriteResponse};
 ghost use Rattle.att_table.specs.ConfigRow.{IsRowOf};
-ghost use Rattle.att_writes.specs.Leaves.{Leaves};
+ghost use Rattle.att_writes.specs.Leaves.{LeavesStored};
 ghost use Rattle.att_writes.specs.Queue.{prepare_fault, queue_after};
 ghost use Rattle.gatt_conn.specs.Answer.{entry_at, prepare_response, answer_to, stored_by, handles_by};
-ghost use Rattle.gatt_conn.specs.Served.{Serves};
+ghost use Rattle.gatt_conn.specs.Served.{ServesPdu};
 
 use crate::answered::{Served, refuse, with_answer, without_answer};
 use crate::conn::Conn;
@@ -30,11 +30,11 @@ pub(crate) fn write(
     requires empty { contents out.old ≡ [] }
     requires untouched { touched.old.items ≡ [] }
     requires row { IsRowOf table.old.attributes row.old }
-    ensures served { Serves (answer_to table.old row.old conn.now
+    ensures served { ServesPdu (answer_to table.old row.old conn.now
         (Ok (WriteRequest handle value.now))) out.old out.new result }
     ensures touched { touched.new.items
         ≡ handles_by table.old row.old conn.now (Ok (WriteRequest handle value.now)) }
-    ensures left { Leaves (stored_by table.old row.old conn.now
+    ensures left { LeavesStored (stored_by table.old row.old conn.now
         (Ok (WriteRequest handle value.now))) table.old table.new row.new }
     ensures confirmed { result.confirmed ≡ false }
 {
@@ -62,7 +62,7 @@ pub(crate) fn command(
     ensures due { result.due ≡ false }
     ensures touched { touched.new.items
         ≡ handles_by table.old row.old conn.now (Ok (WriteCommandPdu handle value.now)) }
-    ensures left { Leaves (stored_by table.old row.old conn.now
+    ensures left { LeavesStored (stored_by table.old row.old conn.now
         (Ok (WriteCommandPdu handle value.now))) table.old table.new row.new }
     ensures confirmed { result.confirmed ≡ false }
 {
@@ -86,11 +86,13 @@ pub(crate) fn prepare(
 ) -> Served
     requires empty { contents out.old ≡ [] }
     requires fits { 5 + length part.now ≤ mtu_of out.old }
-    ensures served { Serves (Some (prepare_response (entry_at handle offset part.now)
-        (prepare_fault table.now.attributes conn.old.standing conn.old.queue (entry_at handle offset part.now)))) out.old out.new result }
+    ensures served { ServesPdu (Some (prepare_response (entry_at handle offset part.now)
+        (prepare_fault table.now.attributes conn.old.standing conn.old.queue
+        (entry_at handle offset part.now)))) out.old out.new result }
     ensures conn { conn.new ≡ record conn.old {
       queue = queue_after conn.old.queue (entry_at handle offset part.now)
-          (prepare_fault table.now.attributes conn.old.standing conn.old.queue (entry_at handle offset part.now));
+          (prepare_fault table.now.attributes conn.old.standing conn.old.queue
+          (entry_at handle offset part.now));
     } }
     ensures confirmed { result.confirmed ≡ false }
 {
@@ -108,7 +110,7 @@ pub(crate) fn prepare(
 #[inline(always)]
 pub(crate) fn cancel(conn: &mut Conn, out: &mut PduBuf<'_>) -> Served
     requires empty { contents out.old ≡ [] }
-    ensures served { Serves (Some ExecuteWriteResponse) out.old out.new result }
+    ensures served { ServesPdu (Some ExecuteWriteResponse) out.old out.new result }
     ensures conn { conn.new ≡ record conn.old { queue = [] } }
     ensures confirmed { result.confirmed ≡ false }
 {
@@ -128,11 +130,11 @@ pub(crate) fn execute(
 ) -> Served
     requires empty { contents out.old ≡ [] }
     requires row { IsRowOf table.old.attributes row.old }
-    ensures served { Serves (answer_to table.old row.old conn.old
+    ensures served { ServesPdu (answer_to table.old row.old conn.old
         (Ok (ExecuteWriteRequest ExecuteFlags.Write))) out.old out.new result }
     ensures touched { touched.new.items
         ≡ handles_by table.old row.old conn.old (Ok (ExecuteWriteRequest ExecuteFlags.Write)) }
-    ensures left { Leaves (stored_by table.old row.old conn.old
+    ensures left { LeavesStored (stored_by table.old row.old conn.old
         (Ok (ExecuteWriteRequest ExecuteFlags.Write))) table.old table.new row.new }
     ensures conn { conn.new ≡ record conn.old { queue = [] } }
     ensures confirmed { result.confirmed ≡ false }

@@ -8,29 +8,29 @@ use Rattle.gatt_device.specs.declared.outside.Sending.TheVariants as sending
 use Rattle.gatt_device.specs.declared.serving.End.{End}
 use Rattle.gatt_device.specs.declared.serving.End.TheVariants as end
 use Rattle.gatt_device.specs.declared.turn.Turn.{Turn}
-use Rattle.gatt_device.specs.Happenings.{Happening, Came, Asked, Entry, Waited, Happened, Answered, Ended, Failed, Kept, Unkept, Sent, Unsent, Broken, Records, items_in, items_of}
+use Rattle.gatt_device.specs.Happenings.{DeviceInput, Came, Asked, HistoryEntry, Waited, Happened, Answered, Ended, Failed, Kept, Unkept, Sent, Unsent, Broken, Records, items_in, input_items_of}
 use Rattle.gatt_device.specs.Outside.{Sends, kept_entry, sent_entries}
-use Rattle.gatt_device.specs.Serving.{Known, all_entries, entries_in, entries_of, last_entries}
+use Rattle.gatt_device.specs.Serving.{Known, all_entries, entries_recorded, entries_recorded_of, last_entries}
 use Rattle.gatt_device.specs.Turn.{EndsKept, KeepsTheOrder, KeptBeforeSent, StaysInOrder, TakesATurn}
 use Rattle.gatt_host.specs.declared.host_fault.HostFault.{HostFault}
-use Rattle.gatt_host.specs.Whole.{StandsAt, Whole}
-use Rattle.gatt_laws.specs.machine.Input.{Course, Item, after_items, course}
+use Rattle.gatt_host.specs.HostModel.{RefinesRun, HostModel}
+use Rattle.gatt_laws.specs.machine.Input.{Run, Item, after_items, run}
 use Rattle.gatt_laws.specs.machine.Notice.{Notice}
 use Rattle.gatt_laws.specs.machine.Start.{Start}
 use Rattle.gatt_subs.specs.Rows.{Subscriptions}
 use Rattle.octets.specs.Number.{Octets}
 
 -- one place in two lists, one behind the other, is in the first or in the second
-abbrev SplitsAt : List Entry → List Entry → List Entry → Entry → List Entry → Type 0
+abbrev SplitsAt : List HistoryEntry → List HistoryEntry → List HistoryEntry → HistoryEntry → List HistoryEntry → Type 0
 SplitsAt xs ys first entry rest =
-    ((later : List Entry) × (xs ≡ first ++ entry ∷ later)) ⊎ ((between : List Entry) × (first ≡ xs ++ between) × (ys ≡ between ++ entry ∷ rest))
+    ((later : List HistoryEntry) × (xs ≡ first ++ entry ∷ later)) ⊎ ((between : List HistoryEntry) × (first ≡ xs ++ between) × (ys ≡ between ++ entry ∷ rest))
 
-one_further : (x y : Entry) (xs ys first : List Entry) (entry : Entry) (rest : List Entry) → x ≡ y → SplitsAt xs ys first entry rest
+one_further : (x y : HistoryEntry) (xs ys first : List HistoryEntry) (entry : HistoryEntry) (rest : List HistoryEntry) → x ≡ y → SplitsAt xs ys first entry rest
     → SplitsAt (x ∷ xs) ys (y ∷ first) entry rest
 one_further x y xs ys first entry rest same (inl found) = inl (found.0, λ i. same i ∷ found.1 i)
 one_further x y xs ys first entry rest same (inr found) = inr (found.0, λ i. sym same i ∷ found.1 i, found.2)
 
-splits_at : (xs ys first : List Entry) (entry : Entry) (rest : List Entry) → xs ++ ys ≡ first ++ entry ∷ rest → SplitsAt xs ys first entry rest
+splits_at : (xs ys first : List HistoryEntry) (entry : HistoryEntry) (rest : List HistoryEntry) → xs ++ ys ≡ first ++ entry ∷ rest → SplitsAt xs ys first entry rest
 splits_at [] ys first entry rest is = inr (first, refl, is)
 splits_at (x ∷ xs) ys [] entry rest is =
     let same : x ≡ entry = cc in
@@ -41,7 +41,7 @@ splits_at (x ∷ xs) ys (y ∷ first) entry rest is =
     one_further x y xs ys first entry rest same (splits_at xs ys first entry rest behind)
 
 -- whether octets were sent
-abbrev is_sent : Entry → Bool
+abbrev is_sent : HistoryEntry → Bool
 is_sent (Sent octets) = true
 is_sent (Waited deadline) = false
 is_sent (Happened happening) = false
@@ -53,7 +53,7 @@ is_sent (Unkept rows) = false
 is_sent (Unsent octets) = false
 is_sent (Broken left) = false
 
-abbrev has_sent : List Entry → Bool
+abbrev has_sent : List HistoryEntry → Bool
 has_sent [] = false
 has_sent (entry ∷ entries) = is_sent entry || has_sent entries
 
@@ -61,29 +61,29 @@ or_true : (one other : Bool) → other ≡ true → (one || other) ≡ true
 or_true true other is = refl
 or_true false other is = is
 
-sent_there : (first : List Entry) (octets : Octets) (rest : List Entry) → has_sent (first ++ Sent octets ∷ rest) ≡ true
+sent_there : (first : List HistoryEntry) (octets : Octets) (rest : List HistoryEntry) → has_sent (first ++ Sent octets ∷ rest) ≡ true
 sent_there [] octets rest = refl
 sent_there (entry ∷ first) octets rest = or_true (is_sent entry) _ (sent_there first octets rest)
 
 -- by what happens nothing is sent
-turn_unsent : (at : Course) (happening : Happening) (entries : List Entry) → has_sent entries ≡ false → has_sent (entries_of at happening ++ entries) ≡ false
+turn_unsent : (at : Run) (happening : DeviceInput) (entries : List HistoryEntry) → has_sent entries ≡ false → has_sent (entries_recorded_of at happening ++ entries) ≡ false
 turn_unsent at (Came octets) entries none = none
 turn_unsent at (Asked call) entries none = none
 
-turns_unsent : (at : Course) (happened : List Happening) (entries : List Entry) → has_sent entries ≡ false → has_sent (entries_in at happened ++ entries) ≡ false
+turns_unsent : (at : Run) (happened : List DeviceInput) (entries : List HistoryEntry) → has_sent entries ≡ false → has_sent (entries_recorded at happened ++ entries) ≡ false
 turns_unsent at [] entries none = none
 turns_unsent at (happening ∷ happened) entries none =
-    let next : Course = after_items at (items_of happening) in
-    subst (λ (all : List Entry). has_sent all ≡ false) (sym (append_assoc (entries_of at happening) (entries_in next happened) entries))
-    (turn_unsent at happening (entries_in next happened ++ entries) (turns_unsent next happened entries none))
+    let next : Run = after_items at (input_items_of happening) in
+    subst (λ (all : List HistoryEntry). has_sent all ≡ false) (sym (append_assoc (entries_recorded_of at happening) (entries_recorded next happened) entries))
+    (turn_unsent at happening (entries_recorded next happened ++ entries) (turns_unsent next happened entries none))
 
-last_unsent : (at : Course) (result : Result End HostFault) → has_sent (last_entries at result) ≡ false
+last_unsent : (at : Run) (result : Result End HostFault) → has_sent (last_entries at result) ≡ false
 last_unsent at (Ok end.Ended) = refl
 last_unsent at (Ok end.Failed) = refl
 last_unsent at (Ok end.Turns) = refl
 last_unsent at (Err fault) = refl
 
-all_unsent : (at : Course) (happened : List Happening) (result : Result End HostFault) → has_sent (all_entries at happened result) ≡ false
+all_unsent : (at : Run) (happened : List DeviceInput) (result : Result End HostFault) → has_sent (all_entries at happened result) ≡ false
 all_unsent at happened result =
     turns_unsent at happened (last_entries (after_items at (items_in happened)) result) (last_unsent (after_items at (items_in happened)) result)
 
@@ -92,10 +92,10 @@ kept_unsent true rows = refl
 kept_unsent false rows = refl
 
 -- behind that rows were kept, octets were sent once, or not at all
-never_there : (tail between : List Entry) (octets : Octets) (rest : List Entry) → has_sent tail ≡ false → tail ≡ between ++ Sent octets ∷ rest → ⊥
+never_there : (tail between : List HistoryEntry) (octets : Octets) (rest : List HistoryEntry) → has_sent tail ≡ false → tail ≡ between ++ Sent octets ∷ rest → ⊥
 never_there tail between octets rest none is = false≢true (sym none ∙ ap has_sent is ∙ sent_there between octets rest)
 
-right_behind : (kept : Entry) (sent : Octets) (tail between : List Entry) (octets : Octets) (rest : List Entry) → is_sent kept ≡ false → has_sent tail ≡ false
+right_behind : (kept : HistoryEntry) (sent : Octets) (tail between : List HistoryEntry) (octets : Octets) (rest : List HistoryEntry) → is_sent kept ≡ false → has_sent tail ≡ false
     → kept ∷ (sent_entries sent ++ tail) ≡ between ++ Sent octets ∷ rest → between ≡ kept ∷ []
 right_behind kept sent tail [] octets rest none silent is =
     let same : kept ≡ Sent octets = cc in
@@ -110,31 +110,31 @@ right_behind kept (octet ∷ sent) tail (entry ∷ other ∷ between) octets res
     let behind : tail ≡ between ++ Sent octets ∷ rest = cc in
     absurd (never_there tail between octets rest silent behind)
 
-module _ (before turn : List Entry) (is_kept : Bool) (rows : Subscriptions) (sent : Octets) (tail : List Entry) (none : has_sent turn ≡ false)
+module _ (before turn : List HistoryEntry) (is_kept : Bool) (rows : Subscriptions) (sent : Octets) (tail : List HistoryEntry) (none : has_sent turn ≡ false)
     (silent : has_sent tail ≡ false) (order : KeptBeforeSent before) where
-  abbrev behind : List Entry
+  abbrev behind : List HistoryEntry
   behind = kept_entry is_kept rows ∷ (sent_entries sent ++ tail)
 
-  in_turn : (first between rest : List Entry) (octets : Octets) → first ≡ before ++ between → SplitsAt turn behind between (Sent octets) rest → EndsKept first
+  in_turn : (first between rest : List HistoryEntry) (octets : Octets) → first ≡ before ++ between → SplitsAt turn behind between (Sent octets) rest → EndsKept first
   in_turn first between rest octets at (inl found) = absurd (false≢true (sym none ∙ (ap has_sent found.1 ∙ sent_there between octets found.0)))
   in_turn first between rest octets at (inr found) = record {
     earlier = before ++ turn;
     is_kept = is_kept;
     rows = rows;
     parts = at
-        ∙ ap (λ (it : List Entry). before ++ it) (found.1 ∙ ap (λ (it : List Entry). turn ++ it)
+        ∙ ap (λ (it : List HistoryEntry). before ++ it) (found.1 ∙ ap (λ (it : List HistoryEntry). turn ++ it)
         (right_behind (kept_entry is_kept rows) sent tail found.0 octets rest (kept_unsent is_kept rows) silent found.2))
         ∙ sym (append_assoc before turn (kept_entry is_kept rows ∷ []));
   }
 
-  in_all : (first rest : List Entry) (octets : Octets) → SplitsAt before (turn ++ behind) first (Sent octets) rest → EndsKept first
+  in_all : (first rest : List HistoryEntry) (octets : Octets) → SplitsAt before (turn ++ behind) first (Sent octets) rest → EndsKept first
   in_all first rest octets (inl found) = order first found.0 octets found.1
   in_all first rest octets (inr found) = in_turn first found.0 rest octets found.1 (splits_at turn behind found.0 (Sent octets) rest found.2)
 
   stays : KeptBeforeSent (before ++ (turn ++ behind))
   stays first rest octets is = in_all first rest octets (splits_at before (turn ++ behind) first (Sent octets) rest is)
 
-stays_in_order : (turn : List Entry) (is_kept : Bool) (rows : Subscriptions) (sent : Octets) (tail : List Entry) (before after : Option (List Entry))
+stays_in_order : (turn : List HistoryEntry) (is_kept : Bool) (rows : Subscriptions) (sent : Octets) (tail : List HistoryEntry) (before after : Option (List HistoryEntry))
     → has_sent turn ≡ false → has_sent tail ≡ false
     → Records (turn ++ (kept_entry is_kept rows ∷ (sent_entries sent ++ tail))) before after → KeepsTheOrder before after
 stays_in_order turn is_kept rows sent tail None after none silent records = tt
@@ -143,37 +143,37 @@ stays_in_order turn is_kept rows sent tail (Some before) (Some after) none silen
     subst KeptBeforeSent (sym records) (stays before turn is_kept rows sent tail none silent order)
 
 -- and so for each way in which octets are sent
-module _ (rows : Subscriptions) (turn : Turn) (entries : List Entry) (none : has_sent entries ≡ false) (before recorded kept : Option (List Entry))
+module _ (rows : Subscriptions) (turn : Turn) (entries : List HistoryEntry) (none : has_sent entries ≡ false) (before recorded kept : Option (List HistoryEntry))
     (served : Records entries before recorded) (keeps : Records (kept_entry turn.is_kept rows ∷ []) recorded kept) where
-  sent_in_order : (sent : Octets) (tail : List Entry) (after : Option (List Entry)) → has_sent tail ≡ false → Records (sent_entries sent ++ tail) kept after
+  sent_in_order : (sent : Octets) (tail : List HistoryEntry) (after : Option (List HistoryEntry)) → has_sent tail ≡ false → Records (sent_entries sent ++ tail) kept after
       → KeepsTheOrder before after
   sent_in_order sent tail after silent sends =
       stays_in_order entries turn.is_kept rows sent tail before after none silent
       (records_then entries (kept_entry turn.is_kept rows ∷ (sent_entries sent ++ tail)) before recorded after served
       (records_then (kept_entry turn.is_kept rows ∷ []) (sent_entries sent ++ tail) recorded kept after keeps sends))
 
-  in_order : (sending : Sending) (waiting : Octets) (after : Option (List Entry)) → Sends sending waiting kept after → KeepsTheOrder before after
+  in_order : (sending : Sending) (waiting : Octets) (after : Option (List HistoryEntry)) → Sends sending waiting kept after → KeepsTheOrder before after
   in_order sending.Done waiting after sends =
-      sent_in_order waiting [] after refl (subst (λ (it : List Entry). Records it kept after) (sym (append-nil (sent_entries waiting))) sends)
+      sent_in_order waiting [] after refl (subst (λ (it : List HistoryEntry). Records it kept after) (sym (append-nil (sent_entries waiting))) sends)
   in_order sending.Waits waiting after sends = sent_in_order [] (Unsent waiting ∷ []) after refl sends
   in_order sending.Failed waiting after sends = sent_in_order sends.sent (Broken sends.left ∷ []) after refl sends.records
 
 -- a turn keeps the order, whether the host had stopped or not
-keeps_order : (turn : Turn) (old new : Whole) (come comes : Known) (before after : Option Octets) (heard hears : Option (List Notice)) (start : Start) (input : List Item) (gone : List Octets)
-    → StandsAt (course start input) gone old → TakesATurn turn old new come comes before after heard hears → (found : Option HostFault) → old.fault ≡ found
+keeps_order : (turn : Turn) (old new : HostModel) (come comes : Known) (before after : Option Octets) (heard hears : Option (List Notice)) (start : Start) (input : List Item) (gone : List Octets)
+    → RefinesRun (run start input) gone old → TakesATurn turn old new come comes before after heard hears → (found : Option HostFault) → old.fault ≡ found
     → KeepsTheOrder come.history comes.history
-keeps_order turn old new come comes before after heard hears start input gone is takes None stands =
-    let serves = takes.serves stands in
-    in_order new.held.rows turn (all_entries (course start input) serves.happened turn.served) (all_unsent (course start input) serves.happened turn.served)
+keeps_order turn old new come comes before after heard hears start input gone is takes None refines =
+    let serves = takes.serves refines in
+    in_order new.server.rows turn (all_entries (run start input) serves.happened turn.served) (all_unsent (run start input) serves.happened turn.served)
     come.history takes.recorded takes.settles.kept (serves.records start input gone is) takes.settles.keeps
     turn.sending takes.settles.sends.waiting comes.history takes.settles.sends.sends
-keeps_order turn old new come comes before after heard hears start input gone is takes (Some fault) stands =
-    let nothing = takes.stopped (subst IsSome (sym stands) refl) in
-    in_order new.held.rows turn [] refl come.history takes.recorded takes.settles.kept
-    (subst (λ (it : Option (List Entry)). Records [] come.history it) (sym (ap (λ (it : Known). it.history) nothing.happens)) (records_none come.history))
+keeps_order turn old new come comes before after heard hears start input gone is takes (Some fault) refines =
+    let nothing = takes.stopped (subst IsSome (sym refines) refl) in
+    in_order new.server.rows turn [] refl come.history takes.recorded takes.settles.kept
+    (subst (λ (it : Option (List HistoryEntry)). Records [] come.history it) (sym (ap (λ (it : Known). it.history) nothing.happens)) (records_none come.history))
     takes.settles.keeps turn.sending takes.settles.sends.waiting comes.history takes.settles.sends.sends
 
-pub stays_ordered : (turn : Turn) (old new : Whole) (come comes : Known) (before after : Option Octets) (heard hears : Option (List Notice))
+pub stays_ordered : (turn : Turn) (old new : HostModel) (come comes : Known) (before after : Option Octets) (heard hears : Option (List Notice))
     → TakesATurn turn old new come comes before after heard hears → StaysInOrder old come.history comes.history
 stays_ordered turn old new come comes before after heard hears takes start input gone is =
     keeps_order turn old new come comes before after heard hears start input gone is takes old.fault refl

@@ -11,24 +11,24 @@ use Rattle.gatt_device.specs.declared.happenings.Next.{Next}
 use Rattle.gatt_device.specs.declared.happenings.Next.TheVariants as next
 
 -- octets came from the controller, or the application asked something
-pub data Happening : Type 0 where
-  Came : (octets : Octets) → Happening
-  Asked : (call : Call) → Happening
+pub data DeviceInput : Type 0 where
+  Came : (octets : Octets) → DeviceInput
+  Asked : (call : Call) → DeviceInput
 
 -- what is recorded: up to which deadline it was waited, if there was one; what happened then; what a call was answered, which
 -- is why it is refused, if it is; that the stream of the controller has ended, or cannot be read; that rows were kept as they
 -- stood, or could not be; which octets were sent, and which waited on since nobody was there, or were left where sending failed
-pub data Entry : Type 0 where
-  Waited : (deadline : Option ℕ) → Entry
-  Happened : (happening : Happening) → Entry
-  Answered : (refusal : Option Refused) → Entry
-  Ended : Entry
-  Failed : Entry
-  Kept : (rows : Subscriptions) → Entry
-  Unkept : (rows : Subscriptions) → Entry
-  Sent : (octets : Octets) → Entry
-  Unsent : (octets : Octets) → Entry
-  Broken : (left : Octets) → Entry
+pub data HistoryEntry : Type 0 where
+  Waited : (deadline : Option ℕ) → HistoryEntry
+  Happened : (happening : DeviceInput) → HistoryEntry
+  Answered : (refusal : Option Refused) → HistoryEntry
+  Ended : HistoryEntry
+  Failed : HistoryEntry
+  Kept : (rows : Subscriptions) → HistoryEntry
+  Unkept : (rows : Subscriptions) → HistoryEntry
+  Sent : (octets : Octets) → HistoryEntry
+  Unsent : (octets : Octets) → HistoryEntry
+  Broken : (left : Octets) → HistoryEntry
 
 -- of what is given: its octets, its calls, and how it is recorded
 abbrev pub next_octets : Next → Octets
@@ -43,7 +43,7 @@ next_calls (next.Call call) = call_of call ∷ []
 next_calls next.Ended = []
 next_calls next.Failed = []
 
-abbrev pub next_entry : Next → Entry
+abbrev pub next_entry : Next → HistoryEntry
 next_entry (next.Octets octets) = Happened (Came octets.now)
 next_entry (next.Call call) = Happened (Asked (call_of call))
 next_entry next.Ended = Ended
@@ -56,29 +56,29 @@ Hands (Some before) None calls = ⊥
 Hands (Some before) (Some after) calls = before ≡ calls ++ after
 
 -- these entries stand behind those before, where they are known
-abbrev pub Records : List Entry → Option (List Entry) → Option (List Entry) → Type 0
+abbrev pub Records : List HistoryEntry → Option (List HistoryEntry) → Option (List HistoryEntry) → Type 0
 Records entries None after = Unit
 Records entries (Some before) None = ⊥
 Records entries (Some before) (Some after) = after ≡ before ++ entries
 
 -- of what happened: the octets, the calls, and what a host takes in
-abbrev pub octets_of : Happening → Octets
-octets_of (Came octets) = octets
-octets_of (Asked call) = []
+abbrev pub input_octets : DeviceInput → Octets
+input_octets (Came octets) = octets
+input_octets (Asked call) = []
 
-abbrev pub octets_in : List Happening → Octets
-octets_in happened = flat_map octets_of happened
+abbrev pub octets_that_came : List DeviceInput → Octets
+octets_that_came happened = flat_map input_octets happened
 
-abbrev pub calls_of : Happening → List Call
+abbrev pub calls_of : DeviceInput → List Call
 calls_of (Came octets) = []
 calls_of (Asked call) = call ∷ []
 
-abbrev pub calls_in : List Happening → List Call
+abbrev pub calls_in : List DeviceInput → List Call
 calls_in happened = flat_map calls_of happened
 
-abbrev pub items_of : Happening → List Item
-items_of (Came octets) = octet_items octets
-items_of (Asked call) = ACall call ∷ []
+abbrev pub input_items_of : DeviceInput → List Item
+input_items_of (Came octets) = octet_items octets
+input_items_of (Asked call) = ACall call ∷ []
 
-abbrev pub items_in : List Happening → List Item
-items_in happened = flat_map items_of happened
+abbrev pub items_in : List DeviceInput → List Item
+items_in happened = flat_map input_items_of happened

@@ -3,10 +3,10 @@
 
 ghost use Rattle.std.specs.Prelude.{◌≡◌, ◌∷◌, [], List, Option};
 ghost use Rattle.std.specs.Io.KnownBytes.{Consumes};
-ghost use Rattle.gatt_host.specs.Asked.{refusal_of};
+ghost use Rattle.gatt_host.specs.Asked.{refusal_in_result};
 ghost use Rattle.gatt_laws.specs.machine.Calls.{Call};
 ghost use Rattle.octets.specs.Number.{Octets};
-ghost use Rattle.gatt_device.specs.Happenings.{next_calls, next_entry, next_octets, Answered, Entry, Hands, Records, Waited};
+ghost use Rattle.gatt_device.specs.Happenings.{next_calls, next_entry, next_octets, Answered, HistoryEntry, Hands, Records, Waited};
 
 use gatt_host::{App, AppFault};
 
@@ -32,7 +32,7 @@ pub trait Happenings {
     ghost calls: { Self → Option (List Call) };
 
     /// What has happened so far, and what each call was answered, where that is known.
-    ghost history: { Self → Option (List Entry) };
+    ghost history: { Self → Option (List HistoryEntry) };
 
     /// Waits for what happens next, and gives it. Its octets, or those of a value, may lie in
     /// `buffer`. Where there is a deadline, in milliseconds, a tick is to tell the time then, if
@@ -47,6 +47,6 @@ pub trait Happenings {
     fn answered(&mut self, answer: Result<(), AppFault>)
         ensures octets { octets self.new ≡ octets self.old }
         ensures calls { calls self.new ≡ calls self.old }
-        ensures history { Records (Answered (refusal_of answer) ∷ [])
+        ensures history { Records (Answered (refusal_in_result answer) ∷ [])
             (history self.old) (history self.new) };
 }

@@ -26,7 +26,7 @@ pub trait Outside<L: Listener>: Happenings {
     fn keep(&mut self, host: &Host, listener: &mut L) -> bool
         ensures octets { Self.octets self.new ≡ Self.octets self.old }
         ensures calls { Self.calls self.new ≡ Self.calls self.old }
-        ensures history { Records (kept_entry result host.now.held.rows ∷ [])
+        ensures history { Records (kept_entry result host.now.server.rows ∷ [])
             (Self.history self.old) (Self.history self.new) }
         ensures heard { L.heard listener.new ≡ L.heard listener.old };
 

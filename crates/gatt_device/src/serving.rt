@@ -2,14 +2,14 @@
 
 ghost use Rattle.std.specs.Prelude.{◌≡◌, ◌∷◌, [], true, None, Some, IsSome, IsOk, IfErr};
 ghost use Rattle.gatt_host.specs.Asked.{call_of};
-ghost use Rattle.gatt_host.specs.Feeding.{comes_of_feeding, is_write, Feeds, WritesAllThatIsDue};
+ghost use Rattle.gatt_host.specs.Feeding.{comes_of_feeding, is_write_fault, Feeds, WritesAllThatIsDue};
 ghost use Rattle.gatt_host.specs.Listening.{Hears, Listens};
 ghost use Rattle.gatt_host.specs.Promises.{KeepsConnectionsApart, KeepsThePolicy};
 ghost use Rattle.gatt_host.specs.Telling.{notices_told};
-ghost use Rattle.gatt_host.specs.Whole.{all_out, outcome_of};
+ghost use Rattle.gatt_host.specs.HostModel.{all_out, fault_outcome};
 ghost use Rattle.gatt_laws.specs.machine.Input.{ACall};
 ghost use Rattle.octets.specs.Stream.{CountsIf};
-ghost use Rattle.gatt_device.specs.Serving.{known, RecordsTheAnswer, Serves};
+ghost use Rattle.gatt_device.specs.Serving.{known, RecordsTheAnswer, ServesDevice};
 ghost use Rattle.gatt_device.specs.Time.{KeepsTheTime};
 
 use crate::happenings::{Happenings, Next};
@@ -43,7 +43,7 @@ pub fn serve_happenings<H: Happenings, W: Sink, L: Listener>(
     listener: &mut L,
     turns: u64,
 ) -> Result<End, HostFault>
-    ensures serves { host.old.fault ≡ None → Serves result turns host.old host.new
+    ensures serves { host.old.fault ≡ None → ServesDevice result turns host.old host.new
         (known (H.octets happenings.old) (H.calls happenings.old) (H.history happenings.old))
         (known (H.octets happenings.new) (H.calls happenings.new) (H.history happenings.new))
         (W.contents out.old) (W.contents out.new) (L.heard listener.old) (L.heard listener.new) }
@@ -54,7 +54,7 @@ pub fn serve_happenings<H: Happenings, W: Sink, L: Listener>(
     ensures out { IsOk result → all_out host.new ≡ true }
     ensures due { host.old.fault ≡ None → WritesAllThatIsDue host.new.fault host.new }
     ensures failures { host.old.fault ≡ None
-        → CountsIf (is_write host.new.fault) (W.failures out.old) (W.failures out.new) }
+        → CountsIf (is_write_fault host.new.fault) (W.failures out.old) (W.failures out.new) }
     ensures stopped { IsSome host.old.fault → host.new ≡ host.old }
     ensures happenings_stopped { IsSome host.old.fault → happenings.new ≡ happenings.old }
     ensures sink_stopped { IsSome host.old.fault → out.new ≡ out.old }
@@ -96,11 +96,11 @@ fn take_call<H: Happenings, W: Sink, L: Listener>(
         (H.history happenings.old) (H.history happenings.new) }
     ensures octets { H.octets happenings.new ≡ H.octets happenings.old }
     ensures calls { H.calls happenings.new ≡ H.calls happenings.old }
-    ensures outcome { result ≡ outcome_of host.new.fault }
+    ensures outcome { result ≡ fault_outcome host.new.fault }
     ensures feeding { IfErr result (λ fault. comes_of_feeding fault ≡ true) }
     ensures out { IsOk result → all_out host.new ≡ true }
     ensures due { WritesAllThatIsDue host.new.fault host.new }
-    ensures failures { CountsIf (is_write host.new.fault) (W.failures out.old)
+    ensures failures { CountsIf (is_write_fault host.new.fault) (W.failures out.old)
         (W.failures out.new) }
 {
     let answer = host.app(call);

@@ -2,8 +2,8 @@
 //! waits.
 
 ghost use Rattle.std.specs.Prelude.{◌≡◌, true, None, Some, IsSome, IsOk, IfErr};
-ghost use Rattle.gatt_host.specs.Feeding.{comes_of_feeding, is_write, WritesAllThatIsDue};
-ghost use Rattle.gatt_host.specs.Whole.{all_out};
+ghost use Rattle.gatt_host.specs.Feeding.{comes_of_feeding, is_write_fault, WritesAllThatIsDue};
+ghost use Rattle.gatt_host.specs.HostModel.{all_out};
 ghost use Rattle.octets.specs.Number.{Octets};
 ghost use Rattle.octets.specs.Stream.{CountsIf};
 ghost use Rattle.gatt_device.specs.Outside.{waits_after};
@@ -48,7 +48,7 @@ pub fn serve_turn<O: Outside<L>, W: Outgoing, L: Listener>(
     ensures out { IsOk result.served → all_out host.new ≡ true }
     ensures due { host.old.fault ≡ None → WritesAllThatIsDue host.new.fault host.new }
     ensures failures { host.old.fault ≡ None
-        → CountsIf (is_write host.new.fault) (W.failures out.old) (W.failures out.new) }
+        → CountsIf (is_write_fault host.new.fault) (W.failures out.old) (W.failures out.new) }
     ensures stopped { IsSome host.old.fault → host.new ≡ host.old }
 {
     let served = serve_happenings(host, outside, out, listener, 1);

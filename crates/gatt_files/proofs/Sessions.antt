@@ -8,11 +8,11 @@ use Rattle.std.proofs.lemmas.List.{append-nil}
 use Rattle.gatt_files.specs.declared.session.Session.{Session}
 use Rattle.std.specs.List.{onto_first}
 use Rattle.octets.specs.Stream.{WritesFront}
-use Rattle.gatt_files.specs.Att.{Server, lines_of, pdu_of, printed_answer, answer_from, server_after, door_server, printed_for, bad_line_of}
+use Rattle.gatt_files.specs.Att.{Server, lines_of_input, pdu_of, printed_answer, answer_from, server_after, door_server, printed_for, bad_line_of}
 use Rattle.gatt_files.proofs.Appending.{appends-append, appends-nothing}
 use Rattle.gatt_files.proofs.Inputs.{consumes-append, consumes-kept, consumes-nothing}
 use Rattle.gatt_files.proofs.Reports.{printed-report, bad_line-report}
-use Rattle.gatt_files.specs.Session.{Report, report, line_report, after, ends_at, nothing, onto, server_of, report_from, Passes, StopsAt, Ends, AnswersLine, IsFront, BreaksOff, EndsBroken, BreaksLine}
+use Rattle.gatt_files.specs.Session.{Report, report, line_report, report_after, ends_at, empty_report, onto, server_of, report_from, Passes, StopsAt, Ends, AnswersLine, IsFront, BreaksOffPrinting, EndsBroken, BreaksLine}
 
 -- a `?` passes on the fault that it was given
 pub same_fault : {T U : Type 0} (inner : Result T ShellFault) (outer : Result U ShellFault) (fault wanted : ShellFault)
@@ -20,7 +20,7 @@ pub same_fault : {T U : Type 0} (inner : Result T ShellFault) (outer : Result U 
 same_fault inner (Ok x) fault wanted was is h = absurd is
 same_fault inner (Err passed_on) fault wanted was is h = cc
 
-after-after : (xs ys : List ℕ) (rest : Report) → after xs (after ys rest) ≡ after (xs ++ ys) rest
+after-after : (xs ys : List ℕ) (rest : Report) → report_after xs (report_after ys rest) ≡ report_after (xs ++ ys) rest
 after-after xs ys rest = simp append_assoc
 
 -- no octets are passed by standing still
@@ -33,7 +33,7 @@ passes_more first second third xs ys held mid holds a b = record {
   printed = a.printed ++ b.printed;
   appended = appends-append held mid holds a.printed b.printed a.appended b.appended;
   left = λ rest.
-      ap (report_from first) (append_assoc xs ys rest) ∙ a.left (ys ++ rest) ∙ ap (after a.printed) (b.left rest)
+      ap (report_from first) (append_assoc xs ys rest) ∙ a.left (ys ++ rest) ∙ ap (report_after a.printed) (b.left rest)
       ∙ after-after a.printed b.printed (report_from third rest);
 }
 
@@ -44,7 +44,7 @@ stops_after first second xs ys zs number held mid holds a b = record {
   appended = appends-append held mid holds a.printed b.printed a.appended b.appended;
   stopped = λ rest.
       ap (report_from first) (append_assoc xs (ys ++ zs) rest ∙ ap (λ more. xs ++ more) (append_assoc ys zs rest))
-      ∙ a.left (ys ++ (zs ++ rest)) ∙ ap (after a.printed) (b.stopped (zs ++ rest))
+      ∙ a.left (ys ++ (zs ++ rest)) ∙ ap (report_after a.printed) (b.stopped (zs ++ rest))
       ∙ after-after a.printed b.printed (ends_at number);
 }
 
@@ -55,15 +55,15 @@ onto-onto_first [] octet (l ∷ lines) = refl
 onto-onto_first (x ∷ xs) octet [] = refl
 onto-onto_first (x ∷ xs) octet (l ∷ lines) = ap (λ (more : List ℕ). (x ∷ more) ∷ lines) (sym (append_assoc xs (octet ∷ []) l))
 
-lines_of-other : (octet : ℕ) (octets : List ℕ) → octet ≢ 10 → lines_of (octet ∷ octets) ≡ onto_first octet (lines_of octets)
+lines_of-other : (octet : ℕ) (octets : List ℕ) → octet ≢ 10 → lines_of_input (octet ∷ octets) ≡ onto_first octet (lines_of_input octets)
 lines_of-other octet octets other = grind (arith, common_steps)
 
 report_from-octet : (old : Session) (octet : ℕ) (rest : List ℕ) → octet ≢ 10
-    → report_from old (octet ∷ rest) ≡ report (server_of old) old.number (onto (old.line.items ++ octet ∷ []) (lines_of rest))
+    → report_from old (octet ∷ rest) ≡ report (server_of old) old.number (onto (old.line.items ++ octet ∷ []) (lines_of_input rest))
 unfolding report_from
 report_from-octet old octet rest other =
     ap (λ lines. report (server_of old) old.number (onto old.line.items lines)) (lines_of-other octet rest other)
-    ∙ ap (report (server_of old) old.number) (onto-onto_first old.line.items octet (lines_of rest))
+    ∙ ap (report (server_of old) old.number) (onto-onto_first old.line.items octet (lines_of_input rest))
 
 pub pass_octet : (old new : Session) (octet : ℕ) (held : Option (List ℕ))
     → octet ≢ 10 → new.line.items ≡ old.line.items ++ octet ∷ [] → server_of new ≡ server_of old → new.number ≡ old.number
@@ -88,7 +88,7 @@ stop_long old octet number held other full is = record {
   appended = appends-nothing held;
   stopped = λ rest.
       report_from-octet old octet rest other
-      ∙ report-long (server_of old) old.number (old.line.items ++ octet ∷ []) (lines_of rest) (grind (arith, common_steps))
+      ∙ report-long (server_of old) old.number (old.line.items ++ octet ∷ []) (lines_of_input rest) (grind (arith, common_steps))
       ∙ ap ends_at (sym is);
 }
 
@@ -98,12 +98,12 @@ onto-ended [] lines = refl
 onto-ended (x ∷ xs) lines = ap (λ (more : List ℕ). (x ∷ more) ∷ lines) (append-nil xs)
 
 report_from-feed : (old : Session) (octet : ℕ) (rest : List ℕ) → octet ≡ 10
-    → report_from old (octet ∷ rest) ≡ line_report (server_of old) old.number old.line.items (λ next. report next (old.number + 1) (lines_of rest))
+    → report_from old (octet ∷ rest) ≡ line_report (server_of old) old.number old.line.items (λ next. report next (old.number + 1) (lines_of_input rest))
 unfolding report_from
-report_from-feed old octet rest feed = rw feed (ap (report (server_of old) old.number) (onto-ended old.line.items (lines_of rest)))
+report_from-feed old octet rest feed = rw feed (ap (report (server_of old) old.number) (onto-ended old.line.items (lines_of_input rest)))
 
 line_report-answered : (server : Server) (number : ℕ) (line pdu : List ℕ) (rest : Server → Report) → line ≢ [] → pdu_of line ≡ Some pdu
-    → line_report server number line rest ≡ after (printed_answer (answer_from server pdu)) (rest (server_after server pdu))
+    → line_report server number line rest ≡ report_after (printed_answer (answer_from server pdu)) (rest (server_after server pdu))
 line_report-answered server number [] pdu rest begun spelled = absurd (begun refl)
 line_report-answered server number (x ∷ xs) pdu rest begun spelled = rw spelled
 
@@ -132,8 +132,8 @@ pass_line old mid new octet held holds feed begun answered line server number = 
   appended = answered.appended;
   left = λ rest.
       report_from-feed old octet rest feed
-      ∙ line_report-answered (server_of old) old.number old.line.items answered.pdu (λ next. report next (old.number + 1) (lines_of rest)) begun answered.spelled
-      ∙ ap (after (printed_answer (answer_from (server_of old) answered.pdu))) (rw (line, server, answered.server, number, answered.number) refl);
+      ∙ line_report-answered (server_of old) old.number old.line.items answered.pdu (λ next. report next (old.number + 1) (lines_of_input rest)) begun answered.spelled
+      ∙ ap (report_after (printed_answer (answer_from (server_of old) answered.pdu))) (rw (line, server, answered.server, number, answered.number) refl);
 }
 
 pub stop_line : (old : Session) (octet number : ℕ) (held holds : Option (List ℕ))
@@ -144,7 +144,7 @@ stop_line old octet number held holds feed begun refused is appended = record {
   appended = appended;
   stopped = λ rest.
       report_from-feed old octet rest feed
-      ∙ line_report-not_hex (server_of old) old.number old.line.items (λ next. report next (old.number + 1) (lines_of rest)) begun refused
+      ∙ line_report-not_hex (server_of old) old.number old.line.items (λ next. report next (old.number + 1) (lines_of_input rest)) begun refused
       ∙ ap ends_at (sym is);
 }
 
@@ -152,18 +152,18 @@ stop_line old octet number held holds feed begun refused is appended = record {
 onto-last : (line : List ℕ) → onto line ([] ∷ []) ≡ line ∷ []
 onto-last line = onto-ended line []
 
-pub end_blank : (old : Session) (held : Option (List ℕ)) → old.line.items ≡ [] → Ends old nothing held held
+pub end_blank : (old : Session) (held : Option (List ℕ)) → old.line.items ≡ [] → Ends old empty_report held held
 unfolding report_from
 end_blank old held blank = record { printed = []; appended = appends-nothing held; ended = rw blank refl }
 
-pub end_line : (old mid : Session) (held holds : Option (List ℕ)) → old.line.items ≢ [] → AnswersLine old mid held holds → Ends old nothing held holds
+pub end_line : (old mid : Session) (held holds : Option (List ℕ)) → old.line.items ≢ [] → AnswersLine old mid held holds → Ends old empty_report held holds
 unfolding report_from
 end_line old mid held holds begun answered = record {
   printed = printed_answer (answer_from (server_of old) answered.pdu);
   appended = answered.appended;
   ended =
       ap (report (server_of old) old.number) (onto-last old.line.items)
-      ∙ line_report-answered (server_of old) old.number old.line.items answered.pdu (λ next. nothing) begun answered.spelled;
+      ∙ line_report-answered (server_of old) old.number old.line.items answered.pdu (λ next. empty_report) begun answered.spelled;
 }
 
 pub end_refused : (old : Session) (number : ℕ) (held holds : Option (List ℕ))
@@ -175,7 +175,7 @@ end_refused old number held holds begun refused is appended = record {
   appended = appended;
   ended =
       ap (report (server_of old) old.number) (onto-last old.line.items)
-      ∙ line_report-not_hex (server_of old) old.number old.line.items (λ next. nothing) begun refused
+      ∙ line_report-not_hex (server_of old) old.number old.line.items (λ next. empty_report) begun refused
       ∙ ap ends_at (sym is);
 }
 
@@ -190,12 +190,12 @@ break_report server number line pdu rest held holds begun spelled broken = (
 )
 
 pub break_line : (old : Session) (octet : ℕ) (held holds : Option (List ℕ)) → octet ≡ 10 → old.line.items ≢ [] → BreaksLine old held holds
-    → BreaksOff old (octet ∷ []) held holds
+    → BreaksOffPrinting old (octet ∷ []) held holds
 break_line old octet held holds feed begun broken = record {
   printed = broken.front.written;
   appended = broken.front.appended;
   front = λ rest.
-      let this = break_report (server_of old) old.number old.line.items broken.pdu (λ next. report next (old.number + 1) (lines_of rest)) held holds begun broken.spelled broken.front in
+      let this = break_report (server_of old) old.number old.line.items broken.pdu (λ next. report next (old.number + 1) (lines_of_input rest)) held holds begun broken.spelled broken.front in
       (this.0, ap (λ (r : Report). r.printed) (report_from-feed old octet rest feed) ∙ this.1);
 }
 
@@ -205,12 +205,12 @@ break_last old held holds begun broken = record {
   printed = broken.front.written;
   appended = broken.front.appended;
   front =
-      let this = break_report (server_of old) old.number old.line.items broken.pdu (λ next. nothing) held holds begun broken.spelled broken.front in
+      let this = break_report (server_of old) old.number old.line.items broken.pdu (λ next. empty_report) held holds begun broken.spelled broken.front in
       (this.0, ap (λ lines. (report (server_of old) old.number lines).printed) (onto-last old.line.items) ∙ this.1);
 }
 
 pub break_after : (first second : Session) (xs ys zs : List ℕ) (held mid holds : Option (List ℕ))
-    → Passes first second xs held mid → BreaksOff second ys mid holds → BreaksOff first (xs ++ (ys ++ zs)) held holds
+    → Passes first second xs held mid → BreaksOffPrinting second ys mid holds → BreaksOffPrinting first (xs ++ (ys ++ zs)) held holds
 break_after first second xs ys zs held mid holds a b = record {
   printed = a.printed ++ b.printed;
   appended = appends-append held mid holds a.printed b.printed a.appended b.appended;
@@ -259,12 +259,12 @@ has_read_kept start now before mid left held holds so_far kept = record {
 -- a read that gives nothing leaves the session where it was
 pub has_read_nothing : (start now : Session) (before mid left held holds : Option (List ℕ)) (octets : List ℕ) (count : ℕ)
     → HasRead start now before mid held holds → count ≡ 0 → Consumes mid left (take count octets) → HasRead start now before left held holds
-has_read_nothing start now before mid left held holds octets count so_far nothing consumed =
-    has_read_more start now now before mid left held holds holds [] so_far (rw nothing at consumed) (passes_none now holds)
+has_read_nothing start now before mid left held holds octets count so_far empty_report consumed =
+    has_read_more start now now before mid left held holds holds [] so_far (rw empty_report at consumed) (passes_none now holds)
 
 -- the report from the start is that on the lines of the input
 abbrev report_of : List ℕ → Report
-report_of input = report door_server 1 (lines_of input)
+report_of input = report door_server 1 (lines_of_input input)
 
 report_from-start : (start : Session) (input : List ℕ) → IsStart start → report_from start input ≡ report_of input
 unfolding report_from
@@ -273,14 +273,14 @@ report_from-start start input is = rw (is.server, is.line, is.number) refl
 -- and tells what is printed, and which line is bad
 printed-of : (input : List ℕ) → (report_of input).printed ≡ printed_for input
 unfolding printed_for
-printed-of input = printed-report door_server 1 (lines_of input)
+printed-of input = printed-report door_server 1 (lines_of_input input)
 
 bad_line-of : (input : List ℕ) → (report_of input).not_hex ≡ bad_line_of input
-bad_line-of input = bad_line-report door_server 1 (lines_of input)
+bad_line-of input = bad_line-report door_server 1 (lines_of_input input)
 
 -- what was printed in two goes is what the report has
 told : (input : List ℕ) (end : Report) (xs ys : List ℕ) (held holding holds : Option (List ℕ))
-    → report_of input ≡ after xs (after ys end) → end.printed ≡ [] → Appends held holding xs → Appends holding holds ys
+    → report_of input ≡ report_after xs (report_after ys end) → end.printed ≡ [] → Appends held holding xs → Appends holding holds ys
     → (bad_line_of input ≡ end.not_hex) × Appends held holds (printed_for input)
 told input end xs ys held holding holds is blank first second =
     let printed : xs ++ ys ≡ printed_for input =
@@ -301,7 +301,7 @@ answers_input start now end (Some input) (Some rest) held holding holds is so_fa
     sym (report_from-start start input is)
     ∙ ap (report_from start) (so_far.consumed ∙ ap (λ (more : List ℕ). so_far.seen ++ more) at_end)
     ∙ so_far.passed.left []
-    ∙ ap (after so_far.passed.printed) ends.ended
+    ∙ ap (report_after so_far.passed.printed) ends.ended
     )
     blank so_far.passed.appended ends.appended
 
@@ -318,7 +318,7 @@ refuses_input start now number octets (Some input) (Some rest) (Some more) held 
     sym (report_from-start start input is)
     ∙ ap (report_from start) (so_far.consumed ∙ ap (λ (left : List ℕ). so_far.seen ++ left) consumed)
     ∙ so_far.passed.left (octets ++ more)
-    ∙ ap (after so_far.passed.printed) (stops.stopped more)
+    ∙ ap (report_after so_far.passed.printed) (stops.stopped more)
     )
     refl so_far.passed.appended stops.appended
 
@@ -328,7 +328,7 @@ pub prints_front : (start now : Session) (before left held holds : Option (List 
 prints_front start now None left held holds is so_far = tt
 prints_front start now (Some input) None held holds is so_far = absurd so_far.consumed
 prints_front start now (Some input) (Some rest) held holds is so_far =
-    let said : report_of input ≡ after so_far.passed.printed (report_from now rest) =
+    let said : report_of input ≡ report_after so_far.passed.printed (report_from now rest) =
     sym (report_from-start start input is) ∙ ap (report_from start) so_far.consumed ∙ so_far.passed.left rest in
     record {
       written = so_far.passed.printed;
@@ -348,7 +348,7 @@ front_of input xs ys held holding holds is first second = record {
 }
 
 pub breaks_input : (start now : Session) (octets : List ℕ) (before mid left held holding holds : Option (List ℕ))
-    → IsStart start → HasRead start now before mid held holding → Consumes mid left octets → BreaksOff now octets holding holds
+    → IsStart start → HasRead start now before mid held holding → Consumes mid left octets → BreaksOffPrinting now octets holding holds
     → IfSome before (λ input. WritesFront (printed_for input) held holds)
 breaks_input start now octets None mid left held holding holds is so_far consumed broken = tt
 breaks_input start now octets (Some input) None left held holding holds is so_far consumed broken = absurd so_far.consumed

@@ -13,13 +13,13 @@ use Rattle.att_table.specs.declared.table_fault.TableFault.{TableFault}
 use Rattle.att_table.specs.Table.{Contents}
 use Rattle.att_table.specs.file.TableFile.{table_read, no_attributes}
 use Rattle.gatt_conn.specs.Answer.{Question, answer_to, stored_by, conn_after}
-use Rattle.gatt_conn.specs.Connection.{Connection, new_connection}
+use Rattle.gatt_conn.specs.Connection.{Bearer, new_connection}
 use Rattle.octets.specs.Number.{Octets}
 use Rattle.gatt_files.specs.declared.session.TheConstants.{MAX_DIGITS}
 
 -- the lines of an input, without their line feeds: what stands behind the last one is a line too, which may be blank
-abbrev pub lines_of : Octets → List Octets
-lines_of input = slice_split (λ octet. octet == 10) input
+abbrev pub lines_of_input : Octets → List Octets
+lines_of_input input = slice_split (λ octet. octet == 10) input
 
 -- the PDU that digits spell in hexadecimal, no more of them than a line may have
 abbrev pub pdu_of : Octets → Option Octets
@@ -45,27 +45,27 @@ abbrev pub bad_line_from : ℕ → List Octets → Option ℕ
 bad_line_from number lines = if list_any is_bad lines then Some (number + length (good_lines lines)) else None
 
 abbrev pub bad_line_of : Octets → Option ℕ
-bad_line_of input = bad_line_from 1 (lines_of input)
+bad_line_of input = bad_line_from 1 (lines_of_input input)
 
 -- a table, and the one connection that is served from it, with what its client has configured
 pub record Server : Type 0 where
   pub table : Contents
   pub row : Row
-  pub conn : Connection
+  pub conn : Bearer
 
-abbrev pub server_with : Contents → Row → Connection → Server
+abbrev pub server_with : Contents → Row → Bearer → Server
 server_with table row conn = record { table = table; row = row; conn = conn }
 
 -- the answer to a PDU, if one is due, and the server afterwards
-abbrev pub asked_of : Server → Octets → Question
-asked_of server pdu = request_of pdu server.conn.mtu
+abbrev pub question_to : Server → Octets → Question
+question_to server pdu = request_of pdu server.conn.mtu
 
 abbrev pub answer_from : Server → Octets → Option Response
-answer_from server pdu = answer_to server.table server.row server.conn (asked_of server pdu)
+answer_from server pdu = answer_to server.table server.row server.conn (question_to server pdu)
 
 abbrev pub server_after : Server → Octets → Server
 server_after server pdu =
-    let asked = asked_of server pdu in
+    let asked = question_to server pdu in
     let stored = stored_by server.table server.row server.conn asked in
     record { table = record server.table { values = stored.values }; row = stored.row; conn = conn_after server.table.attributes server.conn asked }
 
@@ -95,7 +95,7 @@ abbrev pub printed_by : Server → List Octets → Octets
 printed_by server lines = flat_map printed_answer (answers_from server (filter_map pdu_in (good_lines lines)))
 
 unfoldable pub printed_for : Octets → Octets
-printed_for input = printed_by door_server (lines_of input)
+printed_for input = printed_by door_server (lines_of_input input)
 
 -- what may end the command before the end of its input
 abbrev pub IsAttFault : ShellFault → Type 0

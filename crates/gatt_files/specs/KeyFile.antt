@@ -4,7 +4,7 @@ use Rattle.std.specs.Str.{is_utf8}
 use Rattle.le_security.specs.declared.entry.Entry.{Entry}
 use Rattle.le_security.specs.declared.key_fault.KeyFault.{KeyFault}
 use Rattle.le_security.specs.declared.key_fault.KeyFault.TheVariants.{NotToml}
-use Rattle.le_security.specs.KeyFault.{number_of}
+use Rattle.le_security.specs.KeyFault.{key_fault_number}
 use Rattle.le_security.specs.KeyFile.{keys_read}
 use Rattle.octets.specs.Number.{Octets}
 use Rattle.gatt_files.specs.declared.fault.ShellFault.{ShellFault}
@@ -15,13 +15,13 @@ unfoldable pub keys_in : Octets → Result (List Entry) KeyFault
 keys_in octets = if is_utf8 octets then keys_read octets else Err NotToml
 
 -- keys were refused for the fault of this number
-abbrev pub AreRefusedAs : ℕ → Result (List Entry) KeyFault → Type 0
-AreRefusedAs number (Ok keys) = ⊥
-AreRefusedAs number (Err fault) = number ≡ number_of fault
+abbrev pub KeysAreRefusedAs : ℕ → Result (List Entry) KeyFault → Type 0
+KeysAreRefusedAs number (Ok keys) = ⊥
+KeysAreRefusedAs number (Err fault) = number ≡ key_fault_number fault
 
 -- a file with these octets is refused as keys: for its first fault, or for want of memory, which is 8
 abbrev pub IsKeyRefusal : Octets → ShellFault → Type 0
-IsKeyRefusal octets (Keys number) = number ≢ 8 → AreRefusedAs number (keys_in octets)
+IsKeyRefusal octets (Keys number) = number ≢ 8 → KeysAreRefusedAs number (keys_in octets)
 IsKeyRefusal octets _ = ⊥
 
 -- what may end the reading of a key file

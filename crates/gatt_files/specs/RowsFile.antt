@@ -4,7 +4,7 @@ use Rattle.std.specs.Str.{is_utf8}
 use Rattle.gatt_subs.specs.declared.rows_fault.RowsFault.{RowsFault}
 use Rattle.gatt_subs.specs.declared.rows_fault.RowsFault.TheVariants.{BadLine}
 use Rattle.gatt_subs.specs.Rows.{Subscriptions, subscriptions_read}
-use Rattle.gatt_subs.specs.RowsFault.{number_of}
+use Rattle.gatt_subs.specs.RowsFault.{rows_fault_number}
 use Rattle.octets.specs.Number.{Octets}
 use Rattle.gatt_files.specs.declared.fault.ShellFault.{ShellFault}
 use Rattle.gatt_files.specs.declared.fault.ShellFault.TheVariants.{Rows, Unreadable, Memory}
@@ -14,13 +14,13 @@ unfoldable pub rows_in : Octets → Result Subscriptions RowsFault
 rows_in octets = if is_utf8 octets then subscriptions_read octets else Err (BadLine 1)
 
 -- rows were refused for the fault of this number
-abbrev pub AreRefusedAs : ℕ → Result Subscriptions RowsFault → Type 0
-AreRefusedAs number (Ok rows) = ⊥
-AreRefusedAs number (Err fault) = number ≡ number_of fault
+abbrev pub RowsAreRefusedAs : ℕ → Result Subscriptions RowsFault → Type 0
+RowsAreRefusedAs number (Ok rows) = ⊥
+RowsAreRefusedAs number (Err fault) = number ≡ rows_fault_number fault
 
 -- a file with these octets is refused as rows: for its first fault, or for want of memory, which is 4
 abbrev pub IsRowsRefusal : Octets → ShellFault → Type 0
-IsRowsRefusal octets (Rows number) = number ≢ 4 → AreRefusedAs number (rows_in octets)
+IsRowsRefusal octets (Rows number) = number ≢ 4 → RowsAreRefusedAs number (rows_in octets)
 IsRowsRefusal octets _ = ⊥
 
 -- what may end the reading of a rows file

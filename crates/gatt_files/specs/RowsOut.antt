@@ -2,5 +2,5 @@
 use Rattle.gatt_files.specs.declared.rows_out.RowsOut.{RowsOut}
 
 -- the writer that it writes to
-abbrev pub writer_of : {W : Type 0} → RowsOut W → W
-writer_of out = out.writer
+abbrev pub rows_writer : {W : Type 0} → RowsOut W → W
+rows_writer out = out.writer

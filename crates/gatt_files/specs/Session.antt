@@ -4,9 +4,9 @@ use Rattle.std.specs.Io.KnownBytes.{Appends}
 use Rattle.gatt_files.specs.declared.fault.ShellFault.{ShellFault}
 use Rattle.gatt_files.specs.declared.fault.ShellFault.TheVariants.{Table, NotHex, Unwritten, Memory}
 use Rattle.gatt_files.specs.declared.session.Session.{Session}
-use Rattle.gatt_files.specs.TableFile.{IsRefusedAs}
+use Rattle.gatt_files.specs.TableFile.{TableIsRefusedAs}
 use Rattle.octets.specs.Stream.{WritesFront}
-use Rattle.gatt_files.specs.Att.{Server, door_read, lines_of, pdu_of, printed_answer, answer_from, server_after}
+use Rattle.gatt_files.specs.Att.{Server, door_read, lines_of_input, pdu_of, printed_answer, answer_from, server_after}
 use Rattle.octets.specs.Number.{Octets}
 
 -- what is printed in all, and the number of the first line that is not hexadecimal, with which the printing ends
@@ -14,21 +14,21 @@ pub record Report : Type 0 where
   pub printed : Octets
   pub not_hex : Option ℕ
 
-abbrev pub nothing : Report
-nothing = record { printed = []; not_hex = None }
+abbrev pub empty_report : Report
+empty_report = record { printed = []; not_hex = None }
 
 abbrev pub ends_at : ℕ → Report
 ends_at number = record { printed = []; not_hex = Some number }
 
 -- octets, and then the rest
-abbrev pub after : Octets → Report → Report
-after octets rest = record { printed = octets ++ rest.printed; not_hex = rest.not_hex }
+abbrev pub report_after : Octets → Report → Report
+report_after octets rest = record { printed = octets ++ rest.printed; not_hex = rest.not_hex }
 
 -- the report on a line by its PDU, and on what follows it
 abbrev pub pdu_report : Server → ℕ → Option Octets → (Server → Report) → Report
 pdu_report server number None rest = ends_at number
 pdu_report server number (Some pdu) rest =
-    after (printed_answer (answer_from server pdu)) (rest (server_after server pdu))
+    report_after (printed_answer (answer_from server pdu)) (rest (server_after server pdu))
 
 -- the report on a line, and on what follows it: a blank line is passed over
 abbrev pub line_report : Server → ℕ → Octets → (Server → Report) → Report
@@ -37,12 +37,12 @@ line_report server number (digit ∷ digits) rest = pdu_report server number (pd
 
 -- the report on lines that are counted from this number
 abbrev pub report : Server → ℕ → List Octets → Report
-report server number [] = nothing
+report server number [] = empty_report
 report server number (line ∷ lines) = line_report server number line (λ next. report next (number + 1) lines)
 
 -- what may come before the first line
 abbrev pub IsStartFault : ShellFault → Type 0
-IsStartFault (Table number) = IsRefusedAs number door_read
+IsStartFault (Table number) = TableIsRefusedAs number door_read
 IsStartFault Memory = Unit {0}
 IsStartFault _ = ⊥
 
@@ -57,26 +57,26 @@ server_of session = session.server
 
 -- the report on what is still to come, where it is these octets
 unfoldable pub report_from : Session → Octets → Report
-report_from session rest = report (server_of session) session.number (onto session.line.items (lines_of rest))
+report_from session rest = report (server_of session) session.number (onto session.line.items (lines_of_input rest))
 
 -- the session has come past these octets, and the writer holds what is printed for them
 pub record Passes (old new : Session) (octets : Octets) (held holds : Option (Octets)) : Type 0 where
   pub printed : Octets
   pub appended : Appends held holds printed
-  pub left : (rest : Octets) → report_from old (octets ++ rest) ≡ after printed (report_from new rest)
+  pub left : (rest : Octets) → report_from old (octets ++ rest) ≡ report_after printed (report_from new rest)
 
 -- among these octets the line of this number is not hexadecimal, and the writer holds what is printed before it
 pub record StopsAt (old : Session) (octets : Octets) (number : ℕ) (held holds : Option (Octets)) : Type 0 where
   pub printed : Octets
   pub appended : Appends held holds printed
-  pub stopped : (rest : Octets) → report_from old (octets ++ rest) ≡ after printed (ends_at number)
+  pub stopped : (rest : Octets) → report_from old (octets ++ rest) ≡ report_after printed (ends_at number)
 
 -- octets begin like this
 abbrev pub IsFront : Octets → Octets → Type 0
 IsFront front octets = (left : Octets) × (octets ≡ front ++ left)
 
 -- among these octets the writer failed, and holds the front of what is printed for them
-pub record BreaksOff (old : Session) (octets : Octets) (held holds : Option Octets) : Type 0 where
+pub record BreaksOffPrinting (old : Session) (octets : Octets) (held holds : Option Octets) : Type 0 where
   pub printed : Octets
   pub appended : Appends held holds printed
   pub front : (rest : Octets) → IsFront printed (report_from old (octets ++ rest)).printed
@@ -97,7 +97,7 @@ pub record BreaksLine (old : Session) (held holds : Option Octets) : Type 0 wher
 pub record Ends (old : Session) (end : Report) (held holds : Option (Octets)) : Type 0 where
   pub printed : Octets
   pub appended : Appends held holds printed
-  pub ended : report_from old [] ≡ after printed end
+  pub ended : report_from old [] ≡ report_after printed end
 
 -- the line was answered, and nothing else of the session changed but the server
 pub record AnswersLine (old new : Session) (held holds : Option (Octets)) : Type 0 where

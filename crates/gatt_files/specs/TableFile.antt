@@ -4,7 +4,7 @@ use Rattle.std.specs.Str.{is_utf8}
 use Rattle.att_table.specs.declared.table_fault.TableFault.{TableFault}
 use Rattle.att_table.specs.declared.table_fault.TableFault.TheVariants.{NotToml}
 use Rattle.att_table.specs.Table.{Contents}
-use Rattle.att_table.specs.TableFault.{number_of}
+use Rattle.att_table.specs.TableFault.{table_fault_number}
 use Rattle.att_table.specs.file.TableFile.{table_read}
 use Rattle.octets.specs.Number.{Octets}
 use Rattle.gatt_files.specs.declared.fault.ShellFault.{ShellFault}
@@ -15,13 +15,13 @@ unfoldable pub table_in : Octets → Result Contents TableFault
 table_in octets = if is_utf8 octets then table_read octets else Err NotToml
 
 -- a table was refused for the fault of this number
-abbrev pub IsRefusedAs : ℕ → Result Contents TableFault → Type 0
-IsRefusedAs number (Ok table) = ⊥
-IsRefusedAs number (Err fault) = number ≡ number_of fault
+abbrev pub TableIsRefusedAs : ℕ → Result Contents TableFault → Type 0
+TableIsRefusedAs number (Ok table) = ⊥
+TableIsRefusedAs number (Err fault) = number ≡ table_fault_number fault
 
 -- a file with these octets is refused as a table: for its first fault, or for want of memory, which is 10
 abbrev pub IsTableRefusal : Octets → ShellFault → Type 0
-IsTableRefusal octets (Table number) = number ≢ 10 → IsRefusedAs number (table_in octets)
+IsTableRefusal octets (Table number) = number ≢ 10 → TableIsRefusedAs number (table_in octets)
 IsTableRefusal octets _ = ⊥
 
 -- what may end the reading of a table file
@@ -32,15 +32,15 @@ IsTableFileFault Memory = Unit {0}
 IsTableFileFault _ = ⊥
 
 -- the same of one that replaces another
-abbrev pub next_of : ShellFault → ShellFault
-next_of (Table number) = Next number
-next_of fault = fault
+abbrev pub next_fault_of : ShellFault → ShellFault
+next_fault_of (Table number) = Next number
+next_fault_of fault = fault
 
 -- there is such a table where there is a file of it, and it is the one that the file gives, as far as its octets are known
-abbrev pub HasNext : Option (Option Octets) → Option Contents → Type 0
-HasNext None None = Unit {0}
-HasNext (Some file) (Some table) = IfSome file (λ octets. table_in octets ≡ Ok table)
-HasNext _ _ = ⊥
+abbrev pub HasNextTable : Option (Option Octets) → Option Contents → Type 0
+HasNextTable None None = Unit {0}
+HasNextTable (Some file) (Some table) = IfSome file (λ octets. table_in octets ≡ Ok table)
+HasNextTable _ _ = ⊥
 
 abbrev pub IsNextFileFault : ShellFault → Type 0
 IsNextFileFault (Next number) = Unit {0}

@@ -11,12 +11,12 @@ pub data Turn : Type 0 where
   OfRows : Turn
   OfScript : Turn
 
-abbrev pub place_of : Turn → ℕ
-place_of OfTable = 1
-place_of OfNext = 2
-place_of OfKeys = 3
-place_of OfRows = 4
-place_of OfScript = 5
+abbrev pub turn_place : Turn → ℕ
+turn_place OfTable = 1
+turn_place OfNext = 2
+turn_place OfKeys = 3
+turn_place OfRows = 4
+turn_place OfScript = 5
 
 -- where a fault stands in that order: an input that cannot be read on, and refused memory, may stand anywhere
 abbrev pub place_of_fault : ShellFault → ℕ
@@ -35,4 +35,4 @@ place_of_fault _ = 0
 -- a command came past the turn of a file
 abbrev pub IsPast : Turn → Result Unit ShellFault → Type 0
 IsPast turn (Ok _) = Unit {0}
-IsPast turn (Err fault) = place_of turn < place_of_fault fault
+IsPast turn (Err fault) = turn_place turn < place_of_fault fault

@@ -2,7 +2,7 @@ ghost use Rattle.std.specs.Prelude.{◌≡◌, ℕ, OnOk, IfErr, IfSome, None};
 ghost use Rattle.std.specs.Io.KnownBytes.{Appends, Keeps};
 ghost use Rattle.octets.specs.Stream.{WritesFront};
 ghost use Rattle.gatt_files.specs.Att.{door_read, printed_for, bad_line_of, IsAttFault};
-ghost use Rattle.gatt_files.specs.TableFile.{IsRefusedAs};
+ghost use Rattle.gatt_files.specs.TableFile.{TableIsRefusedAs};
 
 use crate::fault::ShellFault;
 use crate::input::{CHUNK, READS};
@@ -20,10 +20,12 @@ pub fn att_lines<R: Read, W: Write>(
 ) -> Result<(), ShellFault>
     // Where the input is known, all of it was answered, or what stands before the first bad line.
     ensures ok { OnOk result (IfSome (R.remaining reader.old) (λ input.
-        (bad_line_of input ≡ None) × Appends (W.contents writer.old) (W.contents writer.new) (printed_for input))) }
+        (bad_line_of input ≡ None)
+        × Appends (W.contents writer.old) (W.contents writer.new) (printed_for input))) }
     ensures not_hex { (number : ℕ) → result ≡ Err (ShellFault.NotHex number)
         → IfSome (R.remaining reader.old) (λ input.
-        (bad_line_of input ≡ Some number) × Appends (W.contents writer.old) (W.contents writer.new) (printed_for input)) }
+        (bad_line_of input ≡ Some number)
+        × Appends (W.contents writer.old) (W.contents writer.new) (printed_for input)) }
     // An input that cannot be read on, and an output that fails, leave the front of that printed, and
     // refused memory nothing.
     ensures unreadable { result ≡ Err ShellFault.Unreadable
@@ -35,7 +37,7 @@ pub fn att_lines<R: Read, W: Write>(
     ensures memory { result ≡ Err ShellFault.Memory
         → Keeps (W.contents writer.old) (W.contents writer.new) }
     ensures table { (number : ℕ) → result ≡ Err (ShellFault.Table number)
-        → IsRefusedAs number door_read }
+        → TableIsRefusedAs number door_read }
     ensures faults { IfErr result IsAttFault }
 {
     let mut session = Session::new(alloc)?;

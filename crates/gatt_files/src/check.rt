@@ -3,8 +3,8 @@
 ghost use Rattle.std.specs.Prelude.{◌≡◌, ◌≢◌, ◌++◌, ℕ, IfErr, IfSome, IsOk, OnOk};
 ghost use Rattle.std.specs.Io.KnownBytes.{Keeps};
 ghost use Rattle.gatt_files.specs.Check.{AreCounted, IsCheckFault, attributes_line, keys_line};
-ghost use Rattle.gatt_files.specs.KeyFile.{keys_in, AreRefusedAs};
-ghost use Rattle.gatt_files.specs.TableFile.{table_in, IsRefusedAs};
+ghost use Rattle.gatt_files.specs.KeyFile.{keys_in, KeysAreRefusedAs};
+ghost use Rattle.gatt_files.specs.TableFile.{table_in, TableIsRefusedAs};
 
 use crate::fault::{ShellFault, push_numbered};
 use crate::key_file::read_keys;
@@ -32,13 +32,13 @@ pub fn check_files<T: Read, K: Read, W: Write>(
     // The table file was refused for its first fault, or for want of memory, which is 10, and the
     // key file was not read.
     ensures table { (number : ℕ) → result ≡ Err (ShellFault.Table number) → number ≢ 10
-        → IfSome (T.remaining table.old) (λ octets. IsRefusedAs number (table_in octets)) }
+        → IfSome (T.remaining table.old) (λ octets. TableIsRefusedAs number (table_in octets)) }
     ensures keys_unread { (number : ℕ) → result ≡ Err (ShellFault.Table number)
         → keys.new ≡ keys.old }
     // The key file was refused for its first fault, or for want of memory, which is 8, and the
     // table file was accepted.
     ensures keys { (number : ℕ) → result ≡ Err (ShellFault.Keys number) → number ≢ 8
-        → IfSome (K.remaining keys.old) (λ octets. AreRefusedAs number (keys_in octets)) }
+        → IfSome (K.remaining keys.old) (λ octets. KeysAreRefusedAs number (keys_in octets)) }
     ensures table_first { (number : ℕ) → result ≡ Err (ShellFault.Keys number)
         → IfSome (T.remaining table.old) (λ octets. IsOk (table_in octets)) }
     ensures nothing_printed { IfErr result (λ fault. fault ≢ ShellFault.Unwritten

@@ -1,7 +1,7 @@
 ghost use Rattle.std.specs.Prelude.{◌≡◌, ◌+◌, ◌≤◌, ◌++◌, length};
 ghost use Rattle.std.specs.Fmt.{decimal};
 ghost use Rattle.arrayvec.specs.ArrayVec.{array_vec_len};
-ghost use Rattle.gatt_files.specs.Fault.{text_of, status_of};
+ghost use Rattle.gatt_files.specs.Fault.{fault_text, exit_status_of};
 ghost use Rattle.gatt_files.specs.declared.fault.ShellFault.TheVariants.{Memory};
 
 use arrayvec::ArrayVec;
@@ -49,7 +49,7 @@ impl From<AllocError> for ShellFault {
 
 /// Replaces what `out` holds by the text of `fault`, without a line feed.
 pub fn text(fault: &ShellFault, out: &mut ArrayVec<u8, 40>)
-    ensures replaced { out.new.items ≡ text_of fault.now }
+    ensures replaced { out.new.items ≡ fault_text fault.now }
 {
     out.clear();
     match *fault {
@@ -77,7 +77,7 @@ pub fn text(fault: &ShellFault, out: &mut ArrayVec<u8, 40>)
 /// The exit status of a program that ends with `fault`: 1 where a file was refused, unreadable or
 /// unwritten, and 2 for a fault in a run.
 pub fn status(fault: &ShellFault) -> u8
-    ensures value { result ≡ status_of fault.now }
+    ensures value { result ≡ exit_status_of fault.now }
 {
     match fault {
         ShellFault::Table(_)

@@ -2,7 +2,7 @@
 
 ghost use Rattle.std.specs.Prelude.{◌≡◌, ◌≢◌, ◌≤◌, ℕ, length, IfErr, IfOk, IfSome};
 ghost use Rattle.octets.specs.Memory.{Gives};
-ghost use Rattle.gatt_files.specs.KeyFile.{keys_in, AreRefusedAs, IsKeyRefusal, IsKeyFileFault};
+ghost use Rattle.gatt_files.specs.KeyFile.{keys_in, KeysAreRefusedAs, IsKeyRefusal, IsKeyFileFault};
 ghost use Rattle.gatt_files.specs.declared.input.TheConstants.{TOML_OCTETS};
 
 use crate::fault::ShellFault;
@@ -17,7 +17,7 @@ pub fn read_keys<R: Read>(alloc: Global, reader: &mut R) -> Result<Keys, ShellFa
     ensures keys { IfOk result
         (λ keys. IfSome (R.remaining reader.old) (λ octets. keys_in octets ≡ Ok keys)) }
     ensures refused { (number : ℕ) → result ≡ Err (ShellFault.Keys number) → number ≢ 8
-        → IfSome (R.remaining reader.old) (λ octets. AreRefusedAs number (keys_in octets)) }
+        → IfSome (R.remaining reader.old) (λ octets. KeysAreRefusedAs number (keys_in octets)) }
     ensures faults { IfErr result IsKeyFileFault }
 {
     let octets = input::read_all(alloc, reader)?;

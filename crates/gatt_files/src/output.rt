@@ -58,7 +58,8 @@ pub fn print_number_line<W: Write>(number: u64, writer: &mut W) -> Result<(), Sh
     ensures ok { OnOk result
         (Appends (W.contents writer.old) (W.contents writer.new) (decimal number ++ 10 ∷ [])) }
     ensures front { OnErr result
-        (WritesFront (decimal number ++ 10 ∷ []) (W.contents writer.old) (W.contents writer.new)) }
+        (WritesFront (decimal number ++ 10 ∷ []) (W.contents writer.old)
+        (W.contents writer.new)) }
     ensures faults { IfErr result (λ fault. fault ≡ ShellFault.Unwritten) }
 {
     let mut digits = Buffer::new();

@@ -2,7 +2,7 @@
 
 ghost use Rattle.std.specs.Prelude.{◌≡◌, ◌≢◌, ℕ, IfErr, IfOk, IfSome};
 ghost use Rattle.octets.specs.Memory.{Gives};
-ghost use Rattle.gatt_files.specs.RowsFile.{rows_in, AreRefusedAs, IsRowsRefusal, IsRowsFileFault};
+ghost use Rattle.gatt_files.specs.RowsFile.{rows_in, RowsAreRefusedAs, IsRowsRefusal, IsRowsFileFault};
 
 use crate::fault::ShellFault;
 use crate::input;
@@ -16,7 +16,7 @@ pub fn read_rows<R: Read>(alloc: Global, reader: &mut R) -> Result<Rows, ShellFa
     ensures rows { IfOk result
         (λ rows. IfSome (R.remaining reader.old) (λ octets. rows_in octets ≡ Ok rows)) }
     ensures refused { (number : ℕ) → result ≡ Err (ShellFault.Rows number) → number ≢ 4
-        → IfSome (R.remaining reader.old) (λ octets. AreRefusedAs number (rows_in octets)) }
+        → IfSome (R.remaining reader.old) (λ octets. RowsAreRefusedAs number (rows_in octets)) }
     ensures faults { IfErr result IsRowsFileFault }
 {
     let octets = input::read_all(alloc, reader)?;

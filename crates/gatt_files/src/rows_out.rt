@@ -4,7 +4,7 @@ ghost use Rattle.std.specs.Prelude.{◌≡◌, ◌≤◌, ◌<◌, length, None,
 ghost use Rattle.std.specs.Result.{is_ok};
 ghost use Rattle.std.specs.Io.KnownBytes.{Appends, WriteAppends};
 ghost use Rattle.octets.specs.Stream.{WritesFront};
-ghost use Rattle.gatt_subs.specs.RowsText.{text_of};
+ghost use Rattle.gatt_subs.specs.RowsText.{rows_text};
 ghost use Rattle.gatt_files.specs.Saving.{Saves};
 
 use crate::fault::ShellFault;
@@ -20,11 +20,11 @@ pub struct RowsOut<W> {
 }
 
 impl<W> RowsOut<W> {
-    ghost use Rattle.gatt_files.specs.RowsOut.{writer_of};
+    ghost use Rattle.gatt_files.specs.RowsOut.{rows_writer};
 
     /// A store that has written nothing to its writer yet.
     pub fn new(writer: W) -> Self
-        ensures { writer_of result ≡ writer }
+        ensures { rows_writer result ≡ writer }
     {
         RowsOut { writer }
     }
@@ -41,17 +41,17 @@ impl<W: Write> Sink for RowsOut<W> {
 }
 
 impl<W: Write> RowsStore for RowsOut<W> {
-    ghost use Rattle.gatt_files.specs.RowsOut.{writer_of};
+    ghost use Rattle.gatt_files.specs.RowsOut.{rows_writer};
 
     #[tactic(auto, using(crate::proofs::RowsWritten::flushed, crate::proofs::RowsWritten::flush_failed))]
     fn save(&mut self, rows: &Rows) -> Result<(), ShellFault>
-        ensures saves { Saves (text_of rows.now) (is_ok result) None None }
+        ensures saves { Saves (rows_text rows.now) (is_ok result) None None }
         ensures faults { IfErr result (λ fault. fault ≡ ShellFault.Unwritten) }
         // The text is behind what was written before, or the front of it where the writer fails.
-        ensures ok { OnOk result (Appends (W.contents (writer_of self.old))
-            (W.contents (writer_of self.new)) (text_of rows.now)) }
-        ensures front { OnErr result (WritesFront (text_of rows.now)
-            (W.contents (writer_of self.old)) (W.contents (writer_of self.new))) }
+        ensures ok { OnOk result (Appends (W.contents (rows_writer self.old))
+            (W.contents (rows_writer self.new)) (rows_text rows.now)) }
+        ensures front { OnErr result (WritesFront (rows_text rows.now)
+            (W.contents (rows_writer self.old)) (W.contents (rows_writer self.new))) }
     {
         if rows.text(self).is_err() || self.writer.flush().is_err() {
             return Err(ShellFault::Unwritten);

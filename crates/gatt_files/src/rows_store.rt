@@ -2,7 +2,7 @@
 
 ghost use Rattle.std.specs.Prelude.{◌≡◌, List, Option, None, Ok, Err, IfErr};
 ghost use Rattle.std.specs.Result.{is_ok};
-ghost use Rattle.gatt_subs.specs.RowsText.{text_of};
+ghost use Rattle.gatt_subs.specs.RowsText.{rows_text};
 ghost use Rattle.gatt_files.specs.declared.fault.ShellFault.{ShellFault};
 ghost use Rattle.gatt_files.specs.Saving.{Save, Saves, SavesAfter};
 
@@ -16,7 +16,8 @@ pub trait RowsStore {
 
     /// Saves rows, or tells that they are not written.
     fn save(&mut self, rows: &Rows) -> Result<(), ShellFault>
-        ensures saves { Saves (text_of rows.now) (is_ok result) (saves self.old) (saves self.new) }
+        ensures saves { Saves (rows_text rows.now) (is_ok result) (saves self.old)
+            (saves self.new) }
         ensures faults { IfErr result (λ fault. fault ≡ ShellFault.Unwritten) };
 }
 
@@ -29,7 +30,7 @@ pub fn save_after<S: RowsStore>(
 ) -> Result<(), ShellFault>
     ensures fault { (fault : ShellFault) → ran ≡ Err fault → result ≡ Err fault }
     ensures unwritten { ran ≡ Ok tt → IfErr result (λ fault. fault ≡ ShellFault.Unwritten) }
-    ensures saves { SavesAfter ran result (text_of rows.now) (S.saves store.old)
+    ensures saves { SavesAfter ran result (rows_text rows.now) (S.saves store.old)
         (S.saves store.new) }
 {
     let saved = store.save(rows);

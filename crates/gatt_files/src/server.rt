@@ -29,7 +29,8 @@ impl Model for DoorServer {
 
     ghost Value = { Server };
 
-    ghost view = { λ server. record { table = server.table; row = server.row; conn = server.conn } };
+    ghost view = { λ server.
+        record { table = server.table; row = server.row; conn = server.conn } };
 
     ghost invariant = { λ server. IsRowOf server.table.attributes server.row };
 }

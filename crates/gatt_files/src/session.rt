@@ -2,7 +2,7 @@ ghost use Rattle.std.specs.Prelude.{◌≡◌, ◌≢◌, ℕ, ◌+◌, ◌^◌,
 ghost use Rattle.std.specs.Io.KnownBytes.{Appends};
 ghost use Rattle.hex.specs.Hex.{encode_lower};
 ghost use Rattle.gatt_files.specs.Att.{pdu_of, door_server};
-ghost use Rattle.gatt_files.specs.Session.{IsStartFault, nothing, ends_at};
+ghost use Rattle.gatt_files.specs.Session.{IsStartFault, empty_report, ends_at};
 
 use crate::fault::ShellFault;
 use crate::output::{print, print_hex_line};
@@ -28,7 +28,7 @@ pub(crate) struct Session {
 }
 
 impl Session {
-    ghost use Rattle.gatt_files.specs.Session.{server_of, IsStartFault, AnswersLine, Passes, StopsAt, Ends, BreaksOff, EndsBroken, BreaksLine, IsLineFault};
+    ghost use Rattle.gatt_files.specs.Session.{server_of, IsStartFault, AnswersLine, Passes, StopsAt, Ends, BreaksOffPrinting, EndsBroken, BreaksLine, IsLineFault};
 
     pub(crate) fn new(alloc: Global) -> Result<Session, ShellFault>
         ensures server { IfOk result (λ session. server_of session ≡ door_server) }
@@ -51,7 +51,8 @@ impl Session {
         ensures stops { (number : ℕ) → result ≡ Err (ShellFault.NotHex number)
             → StopsAt self.old octets.now number (W.contents writer.old) (W.contents writer.new) }
         ensures breaks_off { result ≡ Err ShellFault.Unwritten
-            → BreaksOff self.old octets.now (W.contents writer.old) (W.contents writer.new) }
+            → BreaksOffPrinting self.old octets.now (W.contents writer.old)
+            (W.contents writer.new) }
         ensures faults { IfErr result IsLineFault }
         ensures counts { OnOk result (self.new.number ≤ self.old.number + length octets.now) }
     {
@@ -63,12 +64,15 @@ impl Session {
 
     fn take_octet<W: Write>(&mut self, octet: u8, writer: &mut W) -> Result<(), ShellFault>
         requires { self.old.number + 1 < 2 ^ 64 }
-        ensures passes { OnOk result (Passes self.old self.new (octet ∷ []) (W.contents writer.old)
+        ensures passes { OnOk result
+            (Passes self.old self.new (octet ∷ []) (W.contents writer.old)
             (W.contents writer.new)) }
         ensures stops { (number : ℕ) → result ≡ Err (ShellFault.NotHex number)
-            → StopsAt self.old (octet ∷ []) number (W.contents writer.old) (W.contents writer.new) }
+            → StopsAt self.old (octet ∷ []) number (W.contents writer.old)
+            (W.contents writer.new) }
         ensures breaks_off { result ≡ Err ShellFault.Unwritten
-            → BreaksOff self.old (octet ∷ []) (W.contents writer.old) (W.contents writer.new) }
+            → BreaksOffPrinting self.old (octet ∷ []) (W.contents writer.old)
+            (W.contents writer.new) }
         ensures faults { IfErr result IsLineFault }
         ensures counts { OnOk result (self.new.number ≤ self.old.number + 1) }
     {
@@ -89,7 +93,7 @@ impl Session {
     /// Answers the last line, where it has begun and its line feed is missing.
     pub(crate) fn finish<W: Write>(&mut self, writer: &mut W) -> Result<(), ShellFault>
         ensures ends { OnOk result
-            (Ends self.old nothing (W.contents writer.old) (W.contents writer.new)) }
+            (Ends self.old empty_report (W.contents writer.old) (W.contents writer.new)) }
         ensures stops { (number : ℕ) → result ≡ Err (ShellFault.NotHex number)
             → Ends self.old (ends_at number) (W.contents writer.old) (W.contents writer.new) }
         ensures breaks_off { result ≡ Err ShellFault.Unwritten
@@ -108,7 +112,8 @@ impl Session {
         ensures answered { OnOk result
             (AnswersLine self.old self.new (W.contents writer.old) (W.contents writer.new)) }
         ensures not_hex { (number : ℕ) → result ≡ Err (ShellFault.NotHex number)
-            → (pdu_of self.old.line.items ≡ None) × (number ≡ self.old.number) × Appends (W.contents writer.old) (W.contents writer.new) [] }
+            → (pdu_of self.old.line.items ≡ None) × (number ≡ self.old.number)
+            × Appends (W.contents writer.old) (W.contents writer.new) [] }
         ensures breaks_off { result ≡ Err ShellFault.Unwritten
             → BreaksLine self.old (W.contents writer.old) (W.contents writer.new) }
         ensures faults { IfErr result IsLineFault }

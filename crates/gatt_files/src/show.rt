@@ -3,10 +3,10 @@
 ghost use Rattle.std.specs.Prelude.{◌≡◌, ◌≢◌, ℕ, IfErr, IfOk, IfSome, IsOk, OnOk, is_some};
 ghost use Rattle.std.specs.Io.KnownBytes.{Keeps};
 ghost use Rattle.std.specs.Option.{option_map};
-ghost use Rattle.gatt_files.specs.KeyFile.{keys_in, AreRefusedAs as KeysAreRefusedAs, IsKeyFileFault, IsKeyRefusal};
-ghost use Rattle.gatt_files.specs.RowsFile.{rows_in, AreRefusedAs, IsRowsFileFault};
+ghost use Rattle.gatt_files.specs.KeyFile.{keys_in, KeysAreRefusedAs, IsKeyFileFault, IsKeyRefusal};
+ghost use Rattle.gatt_files.specs.RowsFile.{rows_in, RowsAreRefusedAs, IsRowsFileFault};
 ghost use Rattle.gatt_files.specs.Show.{AreShown, HasHolders, IsShowFault, TellsHoldersOf};
-ghost use Rattle.gatt_files.specs.TableFile.{table_in, IsRefusedAs, IsTableFileFault};
+ghost use Rattle.gatt_files.specs.TableFile.{table_in, TableIsRefusedAs, IsTableFileFault};
 ghost use Rattle.gatt_files.specs.Turns.{IsPast, OfKeys, OfRows, OfTable};
 
 use crate::check::{KeysPath, TablePath};
@@ -45,17 +45,19 @@ pub fn show_files<T: Read, K: Read, R: Read, W: Write>(
     // A file is refused for its first fault, or for want of memory, which is 10 of a table file, 8 of
     // a key file and 4 of a rows file.
     ensures table { (number : ℕ) → result ≡ Err (ShellFault.Table number) → number ≢ 10
-        → IfSome (T.remaining table.old) (λ octets. IsRefusedAs number (table_in octets)) }
+        → IfSome (T.remaining table.old) (λ octets. TableIsRefusedAs number (table_in octets)) }
     ensures keys { (number : ℕ) → result ≡ Err (ShellFault.Keys number) → number ≢ 8
-        → IfSome keys.old (λ file. IfSome (K.remaining file) (λ octets. KeysAreRefusedAs number (keys_in octets))) }
+        → IfSome keys.old (λ file. IfSome (K.remaining file)
+        (λ octets. KeysAreRefusedAs number (keys_in octets))) }
     ensures rows { (number : ℕ) → result ≡ Err (ShellFault.Rows number) → number ≢ 4
-        → IfSome (R.remaining rows.old) (λ octets. AreRefusedAs number (rows_in octets)) }
+        → IfSome (R.remaining rows.old) (λ octets. RowsAreRefusedAs number (rows_in octets)) }
     // And only where those in front of it are accepted: table, keys, rows. Then the output is written
     // to.
     ensures table_first { IsPast OfTable result
         → IfSome (T.remaining table.old) (λ octets. IsOk (table_in octets)) }
     ensures keys_second { IsPast OfKeys result
-        → IfSome keys.old (λ file. IfSome (K.remaining file) (λ octets. IsOk (keys_in octets))) }
+        → IfSome keys.old (λ file. IfSome (K.remaining file)
+        (λ octets. IsOk (keys_in octets))) }
     ensures rows_third { IsPast OfRows result
         → IfSome (R.remaining rows.old) (λ octets. IsOk (rows_in octets)) }
     // Those behind it are not read.
@@ -88,7 +90,7 @@ fn read_table_at<R: Read>(
     ensures table { IfOk result
         (λ table. IfSome (R.remaining reader.old) (λ octets. table_in octets ≡ Ok table)) }
     ensures refused { (number : ℕ) → result ≡ Err (ShellFault.Table number) → number ≢ 10
-        → IfSome (R.remaining reader.old) (λ octets. IsRefusedAs number (table_in octets)) }
+        → IfSome (R.remaining reader.old) (λ octets. TableIsRefusedAs number (table_in octets)) }
     ensures place { IsOk result → place.new ≡ place.old }
     ensures faults { IfErr result IsTableFileFault }
 {
@@ -133,7 +135,8 @@ fn add_keys<K: Read>(
     ensures accepted { OnOk result
         (IfSome keys.old (λ file. IfSome (K.remaining file) (λ octets. IsOk (keys_in octets)))) }
     ensures refused { (number : ℕ) → result ≡ Err (ShellFault.Keys number) → number ≢ 8
-        → IfSome keys.old (λ file. IfSome (K.remaining file) (λ octets. KeysAreRefusedAs number (keys_in octets))) }
+        → IfSome keys.old (λ file. IfSome (K.remaining file)
+        (λ octets. KeysAreRefusedAs number (keys_in octets))) }
     ensures place { IsOk result → place.new ≡ place.old }
     ensures faults { IfErr result IsKeyFileFault }
 {
@@ -204,7 +207,7 @@ fn judge_rows_at<R: Read>(
     ensures accepted { OnOk result
         (IfSome (R.remaining reader.old) (λ octets. IsOk (rows_in octets))) }
     ensures refused { (number : ℕ) → result ≡ Err (ShellFault.Rows number) → number ≢ 4
-        → IfSome (R.remaining reader.old) (λ octets. AreRefusedAs number (rows_in octets)) }
+        → IfSome (R.remaining reader.old) (λ octets. RowsAreRefusedAs number (rows_in octets)) }
     ensures place { IsOk result → place.new ≡ place.old }
     ensures faults { IfErr result IsRowsFileFault }
 {

@@ -3,7 +3,7 @@
 ghost use Rattle.std.specs.Prelude.{◌≡◌, ◌≢◌, ◌≤◌, ℕ, length, is_some, IfErr, IfOk, IfSome, IsOk};
 ghost use Rattle.std.specs.Option.{option_map};
 ghost use Rattle.octets.specs.Memory.{Gives};
-ghost use Rattle.gatt_files.specs.TableFile.{table_in, HasNext, IsRefusedAs, IsTableRefusal, IsTableFileFault, IsNextFileFault, next_of};
+ghost use Rattle.gatt_files.specs.TableFile.{table_in, HasNextTable, TableIsRefusedAs, IsTableRefusal, IsTableFileFault, IsNextFileFault, next_fault_of};
 ghost use Rattle.gatt_files.specs.declared.input.TheConstants.{TOML_OCTETS};
 
 use crate::fault::ShellFault;
@@ -18,7 +18,7 @@ pub fn read_table<R: Read>(alloc: Global, reader: &mut R) -> Result<Table, Shell
     ensures table { IfOk result
         (λ table. IfSome (R.remaining reader.old) (λ octets. table_in octets ≡ Ok table)) }
     ensures refused { (number : ℕ) → result ≡ Err (ShellFault.Table number) → number ≢ 10
-        → IfSome (R.remaining reader.old) (λ octets. IsRefusedAs number (table_in octets)) }
+        → IfSome (R.remaining reader.old) (λ octets. TableIsRefusedAs number (table_in octets)) }
     ensures faults { IfErr result IsTableFileFault }
 {
     let octets = input::read_all(alloc, reader)?;
@@ -32,11 +32,13 @@ pub fn read_next<R: Read>(
     reader: &mut Option<R>,
 ) -> Result<Option<Table>, ShellFault>
     ensures some { IfOk result (λ next. is_some next ≡ is_some reader.old) }
-    ensures next { IfOk result (HasNext (option_map R.remaining reader.old)) }
+    ensures next { IfOk result (HasNextTable (option_map R.remaining reader.old)) }
     ensures table { IsOk result
-        → IfSome reader.old (λ file. IfSome (R.remaining file) (λ octets. IsOk (table_in octets))) }
+        → IfSome reader.old (λ file. IfSome (R.remaining file)
+        (λ octets. IsOk (table_in octets))) }
     ensures refused { (number : ℕ) → result ≡ Err (ShellFault.Next number) → number ≢ 10
-        → IfSome reader.old (λ file. IfSome (R.remaining file) (λ octets. IsRefusedAs number (table_in octets))) }
+        → IfSome reader.old (λ file. IfSome (R.remaining file)
+        (λ octets. TableIsRefusedAs number (table_in octets))) }
     ensures faults { IfErr result IsNextFileFault }
 {
     let Some(reader) = reader else {
@@ -50,7 +52,7 @@ pub fn read_next<R: Read>(
 
 /// What a fault of a table file is, where the table replaces another.
 fn next_fault(fault: ShellFault) -> ShellFault
-    ensures { result ≡ next_of fault }
+    ensures { result ≡ next_fault_of fault }
 {
     match fault {
         ShellFault::Table(number) => ShellFault::Next(number),

@@ -2,8 +2,8 @@ pub mod commands
 pub mod packets
 pub mod owing
 pub mod places
-pub mod standing
+pub mod refinement
 pub mod asking
 pub mod meaning
-pub mod whole
+pub mod model
 pub mod Promises

@@ -1,10 +1,10 @@
 -- The laws that hold of all that a host takes in, and what goes out from its opening on.
 use Rattle.std.proofs.Common.{◌≡◌, []}
 use Rattle.gatt_host.proofs.meaning.Drained.{all_gone}
-use Rattle.gatt_host.proofs.whole.Items.{drained_where}
+use Rattle.gatt_host.proofs.model.Items.{drained_where}
 use Rattle.gatt_host.specs.Promises.{GivesWhatIsDue}
-use Rattle.gatt_host.specs.Whole.{StandsAt, Whole}
-use Rattle.gatt_laws.specs.machine.Input.{course}
+use Rattle.gatt_host.specs.HostModel.{RefinesRun, HostModel}
+use Rattle.gatt_laws.specs.machine.Input.{run}
 use Rattle.gatt_laws.specs.machine.Start.{Start}
 use Rattle.gatt_laws.proofs.Telling as laws
 use Rattle.gatt_laws.specs.laws.Telling.{TellsTheApplication}
@@ -23,12 +23,12 @@ tells_the_application = laws.tells_the_application
 pub keeps_its_promise : Promise
 keeps_its_promise = promise.keeps_its_promise
 
-pub gives_what_is_due : (start : Start) (opened : Whole) → StandsAt (course start []) [] opened → GivesWhatIsDue start opened
-gives_what_is_due start opened stands items packets later leads =
-    let there : StandsAt (course start items) packets later = leads start [] [] stands in
+pub gives_what_is_due : (start : Start) (opened : HostModel) → RefinesRun (run start []) [] opened → GivesWhatIsDue start opened
+gives_what_is_due start opened refines items packets later leads =
+    let there : RefinesRun (run start items) packets later = leads start [] [] refines in
     record {
-      rest = there.stands.owed;
-      front = there.stands.all;
-      all = λ none out. all_gone (course start items) packets later.held later.frames there.stands (drained_where later none out);
+      rest = there.refines.owed;
+      front = there.refines.all;
+      all = λ none out. all_gone (run start items) packets later.server later.frames there.refines (drained_where later none out);
       fault = there.same;
     }

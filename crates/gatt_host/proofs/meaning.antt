@@ -1,5 +1,5 @@
 pub mod Staying
 pub mod Together
-pub mod Leads
+pub mod Refining
 pub mod Beginning
 pub mod Drained

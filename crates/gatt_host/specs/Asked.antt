@@ -5,7 +5,7 @@ use Rattle.gatt_host.specs.declared.app.App.{App}
 use Rattle.gatt_host.specs.declared.app.App.TheVariants as app
 use Rattle.gatt_host.specs.declared.app.AppFault.{AppFault}
 use Rattle.gatt_host.specs.declared.app.AppFault.TheVariants as fault
-use Rattle.gatt_host.specs.Held.{Held}
+use Rattle.gatt_host.specs.ServerState.{ServerState}
 use Rattle.gatt_host.specs.Meaning.{context_in}
 use Rattle.gatt_laws.specs.machine.Calls.{Call, UpdateCall, AuthorizeCall, DisconnectCall, TickCall}
 use Rattle.gatt_laws.specs.machine.Calls.{Refused, NoSuchHandle, NotAValue, BadLength}
@@ -31,16 +31,16 @@ refused_of fault.Stopped = Stopped
 refused_of fault.NoServiceChanged = NoServiceChanged
 
 -- what happens, or why the call is refused; and so of a table
-abbrev pub call_happening : Held → Call → Result (Happening Place) Refused
-call_happening held call = call_meaning (context_in held) call
+abbrev pub call_happening : ServerState → Call → Result (Happening Place) Refused
+call_happening server call = call_meaning (context_in server) call
 
-abbrev pub replacement_happening : Held → Contents → Result (Happening Place) Refused
-replacement_happening held table = replacement_meaning (context_in held) table
+abbrev pub replacement_happening : ServerState → Contents → Result (Happening Place) Refused
+replacement_happening server table = replacement_meaning (context_in server) table
 
 -- why a call was refused, or a table, if it was
-abbrev pub refusal_of : Result Unit AppFault → Option Refused
-refusal_of (Ok done) = None
-refusal_of (Err refused) = Some (refused_of refused)
+abbrev pub refusal_in_result : Result Unit AppFault → Option Refused
+refusal_in_result (Ok done) = None
+refusal_in_result (Err refused) = Some (refused_of refused)
 
 abbrev pub replacing_refusal_of : {A B : Type 0} → Result A (AppFault × B) → Option Refused
 replacing_refusal_of (Ok old) = None

@@ -1,20 +1,20 @@
 -- What a call of the application answers.
 use Rattle.std.specs.Prelude.{◌≡◌, List, Option, Some, None, Result, Ok, Err}
-use Rattle.gatt_host.specs.Asked.{refusal_of}
+use Rattle.gatt_host.specs.Asked.{refusal_in_result}
 use Rattle.gatt_host.specs.declared.app.AppFault.{AppFault}
 use Rattle.gatt_host.specs.declared.fault.Fault.{Fault}
 use Rattle.gatt_host.specs.declared.fault.Fault.TheVariants as told
 use Rattle.gatt_host.specs.declared.host_fault.HostFault.{HostFault}
-use Rattle.gatt_host.specs.Whole.{StandsAt, Whole}
+use Rattle.gatt_host.specs.HostModel.{RefinesRun, HostModel}
 use Rattle.gatt_laws.specs.machine.Calls.{Call}
-use Rattle.gatt_laws.specs.machine.Input.{Item, call_refusal, course}
+use Rattle.gatt_laws.specs.machine.Input.{Item, call_refusal, run}
 use Rattle.gatt_laws.specs.machine.Start.{Start}
 use Rattle.octets.specs.Number.{Octets}
 
--- the call is refused, and why, as the course has it: wherever the host stood
-abbrev pub IsRefusedAs : Call → Whole → Result Unit AppFault → Type 0
-IsRefusedAs call old answer = (start : Start) (input : List Item) (gone : List Octets) → StandsAt (course start input) gone old
-    → refusal_of answer ≡ call_refusal (course start input).intake call
+-- the call is refused, and why, as the run has it: wherever the host stood
+abbrev pub IsCallRefusedAs : Call → HostModel → Result Unit AppFault → Type 0
+IsCallRefusedAs call old answer = (start : Start) (input : List Item) (sent : List Octets) → RefinesRun (run start input) sent old
+    → refusal_in_result answer ≡ call_refusal (run start input).intake call
 
 -- what is answered: the fault for which the host stops, and else what it answers to the call
 abbrev pub answer_told : Option HostFault → Result Unit AppFault → Result Unit Fault
@@ -23,10 +23,10 @@ answer_told None (Ok done) = Ok done
 answer_told None (Err refused) = Err (told.Call refused)
 
 -- of a host that goes on
-pub record Answers (call : Call) (old : Whole) (fault : Option HostFault) (result : Result Unit Fault) : Type 0 where
+pub record Answers (call : Call) (old : HostModel) (fault : Option HostFault) (result : Result Unit Fault) : Type 0 where
   pub answer : Result Unit AppFault
   pub told : result ≡ answer_told fault answer
-  pub refused : fault ≡ None → IsRefusedAs call old answer
+  pub refused : fault ≡ None → IsCallRefusedAs call old answer
 
 -- the fault for which a host has stopped, if that is answered
 abbrev pub fault_told : Result Unit Fault → Option HostFault

@@ -1,17 +1,17 @@
 -- The connections that the application can see, wherever a host stands.
 use Rattle.std.specs.Prelude.{◌≡◌, ℕ, ◌==◌, not, List, [], ◌∷◌, filter_map, find, Option, Some, None}
 use Rattle.gatt_laws.specs.machine.Event.{Ordinal}
-use Rattle.gatt_laws.specs.machine.Part.{Part, is_live, key_of, mtu_of}
-use Rattle.gatt_laws.specs.machine.Room.{Room}
+use Rattle.gatt_laws.specs.machine.ConnectionState.{ConnectionState, is_live, key_of, connection_mtu}
+use Rattle.gatt_laws.specs.machine.SharedState.{SharedState}
 use Rattle.gatt_laws.specs.machine.State.{State}
 use Rattle.gatt_slots.specs.declared.connection.Connection.{Connection}
 
 -- one connection: it is ending where it does not serve any more
-abbrev pub part_seen : Room → Part → Connection
-part_seen room part = record {
+abbrev pub connection_seen : SharedState → ConnectionState → Connection
+connection_seen shared part = record {
   handle = part.handle;
   peer = part.peer;
-  mtu = mtu_of room part;
+  mtu = connection_mtu shared part;
   key = key_of part;
   authorized_until = part.until;
   ending = not (is_live part.mark);
@@ -19,7 +19,7 @@ part_seen room part = record {
 
 abbrev pub ordinal_seen : State → Option Ordinal → Option Connection
 ordinal_seen state None = None
-ordinal_seen state (Some ordinal) = Some (part_seen state.room (state.parts ordinal))
+ordinal_seen state (Some ordinal) = Some (connection_seen state.shared (state.connections ordinal))
 
 -- and all that have a slot, in the order of the slots
 abbrev pub connections_of : State → List Connection

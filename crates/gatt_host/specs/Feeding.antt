@@ -8,8 +8,8 @@ use Rattle.gatt_host.specs.declared.driving.Input.TheVariants as input
 use Rattle.gatt_host.specs.declared.host_fault.HostFault.{HostFault}
 use Rattle.gatt_host.specs.declared.host_fault.HostFault.TheVariants as stop
 use Rattle.gatt_host.specs.declared.serving.End.{End}
-use Rattle.gatt_host.specs.Whole.{Leads, StandsAt, Whole}
-use Rattle.gatt_laws.specs.machine.Input.{Course, Item, AnOctet, ACall, TheEnd, after_item, call_refusal, course}
+use Rattle.gatt_host.specs.HostModel.{Refines, RefinesRun, HostModel}
+use Rattle.gatt_laws.specs.machine.Input.{Run, Item, AnOctet, ACall, TheEnd, after_item, call_refusal, run}
 use Rattle.gatt_laws.specs.machine.Start.{Start}
 use Rattle.le_h4.specs.Division.{division}
 use Rattle.le_h4.specs.Packet.{Packet}
@@ -22,34 +22,34 @@ abbrev pub joined : List Octets → Octets
 joined packets = flat_map (λ packet. packet) packets
 
 -- all the items are taken in, and all the packets are written
-pub record TakesAll (items : List Item) (old new : Whole) (before after : Option Octets) : Type 0 where
+pub record TakesAll (items : List Item) (old new : HostModel) (before after : Option Octets) : Type 0 where
   pub packets : List Octets
-  pub leads : Leads items packets old new
+  pub leads : Refines items packets old new
   pub written : Appends before after (joined packets)
 
 -- the writer fails: items up to some one are taken in, and of the packets the front is written
-pub record BreaksOff (items : List Item) (old new : Whole) (before after : Option Octets) : Type 0 where
+pub record BreaksOff (items : List Item) (old new : HostModel) (before after : Option Octets) : Type 0 where
   pub taken : List Item
   pub left : List Item
   pub parts : items ≡ taken ++ left
   pub packets : List Octets
-  pub leads : Leads taken packets old new
+  pub leads : Refines taken packets old new
   pub written : WritesFront (joined packets) before after
 
 -- by the fault that stands then, if one does
-abbrev pub Feeds : List Item → Whole → Whole → Option Octets → Option Octets → Option HostFault → Type 0
+abbrev pub Feeds : List Item → HostModel → HostModel → Option Octets → Option Octets → Option HostFault → Type 0
 Feeds items old new before after (Some stop.Write) = BreaksOff items old new before after
 Feeds items old new before after fault = TakesAll items old new before after
 
--- nothing is owed: all that its course brings has gone out
-abbrev pub IsAllOut : Whole → Type 0
-IsAllOut whole = (start : Start) (input : List Item) (gone : List Octets) → StandsAt (course start input) gone whole
-    → (course start input).gone ≡ gone
+-- nothing is owed: all that its run brings has gone out
+abbrev pub IsAllOut : HostModel → Type 0
+IsAllOut host = (start : Start) (input : List Item) (sent : List Octets) → RefinesRun (run start input) sent host
+    → (run start input).sent ≡ sent
 
 -- and so it is whatever fault stands, but for one of the writer
-abbrev pub WritesAllThatIsDue : Option HostFault → Whole → Type 0
-WritesAllThatIsDue (Some stop.Write) whole = Unit
-WritesAllThatIsDue fault whole = IsAllOut whole
+abbrev pub WritesAllThatIsDue : Option HostFault → HostModel → Type 0
+WritesAllThatIsDue (Some stop.Write) host = Unit
+WritesAllThatIsDue fault host = IsAllOut host
 
 -- octets alone stop a host for no fault of a reader and of turns
 abbrev pub comes_of_feeding : HostFault → Bool
@@ -58,13 +58,13 @@ comes_of_feeding stop.Turns = false
 comes_of_feeding fault = true
 
 -- whether it is the writer that has failed, or the reader
-abbrev pub is_write : Option HostFault → Bool
-is_write (Some stop.Write) = true
-is_write fault = false
+abbrev pub is_write_fault : Option HostFault → Bool
+is_write_fault (Some stop.Write) = true
+is_write_fault fault = false
 
-abbrev pub is_read : Option HostFault → Bool
-is_read (Some stop.Read) = true
-is_read fault = false
+abbrev pub is_read_fault : Option HostFault → Bool
+is_read_fault (Some stop.Read) = true
+is_read_fault fault = false
 
 -- the items of octets, and of what `drive` is handed
 abbrev pub octet_items : Octets → List Item
@@ -88,23 +88,23 @@ IsUpToAPacket octets used [] = used ≡ length octets
 IsUpToAPacket octets used (packet ∷ packets) = packets ≡ []
 
 -- wherever the host stood, behind what was unfinished there
-abbrev pub TakesUpToAPacket : Octets → ℕ → Whole → Type 0
-TakesUpToAPacket octets used whole = (start : Start) (input : List Item) (gone : List Octets) → StandsAt (course start input) gone whole
-    → whole.fault ≡ None → IsUpToAPacket octets used (division ((course start input).intake.unfinished ++ take used octets)).packets
+abbrev pub TakesUpToAPacket : Octets → ℕ → HostModel → Type 0
+TakesUpToAPacket octets used host = (start : Start) (input : List Item) (sent : List Octets) → RefinesRun (run start input) sent host
+    → host.fault ≡ None → IsUpToAPacket octets used (division ((run start input).intake.unfinished ++ take used octets)).packets
 
 -- how many calls are refused on the way
-abbrev pub refused_at : Course → Item → ℕ
-refused_at course (ACall call) = if is_some (call_refusal course.intake call) then 1 else 0
-refused_at course item = 0
+abbrev pub refused_at : Run → Item → ℕ
+refused_at run (ACall call) = if is_some (call_refusal run.intake call) then 1 else 0
+refused_at run item = 0
 
-abbrev pub refused_in : Course → List Item → ℕ
-refused_in course [] = 0
-refused_in course (item ∷ items) = refused_at course item + refused_in (after_item course item) items
+abbrev pub refused_in : Run → List Item → ℕ
+refused_in run [] = 0
+refused_in run (item ∷ items) = refused_at run item + refused_in (after_item run item) items
 
 -- so many of the calls are refused, wherever the host stood
-abbrev pub CountsRefused : ℕ → List Item → Whole → Type 0
-CountsRefused count items whole = (start : Start) (input : List Item) (gone : List Octets) → StandsAt (course start input) gone whole
-    → count ≡ refused_in (course start input) items
+abbrev pub CountsRefused : ℕ → List Item → HostModel → Type 0
+CountsRefused count items host = (start : Start) (input : List Item) (sent : List Octets) → RefinesRun (run start input) sent host
+    → count ≡ refused_in (run start input) items
 
 -- what is read, whether the input has ended or the host has stopped before
 abbrev pub items_read : {A : Type 0} → Result A HostFault → Octets → List Item
@@ -117,7 +117,7 @@ pub record IsReadIn (turns : ℕ) (read : Octets) : Type 0 where
   pub most : length read ≤ TURN * turns
 
 -- of what the reader had these octets are read and taken in, and what they bring is written
-pub record Serves (result : Result End HostFault) (turns : ℕ) (old new : Whole) (remaining left before after : Option Octets) : Type 0 where
+pub record Serves (result : Result End HostFault) (turns : ℕ) (old new : HostModel) (remaining left before after : Option Octets) : Type 0 where
   pub read : Octets
   pub consumed : Consumes remaining left read
   pub feeds : Feeds (items_read result read) old new before after new.fault

@@ -7,22 +7,22 @@ use Rattle.gatt_host.specs.declared.last_event.LastEvent.{LastEvent}
 use Rattle.gatt_host.specs.declared.last_event.LastEvent.TheVariants as last
 use Rattle.gatt_host.specs.declared.notice.Notice.{Notice as Lent}
 use Rattle.gatt_host.specs.declared.notice.Notice.TheVariants as lent
-use Rattle.gatt_host.specs.Held.{Held}
+use Rattle.gatt_host.specs.ServerState.{ServerState}
 use Rattle.gatt_laws.specs.machine.Notice.{Notice, Connected, Disconnected, Secured, Unsecured, Written, Configured, Confirmed, TimedOut, Ending, link_told, write_told}
 use Rattle.att_attributes.specs.Attributes.{attribute_at}
 use Rattle.att_table.specs.Table.{Contents, value_at}
-use Rattle.gatt_laws.specs.machine.Turn.{authentication_failure, lost_encryption, remote_user_terminated}
+use Rattle.gatt_laws.specs.machine.Effect.{authentication_failure, lost_encryption, remote_user_terminated}
 use Rattle.gatt_slots.specs.declared.request.Brought.{Brought}
-use Rattle.gatt_slots.specs.Slots.{row_there as row_of_slot}
+use Rattle.gatt_slots.specs.Slots.{slot_row_at}
 
 -- the row in force of the connection of a slot
-abbrev pub row_there : Held → ℕ → Row
-row_there held place = row_of_slot held.slots held.rows place
+abbrev pub row_at_place : ServerState → ℕ → Row
+row_at_place server place = slot_row_at server.slots server.rows place
 
 -- a connection that is served: what it wrote, what it confirmed, and that it is ended for want of room
-abbrev pub served_told : Held → ℕ → ℕ → Brought → List Notice
-served_told held place handle brought =
-    (map (write_told held.table.attributes (row_there held place) handle) held.written
+abbrev pub served_told : ServerState → ℕ → ℕ → Brought → List Notice
+served_told server place handle brought =
+    (map (write_told server.table.attributes (row_at_place server place) handle) server.written
     ++ map (Confirmed handle) (option_to_list brought.confirmed))
     ++ (if brought.ended then Ending handle remote_user_terminated ∷ [] else [])
 
@@ -32,17 +32,17 @@ link_change_told handle before after =
     link_told handle before after
     ++ (if lost_encryption before after then Ending handle authentication_failure ∷ [] else [])
 
-abbrev pub told_by : Held → LastEvent → List Notice
-told_by held last.Quiet = []
-told_by held (last.Connected handle peer) = Connected handle peer ∷ []
-told_by held (last.Disconnected handle) = Disconnected handle ∷ []
-told_by held (last.LinkChanged handle before after) = link_change_told handle before after
-told_by held (last.Served place handle brought) = served_told held place handle brought
-told_by held (last.Ended handle reason) = Ending handle reason ∷ []
-told_by held last.Ticked = map TimedOut held.late
+abbrev pub notices_by : ServerState → LastEvent → List Notice
+notices_by server last.Quiet = []
+notices_by server (last.Connected handle peer) = Connected handle peer ∷ []
+notices_by server (last.Disconnected handle) = Disconnected handle ∷ []
+notices_by server (last.LinkChanged handle before after) = link_change_told handle before after
+notices_by server (last.Served place handle brought) = served_told server place handle brought
+notices_by server (last.Ended handle reason) = Ending handle reason ∷ []
+notices_by server last.Ticked = map TimedOut server.late
 
-abbrev pub last_notices : Held → List Notice
-last_notices held = told_by held held.last
+abbrev pub last_notices : ServerState → List Notice
+last_notices server = notices_by server server.last
 
 -- a notice without where the octets lie that it lends
 abbrev pub notice_of : Lent → Notice

@@ -2,7 +2,7 @@
 use Rattle.std.specs.Prelude.{Bool, ◌&&◌, if◌then◌else◌, List, []}
 use Rattle.att_table.specs.Table.{Contents}
 use Rattle.gatt_host.specs.declared.config.Config.{Config}
-use Rattle.gatt_laws.specs.machine.Room.{Bonds, Owed}
+use Rattle.gatt_laws.specs.machine.SharedState.{Bonds, ServiceChangedPending}
 use Rattle.gatt_laws.specs.machine.Start.{Start, may_be_opened}
 use Rattle.gatt_subs.specs.Fit.{fitted_bond}
 use Rattle.gatt_subs.specs.Rows.{Subscriptions}
@@ -17,7 +17,7 @@ is_configured config = may_be_opened config.slots config.rx_mtu config.address
 abbrev pub bonds_fitted : Contents → List Entry → Subscriptions → Bonds
 bonds_fitted table keys rows peer = if is_known keys peer then (fitted_bond table rows peer).row else []
 
-abbrev pub owed_fitted : Contents → List Entry → Subscriptions → Owed
+abbrev pub owed_fitted : Contents → List Entry → Subscriptions → ServiceChangedPending
 owed_fitted table keys rows peer = is_known keys peer && (fitted_bond table rows peer).owed
 
 -- what a host is opened with

@@ -3,7 +3,7 @@
 use Rattle.std.specs.Prelude.{◌≡◌, ℕ, set, get_or, Option, Some, None, Result, Ok, Err, IsOkAnd}
 use Rattle.gatt_host.specs.Answers.{stop_of}
 use Rattle.gatt_host.specs.declared.host_fault.HostFault.{HostFault}
-use Rattle.gatt_host.specs.Held.{Held}
+use Rattle.gatt_host.specs.ServerState.{ServerState}
 use Rattle.gatt_host.specs.Meaning.{Frames, context_in, frames_after, IsAfter, recombinations_in}
 use Rattle.gatt_host.specs.Meaning.{once_heard, with_fragment}
 use Rattle.gatt_laws.specs.machine.Event.{Happening, Nothing}
@@ -13,16 +13,16 @@ use Rattle.gatt_slots.specs.Slots.{Place, place_serving}
 use Rattle.le_acl.specs.declared.reassembler.Piece.{Piece}
 use Rattle.le_acl.specs.declared.reassembler.Piece.TheVariants as piece
 use Rattle.le_acl.specs.Fragment.{Fragment, fragment_of}
-use Rattle.le_acl.specs.Reassembler.{Assembly, nothing}
+use Rattle.le_acl.specs.Reassembler.{Assembly, no_assembly}
 use Rattle.le_h4.specs.Packet.{Packet, AclPacket, EventPacket, ScoPacket}
 use Rattle.le_hci.specs.declared.event.BadEvent.{BadEvent}
 use Rattle.le_hci.specs.Event.{Reported, event_of}
 use Rattle.octets.specs.Number.{Octets}
 
 -- what a packet means, or why the host stops
-abbrev pub packet_happening : Held → Frames → Packet → Result (Happening Place) Fault
-packet_happening held frames packet =
-    packet_meaning (context_in held) (recombinations_in frames) packet
+abbrev pub packet_happening : ServerState → Frames → Packet → Result (Happening Place) Fault
+packet_happening server frames packet =
+    packet_meaning (context_in server) (recombinations_in frames) packet
 
 -- a fragment of the connection at a place joins those before it, and a frame that it makes whole is
 -- heard and dropped
@@ -34,15 +34,15 @@ fragment_left (Some fragment) earlier = once_heard (with_fragment earlier fragme
 abbrev pub frames_with : Option Place → Option Fragment → Frames → Frames
 frames_with None fragment frames = frames
 frames_with (Some place) fragment frames =
-    set frames place (fragment_left fragment (get_or frames place nothing))
+    set frames place (fragment_left fragment (get_or frames place no_assembly))
 
-abbrev pub frames_after_acl : Held → ℕ → ℕ → ℕ → Octets → Frames → Frames
-frames_after_acl held handle boundary broadcast octets frames =
-    frames_with (place_serving held.slots handle) (fragment_of boundary broadcast octets) frames
+abbrev pub frames_after_acl : ServerState → ℕ → ℕ → ℕ → Octets → Frames → Frames
+frames_after_acl server handle boundary broadcast octets frames =
+    frames_with (place_serving server.slots handle) (fragment_of boundary broadcast octets) frames
 
-abbrev pub acl_happening : Held → ℕ → ℕ → ℕ → Octets → Frames → Happening Place
-acl_happening held handle boundary broadcast octets frames =
-    data_event (recombinations_in frames) (place_serving held.slots handle)
+abbrev pub acl_happening : ServerState → ℕ → ℕ → ℕ → Octets → Frames → Happening Place
+acl_happening server handle boundary broadcast octets frames =
+    data_event (recombinations_in frames) (place_serving server.slots handle)
     (fragment_of boundary broadcast octets)
 
 -- a frame, where the newest fragment made one whole
@@ -51,32 +51,32 @@ frame_given piece.Nothing assembly = None
 frame_given piece.Frame assembly = assembly.frame
 
 -- an event is taken in, or the host stops for good
-abbrev pub TakesEvent : Result Reported BadEvent → Held → Held → Type 0
+abbrev pub TakesEvent : Result Reported BadEvent → ServerState → ServerState → Type 0
 TakesEvent read old new =
     IsOkAnd (event_or_bad (context_in old) read) (λ happening. IsAfter happening old new)
 
-abbrev pub event_stop : Result Reported BadEvent → Held → Option HostFault
-event_stop read held = stop_of (event_or_bad (context_in held) read)
+abbrev pub event_stop : Result Reported BadEvent → ServerState → Option HostFault
+event_stop read server = stop_of (event_or_bad (context_in server) read)
 
 -- only a connection that comes changes what is put together
-abbrev pub frames_after_event : Held → Result Reported BadEvent → Frames → Frames
-frames_after_event held (Ok reported) frames =
-    frames_after (connection_event_if_ready (context_in held) reported) frames
-frames_after_event held (Err bad) frames = frames
+abbrev pub frames_after_event : ServerState → Result Reported BadEvent → Frames → Frames
+frames_after_event server (Ok reported) frames =
+    frames_after (connection_event_if_ready (context_in server) reported) frames
+frames_after_event server (Err bad) frames = frames
 
-abbrev pub frames_after_packet : Held → Packet → Frames → Frames
-frames_after_packet held (AclPacket handle boundary broadcast octets) frames =
-    frames_after_acl held handle boundary broadcast octets frames
-frames_after_packet held (EventPacket octets) frames =
-    frames_after_event held (event_of octets) frames
-frames_after_packet held ScoPacket frames = frames
+abbrev pub frames_after_packet : ServerState → Packet → Frames → Frames
+frames_after_packet server (AclPacket handle boundary broadcast octets) frames =
+    frames_after_acl server handle boundary broadcast octets frames
+frames_after_packet server (EventPacket octets) frames =
+    frames_after_event server (event_of octets) frames
+frames_after_packet server ScoPacket frames = frames
 
 -- a packet is taken in, and what is held and put together then; or the host stops for good
-pub record TakesPacket (packet : Packet) (old : Held) (frames : Frames) (new : Held)
+pub record TakesPacket (packet : Packet) (old : ServerState) (frames : Frames) (new : ServerState)
     (after : Frames) : Type 0 where
-  pub held : IsOkAnd (packet_happening old frames packet) (λ happening. IsAfter happening old new)
+  pub server : IsOkAnd (packet_happening old frames packet) (λ happening. IsAfter happening old new)
   pub frames_then : after ≡ frames_after_packet old packet frames
 
-abbrev pub packet_stop : Packet → Held → Option HostFault
-packet_stop (EventPacket octets) held = event_stop (event_of octets) held
-packet_stop packet held = None
+abbrev pub packet_stop : Packet → ServerState → Option HostFault
+packet_stop (EventPacket octets) server = event_stop (event_of octets) server
+packet_stop packet server = None

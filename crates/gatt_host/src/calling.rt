@@ -3,11 +3,11 @@
 ghost use Rattle.std.specs.Prelude.{◌≡◌, ◌∷◌, [], None, IsSome, IsOk, IfErr, IfOk, true};
 ghost use Rattle.std.specs.Result.{result_err};
 ghost use Rattle.gatt_host.specs.Asked.{call_of};
-ghost use Rattle.gatt_host.specs.Calling.{fault_told, Answers, IsRefusedAs};
-ghost use Rattle.gatt_host.specs.Feeding.{is_write, Feeds, WritesAllThatIsDue};
+ghost use Rattle.gatt_host.specs.Calling.{fault_told, Answers, IsCallRefusedAs};
+ghost use Rattle.gatt_host.specs.Feeding.{is_write_fault, Feeds, WritesAllThatIsDue};
 ghost use Rattle.gatt_host.specs.Listening.{Listens};
 ghost use Rattle.gatt_host.specs.Promises.{KeepsConnectionsApart, KeepsThePolicy};
-ghost use Rattle.gatt_host.specs.Whole.{all_out};
+ghost use Rattle.gatt_host.specs.HostModel.{all_out};
 ghost use Rattle.gatt_laws.specs.machine.Input.{ACall};
 ghost use Rattle.octets.specs.Stream.{CountsIf};
 
@@ -26,14 +26,15 @@ use octets::Sink;
 #[tactic(auto, using(crate::proofs::Promises::keeps_the_policy, crate::proofs::Promises::keeps_connections_apart))]
 pub fn call<W: Sink>(host: &mut Host, call: App<'_>, out: &mut W) -> Result<(), Fault>
     ensures feeds { host.old.fault ≡ None
-        → Feeds (ACall (call_of call.entry) ∷ []) host.old host.new (W.contents out.old) (W.contents out.new) host.new.fault }
+        → Feeds (ACall (call_of call.entry) ∷ []) host.old host.new (W.contents out.old)
+        (W.contents out.new) host.new.fault }
     ensures answers { host.old.fault ≡ None
         → Answers (call_of call.entry) host.old host.new.fault result }
     ensures outcome { fault_told result ≡ host.new.fault }
     ensures out { all_out host.new ≡ true }
     ensures due { host.old.fault ≡ None → WritesAllThatIsDue host.new.fault host.new }
     ensures failures { host.old.fault ≡ None
-        → CountsIf (is_write host.new.fault) (W.failures out.old) (W.failures out.new) }
+        → CountsIf (is_write_fault host.new.fault) (W.failures out.old) (W.failures out.new) }
     ensures stopped { IsSome host.old.fault → host.new ≡ host.old }
     ensures sink_stopped { IsSome host.old.fault → out.new ≡ out.old }
     // And of all that is taken in, for every start and input:
@@ -55,16 +56,18 @@ pub fn call_to<W: Sink, L: Listener>(
     listener: &mut L,
 ) -> Result<(), Fault>
     ensures feeds { host.old.fault ≡ None
-        → Feeds (ACall (call_of call.entry) ∷ []) host.old host.new (W.contents out.old) (W.contents out.new) host.new.fault }
+        → Feeds (ACall (call_of call.entry) ∷ []) host.old host.new (W.contents out.old)
+        (W.contents out.new) host.new.fault }
     ensures heard { host.old.fault ≡ None
-        → Listens (ACall (call_of call.entry) ∷ []) host.old host.new host.new.fault (L.heard listener.old) (L.heard listener.new) }
+        → Listens (ACall (call_of call.entry) ∷ []) host.old host.new host.new.fault
+        (L.heard listener.old) (L.heard listener.new) }
     ensures answers { host.old.fault ≡ None
         → Answers (call_of call.entry) host.old host.new.fault result }
     ensures outcome { fault_told result ≡ host.new.fault }
     ensures out { all_out host.new ≡ true }
     ensures due { host.old.fault ≡ None → WritesAllThatIsDue host.new.fault host.new }
     ensures failures { host.old.fault ≡ None
-        → CountsIf (is_write host.new.fault) (W.failures out.old) (W.failures out.new) }
+        → CountsIf (is_write_fault host.new.fault) (W.failures out.old) (W.failures out.new) }
     ensures stopped { IsSome host.old.fault → host.new ≡ host.old }
     ensures sink_stopped { IsSome host.old.fault → out.new ≡ out.old }
     ensures listener_stopped { IsSome host.old.fault → listener.new ≡ listener.old }
@@ -94,9 +97,10 @@ pub(crate) fn do_call<W: Sink, L: Listener>(
     ensures write { IfErr result (λ fault. fault ≡ HostFault.Write) }
     ensures out { IsOk result → all_out host.new ≡ true }
     ensures due { WritesAllThatIsDue host.new.fault host.new }
-    ensures failures { CountsIf (is_write host.new.fault) (W.failures out.old)
+    ensures failures { CountsIf (is_write_fault host.new.fault) (W.failures out.old)
         (W.failures out.new) }
-    ensures refused { IfOk result (λ answer. IsRefusedAs (call_of call.entry) host.old answer) }
+    ensures refused { IfOk result
+        (λ answer. IsCallRefusedAs (call_of call.entry) host.old answer) }
 {
     let answer = host.app(call);
     tell(host, listener);

@@ -6,7 +6,7 @@ ghost use Rattle.att_table.specs.Changer.{changer_of};
 ghost use Rattle.att_table.specs.Table.{room_at};
 ghost use Rattle.gatt_laws.specs.machine.Calls.{has_length, same_changer, AuthorizeCall, DisconnectCall, TickCall, UpdateCall};
 ghost use Rattle.gatt_host.specs.Asked.{call_happening, call_of, refused_of, replacement_happening};
-ghost use Rattle.gatt_host.specs.Held.{after_replacing, with_last};
+ghost use Rattle.gatt_host.specs.ServerState.{after_replacing, with_last};
 ghost use Rattle.gatt_host.specs.Meaning.{IsAfter};
 ghost use Rattle.gatt_slots.specs.Slots.{place_serving};
 
@@ -125,7 +125,8 @@ impl HostState {
     pub(crate) fn replace_table(&mut self, table: Table) -> Result<Table, (AppFault, Table)>
         ensures after { IfOk result
             (λ old. (old ≡ self.old.table) × (self.new ≡ after_replacing table self.old)) }
-        ensures accepted { IsOk result → same_changer self.old.changer (changer_of table) ≡ true }
+        ensures accepted { IsOk result → same_changer self.old.changer (changer_of table)
+            ≡ true }
         ensures refused { IfErr result
             (λ fault. replacement_happening self.old table ≡ Err (refused_of fault.0)) }
         ensures given_back { IfErr result (λ fault. fault.1 ≡ table) }

@@ -3,10 +3,10 @@
 
 ghost use Rattle.std.specs.Prelude.{◌≡◌, ◌<◌, ◌^◌, length, Some, IsSome, IsOk, IsOkAnd, IfErr, OnErr};
 ghost use Rattle.gatt_host.specs.Answers.{following_if, stop_of};
-ghost use Rattle.gatt_host.specs.Held.{after_coming, opened};
+ghost use Rattle.gatt_host.specs.ServerState.{after_connection_complete, opened};
 ghost use Rattle.gatt_host.specs.Meaning.{IsAfter};
 ghost use Rattle.gatt_laws.specs.machine.Packets.{completed_event, status_event, status_of};
-ghost use Rattle.le_acl.specs.Shares.{acl_len, share};
+ghost use Rattle.le_acl.specs.Quotas.{acl_len, quota};
 ghost use Rattle.le_hci.specs.InitTold.{told_in};
 
 use crate::host_fault::HostFault;
@@ -16,11 +16,11 @@ use le_hci::Peer;
 
 impl HostState {
     /// A connection comes, and takes a slot.
-    pub(crate) fn come(&mut self, place: usize, handle: u16, peer: Peer)
+    pub(crate) fn connect(&mut self, place: usize, handle: u16, peer: Peer)
         requires place { place < length self.old.slots }
         requires handle { handle < 2 ^ 12 }
         requires told { IsSome (told_in self.old.controller.init) }
-        ensures { self.new ≡ after_coming place handle peer self.old }
+        ensures { self.new ≡ after_connection_complete place handle peer self.old }
     {
         let Some(buffers) = self.controller.told() else {
             unreachable!()
@@ -28,14 +28,14 @@ impl HostState {
         let share = share(self.slots.len(), buffers.packets);
         let acl_len = acl_len(buffers.length);
         let key_known = self.keys.known(&peer);
-        self.slots.come(place, handle, peer, key_known, self.rx_mtu, share, acl_len);
-        self.controller.came();
-        self.end(LastEvent::Connected { handle, peer });
+        self.slots.connect(place, handle, peer, key_known, self.rx_mtu, share, acl_len);
+        self.controller.note_connected();
+        self.end_event(LastEvent::Connected { handle, peer });
     }
 
     /// A command is complete.
     #[tactic(auto, using(crate::proofs::places::Crediting::credited))]
-    pub(crate) fn completed(
+    pub(crate) fn command_complete(
         &mut self,
         allowed: u8,
         opcode: u16,
@@ -48,7 +48,7 @@ impl HostState {
             (completed_event self.old.controller allowed opcode returned.now) ≡ Some fault) }
         ensures unchanged { OnErr result (self.new ≡ self.old) }
     {
-        let followed = self.controller.completed(allowed, opcode, returned)?;
+        let followed = self.controller.command_complete(allowed, opcode, returned)?;
         self.open_slots(followed);
         self.nothing();
         Ok(())
@@ -56,7 +56,12 @@ impl HostState {
 
     /// A command is under way, or refused.
     #[tactic(auto, using(crate::proofs::places::Crediting::credited))]
-    pub(crate) fn status(&mut self, status: u8, allowed: u8, opcode: u16) -> Result<(), HostFault>
+    pub(crate) fn command_status(
+        &mut self,
+        status: u8,
+        allowed: u8,
+        opcode: u16,
+    ) -> Result<(), HostFault>
         ensures after { IsOk result
             → IsOkAnd (status_event self.old.controller status allowed opcode)
             (λ happening. IsAfter happening self.old self.new) }
@@ -64,7 +69,7 @@ impl HostState {
             (status_event self.old.controller status allowed opcode) ≡ Some fault) }
         ensures unchanged { OnErr result (self.new ≡ self.old) }
     {
-        self.controller.status(status, allowed, opcode)?;
+        self.controller.command_status(status, allowed, opcode)?;
         self.nothing();
         Ok(())
     }
@@ -89,7 +94,7 @@ impl HostState {
 fn share(slots: usize, packets: u16) -> u16
     requires slots { 0 < slots }
     requires packets { 0 < packets }
-    ensures share { result ≡ share slots packets }
+    ensures share { result ≡ quota slots packets }
     ensures some { 0 < result }
 {
     (usize::from(packets) / slots.min(usize::from(packets))) as u16

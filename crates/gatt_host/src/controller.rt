@@ -2,11 +2,11 @@ ghost use Rattle.std.specs.Prelude.{◌≡◌, ℕ, false, IfOk, IfErr, IfSome, 
 ghost use Rattle.gatt_laws.specs.machine.Controller as laws;
 ghost use Rattle.gatt_laws.specs.machine.Event.{Credit, Connected, Gone};
 ghost use Rattle.gatt_laws.specs.machine.Packets.{completed_event, status_event, status_of, is_awaited, init_fault, following_of};
-ghost use Rattle.gatt_laws.specs.machine.State.{told_of, is_refusal};
+ghost use Rattle.gatt_laws.specs.machine.State.{advertising_after, is_refusal};
 ghost use Rattle.gatt_host.specs.Answers.{answered_by, following_if, following_stop, stop_of, told_fault};
 ghost use Rattle.gatt_host.specs.Owing.{OwesTheFirstCommand};
 ghost use Rattle.gatt_slots.specs.Slots.{Place};
-ghost use Rattle.le_hci.specs.Init.{command_awaited, first_state, outcome_of};
+ghost use Rattle.le_hci.specs.Init.{command_awaited, first_state, init_outcome};
 ghost use Rattle.le_hci.specs.InitTold.{AreUsable, told_in};
 ghost use Rattle.le_hci.specs.declared.peer.Peer.{Peer};
 
@@ -38,7 +38,13 @@ impl Model for Controller {
 
     ghost use Rattle.le_hci.specs.InitTold.{KnowsUsable};
 
-    ghost view = { λ c. record { credit = c.credit; init = c.init; awaiting = c.awaiting; advertising = c.advertising; refused = c.refused } };
+    ghost view = { λ c. record {
+      credit = c.credit;
+      init = c.init;
+      awaiting = c.awaiting;
+      advertising = c.advertising;
+      refused = c.refused;
+    } };
 
     // Buffers that it has told are enough for a peripheral.
     ghost invariant = { λ c. KnowsUsable c.init };
@@ -49,7 +55,14 @@ impl Controller {
     /// Vol 2 Part E, 4.4.
     #[tactic(auto, using(crate::proofs::places::Entering::owes_the_first_command))]
     pub fn new(address: Option<[u8; 6]>, advertising: ArrayVec<u8, 31>) -> Controller
-        ensures new { result ≡ record { credit = 1; init = first_state address advertising; awaiting = false; advertising = false; refused = false } }
+        ensures new { result
+            ≡ record {
+              credit = 1;
+              init = first_state address advertising;
+              awaiting = false;
+              advertising = false;
+              refused = false;
+            } }
         // Its first command is owed then.
         ensures owing { OwesTheFirstCommand }
     {
@@ -71,15 +84,16 @@ impl Controller {
     }
 
     /// A connection has come, and the controller stops advertising.
-    pub fn came(&mut self)
-        ensures { (handle : ℕ) (peer : Peer) → self.new ≡ told_of (Connected handle peer) self.old }
+    pub fn note_connected(&mut self)
+        ensures { (handle : ℕ) (peer : Peer) → self.new
+            ≡ advertising_after (Connected handle peer) self.old }
     {
         self.advertising = false;
     }
 
     /// A connection has gone, and advertising may be enabled again.
-    pub fn went(&mut self)
-        ensures { self.new ≡ told_of Gone self.old }
+    pub fn note_disconnected(&mut self)
+        ensures { self.new ≡ advertising_after Gone self.old }
     {
         self.refused = false;
     }
@@ -107,7 +121,7 @@ impl Controller {
 
     /// Takes in a Command Complete: how many commands the controller takes now, the opcode, and what
     /// the command returned. Says whether another state of initialisation follows.
-    pub fn completed(
+    pub fn command_complete(
         &mut self,
         allowed: u8,
         opcode: u16,
@@ -119,7 +133,8 @@ impl Controller {
         ensures after { IfOk result (λ followed. self.new ≡ answered_by self.old allowed opcode
             (status_of returned.now) (following_if followed self.new)) }
         ensures stops { IfErr result
-            (λ fault. stop_of (completed_event self.old allowed opcode returned.now) ≡ Some fault) }
+            (λ fault. stop_of (completed_event self.old allowed opcode returned.now)
+            ≡ Some fault) }
         ensures unchanged { IfErr result (λ fault. self.new ≡ self.old) }
     {
         if self.awaits(opcode) {
@@ -134,7 +149,7 @@ impl Controller {
     /// opcode. No state of initialisation follows: a status of 0 only tells that the command is being
     /// carried out.
     #[tactic(auto, using(crate::proofs::places::Refusing::stops_where_refused))]
-    pub fn status(&mut self, status: u8, allowed: u8, opcode: u16) -> Result<(), HostFault>
+    pub fn command_status(&mut self, status: u8, allowed: u8, opcode: u16) -> Result<(), HostFault>
         ensures event { IsOk result
             → status_event {C = Place} self.old status allowed opcode
             ≡ Ok (Credit allowed opcode (Some status) None) }
@@ -155,12 +170,12 @@ impl Controller {
     fn advance(&mut self, allowed: u8, returned: &[u8]) -> Result<(), HostFault>
         requires { IsSome (command_awaited self.old.init) }
         ensures follows { IsOk result
-            → following_of (outcome_of self.old.init returned.now) ≡ Ok (Some self.new.init) }
+            → following_of (init_outcome self.old.init returned.now) ≡ Ok (Some self.new.init) }
         ensures after { IsOk result
             → self.new
             ≡ record self.old { credit = allowed; init = self.new.init; awaiting = false } }
         ensures stops { IfErr result (λ fault. following_stop
-            (following_of (outcome_of self.old.init returned.now)) ≡ Some fault) }
+            (following_of (init_outcome self.old.init returned.now)) ≡ Some fault) }
         ensures unchanged { IfErr result (λ fault. self.new ≡ self.old) }
     {
         let init = mem::replace(&mut self.init, NO_STATE);

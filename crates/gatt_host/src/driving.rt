@@ -3,10 +3,10 @@
 ghost use Rattle.std.specs.Prelude.{◌≡◌, ◌∷◌, [], None, IsSome, IsOk, IfErr, IfOk, Some, true, if◌then◌else◌};
 ghost use Rattle.std.specs.Result.{result_err};
 ghost use Rattle.gatt_host.specs.Asked.{call_of};
-ghost use Rattle.gatt_host.specs.Feeding.{comes_of_feeding, input_items, is_write, items_of, CountsRefused, Feeds, WritesAllThatIsDue};
+ghost use Rattle.gatt_host.specs.Feeding.{comes_of_feeding, input_items, is_write_fault, items_of, CountsRefused, Feeds, WritesAllThatIsDue};
 ghost use Rattle.gatt_host.specs.Listening.{Listens};
 ghost use Rattle.gatt_host.specs.Promises.{KeepsConnectionsApart, KeepsThePolicy};
-ghost use Rattle.gatt_host.specs.Whole.{all_out};
+ghost use Rattle.gatt_host.specs.HostModel.{all_out};
 ghost use Rattle.gatt_laws.specs.machine.Input.{ACall};
 ghost use Rattle.octets.specs.Stream.{CountsIf};
 
@@ -37,7 +37,8 @@ pub fn drive<W: Sink>(
     out: &mut W,
 ) -> Result<usize, HostFault>
     ensures feeds { host.old.fault ≡ None
-        → Feeds (items_of inputs.now) host.old host.new (W.contents out.old) (W.contents out.new) host.new.fault }
+        → Feeds (items_of inputs.now) host.old host.new (W.contents out.old) (W.contents out.new)
+        host.new.fault }
     ensures outcome { IfErr result (λ fault. host.new.fault ≡ Some fault) }
     ensures feeding { host.old.fault ≡ None
         → IfErr result (λ fault. comes_of_feeding fault ≡ true) }
@@ -46,7 +47,7 @@ pub fn drive<W: Sink>(
     ensures out { IsOk result → all_out host.new ≡ true }
     ensures due { host.old.fault ≡ None → WritesAllThatIsDue host.new.fault host.new }
     ensures failures { host.old.fault ≡ None
-        → CountsIf (is_write host.new.fault) (W.failures out.old) (W.failures out.new) }
+        → CountsIf (is_write_fault host.new.fault) (W.failures out.old) (W.failures out.new) }
     ensures stopped { IsSome host.old.fault → host.new ≡ host.old }
     ensures sink_stopped { IsSome host.old.fault → out.new ≡ out.old }
     // And of all that is taken in, for every start and input:
@@ -68,9 +69,11 @@ pub fn drive_to<W: Sink, L: Listener>(
     listener: &mut L,
 ) -> Result<usize, HostFault>
     ensures feeds { host.old.fault ≡ None
-        → Feeds (items_of inputs.now) host.old host.new (W.contents out.old) (W.contents out.new) host.new.fault }
+        → Feeds (items_of inputs.now) host.old host.new (W.contents out.old) (W.contents out.new)
+        host.new.fault }
     ensures heard { host.old.fault ≡ None
-        → Listens (items_of inputs.now) host.old host.new host.new.fault (L.heard listener.old) (L.heard listener.new) }
+        → Listens (items_of inputs.now) host.old host.new host.new.fault (L.heard listener.old)
+        (L.heard listener.new) }
     ensures outcome { IfErr result (λ fault. host.new.fault ≡ Some fault) }
     ensures feeding { host.old.fault ≡ None
         → IfErr result (λ fault. comes_of_feeding fault ≡ true) }
@@ -79,7 +82,7 @@ pub fn drive_to<W: Sink, L: Listener>(
     ensures out { IsOk result → all_out host.new ≡ true }
     ensures due { host.old.fault ≡ None → WritesAllThatIsDue host.new.fault host.new }
     ensures failures { host.old.fault ≡ None
-        → CountsIf (is_write host.new.fault) (W.failures out.old) (W.failures out.new) }
+        → CountsIf (is_write_fault host.new.fault) (W.failures out.old) (W.failures out.new) }
     ensures stopped { IsSome host.old.fault → host.new ≡ host.old }
     ensures sink_stopped { IsSome host.old.fault → out.new ≡ out.old }
     ensures listener_stopped { IsSome host.old.fault → listener.new ≡ listener.old }
@@ -114,7 +117,7 @@ fn take_input<W: Sink, L: Listener>(
     ensures feeding { IfErr result (λ fault. comes_of_feeding fault ≡ true) }
     ensures out { IsOk result → all_out host.new ≡ true }
     ensures due { WritesAllThatIsDue host.new.fault host.new }
-    ensures failures { CountsIf (is_write host.new.fault) (W.failures out.old)
+    ensures failures { CountsIf (is_write_fault host.new.fault) (W.failures out.old)
         (W.failures out.new) }
     ensures refused { IfOk result
         (λ refused. CountsRefused (if refused then 1 else 0) (input_items input.now) host.old) }

@@ -2,13 +2,13 @@
 
 ghost use Rattle.std.specs.Prelude.{◌≡◌, [], true, None, Some, IsSome, IsOk, IfErr, Err};
 ghost use Rattle.std.specs.Result.{result_err};
-ghost use Rattle.gatt_host.specs.Feeding.{comes_of_feeding, octet_items, is_write, Feeds, WritesAllThatIsDue};
+ghost use Rattle.gatt_host.specs.Feeding.{comes_of_feeding, octet_items, is_write_fault, Feeds, WritesAllThatIsDue};
 ghost use Rattle.gatt_host.specs.GoingOut.{is_drained};
-ghost use Rattle.gatt_host.specs.Held.{open_slots};
+ghost use Rattle.gatt_host.specs.ServerState.{open_slots};
 ghost use Rattle.gatt_host.specs.Meaning.{Frames};
 ghost use Rattle.gatt_host.specs.Listening.{Listens};
 ghost use Rattle.gatt_host.specs.Promises.{KeepsConnectionsApart, KeepsThePolicy};
-ghost use Rattle.gatt_host.specs.Whole.{all_out, going, is_own, outcome_of, IsHeldByOne};
+ghost use Rattle.gatt_host.specs.HostModel.{all_out, going, is_own_fault, fault_outcome, IsStateOfOne};
 ghost use Rattle.le_h4.specs.Deframer.{Deframing};
 ghost use Rattle.octets.specs.Stream.{CountsIf};
 
@@ -26,15 +26,16 @@ use octets::{Sink, write_all};
 #[tactic(auto, using(crate::proofs::Promises::keeps_the_policy, crate::proofs::Promises::keeps_connections_apart))]
 pub fn feed<W: Sink>(host: &mut Host, octets: &[u8], out: &mut W) -> Result<(), HostFault>
     ensures feeds { host.old.fault ≡ None
-        → Feeds (octet_items octets.now) host.old host.new (W.contents out.old) (W.contents out.new) host.new.fault }
-    ensures outcome { result ≡ outcome_of host.new.fault }
+        → Feeds (octet_items octets.now) host.old host.new (W.contents out.old)
+        (W.contents out.new) host.new.fault }
+    ensures outcome { result ≡ fault_outcome host.new.fault }
     ensures out { IsOk result → all_out host.new ≡ true }
     // Whatever stops it but the writer, all that was due before is written.
     ensures due { host.old.fault ≡ None → WritesAllThatIsDue host.new.fault host.new }
     ensures feeding { host.old.fault ≡ None
         → IfErr result (λ fault. comes_of_feeding fault ≡ true) }
     ensures failures { host.old.fault ≡ None
-        → CountsIf (is_write host.new.fault) (W.failures out.old) (W.failures out.new) }
+        → CountsIf (is_write_fault host.new.fault) (W.failures out.old) (W.failures out.new) }
     ensures stopped { IsSome host.old.fault → host.new ≡ host.old }
     ensures sink_stopped { IsSome host.old.fault → out.new ≡ out.old }
     // And of all that is taken in, for every start and input:
@@ -56,17 +57,19 @@ pub fn feed_to<W: Sink, L: Listener>(
     listener: &mut L,
 ) -> Result<(), HostFault>
     ensures feeds { host.old.fault ≡ None
-        → Feeds (octet_items octets.now) host.old host.new (W.contents out.old) (W.contents out.new) host.new.fault }
+        → Feeds (octet_items octets.now) host.old host.new (W.contents out.old)
+        (W.contents out.new) host.new.fault }
     ensures heard { host.old.fault ≡ None
-        → Listens (octet_items octets.now) host.old host.new host.new.fault (L.heard listener.old) (L.heard listener.new) }
-    ensures outcome { result ≡ outcome_of host.new.fault }
+        → Listens (octet_items octets.now) host.old host.new host.new.fault (L.heard listener.old)
+        (L.heard listener.new) }
+    ensures outcome { result ≡ fault_outcome host.new.fault }
     ensures out { IsOk result → all_out host.new ≡ true }
     // Whatever stops it but the writer, all that was due before is written.
     ensures due { host.old.fault ≡ None → WritesAllThatIsDue host.new.fault host.new }
     ensures feeding { host.old.fault ≡ None
         → IfErr result (λ fault. comes_of_feeding fault ≡ true) }
     ensures failures { host.old.fault ≡ None
-        → CountsIf (is_write host.new.fault) (W.failures out.old) (W.failures out.new) }
+        → CountsIf (is_write_fault host.new.fault) (W.failures out.old) (W.failures out.new) }
     ensures stopped { IsSome host.old.fault → host.new ≡ host.old }
     ensures sink_stopped { IsSome host.old.fault → out.new ≡ out.old }
     ensures listener_stopped { IsSome host.old.fault → listener.new ≡ listener.old }
@@ -94,11 +97,11 @@ pub(crate) fn write_out<W: Sink>(host: &mut Host, out: &mut W) -> Result<(), Hos
     requires { host.old.fault ≡ None }
     ensures feeds { Feeds [] host.old host.new (W.contents out.old)
         (W.contents out.new) host.new.fault }
-    ensures fault { result ≡ outcome_of host.new.fault }
+    ensures fault { result ≡ fault_outcome host.new.fault }
     ensures write { IfErr result (λ fault. fault ≡ HostFault.Write) }
     ensures out { IsOk result → all_out host.new ≡ true }
     ensures due { WritesAllThatIsDue host.new.fault host.new }
-    ensures failures { CountsIf (is_write host.new.fault) (W.failures out.old)
+    ensures failures { CountsIf (is_write_fault host.new.fault) (W.failures out.old)
         (W.failures out.new) }
 {
     let written = write_owed(&mut host.state, &mut host.packet, out);
@@ -115,13 +118,14 @@ fn write_owed<W: Sink>(
     packet: &mut PacketBuf,
     out: &mut W,
 ) -> Result<(), HostFault>
-    requires { IsHeldByOne state.old }
+    requires { IsStateOfOne state.old }
     ensures feeds { (frames : Frames) (stream : Deframing)
         → Feeds [] (going state.old frames stream)
-        (record (going state.new frames stream) { fault = result_err result }) (W.contents out.old) (W.contents out.new) (result_err result) }
+        (record (going state.new frames stream) { fault = result_err result }) (W.contents out.old)
+        (W.contents out.new) (result_err result) }
     ensures write { IfErr result (λ fault. fault ≡ HostFault.Write) }
     ensures out { IsOk result → is_drained state.new.controller (open_slots state.new) ≡ true }
-    ensures failures { CountsIf (is_write (result_err result)) (W.failures out.old)
+    ensures failures { CountsIf (is_write_fault (result_err result)) (W.failures out.old)
         (W.failures out.new) }
 {
     while state.next_out(packet) {
@@ -135,7 +139,7 @@ fn write_owed<W: Sink>(
 /// Stops for good: its reader or its writer fails, or its turns are over.
 pub(crate) fn stop<T>(host: &mut Host, fault: HostFault) -> Result<T, HostFault>
     requires none { host.old.fault ≡ None }
-    requires own { is_own fault ≡ true }
+    requires own { is_own_fault fault ≡ true }
     ensures stopped { host.new ≡ record host.old { fault = Some fault } }
     ensures fault { result ≡ Err fault }
 {

@@ -7,10 +7,10 @@ ghost use Rattle.std.specs.List.{list_any, position};
 ghost use Rattle.std.specs.Option.{option_map};
 ghost use Rattle.gatt_laws.specs.machine.Controller.{controller_after, is_ready};
 ghost use Rattle.gatt_laws.specs.machine.State.{State, command_octets};
-ghost use Rattle.gatt_slots.specs.Commands.{command_due, gives, has_command, without_command, without_packet};
-ghost use Rattle.gatt_slots.specs.Slots.{kept_at, slots_at};
-ghost use Rattle.gatt_host.specs.GoingOut.{command_in, command_next, controller_then, has_room, init_command, is_drained, next_out, packet_in, slots_commanded, slots_then, with_first};
-ghost use Rattle.gatt_host.specs.Owing.{IsDone, IsOwing, OwesTheRest, OwesWhatAnEventBrings};
+ghost use Rattle.gatt_slots.specs.Commands.{command_due, gives, has_command, slot_without_command, slot_without_packet};
+ghost use Rattle.gatt_slots.specs.Slots.{slot_state_at, slots_at};
+ghost use Rattle.gatt_host.specs.GoingOut.{first_slot_command, command_next, controller_then, has_free_slot, init_command, is_drained, next_out, first_slot_packet, slots_commanded, slots_then, with_first};
+ghost use Rattle.gatt_host.specs.Owing.{IsAllSent, IsOwing, OwesTheRest, OwesWhatAnEventBrings};
 ghost use Rattle.octets.specs.Number.{Octets};
 ghost use Rattle.le_hci.specs.Command.{Commanded, LeSetAdvertiseEnable, command_of, opcode_of};
 ghost use Rattle.le_h4.specs.declared.packet_buf.TheConstants.{MAX_PACKET_OUT};
@@ -122,9 +122,9 @@ fn write_command(command: &Command<'_>, out: &mut PacketBuf)
 /// Writes the packet of the first slot that may give one.
 #[inline(always)]
 fn packet_out(slots: &mut Slots, out: &mut PacketBuf) -> bool
-    ensures goes { result ≡ is_some (packet_in slots.old) }
-    ensures octets { OnTrue result (packet_in slots.old ≡ Some out.new) }
-    ensures after { slots.new ≡ with_first gives (option_map without_packet) slots.old }
+    ensures goes { result ≡ is_some (first_slot_packet slots.old) }
+    ensures octets { OnTrue result (first_slot_packet slots.old ≡ Some out.new) }
+    ensures after { slots.new ≡ with_first gives (option_map slot_without_packet) slots.old }
     ensures unchanged { OnFalse result (slots.new ≡ slots.old) }
     ensures out_unchanged { OnFalse result (out.new ≡ out.old) }
 {
@@ -137,10 +137,11 @@ fn packet_out(slots: &mut Slots, out: &mut PacketBuf) -> bool
 /// Writes the first command that is due for a slot, and takes in that it is sent. Says its opcode.
 #[inline(always)]
 fn slot_command_out(slots: &mut Slots, out: &mut PacketBuf) -> Option<u16>
-    ensures opcode { result ≡ option_map opcode_of (command_in slots.old) }
-    ensures octets { (command : Commanded) → command_in slots.old ≡ Some command
+    ensures opcode { result ≡ option_map opcode_of (first_slot_command slots.old) }
+    ensures octets { (command : Commanded) → first_slot_command slots.old ≡ Some command
         → out.new ≡ command_octets command }
-    ensures after { slots.new ≡ with_first has_command (option_map without_command) slots.old }
+    ensures after { slots.new
+        ≡ with_first has_command (option_map slot_without_command) slots.old }
     ensures unchanged { OnFalse (is_some result) (slots.new ≡ slots.old) }
     ensures out_unchanged { OnFalse (is_some result) (out.new ≡ out.old) }
 {
@@ -156,11 +157,13 @@ fn slot_command_out(slots: &mut Slots, out: &mut PacketBuf) -> Option<u16>
 #[inline(never)]
 fn command_at_out(slots: &mut Slots, place: usize, out: &mut PacketBuf) -> u16
     requires place { place < length slots.old }
-    requires due { has_command (kept_at slots.old place) ≡ true }
-    ensures opcode { Some result ≡ option_map opcode_of (command_due (kept_at slots.old place)) }
-    ensures octets { (command : Commanded) → command_due (kept_at slots.old place) ≡ Some command
+    requires due { has_command (slot_state_at slots.old place) ≡ true }
+    ensures opcode { Some result
+        ≡ option_map opcode_of (command_due (slot_state_at slots.old place)) }
+    ensures octets { (command : Commanded) → command_due (slot_state_at slots.old place)
+        ≡ Some command
         → out.new ≡ command_octets command }
-    ensures after { slots.new ≡ slots_at place without_command slots.old }
+    ensures after { slots.new ≡ slots_at place slot_without_command slots.old }
 {
     let Some(command) = slots.command(place) else {
         unreachable!()
@@ -219,7 +222,7 @@ pub fn next_out(controller: &mut Controller, slots: &mut Slots, out: &mut Packet
         → OnTrue result (OwesTheRest final owed out.new controller.new slots.new) }
     ensures done { (final : State) (owed : List Octets)
         → IsOwing final owed controller.old slots.old
-        → OnFalse result (IsDone final owed controller.old slots.old) }
+        → OnFalse result (IsAllSent final owed controller.old slots.old) }
     ensures controller_unchanged { OnFalse result (controller.new ≡ controller.old) }
     ensures slots_unchanged { OnFalse result (slots.new ≡ slots.old) }
     ensures out_unchanged { OnFalse result (out.new ≡ out.old) }
@@ -251,10 +254,11 @@ fn either_out(controller: &mut Controller, slots: &mut Slots, out: &mut PacketBu
 #[inline(always)]
 fn packet_into(slots: &mut Slots, out: &mut [u8]) -> Option<usize>
     requires room { MAX_PACKET_OUT ≤ length out.old }
-    ensures goes { is_some result ≡ is_some (packet_in slots.old) }
-    ensures octets { IfSome result (λ count. packet_in slots.old ≡ Some (take count out.new)) }
+    ensures goes { is_some result ≡ is_some (first_slot_packet slots.old) }
+    ensures octets { IfSome result
+        (λ count. first_slot_packet slots.old ≡ Some (take count out.new)) }
     ensures within { IfSome result (λ count. count ≤ length out.old) }
-    ensures after { slots.new ≡ with_first gives (option_map without_packet) slots.old }
+    ensures after { slots.new ≡ with_first gives (option_map slot_without_packet) slots.old }
     ensures unchanged { OnFalse (is_some result) (slots.new ≡ slots.old) }
     ensures out_unchanged { OnFalse (is_some result) (out.new ≡ out.old) }
 {
@@ -323,7 +327,7 @@ pub fn is_drained(controller: &Controller, slots: &Slots) -> bool
     // Then nothing is owed, and else something is.
     ensures done { (final : State) (owed : List Octets)
         → IsOwing final owed controller.now slots.now
-        → OnTrue result (IsDone final owed controller.now slots.now) }
+        → OnTrue result (IsAllSent final owed controller.now slots.now) }
     ensures owing { (final : State) (owed : List Octets)
         → IsOwing final owed controller.now slots.now → OnFalse result (owed ≢ []) }
 {

@@ -6,24 +6,24 @@ ghost use Rattle.std.specs.Bool.{OnTrue, OnFalse};
 ghost use Rattle.std.specs.Option.{option_map};
 ghost use Rattle.std.specs.Result.{result_err};
 ghost use Rattle.gatt_laws.specs.laws.Deadline.{deadline, TellsFromTheDeadlineOn};
-ghost use Rattle.gatt_laws.specs.machine.Input.{course, call_refusal, replacement_refusal, Item, APacket, ACall, ATable};
+ghost use Rattle.gatt_laws.specs.machine.Input.{run, call_refusal, replacement_refusal, Item, APacket, ACall, ATable};
 ghost use Rattle.gatt_laws.specs.machine.Start.{Start};
 ghost use Rattle.gatt_laws.specs.laws.Telling.{TellsTheApplication};
-ghost use Rattle.gatt_host.specs.Asked.{call_of, refusal_of, replacing_refusal_of};
+ghost use Rattle.gatt_host.specs.Asked.{call_of, refusal_in_result, replacing_refusal_of};
 ghost use Rattle.gatt_host.specs.Connections.{connection_with, connections_of};
 ghost use Rattle.gatt_host.specs.Credits.{most_out};
 ghost use Rattle.gatt_host.specs.Feeding.{items_taken, TakesUpToAPacket};
 ghost use Rattle.gatt_host.specs.GoingOut.{is_drained};
-ghost use Rattle.gatt_host.specs.Held.{after_out, next_of, open_slots};
+ghost use Rattle.gatt_host.specs.ServerState.{after_out, next_packet_out, open_slots};
 ghost use Rattle.gatt_host.specs.Notices.{notice_of, HasTheValue};
-ghost use Rattle.gatt_host.specs.Stands.{rows_of};
+ghost use Rattle.gatt_host.specs.StateRefinement.{rows_of};
 ghost use Rattle.gatt_host.specs.Promises.{KeepsConnectionsApart, KeepsThePolicy};
-ghost use Rattle.gatt_host.specs.Whole.{all_out, is_own, outcome_of, Leads, StandsAt, Takes};
+ghost use Rattle.gatt_host.specs.HostModel.{all_out, is_own_fault, fault_outcome, Refines, RefinesRun, Takes};
 ghost use Rattle.gatt_host.specs.Telling.{notices_told, silent, TellsOf, TellsOfAll};
 ghost use Rattle.gatt_slots.specs.Connections.{connections_in};
 ghost use Rattle.gatt_slots.specs.Slots.{slots_deadline};
 ghost use Rattle.le_h4.specs.Division.{is_long};
-ghost use Rattle.le_h4.specs.Packet.{seen};
+ghost use Rattle.le_h4.specs.Packet.{packet_of_ref};
 ghost use Rattle.octets.specs.Number.{Octets};
 ghost use Rattle.le_h4.specs.declared.packet_buf.TheConstants.{MAX_PACKET_OUT};
 
@@ -57,14 +57,20 @@ pub struct Host {
 }
 
 impl Model for Host {
-    ghost use Rattle.gatt_host.specs.Whole.{Whole, IsReached};
+    ghost use Rattle.gatt_host.specs.HostModel.{HostModel, IsReached};
 
-    ghost Value = { Whole };
+    ghost Value = { HostModel };
 
-    ghost view = { λ h. record { held = h.state; frames = h.frames; stream = h.deframer; fault = h.fault } };
+    ghost view = { λ h. record {
+      server = h.state;
+      frames = h.frames;
+      stream = h.deframer;
+      fault = h.fault;
+    } };
 
     // It stands where some start and some input lead.
-    ghost invariant = { λ h. IsReached (record { held = h.state; frames = h.frames; stream = h.deframer; fault = h.fault }) };
+    ghost invariant = { λ h. IsReached
+        (record { server = h.state; frames = h.frames; stream = h.deframer; fault = h.fault }) };
 }
 
 impl Host {
@@ -72,9 +78,9 @@ impl Host {
     pub fn drained(&self) -> bool
         ensures out { result ≡ all_out self.now }
         // Then all that its input brings has gone out.
-        ensures all { (start : Start) (input : List Item) (gone : List Octets)
-            → StandsAt (course start input) gone self.now → self.now.fault ≡ None
-            → OnTrue result ((course start input).gone ≡ gone) }
+        ensures all { (start : Start) (input : List Item) (sent : List Octets)
+            → RefinesRun (run start input) sent self.now → self.now.fault ≡ None
+            → OnTrue result ((run start input).sent ≡ sent) }
     {
         is_out(&self.state, self.fault)
     }
@@ -92,9 +98,9 @@ impl Host {
     /// that it is out; or answers false where all is out.
     pub fn next_out(&mut self, out: &mut PacketOctets) -> bool
         ensures goes { result ≡ not (all_out self.old) }
-        ensures leads { OnTrue result (Leads [] (out.new.items ∷ []) self.old self.new) }
+        ensures leads { OnTrue result (Refines [] (out.new.items ∷ []) self.old self.new) }
         // Calls without anything else between them come to an end.
-        ensures fewer { OnTrue result (most_out self.new.held < most_out self.old.held) }
+        ensures fewer { OnTrue result (most_out self.new.server < most_out self.old.server) }
         ensures no_fault { OnTrue result (self.new.fault ≡ None) }
         ensures unchanged { OnFalse result (self.new ≡ self.old) }
         ensures out_unchanged { OnFalse result (out.new.items ≡ out.old.items) }
@@ -112,10 +118,10 @@ impl Host {
         requires room { MAX_PACKET_OUT ≤ length out.old }
         ensures goes { is_some result ≡ not (all_out self.old) }
         ensures leads { IfSome result
-            (λ count. Leads [] (take count out.new ∷ []) self.old self.new) }
+            (λ count. Refines [] (take count out.new ∷ []) self.old self.new) }
         ensures within { IfSome result (λ count. count ≤ length out.old) }
         // Calls without anything else between them come to an end.
-        ensures fewer { IsSome result → most_out self.new.held < most_out self.old.held }
+        ensures fewer { IsSome result → most_out self.new.server < most_out self.old.server }
         ensures no_fault { IsSome result → self.new.fault ≡ None }
         ensures unchanged { result ≡ None → self.new ≡ self.old }
         ensures out_unchanged { result ≡ None → out.new ≡ out.old }
@@ -132,11 +138,12 @@ impl Host {
     pub fn packet(&mut self, packet: PacketRef<'_>) -> Result<(), HostFault>
         requires drained { all_out self.old ≡ true }
         ensures takes { self.old.fault ≡ None
-            → Takes (APacket (seen packet.entry)) self.old self.new }
-        ensures told { TellsOf (APacket (seen packet.entry)) self.old self.new }
-        ensures outcome { result ≡ outcome_of self.new.fault }
+            → Takes (APacket (packet_of_ref packet.entry)) self.old self.new }
+        ensures told { TellsOf (APacket (packet_of_ref packet.entry)) self.old self.new }
+        ensures outcome { result ≡ fault_outcome self.new.fault }
         // No reader and no writer has a part in it.
-        ensures not_own { self.old.fault ≡ None → IfErr result (λ fault. is_own fault ≡ false) }
+        ensures not_own { self.old.fault ≡ None
+            → IfErr result (λ fault. is_own_fault fault ≡ false) }
         ensures stopped { IsSome self.old.fault → self.new ≡ self.old }
         // And of all that is taken in, for every start and input:
         ensures policy { KeepsThePolicy }
@@ -161,15 +168,16 @@ impl Host {
     pub fn take(&mut self, octets: &[u8]) -> Result<usize, HostFault>
         requires drained { all_out self.old ≡ true }
         ensures takes { self.old.fault ≡ None
-            → Leads (items_taken octets.now result) [] self.old self.new }
+            → Refines (items_taken octets.now result) [] self.old self.new }
         ensures told { TellsOfAll (items_taken octets.now result) self.old self.new }
         ensures up_to { IfOk result (λ used. TakesUpToAPacket octets.now used self.old) }
         ensures within { IfOk result (λ used. used ≤ length octets.now) }
         ensures some { IfOk result (λ used. 0 < length octets.now → 0 < used) }
         ensures outcome { result_err result ≡ self.new.fault }
         // No reader and no writer has a part in it.
-        ensures not_own { self.old.fault ≡ None → IfErr result (λ fault. is_own fault ≡ false) }
-        ensures held { OnErr result (self.new.held ≡ self.old.held) }
+        ensures not_own { self.old.fault ≡ None
+            → IfErr result (λ fault. is_own_fault fault ≡ false) }
+        ensures held { OnErr result (self.new.server ≡ self.old.server) }
         ensures stopped { IsSome self.old.fault → self.new ≡ self.old }
         // And of all that is taken in, for every start and input:
         ensures policy { KeepsThePolicy }
@@ -189,9 +197,10 @@ impl Host {
         ensures takes { self.old.fault ≡ None
             → Takes (ACall (call_of call.entry)) self.old self.new }
         ensures told { TellsOf (ACall (call_of call.entry)) self.old self.new }
-        ensures refused { (start : Start) (input : List Item) (gone : List Octets)
-            → StandsAt (course start input) gone self.old → self.old.fault ≡ None
-            → refusal_of result ≡ call_refusal (course start input).intake (call_of call.entry) }
+        ensures refused { (start : Start) (input : List Item) (sent : List Octets)
+            → RefinesRun (run start input) sent self.old → self.old.fault ≡ None
+            → refusal_in_result result
+            ≡ call_refusal (run start input).intake (call_of call.entry) }
         ensures stopped { IsSome self.old.fault → result ≡ Err AppFault.Stopped }
         ensures fault { self.new.fault ≡ self.old.fault }
         ensures unchanged { OnErr result (self.new ≡ silent self.old) }
@@ -212,10 +221,10 @@ impl Host {
         requires drained { all_out self.old ≡ true }
         ensures takes { self.old.fault ≡ None → Takes (ATable table) self.old self.new }
         ensures told { TellsOf (ATable table) self.old self.new }
-        ensures refused { (start : Start) (input : List Item) (gone : List Octets)
-            → StandsAt (course start input) gone self.old → self.old.fault ≡ None
-            → replacing_refusal_of result ≡ replacement_refusal (course start input).intake table }
-        ensures given { IfOk result (λ old. old ≡ self.old.held.table) }
+        ensures refused { (start : Start) (input : List Item) (sent : List Octets)
+            → RefinesRun (run start input) sent self.old → self.old.fault ≡ None
+            → replacing_refusal_of result ≡ replacement_refusal (run start input).intake table }
+        ensures given { IfOk result (λ old. old ≡ self.old.server.table) }
         ensures given_back { IfErr result (λ refused. refused.1 ≡ table) }
         ensures stopped { IsSome self.old.fault → result ≡ Err (AppFault.Stopped, table) }
         ensures fault { self.new.fault ≡ self.old.fault }
@@ -235,7 +244,7 @@ impl Host {
     #[tactic(auto, using(crate::proofs::Promises::tells_the_application))]
     pub fn notices(&self) -> Notices<'_>
         ensures told { result.notices ≡ notices_told self.now }
-        ensures table { result.table ≡ self.now.held.table }
+        ensures table { result.table ≡ self.now.server.table }
         // And of all that is told, for every start and input:
         ensures laws { TellsTheApplication }
     {
@@ -248,7 +257,7 @@ impl Host {
     /// The notice at a place, counted from 0, if there are so many.
     pub(crate) fn notice(&self, at: usize) -> Option<Notice<'_>>
         ensures notice { option_map notice_of result ≡ slice_get (notices_told self.now) at }
-        ensures value { IfSome result (HasTheValue self.now.held.table) }
+        ensures value { IfSome result (HasTheValue self.now.server.table) }
         ensures few { IsSome result → at < 34 }
     {
         if self.fault.is_some() {
@@ -258,35 +267,35 @@ impl Host {
     }
 
     /// What each peer has configured, and who is owed that the table has changed.
-    #[tactic(auto, using(crate::proofs::whole::Rows::rows_where))]
+    #[tactic(auto, using(crate::proofs::model::Rows::rows_where))]
     pub fn rows(&self) -> &Rows
-        ensures held { result.now ≡ self.now.held.rows }
+        ensures held { result.now ≡ self.now.server.rows }
         // As a list: the bond of each peer of the keys, and nothing else.
-        ensures course { (start : Start) (input : List Item) (gone : List Octets)
-            → StandsAt (course start input) gone self.now
-            → result.now ≡ rows_of (course start input).intake.state }
+        ensures run { (start : Start) (input : List Item) (sent : List Octets)
+            → RefinesRun (run start input) sent self.now
+            → result.now ≡ rows_of (run start input).intake.state }
     {
         &self.state.rows
     }
 
     /// The table that stands, with its values.
     pub fn table(&self) -> &Table
-        ensures held { result.now ≡ self.now.held.table }
-        ensures course { (start : Start) (input : List Item) (gone : List Octets)
-            → StandsAt (course start input) gone self.now
-            → result.now ≡ (course start input).intake.state.room.table }
+        ensures held { result.now ≡ self.now.server.table }
+        ensures run { (start : Start) (input : List Item) (sent : List Octets)
+            → RefinesRun (run start input) sent self.now
+            → result.now ≡ (run start input).intake.state.shared.table }
     {
         &self.state.table
     }
 
     /// The least time, in milliseconds, at which an indication that is not confirmed is late; none where
     /// every one is confirmed. Until then no time has to be told.
-    #[tactic(auto, using(crate::proofs::whole::Deadlines::tells_from_the_deadline))]
+    #[tactic(auto, using(crate::proofs::model::Deadlines::tells_from_the_deadline))]
     pub fn deadline(&self) -> Option<u64>
-        ensures held { result ≡ slots_deadline self.now.held.slots }
-        ensures course { (start : Start) (input : List Item) (gone : List Octets)
-            → StandsAt (course start input) gone self.now
-            → result ≡ deadline (course start input).intake.state }
+        ensures held { result ≡ slots_deadline self.now.server.slots }
+        ensures run { (start : Start) (input : List Item) (sent : List Octets)
+            → RefinesRun (run start input) sent self.now
+            → result ≡ deadline (run start input).intake.state }
         // And of every state, for every time:
         ensures told { TellsFromTheDeadlineOn }
     {
@@ -295,10 +304,10 @@ impl Host {
 
     /// Who is connected: each connection that is there, in the order of the slots.
     pub fn connections(&self) -> Connections<'_>
-        ensures held { result ≡ connections_in self.now.held.slots }
-        ensures course { (start : Start) (input : List Item) (gone : List Octets)
-            → StandsAt (course start input) gone self.now
-            → result ≡ connections_of (course start input).intake.state }
+        ensures held { result ≡ connections_in self.now.server.slots }
+        ensures run { (start : Start) (input : List Item) (sent : List Octets)
+            → RefinesRun (run start input) sent self.now
+            → result ≡ connections_of (run start input).intake.state }
     {
         Connections {
             slots: &self.state.slots,
@@ -308,10 +317,10 @@ impl Host {
 
     /// The connection with a handle, if one is there.
     pub fn connection(&self, handle: u16) -> Option<Connection>
-        ensures held { result ≡ connection_with handle (connections_in self.now.held.slots) }
-        ensures course { (start : Start) (input : List Item) (gone : List Octets)
-            → StandsAt (course start input) gone self.now
-            → result ≡ connection_with handle (connections_of (course start input).intake.state) }
+        ensures held { result ≡ connection_with handle (connections_in self.now.server.slots) }
+        ensures run { (start : Start) (input : List Item) (sent : List Octets)
+            → RefinesRun (run start input) sent self.now
+            → result ≡ connection_with handle (connections_of (run start input).intake.state) }
     {
         for connection in self.connections() {
             if connection.handle == handle {
@@ -323,9 +332,9 @@ impl Host {
 
     /// The table with its values, the keys and the rows, to go on with: also after a fault.
     pub fn into_parts(self) -> (Table, Keys, Rows)
-        ensures table { result.0 ≡ self.held.table }
-        ensures keys { result.1 ≡ self.held.keys }
-        ensures rows { result.2 ≡ self.held.rows }
+        ensures table { result.0 ≡ self.server.table }
+        ensures keys { result.1 ≡ self.server.keys }
+        ensures rows { result.2 ≡ self.server.rows }
     {
         let HostState {
             table,
@@ -340,8 +349,8 @@ impl Host {
 /// Puts the next packet that is to go out in place of what `out` holds, by way of `packet`, and takes in
 /// that it is out.
 fn copy_next(state: &mut HostState, packet: &mut PacketBuf, out: &mut PacketOctets) -> bool
-    ensures goes { result ≡ is_some (next_of state.old) }
-    ensures octets { OnTrue result (next_of state.old ≡ Some out.new.items) }
+    ensures goes { result ≡ is_some (next_packet_out state.old) }
+    ensures octets { OnTrue result (next_packet_out state.old ≡ Some out.new.items) }
     ensures after { state.new ≡ after_out state.old }
     ensures unchanged { OnFalse result (state.new ≡ state.old) }
     ensures out_unchanged { OnFalse result (out.new.items ≡ out.old.items) }
@@ -358,8 +367,9 @@ fn copy_next(state: &mut HostState, packet: &mut PacketBuf, out: &mut PacketOcte
 #[inline(always)]
 fn next_into(state: &mut HostState, packet: &mut PacketBuf, out: &mut [u8]) -> Option<usize>
     requires room { MAX_PACKET_OUT ≤ length out.old }
-    ensures goes { is_some result ≡ is_some (next_of state.old) }
-    ensures octets { IfSome result (λ count. next_of state.old ≡ Some (take count out.new)) }
+    ensures goes { is_some result ≡ is_some (next_packet_out state.old) }
+    ensures octets { IfSome result
+        (λ count. next_packet_out state.old ≡ Some (take count out.new)) }
     ensures within { IfSome result (λ count. count ≤ length out.old) }
     ensures after { state.new ≡ after_out state.old }
     ensures unchanged { result ≡ None → state.new ≡ state.old }
@@ -370,7 +380,7 @@ fn next_into(state: &mut HostState, packet: &mut PacketBuf, out: &mut [u8]) -> O
 
 /// Whether it is an ACL packet with more data than the largest that is kept.
 fn is_long(packet: &PacketRef<'_>) -> bool
-    ensures { result ≡ is_long (seen packet.now) }
+    ensures { result ≡ is_long (packet_of_ref packet.now) }
 {
     match packet {
         PacketRef::Acl { octets, .. } => octets.len() > MAX_ACL_DATA,

@@ -5,10 +5,10 @@ ghost use Rattle.att_attributes.specs.Attributes.{attribute_at, is_fixed_at};
 ghost use Rattle.att_table.specs.ConfigRow.{IsRowOf};
 ghost use Rattle.att_table.specs.Table.{room_at};
 ghost use Rattle.gatt_host.specs.GoingOut.{is_drained};
-ghost use Rattle.gatt_host.specs.Held.{open_slots, next_of, after_out, after_end, after_ask_key, after_authorize, after_completing, after_disconnect, after_going, after_link, after_nothing, after_replacing, after_signals, after_tick, after_update, kept_at, row_at, with_last, Serves};
-ghost use Rattle.gatt_laws.specs.machine.Packets.{completed_entries};
+ghost use Rattle.gatt_host.specs.ServerState.{open_slots, next_packet_out, after_out, server_after_event, after_ask_key, after_authorize, server_after_packets_completed, after_disconnect, after_disconnection_complete, after_link, after_no_change, after_replacing, server_after_other_channel, server_after_tick, after_update, server_slot_at, row_at, with_last, ServesRequest};
+ghost use Rattle.gatt_laws.specs.machine.Packets.{entries_of_connections};
 ghost use Rattle.gatt_slots.specs.Slots.{all_heard, place_holding};
-ghost use Rattle.gatt_slots.specs.Hearing.{row_in_force};
+ghost use Rattle.gatt_slots.specs.Hearing.{slot_row_in_force};
 ghost use Rattle.le_hci.specs.Event.{completed_packets_of};
 ghost use Rattle.le_security.specs.Link.{Encryption, Refresh};
 ghost use Rattle.le_h4.specs.declared.packet_buf.TheConstants.{MAX_PACKET_OUT};
@@ -56,12 +56,12 @@ impl Model for HostState {
     ghost use Rattle.std.specs.Prelude.{◌≡◌, ◌≤◌, length};
     ghost use Rattle.gatt_host.specs.Answers.{following_if, stop_of};
     ghost use Rattle.gatt_laws.specs.machine.Packets.{completed_event, status_event, status_of};
-    ghost use Rattle.le_acl.specs.Shares.{acl_len, share};
+    ghost use Rattle.le_acl.specs.Quotas.{acl_len, quota};
     ghost use Rattle.le_hci.specs.InitTold.{told_in};
-    ghost use Rattle.gatt_host.specs.Held.{after_end, opened, Held};
+    ghost use Rattle.gatt_host.specs.ServerState.{server_after_event, opened, ServerState};
     ghost use Rattle.att_pdu.specs.declared.pdu_buf.TheConstants.{MAX_MTU, MIN_MTU};
 
-    ghost Value = { Held };
+    ghost Value = { ServerState };
 
     ghost view = { λ h. record {
       table = h.table;
@@ -82,11 +82,11 @@ impl Model for HostState {
 
 // Each event: what it changes, and then what is heard.
 impl HostState {
-    /// Nothing happens that counts. What waits may be released.
+    /// Nothing happens that counts. What waits may be indicated.
     pub(crate) fn nothing(&mut self)
-        ensures { self.new ≡ after_nothing self.old }
+        ensures { self.new ≡ after_no_change self.old }
     {
-        self.end(LastEvent::Quiet);
+        self.end_event(LastEvent::Quiet);
     }
 
     /// Nothing is told any more of the last event.
@@ -96,10 +96,10 @@ impl HostState {
         self.last = LastEvent::Quiet;
     }
 
-    /// Ends an event that raises nothing: what waits may be released. This is what the application is
+    /// Ends an event that notifies nothing: what waits may be indicated. This is what the application is
     /// told of it.
-    pub(crate) fn end(&mut self, last: LastEvent)
-        ensures { self.new ≡ with_last last (after_nothing self.old) }
+    pub(crate) fn end_event(&mut self, last: LastEvent)
+        ensures { self.new ≡ with_last last (after_no_change self.old) }
     {
         self.last = last;
         self.slots
@@ -108,11 +108,11 @@ impl HostState {
 
     /// Time goes by, in milliseconds.
     pub(crate) fn tick(&mut self, now: u64)
-        ensures { self.new ≡ after_tick now self.old }
+        ensures { self.new ≡ server_after_tick now self.old }
     {
         self.time = now;
         self.slots.tick(now, &mut self.late);
-        self.end(LastEvent::Ticked);
+        self.end_event(LastEvent::Ticked);
     }
 
     /// The application writes a value.
@@ -141,12 +141,12 @@ impl HostState {
     /// The application ends the connection of a slot.
     pub(crate) fn disconnect(&mut self, place: usize)
         requires place { place < length self.old.slots }
-        requires there { IsSome (kept_at self.old place) }
+        requires there { IsSome (server_slot_at self.old place) }
         ensures ended { self.new ≡ after_disconnect place self.old }
     {
         let handle = self.slots.handle(place);
         self.slots.end(place, REMOTE_USER_TERMINATED);
-        self.end(LastEvent::Ended {
+        self.end_event(LastEvent::Ended {
             handle,
             reason: REMOTE_USER_TERMINATED,
         });
@@ -163,47 +163,48 @@ impl HostState {
     }
 
     /// A payload comes on a channel that is not that of the Attribute Protocol.
-    pub(crate) fn signal(&mut self, place: usize, channel: u16, payload: &[u8])
+    pub(crate) fn other_channel(&mut self, place: usize, channel: u16, payload: &[u8])
         requires place { place < length self.old.slots }
-        requires there { IsSome (kept_at self.old place) }
-        ensures { self.new ≡ after_signals place channel payload.now self.old }
+        requires there { IsSome (server_slot_at self.old place) }
+        ensures { self.new ≡ server_after_other_channel place channel payload.now self.old }
     {
         let handle = self.slots.handle(place);
-        let ended = self.slots.signal(place, channel, payload);
-        self.end(ended_if(ended, handle));
+        let ended = self.slots.other_channel(place, channel, payload);
+        self.end_event(ended_if(ended, handle));
     }
 
     /// Packets are completed.
-    #[tactic(auto, using(gatt_slots::proofs::parts::Found::entries_at_places))]
-    pub(crate) fn complete(&mut self, entries: &[[u8; 4]])
-        ensures { self.new ≡ after_completing (completed_entries
+    #[tactic(auto, using(gatt_slots::proofs::states::Found::entries_at_places))]
+    pub(crate) fn packets_completed(&mut self, entries: &[[u8; 4]])
+        ensures { self.new ≡ server_after_packets_completed (entries_of_connections
             (place_holding self.old.slots) (map completed_packets_of entries.now)) self.old }
     {
-        self.slots.complete(entries);
+        self.slots.packets_completed(entries);
         self.nothing();
     }
 
     /// A connection goes.
-    pub(crate) fn go(&mut self, place: usize)
+    pub(crate) fn disconnected(&mut self, place: usize)
         requires place { place < length self.old.slots }
-        requires there { IsSome (kept_at self.old place) }
-        ensures { self.new ≡ after_going place self.old }
+        requires there { IsSome (server_slot_at self.old place) }
+        ensures { self.new ≡ after_disconnection_complete place self.old }
     {
         let handle = self.slots.handle(place);
-        self.slots.go(place);
-        self.controller.went();
-        self.end(LastEvent::Disconnected { handle });
+        self.slots.disconnected(place);
+        self.controller.note_disconnected();
+        self.end_event(LastEvent::Disconnected { handle });
     }
 
     /// A PDU of the Attribute Protocol comes from the connection of a slot.
     #[inline(always)]
     pub(crate) fn ask(&mut self, place: usize, pdu: &[u8])
         requires place { place < length self.old.slots }
-        requires there { IsSome (kept_at self.old place) }
-        requires row { IfSome (kept_at self.old place)
-            (λ kept. IsRowOf self.old.table.attributes (row_in_force (row_at self.old kept) kept)) }
-        ensures { IfSome (kept_at self.old place)
-            (λ kept. Serves place pdu.now kept self.old self.new) }
+        requires there { IsSome (server_slot_at self.old place) }
+        requires row { IfSome (server_slot_at self.old place)
+            (λ slot_state. IsRowOf self.old.table.attributes
+            (slot_row_in_force (row_at self.old slot_state) slot_state)) }
+        ensures { IfSome (server_slot_at self.old place)
+            (λ slot_state. ServesRequest place pdu.now slot_state self.old self.new) }
     {
         let handle = self.slots.handle(place);
         let brought = self.slots.serve(
@@ -233,7 +234,7 @@ impl HostState {
     /// Encryption of the link of the connection of a slot was changed, or could not be.
     pub(crate) fn encrypt(&mut self, place: usize, status: u8, enabled: u8)
         requires place { place < length self.old.slots }
-        requires there { IsSome (kept_at self.old place) }
+        requires there { IsSome (server_slot_at self.old place) }
         ensures { self.new ≡ after_link place (Encryption status enabled) self.old }
     {
         let before = self.slots.key(place);
@@ -245,7 +246,7 @@ impl HostState {
     /// The key of the link of the connection of a slot was refreshed, or could not be.
     pub(crate) fn refresh(&mut self, place: usize, status: u8)
         requires place { place < length self.old.slots }
-        requires there { IsSome (kept_at self.old place) }
+        requires there { IsSome (server_slot_at self.old place) }
         ensures { self.new ≡ after_link place (Refresh status) self.old }
     {
         let before = self.slots.key(place);
@@ -258,10 +259,12 @@ impl HostState {
     /// before.
     fn hear_link(&mut self, place: usize, before: Option<KeyFacts>, due: bool)
         requires place { place < length self.old.slots }
-        requires there { IsSome (kept_at self.old place) }
-        ensures { IfSome (kept_at self.old place)
-            (λ kept. self.new ≡ with_last (LastEvent.LinkChanged kept.handle before kept.link.key)
-            (after_end (Some place) (if due then option_to_list self.old.changer else []) [] self.old)) }
+        requires there { IsSome (server_slot_at self.old place) }
+        ensures { IfSome (server_slot_at self.old place)
+            (λ slot_state. self.new
+            ≡ with_last (LastEvent.LinkChanged slot_state.handle before slot_state.link.key)
+            (server_after_event (Some place) (if due then option_to_list self.old.changer else [])
+            [] self.old)) }
     {
         let handle = self.slots.handle(place);
         let after = self.slots.key(place);
@@ -279,7 +282,7 @@ impl HostState {
     /// Ends an event: the connection of a slot hears that the table was replaced, if it is to, and all
     /// of what is then due.
     fn hear_changes(&mut self, place: usize, due: bool, last: LastEvent)
-        ensures { self.new ≡ with_last last (after_end (Some place)
+        ensures { self.new ≡ with_last last (server_after_event (Some place)
             (if due then option_to_list self.old.changer else []) [] self.old) }
     {
         self.last = last;
@@ -327,8 +330,8 @@ impl HostState {
     /// Puts the next packet that is to go out in place of what `out` holds, and takes in that it is out.
     #[inline(always)]
     pub(crate) fn next_out(&mut self, out: &mut PacketBuf) -> bool
-        ensures goes { result ≡ is_some (next_of self.old) }
-        ensures octets { OnTrue result (next_of self.old ≡ Some out.new) }
+        ensures goes { result ≡ is_some (next_packet_out self.old) }
+        ensures octets { OnTrue result (next_packet_out self.old ≡ Some out.new) }
         ensures after { self.new ≡ after_out self.old }
         ensures unchanged { OnFalse result (self.new ≡ self.old) }
         ensures out_unchanged { OnFalse result (out.new ≡ out.old) }
@@ -344,8 +347,9 @@ impl HostState {
     #[inline(always)]
     pub(crate) fn next_into(&mut self, packet: &mut PacketBuf, out: &mut [u8]) -> Option<usize>
         requires room { MAX_PACKET_OUT ≤ length out.old }
-        ensures goes { is_some result ≡ is_some (next_of self.old) }
-        ensures octets { IfSome result (λ count. next_of self.old ≡ Some (take count out.new)) }
+        ensures goes { is_some result ≡ is_some (next_packet_out self.old) }
+        ensures octets { IfSome result
+            (λ count. next_packet_out self.old ≡ Some (take count out.new)) }
         ensures within { IfSome result (λ count. count ≤ length out.old) }
         ensures after { self.new ≡ after_out self.old }
         ensures unchanged { result ≡ None → self.new ≡ self.old }

@@ -23,7 +23,10 @@ impl<'a> Model for Notices<'a> {
 
     ghost Value = { Untold };
 
-    ghost view = { λ n. record { notices = drop n.given (notices_told n.host.now); table = n.host.now.held.table } };
+    ghost view = { λ n. record {
+      notices = drop n.given (notices_told n.host.now);
+      table = n.host.now.server.table;
+    } };
 }
 
 impl<'a> Iterator for Notices<'a> {

@@ -6,8 +6,8 @@ ghost use Rattle.att_numbers.specs.Types.{Handle};
 ghost use Rattle.att_attributes.specs.Attributes.{attribute_at};
 ghost use Rattle.att_table.specs.Table.{value_at};
 ghost use Rattle.gatt_laws.specs.machine.Notice.{Confirmed, Ending, TimedOut, write_told};
-ghost use Rattle.gatt_laws.specs.machine.Turn.{remote_user_terminated};
-ghost use Rattle.gatt_host.specs.Notices.{last_notices, link_change_told, notice_of, row_there, served_told, HasTheValue};
+ghost use Rattle.gatt_laws.specs.machine.Effect.{remote_user_terminated};
+ghost use Rattle.gatt_host.specs.Notices.{last_notices, link_change_told, notice_of, row_at_place, served_told, HasTheValue};
 
 use crate::host_state::HostState;
 use crate::last_event::LastEvent;
@@ -79,7 +79,8 @@ impl HostState {
     /// What it wrote at a handle.
     fn write_notice(&self, place: usize, handle: u16, attribute: u16) -> Notice<'_>
         ensures notice { notice_of result
-            ≡ write_told self.now.table.attributes (row_there self.now place) handle attribute }
+            ≡ write_told self.now.table.attributes (row_at_place self.now place) handle
+            attribute }
         ensures value { HasTheValue self.now.table result }
     {
         match self.table.get(attribute) {

@@ -2,11 +2,11 @@
 
 ghost use Rattle.std.specs.Prelude.{◌≡◌, ◌↔◌, [], false, true, replicate, None, Err, IfOk};
 ghost use Rattle.std.specs.Option.{option_map_or};
-ghost use Rattle.gatt_laws.specs.machine.Input.{course};
+ghost use Rattle.gatt_laws.specs.machine.Input.{run};
 ghost use Rattle.gatt_laws.specs.machine.Start.{is_static};
 ghost use Rattle.gatt_host.specs.Opening.{is_configured, start_of};
 ghost use Rattle.gatt_host.specs.Promises.{GivesWhatIsDue, Promise};
-ghost use Rattle.gatt_host.specs.Whole.{StandsAt};
+ghost use Rattle.gatt_host.specs.HostModel.{RefinesRun};
 
 use crate::config::{Config, OpenFault};
 use crate::controller::Controller;
@@ -42,7 +42,7 @@ impl Host {
     ) -> Result<Host, OpenFault>
         ensures config { (result ≡ Err OpenFault.BadConfig) ↔ (is_configured config ≡ false) }
         ensures opened { IfOk result
-            (λ host. StandsAt (course (start_of table keys rows config) []) [] host) }
+            (λ host. RefinesRun (run (start_of table keys rows config) []) [] host) }
         ensures no_fault { IfOk result (λ host. host.fault ≡ None) }
         // What goes out from then on is what is due, whatever is taken in.
         ensures runs { IfOk result (GivesWhatIsDue (start_of table keys rows config)) }

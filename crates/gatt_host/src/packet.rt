@@ -6,16 +6,16 @@ ghost use Rattle.std.specs.Result.{result_err};
 ghost use Rattle.std.specs.Option.{option_and_then, option_map_or};
 ghost use Rattle.gatt_laws.specs.machine.Packets.{fragment_event, frame_event, of_octets, of_frame};
 ghost use Rattle.gatt_host.specs.GoingOut.{is_drained};
-ghost use Rattle.gatt_host.specs.Held.{kept_at, open_slots};
-ghost use Rattle.gatt_host.specs.Whole.{is_own, LeadsBy};
+ghost use Rattle.gatt_host.specs.ServerState.{server_slot_at, open_slots};
+ghost use Rattle.gatt_host.specs.HostModel.{is_own_fault, RefinesPacket};
 ghost use Rattle.gatt_host.specs.Meaning.{recombination, once_heard, with_fragment, HasRowsOfTheTable, IsAfter};
-ghost use Rattle.le_h4.specs.Packet.{seen};
+ghost use Rattle.le_h4.specs.Packet.{packet_of_ref};
 ghost use Rattle.gatt_host.specs.Packet.{acl_happening, packet_stop, TakesPacket, event_stop, fragment_left, frame_given, frames_after_acl, frames_after_event, TakesEvent};
 ghost use Rattle.gatt_host.specs.Telling.{TellsOfPacket};
 ghost use Rattle.gatt_slots.specs.Slots.{IsThere};
 ghost use Rattle.le_acl.specs.Fragment.{fragment_of, Beginning};
 ghost use Rattle.le_acl.specs.Frame.{is_frame};
-ghost use Rattle.le_acl.specs.Reassembler.{assembled_of, nothing};
+ghost use Rattle.le_acl.specs.Reassembler.{assembled_of, no_assembly};
 ghost use Rattle.le_hci.specs.Event.{event_of};
 ghost use Rattle.le_l2cap.specs.Frame.{frame_of};
 
@@ -34,7 +34,8 @@ impl HostState {
     /// Takes in an event: its code and what follows.
     pub(crate) fn event(&mut self, frames: &mut Frames, octets: &[u8]) -> Result<(), HostFault>
         ensures taken { IsOk result → TakesEvent (event_of octets.now) self.old self.new }
-        ensures frames { frames.new ≡ frames_after_event self.old (event_of octets.now) frames.old }
+        ensures frames { frames.new
+            ≡ frames_after_event self.old (event_of octets.now) frames.old }
         ensures stops { IfErr result
             (λ fault. event_stop (event_of octets.now) self.old ≡ Some fault) }
         ensures unchanged { OnErr result (self.new ≡ self.old) }
@@ -51,7 +52,8 @@ impl HostState {
     #[inline(never)]
     fn take_other_event(&mut self, frames: &mut Frames, octets: &[u8]) -> Result<(), HostFault>
         ensures taken { IsOk result → TakesEvent (event_of octets.now) self.old self.new }
-        ensures frames { frames.new ≡ frames_after_event self.old (event_of octets.now) frames.old }
+        ensures frames { frames.new
+            ≡ frames_after_event self.old (event_of octets.now) frames.old }
         ensures stops { IfErr result
             (λ fault. event_stop (event_of octets.now) self.old ≡ Some fault) }
         ensures unchanged { OnErr result (self.new ≡ self.old) }
@@ -64,7 +66,8 @@ impl HostState {
     #[inline(always)]
     fn take_event(&mut self, frames: &mut Frames, octets: &[u8]) -> Result<(), HostFault>
         ensures taken { IsOk result → TakesEvent (event_of octets.now) self.old self.new }
-        ensures frames { frames.new ≡ frames_after_event self.old (event_of octets.now) frames.old }
+        ensures frames { frames.new
+            ≡ frames_after_event self.old (event_of octets.now) frames.old }
         ensures stops { IfErr result
             (λ fault. event_stop (event_of octets.now) self.old ≡ Some fault) }
         ensures unchanged { OnErr result (self.new ≡ self.old) }
@@ -77,14 +80,14 @@ impl HostState {
                     opcode,
                     parameters,
                 },
-            ) => self.completed(allowed, opcode, parameters),
+            ) => self.command_complete(allowed, opcode, parameters),
             Ok(
                 Event::CommandStatus {
                     status,
                     allowed,
                     opcode,
                 },
-            ) => self.status(status, allowed, opcode),
+            ) => self.command_status(status, allowed, opcode),
             Ok(Event::HardwareError { code }) => Err(HostFault::Hardware(code)),
             Ok(event) => {
                 self.reported(frames, &event);
@@ -105,7 +108,11 @@ impl HostState {
         match read_frame(octets) {
             Ok(frame) => match frame.cid {
                 ATT => self.ask(place, frame.payload),
-                LE_SIGNALLING | SECURITY_MANAGER => self.signal(place, frame.cid, frame.payload),
+                LE_SIGNALLING | SECURITY_MANAGER => self.other_channel(
+                    place,
+                    frame.cid,
+                    frame.payload,
+                ),
                 _ => self.nothing(),
             },
             Err(_) => self.nothing(),
@@ -188,7 +195,7 @@ fn join_fragment(
 fn is_whole(pb: u8, bc: u8, octets: &[u8]) -> bool
     ensures begins { OnTrue result (fragment_of pb bc octets.now ≡ Some (Beginning octets.now)) }
     ensures frame { OnTrue result ((assembled_of octets.now).frame ≡ Some octets.now) }
-    ensures left { OnTrue result (once_heard (assembled_of octets.now) ≡ nothing) }
+    ensures left { OnTrue result (once_heard (assembled_of octets.now) ≡ no_assembly) }
 {
     bc == 0 && (pb == FIRST || pb == FIRST_NOT_FLUSHED) && is_frame(octets)
 }
@@ -212,7 +219,7 @@ fn join(frame: &mut Reassembler, pb: u8, bc: u8, octets: &[u8]) -> Piece
     }
 }
 
-/// Takes in a packet, or says why the host stops for good, and leads on in the course.
+/// Takes in a packet, or says why the host stops for good, and leads on in the run.
 pub(crate) fn packet(
     state: &mut HostState,
     frames: &mut Frames,
@@ -220,10 +227,12 @@ pub(crate) fn packet(
 ) -> Result<(), HostFault>
     requires rows { HasRowsOfTheTable state.old }
     requires drained { is_drained state.old.controller (open_slots state.old) ≡ true }
-    ensures leads { LeadsBy (seen packet.entry) state.old frames.old state.new frames.new
+    ensures leads { RefinesPacket (packet_of_ref packet.entry) state.old frames.old state.new
+        frames.new
         (result_err result) }
-    ensures told { IsOk result → TellsOfPacket (seen packet.entry) state.old frames.old state.new }
-    ensures not_own { IfErr result (λ fault. is_own fault ≡ false) }
+    ensures told { IsOk result
+        → TellsOfPacket (packet_of_ref packet.entry) state.old frames.old state.new }
+    ensures not_own { IfErr result (λ fault. is_own_fault fault ≡ false) }
     ensures unchanged { OnErr result (state.new ≡ state.old) }
 {
     take_packet(state, frames, packet)
@@ -237,8 +246,9 @@ fn take_packet(
 ) -> Result<(), HostFault>
     requires rows { HasRowsOfTheTable state.old }
     ensures taken { IsOk result
-        → TakesPacket (seen packet.entry) state.old frames.old state.new frames.new }
-    ensures stops { IfErr result (λ fault. packet_stop (seen packet.entry) state.old ≡ Some fault) }
+        → TakesPacket (packet_of_ref packet.entry) state.old frames.old state.new frames.new }
+    ensures stops { IfErr result
+        (λ fault. packet_stop (packet_of_ref packet.entry) state.old ≡ Some fault) }
     ensures unchanged { OnErr result (state.new ≡ state.old) }
     ensures frames_unchanged { OnErr result (frames.new ≡ frames.old) }
 {

@@ -3,7 +3,7 @@
 ghost use Rattle.std.specs.Prelude.{◌≡◌, ◌==◌, ◌<◌, ◌^◌, true, if◌then◌else◌, Some, IsSome, IfSome};
 ghost use Rattle.gatt_laws.specs.machine.Controller as laws;
 ghost use Rattle.gatt_laws.specs.machine.Event.{Connected, Gone, KeyAsked, Encrypted, Refreshed, Asks, Signals, Nothing};
-ghost use Rattle.gatt_laws.specs.machine.Packets.{coming_event, connection_event, connection_event_if_ready, own_event};
+ghost use Rattle.gatt_laws.specs.machine.Packets.{connection_complete_event, connection_event, connection_event_if_ready, own_event};
 ghost use Rattle.gatt_host.specs.Meaning.{context_in, frames_after, IsAfter};
 ghost use Rattle.gatt_slots.specs.Slots.{place_holding, place_serving};
 ghost use Rattle.le_hci.specs.Event.{report_of};
@@ -42,7 +42,9 @@ impl HostState {
             (connection_event (context_in self.old) (report_of event.now)) frames.old }
     {
         match *event {
-            Event::DisconnectionComplete { status, handle, .. } => self.gone(status, handle),
+            Event::DisconnectionComplete { status, handle, .. } => self.disconnection_complete(
+                status, handle,
+            ),
             Event::EncryptionChange {
                 status,
                 handle,
@@ -51,7 +53,7 @@ impl HostState {
             Event::EncryptionKeyRefreshComplete { status, handle } => self.key_refreshed(
                 status, handle,
             ),
-            Event::NumberOfCompletedPackets { entries } => self.complete(entries),
+            Event::NumberOfCompletedPackets { entries } => self.packets_completed(entries),
             Event::ConnectionComplete {
                 status,
                 handle,
@@ -69,7 +71,7 @@ impl HostState {
     }
 
     /// A connection has ended.
-    fn gone(&mut self, status: u8, handle: u16)
+    fn disconnection_complete(&mut self, status: u8, handle: u16)
         ensures { IsAfter (if status == 0 then own_event
             (place_holding self.old.slots handle) Gone else Nothing) self.old self.new }
     {
@@ -77,7 +79,7 @@ impl HostState {
             return self.nothing();
         }
         match self.slots.find_holding(handle) {
-            Some(place) => self.go(place),
+            Some(place) => self.disconnected(place),
             None => self.nothing(),
         }
     }
@@ -121,9 +123,11 @@ impl HostState {
     fn connected(&mut self, frames: &mut Frames, status: u8, handle: u16, role: u8, peer: Peer)
         requires { laws.is_ready self.old.controller ≡ true }
         ensures after { IsAfter
-            (coming_event (context_in self.old) status handle role peer) self.old self.new }
+            (connection_complete_event (context_in self.old) status handle role peer) self.old
+            self.new }
         ensures frames { frames.new
-            ≡ frames_after (coming_event (context_in self.old) status handle role peer) frames.old }
+            ≡ frames_after (connection_complete_event (context_in self.old) status handle role
+            peer) frames.old }
     {
         if status != 0 || role != PERIPHERAL || handle > LAST_CONNECTION_HANDLE {
             return self.nothing();
@@ -134,7 +138,7 @@ impl HostState {
         match self.slots.find_free() {
             Some(place) => {
                 frames[place] = Reassembler::new();
-                self.come(place, handle, peer);
+                self.connect(place, handle, peer);
             }
             None => self.nothing(),
         }

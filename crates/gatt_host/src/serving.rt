@@ -2,11 +2,11 @@
 
 ghost use Rattle.std.specs.Prelude.{◌≡◌, ◌≤◌, ◌==◌, [], is_ok, length, None, Some, IsSome, IsOk, IfErr, IfOk, OnErr, true};
 ghost use Rattle.std.specs.Io.KnownBytes.{Consumes, IsAtEnd, Keeps};
-ghost use Rattle.gatt_host.specs.Feeding.{is_read, is_write, Reads, Serves, WritesAllThatIsDue};
-ghost use Rattle.gatt_host.specs.Held.{with_last};
+ghost use Rattle.gatt_host.specs.Feeding.{is_read_fault, is_write_fault, Reads, Serves, WritesAllThatIsDue};
+ghost use Rattle.gatt_host.specs.ServerState.{with_last};
 ghost use Rattle.gatt_host.specs.Listening.{ListensServing};
 ghost use Rattle.gatt_host.specs.Promises.{KeepsConnectionsApart, KeepsThePolicy};
-ghost use Rattle.gatt_host.specs.Whole.{all_out, Takes};
+ghost use Rattle.gatt_host.specs.HostModel.{all_out, Takes};
 ghost use Rattle.gatt_laws.specs.machine.Input.{TheEnd};
 ghost use Rattle.octets.specs.Stream.{CountsFailure, CountsIf, CountsNone, CountsOne};
 
@@ -40,7 +40,8 @@ pub fn serve<R: Source, W: Sink>(
     turns: u64,
 ) -> Result<End, HostFault>
     ensures serves { host.old.fault ≡ None
-        → Serves result turns host.old host.new (R.remaining reader.old) (R.remaining reader.new) (W.contents writer.old) (W.contents writer.new) }
+        → Serves result turns host.old host.new (R.remaining reader.old) (R.remaining reader.new)
+        (W.contents writer.old) (W.contents writer.new) }
     ensures going_on { IsOk result → host.new.fault ≡ None }
     ensures out { IsOk result → all_out host.new ≡ true }
     ensures due { host.old.fault ≡ None → WritesAllThatIsDue host.new.fault host.new }
@@ -50,9 +51,11 @@ pub fn serve<R: Source, W: Sink>(
     ensures ends { host.old.fault ≡ None
         → CountsIf (is_ok result) (R.ends reader.old) (R.ends reader.new) }
     ensures read_failures { host.old.fault ≡ None
-        → CountsIf (is_read host.new.fault) (R.failures reader.old) (R.failures reader.new) }
+        → CountsIf (is_read_fault host.new.fault) (R.failures reader.old)
+        (R.failures reader.new) }
     ensures write_failures { host.old.fault ≡ None
-        → CountsIf (is_write host.new.fault) (W.failures writer.old) (W.failures writer.new) }
+        → CountsIf (is_write_fault host.new.fault) (W.failures writer.old)
+        (W.failures writer.new) }
     ensures stopped { IsSome host.old.fault → host.new ≡ host.old }
     ensures reader_stopped { IsSome host.old.fault → reader.new ≡ reader.old }
     ensures writer_stopped { IsSome host.old.fault → writer.new ≡ writer.old }
@@ -76,9 +79,11 @@ pub fn serve_to<R: Source, W: Sink, L: Listener>(
     listener: &mut L,
 ) -> Result<End, HostFault>
     ensures serves { host.old.fault ≡ None
-        → Serves result turns host.old host.new (R.remaining reader.old) (R.remaining reader.new) (W.contents writer.old) (W.contents writer.new) }
+        → Serves result turns host.old host.new (R.remaining reader.old) (R.remaining reader.new)
+        (W.contents writer.old) (W.contents writer.new) }
     ensures heard { host.old.fault ≡ None
-        → ListensServing host.old host.new (R.remaining reader.old) (R.remaining reader.new) (L.heard listener.old) (L.heard listener.new) }
+        → ListensServing host.old host.new (R.remaining reader.old) (R.remaining reader.new)
+        (L.heard listener.old) (L.heard listener.new) }
     ensures going_on { IsOk result → host.new.fault ≡ None }
     ensures out { IsOk result → all_out host.new ≡ true }
     ensures due { host.old.fault ≡ None → WritesAllThatIsDue host.new.fault host.new }
@@ -88,9 +93,11 @@ pub fn serve_to<R: Source, W: Sink, L: Listener>(
     ensures ends { host.old.fault ≡ None
         → CountsIf (is_ok result) (R.ends reader.old) (R.ends reader.new) }
     ensures read_failures { host.old.fault ≡ None
-        → CountsIf (is_read host.new.fault) (R.failures reader.old) (R.failures reader.new) }
+        → CountsIf (is_read_fault host.new.fault) (R.failures reader.old)
+        (R.failures reader.new) }
     ensures write_failures { host.old.fault ≡ None
-        → CountsIf (is_write host.new.fault) (W.failures writer.old) (W.failures writer.new) }
+        → CountsIf (is_write_fault host.new.fault) (W.failures writer.old)
+        (W.failures writer.new) }
     ensures stopped { IsSome host.old.fault → host.new ≡ host.old }
     ensures reader_stopped { IsSome host.old.fault → reader.new ≡ reader.old }
     ensures writer_stopped { IsSome host.old.fault → writer.new ≡ writer.old }
@@ -135,7 +142,7 @@ fn read_turn<'a, R: Source>(reader: &mut R, octets: &'a mut [u8; TURN]) -> Resul
 fn end_stream(host: &mut Host)
     requires none { host.old.fault ≡ None }
     ensures takes { Takes TheEnd host.old host.new }
-    ensures held { host.new.held ≡ with_last LastEvent.Quiet host.old.held }
+    ensures held { host.new.server ≡ with_last LastEvent.Quiet host.old.server }
     ensures fault { host.new.fault ≡ None }
 {
     host.deframer = Deframer::new();

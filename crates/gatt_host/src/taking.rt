@@ -5,11 +5,11 @@ ghost use Rattle.std.specs.Result.{result_err};
 ghost use Rattle.gatt_host.specs.Answers.{lost_fault};
 ghost use Rattle.gatt_host.specs.Feeding.{items_taken, TakesUpToAPacket};
 ghost use Rattle.gatt_host.specs.GoingOut.{is_drained};
-ghost use Rattle.gatt_host.specs.Held.{open_slots};
+ghost use Rattle.gatt_host.specs.ServerState.{open_slots};
 ghost use Rattle.gatt_host.specs.Meaning.{HasRowsOfTheTable};
 ghost use Rattle.gatt_host.specs.Telling.{TellsOfAll};
-ghost use Rattle.gatt_host.specs.Whole.{all_out, going, is_own, Leads};
-ghost use Rattle.le_h4.specs.Packet.{seen};
+ghost use Rattle.gatt_host.specs.HostModel.{all_out, going, is_own_fault, Refines};
+ghost use Rattle.le_h4.specs.Packet.{packet_of_ref};
 
 use crate::frames::Frames;
 use crate::host::Host;
@@ -23,12 +23,12 @@ use le_h4::{Deframer, H4Fault, WholePacket};
 pub(crate) fn take(host: &mut Host, octets: &[u8]) -> Result<usize, HostFault>
     requires no_fault { host.old.fault ≡ None }
     requires drained { all_out host.old ≡ true }
-    ensures leads { Leads (items_taken octets.now result) [] host.old host.new }
+    ensures leads { Refines (items_taken octets.now result) [] host.old host.new }
     ensures told { TellsOfAll (items_taken octets.now result) host.old host.new }
     ensures up_to { IfOk result (λ used. TakesUpToAPacket octets.now used host.old) }
     ensures fault { host.new.fault ≡ result_err result }
-    ensures not_own { IfErr result (λ fault. is_own fault ≡ false) }
-    ensures unchanged { OnErr result (host.new.held ≡ host.old.held) }
+    ensures not_own { IfErr result (λ fault. is_own_fault fault ≡ false) }
+    ensures unchanged { OnErr result (host.new.server ≡ host.old.server) }
     ensures within { IfOk result (λ used. used ≤ length octets.now) }
     ensures some { IfOk result (λ used. 0 < length octets.now → 0 < used) }
 {
@@ -57,15 +57,27 @@ fn take_in(
 ) -> Result<usize, HostFault>
     requires rows { HasRowsOfTheTable state.old }
     requires drained { is_drained state.old.controller (open_slots state.old) ≡ true }
-    ensures leads { Leads (items_taken octets.now result) []
-        (record { held = state.old; frames = frames.old; stream = deframer.old; fault = None })
-        (record { held = state.new; frames = frames.new; stream = deframer.new; fault = result_err result }) }
+    ensures leads { Refines (items_taken octets.now result) []
+        (record { server = state.old; frames = frames.old; stream = deframer.old; fault = None })
+        (record {
+          server = state.new;
+          frames = frames.new;
+          stream = deframer.new;
+          fault = result_err
+              result;
+        }) }
     ensures told { TellsOfAll (items_taken octets.now result)
-        (record { held = state.old; frames = frames.old; stream = deframer.old; fault = None })
-        (record { held = state.new; frames = frames.new; stream = deframer.new; fault = result_err result }) }
+        (record { server = state.old; frames = frames.old; stream = deframer.old; fault = None })
+        (record {
+          server = state.new;
+          frames = frames.new;
+          stream = deframer.new;
+          fault = result_err
+              result;
+        }) }
     ensures up_to { IfOk result
         (λ used. TakesUpToAPacket octets.now used (going state.old frames.old deframer.old)) }
-    ensures not_own { IfErr result (λ fault. is_own fault ≡ false) }
+    ensures not_own { IfErr result (λ fault. is_own_fault fault ≡ false) }
     ensures unchanged { OnErr result (state.new ≡ state.old) }
     ensures within { IfOk result (λ used. used ≤ length octets.now) }
     ensures some { IfOk result (λ used. 0 < length octets.now → 0 < used) }
@@ -98,9 +110,11 @@ fn lent_or_marked<'a>(
     used: usize,
 ) -> WholePacket<'a>
     requires { lent ≡ None → IsSome deframer.now.marked }
-    ensures lent { IfSome lent.entry (λ whole. seen result.packet ≡ seen whole.packet) }
+    ensures lent { IfSome lent.entry
+        (λ whole. packet_of_ref result.packet ≡ packet_of_ref whole.packet) }
     ensures lent_used { IfSome lent.entry (λ whole. result.used ≡ whole.used) }
-    ensures marked { lent.entry ≡ None → deframer.now.marked ≡ Some (seen result.packet) }
+    ensures marked { lent.entry ≡ None → deframer.now.marked
+        ≡ Some (packet_of_ref result.packet) }
     ensures marked_used { lent.entry ≡ None → result.used ≡ used }
 {
     match lent {

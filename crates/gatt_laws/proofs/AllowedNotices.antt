@@ -22,11 +22,11 @@ use Rattle.att_policy.specs.declared.policy.Access.TheVariants.{Write}
 use Rattle.att_policy.specs.Refusal.{Refusal}
 use Rattle.att_table.specs.Table.{Contents}
 use Rattle.att_writes.specs.Applied.{Stored, applied_to}
-use Rattle.att_writes.specs.Entry.{Entry, whole}
+use Rattle.att_writes.specs.Entry.{Entry, whole_value}
 use Rattle.att_writes.specs.Queue.{touched_by}
 use Rattle.gatt_conn.specs.Answer.{Question, handles_by}
 use Rattle.gatt_conn.specs.Answer.{answer_to, written_response, is_confirmation}
-use Rattle.gatt_conn.specs.Connection.{Connection, mtu_between}
+use Rattle.gatt_conn.specs.Connection.{Bearer, mtu_between}
 use Rattle.gatt_conn.specs.Transcript.{first_exchange}
 use Rattle.gatt_laws.proofs.OwnWrites.{served_turn}
 use Rattle.gatt_laws.specs.laws.AllowedNotices.{TellsNoRefusals, TellsNothingIgnored, TellsOnlyOfTheLive}
@@ -36,10 +36,10 @@ use Rattle.gatt_laws.specs.machine.Event as event
 use Rattle.gatt_laws.specs.machine.Notice.{Ending}
 use Rattle.gatt_laws.specs.machine.Notice.{write_told, confirmation_told, end_told, live_told}
 use Rattle.gatt_laws.specs.machine.Notice.{own_told, noticed}
-use Rattle.gatt_laws.specs.machine.Part.{Part, is_live, row_of, mtu_of}
-use Rattle.gatt_laws.specs.machine.Part.{connection_of}
-use Rattle.gatt_laws.specs.machine.Room.{Room}
-use Rattle.gatt_laws.specs.machine.Turn.{Turn, is_full, served, turn_of}
+use Rattle.gatt_laws.specs.machine.ConnectionState.{ConnectionState, is_live, row_in_force, connection_mtu}
+use Rattle.gatt_laws.specs.machine.ConnectionState.{bearer_of}
+use Rattle.gatt_laws.specs.machine.SharedState.{SharedState}
+use Rattle.gatt_laws.specs.machine.Effect.{Effect, is_full, served, effect_of}
 use Rattle.octets.specs.Number.{Octets}
 
 -- Who does not serve tells nothing.
@@ -64,13 +64,13 @@ written-none opcode granted entries (Err refusal) request handle code differs is
 answer-is : (one other : Response) → Some one ≡ Some other → one ≡ other
 answer-is one other is = cc is
 
-refused-none : (table : Contents) (row : Row) (conn : Connection) (asked : Question)
+refused-none : (table : Contents) (row : Row) (conn : Bearer) (asked : Question)
     (request : Opcode) (handle : Handle) (code : Code)
     → answer_to table row conn asked ≡ Some (ErrorResponse request handle code)
     → handles_by table row conn asked ≡ []
 refused-none table row conn (Ok (WriteRequest at value)) request handle code is =
-    written-none WRITE_REQUEST WriteResponse (whole at value ∷ [])
-    (applied_to Write table row conn.standing (whole at value ∷ [])) request handle code
+    written-none WRITE_REQUEST WriteResponse (whole_value at value ∷ [])
+    (applied_to Write table row conn.standing (whole_value at value ∷ [])) request handle code
     (λ same. cc same)
     (answer-is _ _ is)
 refused-none table row conn (Ok (ExecuteWriteRequest flags.Write)) request handle code is =
@@ -128,33 +128,33 @@ either-none handles true none = none
 either-none handles false none = refl
 
 -- a request that writes nothing, confirms nothing and has room for its answer
-module _ (room : Room) (bond : Row) (owed : Bool) (part : Part) (pdu : Octets) where
+module _ (shared : SharedState) (bond : Row) (owed : Bool) (connection : ConnectionState) (pdu : Octets) where
   abbrev asked : Question
-  asked = request_of pdu (mtu_of room part)
+  asked = request_of pdu (connection_mtu shared connection)
 
-  abbrev after : Turn
-  after = turn_of room bond owed part (Asks pdu)
+  abbrev after : Effect
+  after = effect_of shared bond owed connection (Asks pdu)
 
-  silent : (live : Bool) → is_live part.mark ≡ live → (is_due asked && is_full room part) ≡ false
-      → handles_by room.table (row_of bond part) (connection_of room part) asked ≡ []
-      → is_confirmation pdu ≡ false → own_told room bond part (Asks pdu) after ≡ []
+  silent : (live : Bool) → is_live connection.mark ≡ live → (is_due asked && is_full shared connection) ≡ false
+      → handles_by shared.table (row_in_force bond connection) (bearer_of shared connection) asked ≡ []
+      → is_confirmation pdu ≡ false → own_told shared bond connection (Asks pdu) after ≡ []
   silent true is free none confirms =
-      let turns : after ≡ served room bond owed part pdu asked =
-      served_turn room bond owed part pdu asked is refl free in
-      let still : is_live after.part.mark
-      ≡ true = ap (λ (turn : Turn). is_live turn.part.mark) turns ∙ is in
+      let turns : after ≡ served shared bond owed connection pdu asked =
+      served_turn shared bond owed connection pdu asked is refl free in
+      let still : is_live after.connection.mark
+      ≡ true = ap (λ (effect : Effect). is_live effect.connection.mark) turns ∙ is in
       let wrote = either-none
-      (handles_by room.table (row_of bond part) (connection_of room part) asked)
-      (is_live part.mark && not (is_due asked && is_full room part)) none in
-      let row : Row = row_of after.bond after.part in
+      (handles_by shared.table (row_in_force bond connection) (bearer_of shared connection) asked)
+      (is_live connection.mark && not (is_due asked && is_full shared connection)) none in
+      let row : Row = row_in_force after.bond after.connection in
       λ i. if is i
-      then (map (write_told room.table.attributes row part.handle) (wrote i)
-      ++ (if confirms i then confirmation_told part.handle part.pending.unconfirmed else []))
-      ++ (if still i then [] else map (Ending part.handle) (option_to_list after.part.reason))
+      then (map (write_told shared.table.attributes row connection.handle) (wrote i)
+      ++ (if confirms i then confirmation_told connection.handle connection.pending.unconfirmed else []))
+      ++ (if still i then [] else map (Ending connection.handle) (option_to_list after.connection.reason))
       else []
   silent false is free none confirms =
-      ap (λ (lives : Bool). if lives then live_told room bond part (Asks pdu) after
-      ++ end_told part.handle after.part else []) is
+      ap (λ (lives : Bool). if lives then live_told shared bond connection (Asks pdu) after
+      ++ end_told connection.handle after.connection else []) is
 
 and-none : (one other : Bool) → other ≡ false → (one && other) ≡ false
 and-none true other none = none
@@ -163,15 +163,15 @@ and-none false other none = refl
 pub tells_no_refusals : TellsNoRefusals
 unfolding noticed
 tells_no_refusals state ordinal pdu request handle code free is =
-    let part : Part = state.parts ordinal in
-    let bond : Row = state.bonds part.peer in
-    let mtu : Mtu = mtu_of state.room part in
-    let conn = connection_of state.room part in
-    let row : Row = row_of bond part in
-    let answers : Question → Option Response = λ of. answer_to state.room.table row conn of in
-    silent state.room bond (state.owed part.peer) part pdu (is_live part.mark) refl
-    (and-none (is_due (request_of pdu mtu)) (is_full state.room part) free)
-    (refused-none state.room.table row conn (request_of pdu mtu) request handle code is)
+    let connection : ConnectionState = state.connections ordinal in
+    let bond : Row = state.bonds connection.peer in
+    let mtu : Mtu = connection_mtu state.shared connection in
+    let conn = bearer_of state.shared connection in
+    let row : Row = row_in_force bond connection in
+    let answers : Question → Option Response = λ of. answer_to state.shared.table row conn of in
+    silent state.shared bond (state.owed connection.peer) connection pdu (is_live connection.mark) refl
+    (and-none (is_due (request_of pdu mtu)) (is_full state.shared connection) free)
+    (refused-none state.shared.table row conn (request_of pdu mtu) request handle code is)
     (no-confirmation (λ (of : Octets). answers (request_of of mtu)
     ≡ Some (ErrorResponse request handle code)) pdu
     (λ confirms. elim (confirmation-asks mtu) [
@@ -192,15 +192,15 @@ one-fits rx_mtu (Some client_rx_mtu) none =
 pub tells_nothing_ignored : TellsNothingIgnored
 unfolding noticed
 tells_nothing_ignored state ordinal pdu is =
-    let part : Part = state.parts ordinal in
-    let bond : Row = state.bonds part.peer in
-    let mtu : Mtu = mtu_of state.room part in
-    silent state.room bond (state.owed part.peer) part pdu (is_live part.mark) refl
-    (ap (λ (of : Question). is_due of && is_full state.room part) is)
-    (ap (λ (of : Question). handles_by state.room.table (row_of bond part)
-    (connection_of state.room part) of) is)
+    let connection : ConnectionState = state.connections ordinal in
+    let bond : Row = state.bonds connection.peer in
+    let mtu : Mtu = connection_mtu state.shared connection in
+    silent state.shared bond (state.owed connection.peer) connection pdu (is_live connection.mark) refl
+    (ap (λ (of : Question). is_due of && is_full state.shared connection) is)
+    (ap (λ (of : Question). handles_by state.shared.table (row_in_force bond connection)
+    (bearer_of state.shared connection) of) is)
     (no-confirmation (λ (of : Octets). request_of of mtu ≡ Err Ignored) pdu
     (λ confirms. elim (confirmation-asks mtu) [
       | inl asks ↦ let none = sym asks ∙ confirms in cc none
-      | inr ignored ↦ absurd (one-fits state.room.rx_mtu (first_exchange part.said) ignored.0)
+      | inr ignored ↦ absurd (one-fits state.shared.rx_mtu (first_exchange connection.said) ignored.0)
     ]) is)

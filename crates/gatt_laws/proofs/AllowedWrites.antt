@@ -21,7 +21,7 @@ use Rattle.att_policy.specs.declared.standing.KeyFacts.{KeyFacts}
 use Rattle.att_table.specs.ConfigRow.{bits_at}
 use Rattle.gatt_conn.specs.Answer.{Question, Writing, writing_asked, handles_after, handles_by}
 use Rattle.gatt_conn.specs.Answer.{is_confirmation}
-use Rattle.gatt_conn.specs.Connection.{Connection}
+use Rattle.gatt_conn.specs.Connection.{Bearer}
 use Rattle.gatt_laws.proofs.Headline.{writes_what_may_be_written}
 use Rattle.gatt_laws.specs.laws.AllowedNotices.{is_writing, MayWrite, WasAllowed, TellsWhatWasAllowed}
 use Rattle.gatt_laws.specs.machine.Controller.{Slots}
@@ -33,15 +33,15 @@ use Rattle.gatt_laws.specs.machine.Notice.{Notice, Connected, Disconnected, Secu
 use Rattle.gatt_laws.specs.machine.Notice.{Configured, Confirmed, TimedOut, Ending, are_same_facts}
 use Rattle.gatt_laws.specs.machine.Notice.{link_told, write_told, confirmation_told, end_told, live_told}
 use Rattle.gatt_laws.specs.machine.Notice.{own_told, late_told, slot_told, noticed}
-use Rattle.gatt_laws.specs.machine.Part.{Part, is_live, is_there, key_of, row_of, mtu_of, standing_of}
-use Rattle.gatt_laws.specs.machine.Part.{connection_of}
+use Rattle.gatt_laws.specs.machine.ConnectionState.{ConnectionState, is_live, is_there, key_of, row_in_force, connection_mtu, standing_of}
+use Rattle.gatt_laws.specs.machine.ConnectionState.{bearer_of}
 use Rattle.gatt_laws.specs.machine.State.{State}
-use Rattle.gatt_laws.specs.machine.Turn.{Turn, is_full, turn_of, handles_written}
+use Rattle.gatt_laws.specs.machine.Effect.{Effect, is_full, effect_of, handles_written}
 use Rattle.gatt_subs.specs.declared.pending.Unconfirmed.{Unconfirmed}
 use Rattle.octets.specs.Number.{Octets}
 
 -- what asks to write asks so
-asks-to-write : (conn : Connection) (asked : Question)
+asks-to-write : (conn : Bearer) (asked : Question)
     → IfSome (writing_asked conn.queue asked)
     (λ (writing : Writing). is_writing writing.access ≡ true)
 asks-to-write conn (Ok (WriteRequest handle value)) = refl
@@ -56,7 +56,7 @@ asks-to-write conn (Ok (ReadRequest handle)) = tt
 asks-to-write conn (Ok (ReadBlobRequest handle offset)) = tt
 asks-to-write conn (Ok (ReadMultipleRequest handles)) = tt
 asks-to-write conn (Ok (ReadByGroupTypeRequest first last kind)) = tt
-asks-to-write conn (Ok (PrepareWriteRequest handle offset part)) = tt
+asks-to-write conn (Ok (PrepareWriteRequest handle offset connection)) = tt
 asks-to-write conn (Ok ConfirmationPdu) = tt
 asks-to-write conn (Err fault) = tt
 
@@ -99,35 +99,35 @@ module _ (state : State) where
   reason-allowed handle None = none-allowed
   reason-allowed handle (Some reason) = one-allowed (Ending handle reason) tt
 
-  end-allowed : (handle : ℕ) (new : Part) → Allowed (end_told handle new)
+  end-allowed : (handle : ℕ) (new : ConnectionState) → Allowed (end_told handle new)
   end-allowed handle new =
       either-allowed [] (map (Ending handle) (option_to_list new.reason))
       (is_live new.mark) none-allowed
       (reason-allowed handle new.reason)
 
-  late-allowed : (time : ℕ) (part : Part) (late : Bool)
-      → Allowed (if late then TimedOut part.handle ∷ [] else [])
-  late-allowed time part true = one-allowed (TimedOut part.handle) tt
-  late-allowed time part false = none-allowed
+  late-allowed : (time : ℕ) (connection : ConnectionState) (late : Bool)
+      → Allowed (if late then TimedOut connection.handle ∷ [] else [])
+  late-allowed time connection true = one-allowed (TimedOut connection.handle) tt
+  late-allowed time connection false = none-allowed
 
   slots-allowed : (time : ℕ) (slots : Slots) → Allowed (flat_map (slot_told state time) slots)
   slots-allowed time [] = none-allowed
   slots-allowed time (None ∷ slots) = slots-allowed time slots
   slots-allowed time (Some ordinal ∷ slots) =
-      let part : Part = state.parts ordinal in
-      both-allowed (late_told time part) (flat_map (slot_told state time) slots)
-      (late-allowed time part _) (slots-allowed time slots)
+      let connection : ConnectionState = state.connections ordinal in
+      both-allowed (late_told time connection) (flat_map (slot_told state time) slots)
+      (late-allowed time connection _) (slots-allowed time slots)
 
   -- of a connection that serves
-  module _ (ordinal : Ordinal) (serves : is_live (state.parts ordinal).mark ≡ true) where
-    abbrev its : Part
-    its = state.parts ordinal
+  module _ (ordinal : Ordinal) (serves : is_live (state.connections ordinal).mark ≡ true) where
+    abbrev its : ConnectionState
+    its = state.connections ordinal
 
     abbrev attributes : List Attr
-    attributes = state.room.table.attributes
+    attributes = state.shared.table.attributes
 
     may-write : (access : Access) (attribute : Handle) → is_writing access ≡ true
-        → MayUse access attributes (standing_of state.room its) attribute
+        → MayUse access attributes (standing_of state.shared its) attribute
         → MayWrite state its.handle attribute
     may-write access attribute writes may = record {
       ordinal = ordinal;
@@ -148,7 +148,7 @@ module _ (state : State) where
 
     writes-allowed : (row : Row) (access : Access) (handles : List Handle) → is_writing access
         ≡ true
-        → Each (MayUse access attributes (standing_of state.room its)) handles
+        → Each (MayUse access attributes (standing_of state.shared its)) handles
         → Allowed (map (write_told attributes row its.handle) handles)
     writes-allowed row access [] writes each = none-allowed
     writes-allowed row access (attribute ∷ handles) writes each =
@@ -161,10 +161,10 @@ module _ (state : State) where
     asked-allowed : (row old : Row) (writing : Option Writing)
         → IfSome writing (λ (one : Writing). is_writing one.access ≡ true)
         → IfSome writing (λ (one : Writing). Each
-        (MayUse one.access attributes (standing_of state.room its))
-        (handles_after state.room.table old (standing_of state.room its) writing))
+        (MayUse one.access attributes (standing_of state.shared its))
+        (handles_after state.shared.table old (standing_of state.shared its) writing))
         → Allowed (map (write_told attributes row its.handle)
-        (handles_after state.room.table old (standing_of state.room its) writing))
+        (handles_after state.shared.table old (standing_of state.shared its) writing))
     asked-allowed row old None writes each = none-allowed
     asked-allowed row old
         (Some writing) writes each = writes-allowed row writing.access _ writes each
@@ -172,53 +172,53 @@ module _ (state : State) where
     -- where there is no room for the answer, nothing is written
     request-allowed : (bond row : Row) (asked : Question) (served : Bool)
         → Allowed (map (write_told attributes row its.handle)
-        (if served then handles_by state.room.table (row_of bond its)
-        (connection_of state.room its) asked
+        (if served then handles_by state.shared.table (row_in_force bond its)
+        (bearer_of state.shared its) asked
         else []))
     request-allowed bond row asked true =
-        let conn = connection_of state.room its in
-        asked-allowed row (row_of bond its) (writing_asked conn.queue asked)
+        let conn = bearer_of state.shared its in
+        asked-allowed row (row_in_force bond its) (writing_asked conn.queue asked)
         (asks-to-write conn asked)
-        (writes_what_may_be_written state.room.table (row_of bond its) conn asked)
+        (writes_what_may_be_written state.shared.table (row_in_force bond its) conn asked)
     request-allowed bond row asked false = none-allowed
 
-    asks-allowed : (bond : Row) (pdu : Octets) (turn : Turn)
-        → Allowed (live_told state.room bond its (Asks pdu) turn)
-    asks-allowed bond pdu turn =
-        let asked : Question = request_of pdu (mtu_of state.room its) in
-        let row : Row = row_of turn.bond turn.part in
+    asks-allowed : (bond : Row) (pdu : Octets) (effect : Effect)
+        → Allowed (live_told state.shared bond its (Asks pdu) effect)
+    asks-allowed bond pdu effect =
+        let asked : Question = request_of pdu (connection_mtu state.shared its) in
+        let row : Row = row_in_force effect.bond effect.connection in
         both-allowed (map (write_told attributes row its.handle)
-        (handles_written state.room bond its (Asks pdu)))
+        (handles_written state.shared bond its (Asks pdu)))
         (if is_confirmation pdu then confirmation_told its.handle its.pending.unconfirmed else [])
         (request-allowed bond row asked
-        (is_live its.mark && not (is_due asked && is_full state.room its)))
+        (is_live its.mark && not (is_due asked && is_full state.shared its)))
         (either-allowed (confirmation_told its.handle its.pending.unconfirmed) []
         (is_confirmation pdu)
         (confirmation-allowed its.handle its.pending.unconfirmed) none-allowed)
 
-    live-allowed : (bond : Row) (own : Own) (turn : Turn)
-        → Allowed (live_told state.room bond its own turn)
-    live-allowed bond (Asks pdu) turn = asks-allowed bond pdu turn
-    live-allowed bond (Encrypted status enabled) turn = link-allowed its.handle (key_of its)
-        (key_of turn.part)
-    live-allowed bond (Refreshed status) turn = link-allowed its.handle (key_of its)
-        (key_of turn.part)
-    live-allowed bond own turn = none-allowed
+    live-allowed : (bond : Row) (own : Own) (effect : Effect)
+        → Allowed (live_told state.shared bond its own effect)
+    live-allowed bond (Asks pdu) effect = asks-allowed bond pdu effect
+    live-allowed bond (Encrypted status enabled) effect = link-allowed its.handle (key_of its)
+        (key_of effect.connection)
+    live-allowed bond (Refreshed status) effect = link-allowed its.handle (key_of its)
+        (key_of effect.connection)
+    live-allowed bond own effect = none-allowed
 
-  module _ (ordinal : Ordinal) (bond : Row) (turn : Turn) where
-    abbrev told-part : Part
-    told-part = state.parts ordinal
+  module _ (ordinal : Ordinal) (bond : Row) (effect : Effect) where
+    abbrev told-part : ConnectionState
+    told-part = state.connections ordinal
 
     if-live-allowed : (own : Own) (live : Bool) → is_live told-part.mark ≡ live
-        → Allowed (if live then live_told state.room bond told-part own turn
-        ++ end_told told-part.handle turn.part else [])
+        → Allowed (if live then live_told state.shared bond told-part own effect
+        ++ end_told told-part.handle effect.connection else [])
     if-live-allowed own true is =
-        both-allowed (live_told state.room bond told-part own turn)
-        (end_told told-part.handle turn.part)
-        (live-allowed ordinal is bond own turn) (end-allowed told-part.handle turn.part)
+        both-allowed (live_told state.shared bond told-part own effect)
+        (end_told told-part.handle effect.connection)
+        (live-allowed ordinal is bond own effect) (end-allowed told-part.handle effect.connection)
     if-live-allowed own false is = none-allowed
 
-    own-allowed : (own : Own) → Allowed (own_told state.room bond told-part own turn)
+    own-allowed : (own : Own) → Allowed (own_told state.shared bond told-part own effect)
     own-allowed (event.Connected handle peer) =
         either-allowed [] (Connected handle peer ∷ []) (is_there told-part.mark) none-allowed
         (one-allowed (Connected handle peer) tt)
@@ -230,9 +230,9 @@ module _ (state : State) where
 pub tells_what_was_allowed : TellsWhatWasAllowed
 unfolding noticed
 tells_what_was_allowed state (Of ordinal own) =
-    let part : Part = state.parts ordinal in
-    let bond : Row = state.bonds part.peer in
-    own-allowed state ordinal bond (turn_of state.room bond (state.owed part.peer) part own) own
+    let connection : ConnectionState = state.connections ordinal in
+    let bond : Row = state.bonds connection.peer in
+    own-allowed state ordinal bond (effect_of state.shared bond (state.owed connection.peer) connection own) own
 tells_what_was_allowed state (Credit allowed opcode status following) = none-allowed state
 tells_what_was_allowed state (Tick time) = slots-allowed state time state.slots
 tells_what_was_allowed state event = none-allowed state

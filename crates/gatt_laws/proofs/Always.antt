@@ -5,7 +5,7 @@ use Rattle.gatt_laws.proofs.ItemEvents.{MeantIfSome, item_meant, means_its_event
 use Rattle.gatt_laws.proofs.Meant.{possible_where_meant}
 use Rattle.gatt_laws.specs.laws.Possible.{Possible, IsFine, AllTables}
 use Rattle.gatt_laws.specs.machine.Event.{Event}
-use Rattle.gatt_laws.specs.machine.Input.{Item, AnOctet, APacket, ACall, ATable, TheEnd, Course, after_item, after_items}
+use Rattle.gatt_laws.specs.machine.Input.{Item, AnOctet, APacket, ACall, ATable, TheEnd, Run, after_item, after_items}
 use Rattle.gatt_laws.specs.machine.ItemEvents.{event_at, after_if}
 use Rattle.gatt_laws.specs.machine.State.{State, step}
 
@@ -19,7 +19,7 @@ module _ (Fine : Contents → Type 0) (P : State → Type 0) (keeps : (state : S
   if-keeps state None meant is = is
   if-keeps state (Some event) meant is = keeps state event (possible_where_meant Fine state event meant) is
 
-  pub always : (old : Course) (items : List Item) → AllTables Fine items → P old.intake.state → P (after_items old items).intake.state
+  pub always : (old : Run) (items : List Item) → AllTables Fine items → P old.intake.state → P (after_items old items).intake.state
   always old [] tables is = is
   always old (item ∷ items) tables is =
       let fine = first_fine Fine item items tables in

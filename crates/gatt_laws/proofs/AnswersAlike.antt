@@ -17,12 +17,12 @@ use Rattle.att_reads.specs.Access.{IsAlike}
 use Rattle.att_attributes.specs.declared.attr.Attr.{Attr}
 use Rattle.att_table.specs.Table.{Contents}
 use Rattle.att_writes.proofs.Lengths.{applied_both}
-use Rattle.att_writes.specs.Applied.{Stored, stored_in, applied_to, stored_after as written_after}
-use Rattle.att_writes.specs.Entry.{Entry, whole}
+use Rattle.att_writes.specs.Applied.{Stored, stored_in, applied_to, stored_after}
+use Rattle.att_writes.specs.Entry.{Entry, whole_value}
 use Rattle.att_writes.specs.Queue.{touched_by}
 use Rattle.att_writes.specs.SameBut.{SameBut, SameApplied}
-use Rattle.gatt_conn.specs.Answer.{Question, written_response, answer_to, Writing, writing_asked, stored_after, stored_by, handles_after, handles_by}
-use Rattle.gatt_conn.specs.Connection.{Connection}
+use Rattle.gatt_conn.specs.Answer.{Question, written_response, answer_to, Writing, writing_asked, stored_after_writing, stored_by, handles_after, handles_by}
+use Rattle.gatt_conn.specs.Connection.{Bearer}
 use Rattle.gatt_conn.specs.Transcript.{Said, Answered, Dropped, is_exchange, is_acceptance, exchange_asked, exchanged_by, first_exchange, part_asked, part_by, is_end, prepared_in}
 use Rattle.gatt_laws.specs.laws.Alike.{is_reading, without_reading}
 
@@ -36,7 +36,7 @@ table_of attributes values = record { attributes = attributes; values = values }
 
 module _ (hidden : Handle → Bool) where
   written-same : (one other : Stored) (result its : Result Stored Refusal) → SameStored hidden one other → SameApplied hidden result its
-      → SameStored hidden (written_after one result) (written_after other its)
+      → SameStored hidden (stored_after one result) (stored_after other its)
   written-same one other (Ok new) (Ok too) before same = record { values = same.0; row = same.1 }
   written-same one other (Err refusal) (Err too) before same = before
   written-same one other (Ok new) (Err too) before same = absurd same
@@ -66,7 +66,7 @@ module _ (hidden : Handle → Bool) where
         → SameApplied hidden (applied_to access here row standing entries) (applied_to access there row standing entries)
     applied-same access standing entries = applied_both hidden access attributes standing entries (stored_in here row) (stored_in there row) same refl
 
-    stored-after : (standing : Standing) (writing : Option Writing) → SameStored hidden (stored_after here row standing writing) (stored_after there row standing writing)
+    stored-after : (standing : Standing) (writing : Option Writing) → SameStored hidden (stored_after_writing here row standing writing) (stored_after_writing there row standing writing)
     stored-after standing None = record { values = same; row = refl }
     stored-after standing (Some writing) =
         written-same (stored_in here row) (stored_in there row) (applied_to writing.access here row standing writing.entries) (applied_to writing.access there row standing writing.entries)
@@ -78,14 +78,14 @@ module _ (hidden : Handle → Bool) where
         touched-same writing.entries (applied_to writing.access here row standing writing.entries) (applied_to writing.access there row standing writing.entries)
         (applied-same writing.access standing writing.entries)
 
-    pub same_stored : (conn : Connection) (asked : Question) → SameStored hidden (stored_by here row conn asked) (stored_by there row conn asked)
+    pub same_stored : (conn : Bearer) (asked : Question) → SameStored hidden (stored_by here row conn asked) (stored_by there row conn asked)
     same_stored conn asked = stored-after conn.standing (writing_asked conn.queue asked)
 
-    pub same_handles : (conn : Connection) (asked : Question) → handles_by here row conn asked ≡ handles_by there row conn asked
+    pub same_handles : (conn : Bearer) (asked : Question) → handles_by here row conn asked ≡ handles_by there row conn asked
     same_handles conn asked = handles-after conn.standing (writing_asked conn.queue asked)
 
     -- answers that do not read
-    unread-same : (conn : Connection) (asked : Question) → is_reading asked ≡ false → answer_to here row conn asked ≡ answer_to there row conn asked
+    unread-same : (conn : Bearer) (asked : Question) → is_reading asked ≡ false → answer_to here row conn asked ≡ answer_to there row conn asked
     unread-same conn (Ok (ExchangeMtuRequest client_rx_mtu)) is = refl
     unread-same conn (Ok (FindInformationRequest first last)) is = cc is
     unread-same conn (Ok (FindByTypeValueRequest first last kind value)) is = cc is
@@ -95,8 +95,8 @@ module _ (hidden : Handle → Bool) where
     unread-same conn (Ok (ReadMultipleRequest handles)) is = cc is
     unread-same conn (Ok (ReadByGroupTypeRequest first last kind)) is = cc is
     unread-same conn (Ok (WriteRequest handle value)) is =
-        ap Some (response-same WRITE_REQUEST WriteResponse _ _ (applied-same Write conn.standing (whole handle value ∷ [])))
-    unread-same conn (Ok (PrepareWriteRequest handle offset part)) is = refl
+        ap Some (response-same WRITE_REQUEST WriteResponse _ _ (applied-same Write conn.standing (whole_value handle value ∷ [])))
+    unread-same conn (Ok (PrepareWriteRequest handle offset connection)) is = refl
     unread-same conn (Ok (ExecuteWriteRequest flags.Write)) is =
         ap Some (response-same EXECUTE_WRITE_REQUEST ExecuteWriteResponse _ _ (applied-same Write conn.standing conn.queue))
     unread-same conn (Ok (ExecuteWriteRequest flags.Cancel)) is = refl
@@ -107,7 +107,7 @@ module _ (hidden : Handle → Bool) where
     unread-same conn (Err (Unsupported opcode)) is = refl
 
     -- and all of them, but for what is read
-    pub same_but_reading : (conn : Connection) (asked : Question)
+    pub same_but_reading : (conn : Bearer) (asked : Question)
         → without_reading (Answered asked (answer_to here row conn asked)) ≡ without_reading (Answered asked (answer_to there row conn asked))
     same_but_reading conn asked =
         elim (is_reading asked) as (λ (reads : Bool). is_reading asked ≡ reads
@@ -117,7 +117,7 @@ module _ (hidden : Handle → Bool) where
         ] refl
 
     -- answers to one who may read what differs nowhere
-    pub same_answer : (conn : Connection) (asked : Question) → IsAlike conn.standing here there → answer_to here row conn asked ≡ answer_to there row conn asked
+    pub same_answer : (conn : Bearer) (asked : Question) → IsAlike conn.standing here there → answer_to here row conn asked ≡ answer_to there row conn asked
     same_answer conn (Ok (ExchangeMtuRequest client_rx_mtu)) is = unread-same conn (Ok (ExchangeMtuRequest client_rx_mtu)) refl
     same_answer conn (Ok (FindInformationRequest first last)) is = alike conn.standing here there row conn.mtu (FindInformationRequest first last) is
     same_answer conn (Ok (FindByTypeValueRequest first last kind value)) is = alike conn.standing here there row conn.mtu (FindByTypeValueRequest first last kind value) is
@@ -127,7 +127,7 @@ module _ (hidden : Handle → Bool) where
     same_answer conn (Ok (ReadMultipleRequest handles)) is = alike conn.standing here there row conn.mtu (ReadMultipleRequest handles) is
     same_answer conn (Ok (ReadByGroupTypeRequest first last kind)) is = alike conn.standing here there row conn.mtu (ReadByGroupTypeRequest first last kind) is
     same_answer conn (Ok (WriteRequest handle value)) is = unread-same conn (Ok (WriteRequest handle value)) refl
-    same_answer conn (Ok (PrepareWriteRequest handle offset part)) is = unread-same conn (Ok (PrepareWriteRequest handle offset part)) refl
+    same_answer conn (Ok (PrepareWriteRequest handle offset connection)) is = unread-same conn (Ok (PrepareWriteRequest handle offset connection)) refl
     same_answer conn (Ok (ExecuteWriteRequest flags)) is = unread-same conn (Ok (ExecuteWriteRequest flags)) refl
     same_answer conn (Ok ConfirmationPdu) is = unread-same conn (Ok ConfirmationPdu) refl
     same_answer conn (Ok (WriteCommandPdu handle value)) is = unread-same conn (Ok (WriteCommandPdu handle value)) refl
@@ -145,7 +145,7 @@ exchanges-none (Ok (ReadBlobRequest handle offset)) is = refl
 exchanges-none (Ok (ReadMultipleRequest handles)) is = refl
 exchanges-none (Ok (ReadByGroupTypeRequest first last kind)) is = refl
 exchanges-none (Ok (WriteRequest handle value)) is = refl
-exchanges-none (Ok (PrepareWriteRequest handle offset part)) is = refl
+exchanges-none (Ok (PrepareWriteRequest handle offset connection)) is = refl
 exchanges-none (Ok (ExecuteWriteRequest flags)) is = refl
 exchanges-none (Ok ConfirmationPdu) is = refl
 exchanges-none (Ok (WriteCommandPdu handle value)) is = refl
@@ -161,7 +161,7 @@ prepares-none (Ok (ReadBlobRequest handle offset)) is = refl
 prepares-none (Ok (ReadMultipleRequest handles)) is = refl
 prepares-none (Ok (ReadByGroupTypeRequest first last kind)) is = refl
 prepares-none (Ok (WriteRequest handle value)) is = refl
-prepares-none (Ok (PrepareWriteRequest handle offset part)) is = cc is
+prepares-none (Ok (PrepareWriteRequest handle offset connection)) is = cc is
 prepares-none (Ok (ExecuteWriteRequest flags)) is = refl
 prepares-none (Ok ConfirmationPdu) is = refl
 prepares-none (Ok (WriteCommandPdu handle value)) is = refl

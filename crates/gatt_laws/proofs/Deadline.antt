@@ -63,10 +63,10 @@ module _ (time : ℕ) where
   slots-told state [] few = refl
   slots-told state (None ∷ slots) few = slots-told state slots few
   slots-told state (Some ordinal ∷ slots) few =
-      let part = state.parts ordinal in
-      list_any-append is_late_told (late_told time part) (flat_map (slot_told state time) slots)
-      ∙ ap (λ (later : Bool). list_any is_late_told (late_told time part) || later) (slots-told state slots few)
-      ∙ one-told part.handle part.pending.unconfirmed (filter_map (slot_deadline state) slots) few
+      let connection = state.connections ordinal in
+      list_any-append is_late_told (late_told time connection) (flat_map (slot_told state time) slots)
+      ∙ ap (λ (later : Bool). list_any is_late_told (late_told time connection) || later) (slots-told state slots few)
+      ∙ one-told connection.handle connection.pending.unconfirmed (filter_map (slot_deadline state) slots) few
 
 pub tells_from_the_deadline_on : TellsFromTheDeadlineOn
 unfolding noticed

@@ -6,42 +6,42 @@ use Rattle.att_numbers.specs.Types.{Handle}
 use Rattle.gatt_laws.specs.machine.Controller.{command_of_init, count_before, without_command}
 use Rattle.gatt_laws.specs.machine.Event.{Ordinal, Event}
 use Rattle.gatt_laws.specs.machine.Heard.{after_hearing}
-use Rattle.gatt_laws.specs.machine.Part.{Part, KeyReply, is_live}
-use Rattle.gatt_laws.specs.machine.Room.{Room, Bonds, share_of, size_of}
-use Rattle.gatt_laws.specs.machine.State.{State, Change, change_of, finished, parts_finished, step}
+use Rattle.gatt_laws.specs.machine.ConnectionState.{ConnectionState, KeyReply, is_live}
+use Rattle.gatt_laws.specs.machine.SharedState.{SharedState, Bonds, quota_of, fragment_size_of}
+use Rattle.gatt_laws.specs.machine.State.{State, Change, change_of, finished, connections_finished, step}
 use Rattle.gatt_subs.specs.Indications.{Indications}
 use Rattle.le_acl.specs.History.{packets_allowed}
 use Rattle.le_acl.specs.Packets.{Pdu}
 
 -- a fact that reads none of these
-abbrev pub KeepsAtEnd : {A : Type 0} → (Part → A) → Type 0
-KeepsAtEnd fact = (part : Part) (pdus : List Pdu) (pending : Indications) (given : ℕ) (reply : Option KeyReply) (reason : Option ℕ)
-    → fact (record part { pdus = pdus; pending = pending; given = given; reply = reply; reason = reason }) ≡ fact part
+abbrev pub KeepsAtEnd : {A : Type 0} → (ConnectionState → A) → Type 0
+KeepsAtEnd fact = (connection : ConnectionState) (pdus : List Pdu) (pending : Indications) (given : ℕ) (reply : Option KeyReply) (reason : Option ℕ)
+    → fact (record connection { pdus = pdus; pending = pending; given = given; reply = reply; reason = reason }) ≡ fact connection
 
-module _ {A : Type 0} (fact : Part → A) (keeps : KeepsAtEnd fact) where
-  given-keeps : (part : Part) (given : ℕ) (live : Bool) → fact (if live then record part { given = given } else part) ≡ fact part
-  given-keeps part given true = keeps part part.pdus part.pending given part.reply part.reason
-  given-keeps part given false = refl
+module _ {A : Type 0} (fact : ConnectionState → A) (keeps : KeepsAtEnd fact) where
+  given-keeps : (connection : ConnectionState) (given : ℕ) (live : Bool) → fact (if live then record connection { given = given } else connection) ≡ fact connection
+  given-keeps connection given true = keeps connection connection.pdus connection.pending given connection.reply connection.reason
+  given-keeps connection given false = refl
 
-  pub finished_keeps : (room : Room) (bonds : Bonds) (handles : List Handle) (part : Part) → fact (finished room bonds handles part) ≡ fact part
+  pub finished_keeps : (shared : SharedState) (bonds : Bonds) (handles : List Handle) (connection : ConnectionState) → fact (finished shared bonds handles connection) ≡ fact connection
   unfolding after_hearing
-  finished_keeps room bonds handles part =
-      let heard : Part = after_hearing room (bonds part.peer) handles part in
-      given-keeps heard (packets_allowed (share_of room.slots room.told) (size_of room.told) heard.pdus heard.done) (is_live heard.mark)
-      ∙ keeps part heard.pdus heard.pending part.given part.reply part.reason
+  finished_keeps shared bonds handles connection =
+      let heard : ConnectionState = after_hearing shared (bonds connection.peer) handles connection in
+      given-keeps heard (packets_allowed (quota_of shared.slots shared.buffers) (fragment_size_of shared.buffers) heard.pdus heard.done) (is_live heard.mark)
+      ∙ keeps connection heard.pdus heard.pending connection.given connection.reply connection.reason
 
-  sent-keeps : (part : Part) (sent : Bool) → fact (if sent then without_command part else part) ≡ fact part
-  sent-keeps part true =
-      elim (is_some part.reason) as (λ (has : Bool). fact (if has then record part { reason = None } else record part { reply = None }) ≡ fact part) [
-        | true ↦ keeps part part.pdus part.pending part.given part.reply None
-        | false ↦ keeps part part.pdus part.pending part.given None part.reason
+  sent-keeps : (connection : ConnectionState) (sent : Bool) → fact (if sent then without_command connection else connection) ≡ fact connection
+  sent-keeps connection true =
+      elim (is_some connection.reason) as (λ (has : Bool). fact (if has then record connection { reason = None } else record connection { reply = None }) ≡ fact connection) [
+        | true ↦ keeps connection connection.pdus connection.pending connection.given connection.reply None
+        | false ↦ keeps connection connection.pdus connection.pending connection.given None connection.reason
       ]
-  sent-keeps part false = refl
+  sent-keeps connection false = refl
 
-  pub end_keeps : (state : State) (event : Event) (ordinal : Ordinal) → fact ((step state event).parts ordinal) ≡ fact ((change_of state event).state.parts ordinal)
+  pub end_keeps : (state : State) (event : Event) (ordinal : Ordinal) → fact ((step state event).connections ordinal) ≡ fact ((change_of state event).state.connections ordinal)
   unfolding step
   end_keeps state event ordinal =
       let change : Change = change_of state event in
-      sent-keeps (parts_finished change ordinal)
-      (nat_lt (length (command_of_init change.state.controller) + count_before ordinal (parts_finished change) change.state.slots) change.state.controller.credit)
-      ∙ finished_keeps change.state.room change.state.bonds (change.raised ordinal) (change.state.parts ordinal)
+      sent-keeps (connections_finished change ordinal)
+      (nat_lt (length (command_of_init change.state.controller) + count_before ordinal (connections_finished change) change.state.slots) change.state.controller.credit)
+      ∙ finished_keeps change.state.shared change.state.bonds (change.to_notify ordinal) (change.state.connections ordinal)

@@ -6,7 +6,7 @@ use Rattle.std.specs.Option.{option_map}
 use Rattle.std.proofs.lemmas.List.Sums.{take_while-cons}
 use Rattle.att_numbers.specs.declared.opcode.TheConstants.{FIND_INFORMATION_REQUEST, FIND_BY_TYPE_VALUE_REQUEST, READ_BY_TYPE_REQUEST, READ_REQUEST, READ_BLOB_REQUEST, READ_MULTIPLE_REQUEST, READ_BY_GROUP_TYPE_REQUEST, WRITE_REQUEST, EXECUTE_WRITE_REQUEST}
 use Rattle.att_numbers.specs.AttributeType.{of_16_bits}
-use Rattle.att_pdu.specs.Uuid.{number_of}
+use Rattle.att_pdu.specs.Uuid.{uuid_number}
 use Rattle.att_pdu.specs.declared.uuid.Uuid.{Uuid}
 use Rattle.att_attributes.specs.OfType.{handles_of_type}
 use Rattle.att_numbers.specs.Types.{Handle, Opcode, Code, Mtu, Row}
@@ -20,7 +20,7 @@ use Rattle.att_policy.specs.declared.policy.Access.TheVariants.{Read, Write, Com
 use Rattle.att_policy.specs.declared.standing.Standing.{Standing}
 use Rattle.att_policy.specs.Policy.{first_broken_of, first_broken_rule_of}
 use Rattle.att_policy.specs.Refusal.{Refusal}
-use Rattle.att_reads.specs.Access.{refusal_at, refusal_of, value_for}
+use Rattle.att_reads.specs.Access.{refusal_at, read_refusal, value_for}
 use Rattle.att_reads.specs.Answer.{information_of, information_format, is_match, group_of, found_answer, values_answer, value_answer, part_answer, multiple_answer, groups_answer, information_answer}
 use Rattle.att_reads.specs.List.{candidate_of}
 use Rattle.att_reads.specs.declared.list.Listing.{Listing}
@@ -30,21 +30,21 @@ use Rattle.att_reads.specs.Refusals.{unless_refused, range_refusal, group_type_r
 use Rattle.att_attributes.specs.declared.attr.Attr.{Attr}
 use Rattle.att_attributes.specs.Attributes.{attributes_in, guard_at}
 use Rattle.att_table.specs.Table.{Contents, value_at}
-use Rattle.att_writes.specs.Applied.{Stored, after_entry, after_entries, applied_to, stored_in, stored_after as written_after, unless_refused as unless_entry}
-use Rattle.att_writes.specs.Entry.{Entry, whole}
-use Rattle.att_writes.specs.Fault.{fault_of, form_fault, unless_broken}
+use Rattle.att_writes.specs.Applied.{Stored, after_entry, after_entries, applied_to, stored_in, stored_after, unless_entry_refused}
+use Rattle.att_writes.specs.Entry.{Entry, whole_value}
+use Rattle.att_writes.specs.Fault.{entry_fault, form_fault, unless_broken}
 use Rattle.att_writes.specs.Queue.{once_each, touched_by, prepare_fault, queue_after}
 use Rattle.gatt_conn.specs.Answer.{entry_at, prepare_response, written_response}
-use Rattle.gatt_conn.specs.Connection.{Connection}
+use Rattle.gatt_conn.specs.Connection.{Bearer}
 use Rattle.octets.specs.Number.{Octets}
-use Rattle.gatt_laws.specs.laws.Headline.{Each, MayUse, handle_in, handles_sent, SendsWhatMayBeRead, WritesWhatMayBeWritten, RefusalsChangeNothing}
+use Rattle.gatt_laws.specs.laws.Headline.{Each, MayUse, element_handle, handles_sent, SendsWhatMayBeRead, WritesWhatMayBeWritten, RefusalsChangeNothing}
 
 none-mapped : {A B : Type 0} (f : A → B) (x : Option A) → option_map f x ≡ None → x ≡ None
 none-mapped f None is = refl
 none-mapped f (Some x) is = cc is
 
 -- who is not refused may
-pub may-read : (attributes : List Attr) (standing : Standing) (handle : Handle) → refusal_of attributes standing handle ≡ None → MayUse Read attributes standing handle
+pub may-read : (attributes : List Attr) (standing : Standing) (handle : Handle) → read_refusal attributes standing handle ≡ None → MayUse Read attributes standing handle
 may-read attributes standing handle is =
     is_permitted Read (guard_at attributes handle) standing
     (none-mapped _ (first_broken_rule_of Read (guard_at attributes handle) standing)
@@ -71,7 +71,7 @@ module _ (table : Contents) (row : Row) (standing : Standing) (mtu : Mtu) where
   abbrev May : Handle → Type 0
   May handle = MayUse Read table.attributes standing handle
 
-  all-read : (handles : List Handle) → NoneOf (map (refusal_of table.attributes standing) handles) → Each May handles
+  all-read : (handles : List Handle) → NoneOf (map (read_refusal table.attributes standing) handles) → Each May handles
   all-read [] none = tt
   all-read (handle ∷ handles) none = (may-read table.attributes standing handle none.0, all-read handles none.1)
 
@@ -79,7 +79,7 @@ module _ (table : Contents) (row : Row) (standing : Standing) (mtu : Mtu) where
   candidate : Listing → Handle → Candidate
   candidate listing handle = candidate_of listing table row standing mtu handle
 
-  listed-handle : (listing : Listing) (handle : Handle) → handle_in (candidate_of listing table row standing mtu handle).element ≡ handle
+  listed-handle : (listing : Listing) (handle : Handle) → element_handle (candidate_of listing table row standing mtu handle).element ≡ handle
   listed-handle Values handle = refl
   listed-handle Groups handle = refl
 
@@ -88,14 +88,14 @@ module _ (table : Contents) (row : Row) (standing : Standing) (mtu : Mtu) where
   not-refused (Some refusal) test is = cc is
 
   abbrev Sent : List Candidate → Type 0
-  Sent candidates = Each May (map handle_in (elements candidates))
+  Sent candidates = Each May (map element_handle (elements candidates))
 
   sent-next : (listing : Listing) (size count : ℕ) (handle : Handle) (candidates : List Candidate) (listed : Bool)
       → is_listed size (candidate_of listing table row standing mtu handle) ≡ listed → Sent (take count candidates)
       → Sent (take (suc count) (if listed then candidate_of listing table row standing mtu handle ∷ candidates else []))
   sent-next listing size count handle candidates true is rest = (
     subst May (sym (listed-handle listing handle))
-        (may-read table.attributes standing handle (not-refused (refusal_of table.attributes standing handle) _ is)),
+        (may-read table.attributes standing handle (not-refused (read_refusal table.attributes standing handle) _ is)),
     rest,
   )
   sent-next listing size count handle candidates false is rest = tt
@@ -112,8 +112,8 @@ module _ (table : Contents) (row : Row) (standing : Standing) (mtu : Mtu) where
 
   -- groups that are found begin with values that may be read
   found-next : (value : Octets) (count : ℕ) (handle : Handle) (handles : List Handle) (found : Bool)
-      → is_match table row standing value handle ≡ found → ((n : ℕ) → Each May (map handle_in (map (group_of table) (take n handles))))
-      → Each May (map handle_in (map (group_of table) (take (suc count) (if found then handle ∷ handles else handles))))
+      → is_match table row standing value handle ≡ found → ((n : ℕ) → Each May (map element_handle (map (group_of table) (take n handles))))
+      → Each May (map element_handle (map (group_of table) (take (suc count) (if found then handle ∷ handles else handles))))
   found-next value count handle handles true is rest = (
     is_permitted Read (guard_at table.attributes handle) standing
         (none-mapped _ (first_broken_rule_of Read (guard_at table.attributes handle) standing)
@@ -124,7 +124,7 @@ module _ (table : Contents) (row : Row) (standing : Standing) (mtu : Mtu) where
   found-next value count handle handles false is rest = rest (suc count)
 
   sent-found : (value : Octets) (handles : List Handle) (count : ℕ)
-      → Each May (map handle_in (map (group_of table) (take count (filter (is_match table row standing value) handles))))
+      → Each May (map element_handle (map (group_of table) (take count (filter (is_match table row standing value) handles))))
   sent-found value [] zero = tt
   sent-found value [] (suc count) = tt
   sent-found value (handle ∷ handles) zero = tt
@@ -145,12 +145,12 @@ written-may access attributes standing entry (Some broken) fault is none = cc no
 
 -- each entry that is written may be: entries are written where none is refused
 none-refused : (entry : Entry) (code : Option Code) (rest : Result Stored Refusal) (new : Stored)
-    → unless_entry entry code rest ≡ Ok new → (code ≡ None)
+    → unless_entry_refused entry code rest ≡ Ok new → (code ≡ None)
 none-refused entry None rest new is = refl
 none-refused entry (Some code) rest new is = cc is
 
 rest-done : (entry : Entry) (code : Option Code) (rest : Result Stored Refusal) (new : Stored)
-    → unless_entry entry code rest ≡ Ok new → rest ≡ Ok new
+    → unless_entry_refused entry code rest ≡ Ok new → rest ≡ Ok new
 rest-done entry None rest new is = is
 rest-done entry (Some code) rest new is = cc is
 
@@ -162,9 +162,9 @@ all-written access attributes standing stored [] new is = tt
 all-written access attributes standing stored (entry ∷ entries) new is =
     let size = length (value_at stored.values entry.handle) in (
       written-may access attributes standing entry (first_broken_of access (guard_at attributes entry.handle) standing) (form_fault attributes size entry) refl
-          (none-refused entry (fault_of access attributes standing size entry) _ new is),
+          (none-refused entry (entry_fault access attributes standing size entry) _ new is),
       all-written access attributes standing (after_entry attributes stored entry) entries new
-          (rest-done entry (fault_of access attributes standing size entry) _ new is),
+          (rest-done entry (entry_fault access attributes standing size entry) _ new is),
     )
 
 -- and so may those of them that are told, each once
@@ -195,10 +195,10 @@ written-by access table row standing entries =
     (λ new is. all-written access table.attributes standing (stored_in table row) entries new is)
 
 pub writes_what_may_be_written : WritesWhatMayBeWritten
-writes_what_may_be_written table row conn (Ok (WriteRequest handle value)) = written-by Write table row conn.standing (whole handle value ∷ [])
+writes_what_may_be_written table row conn (Ok (WriteRequest handle value)) = written-by Write table row conn.standing (whole_value handle value ∷ [])
 writes_what_may_be_written table row conn (Ok (ExecuteWriteRequest flags.Write)) = written-by Write table row conn.standing conn.queue
 writes_what_may_be_written table row conn (Ok (ExecuteWriteRequest flags.Cancel)) = tt
-writes_what_may_be_written table row conn (Ok (WriteCommandPdu handle value)) = written-by Command table row conn.standing (whole handle value ∷ [])
+writes_what_may_be_written table row conn (Ok (WriteCommandPdu handle value)) = written-by Command table row conn.standing (whole_value handle value ∷ [])
 writes_what_may_be_written table row conn (Ok (ExchangeMtuRequest client_rx_mtu)) = tt
 writes_what_may_be_written table row conn (Ok (FindInformationRequest first last)) = tt
 writes_what_may_be_written table row conn (Ok (FindByTypeValueRequest first last kind value)) = tt
@@ -207,7 +207,7 @@ writes_what_may_be_written table row conn (Ok (ReadRequest handle)) = tt
 writes_what_may_be_written table row conn (Ok (ReadBlobRequest handle offset)) = tt
 writes_what_may_be_written table row conn (Ok (ReadMultipleRequest handles)) = tt
 writes_what_may_be_written table row conn (Ok (ReadByGroupTypeRequest first last kind)) = tt
-writes_what_may_be_written table row conn (Ok (PrepareWriteRequest handle offset part)) = tt
+writes_what_may_be_written table row conn (Ok (PrepareWriteRequest handle offset connection)) = tt
 writes_what_may_be_written table row conn (Ok ConfirmationPdu) = tt
 writes_what_may_be_written table row conn (Err fault) = tt
 
@@ -218,10 +218,10 @@ sends-none : (table : Contents) (standing : Standing) (asked : Asked) (request :
 sends-none table standing asked request granted (Ok new) none refused = none
 sends-none table standing asked request granted (Err refusal) none refused = refused refusal.handle refusal.code
 
-prepare-sends : (table : Contents) (standing : Standing) (handle : Handle) (offset : ℕ) (part : Octets) (entry : Entry) (fault : Option Code)
-    → SentTo table standing (PrepareWriteRequest handle offset part) (prepare_response entry fault)
-prepare-sends table standing handle offset part entry None = tt
-prepare-sends table standing handle offset part entry (Some code) = tt
+prepare-sends : (table : Contents) (standing : Standing) (handle : Handle) (offset : ℕ) (connection : Octets) (entry : Entry) (fault : Option Code)
+    → SentTo table standing (PrepareWriteRequest handle offset connection) (prepare_response entry fault)
+prepare-sends table standing handle offset connection entry None = tt
+prepare-sends table standing handle offset connection entry (Some code) = tt
 
 information-sends : (table : Contents) (standing : Standing) (mtu : Mtu) (first last : Handle)
     → SentTo table standing (FindInformationRequest first last) (information_answer table mtu first last)
@@ -244,10 +244,10 @@ found-sends table row standing mtu first last kind value =
     (λ none. sent-found table row standing mtu value handles ((mtu - 1) / 4))
 
 values-send : (table : Contents) (row : Row) (standing : Standing) (mtu : Mtu) (first last : Handle) (kind : Uuid)
-    → SentTo table standing (ReadByTypeRequest first last kind) (values_answer table row standing mtu first last (number_of kind))
+    → SentTo table standing (ReadByTypeRequest first last kind) (values_answer table row standing mtu first last (uuid_number kind))
 unfolding values_answer
 values-send table row standing mtu first last kind =
-    let handles = handles_of_type table.attributes (number_of kind) first last in
+    let handles = handles_of_type table.attributes (uuid_number kind) first last in
     let values = map (candidate_of Values table row standing mtu) handles in
     answered (SentTo table standing (ReadByTypeRequest first last kind)) READ_BY_TYPE_REQUEST
     (range_refusal first last ∷ not_found first values ∷ first_refusal values ∷ [])
@@ -255,13 +255,13 @@ values-send table row standing mtu first last kind =
     (λ none. sent-listed table row standing mtu Values (size_of_first values) ((mtu - 2) / size_of_first values) handles)
 
 groups-send : (table : Contents) (row : Row) (standing : Standing) (mtu : Mtu) (first last : Handle) (kind : Uuid)
-    → SentTo table standing (ReadByGroupTypeRequest first last kind) (groups_answer table row standing mtu first last (number_of kind))
+    → SentTo table standing (ReadByGroupTypeRequest first last kind) (groups_answer table row standing mtu first last (uuid_number kind))
 unfolding groups_answer
 groups-send table row standing mtu first last kind =
-    let handles = handles_of_type table.attributes (number_of kind) first last in
+    let handles = handles_of_type table.attributes (uuid_number kind) first last in
     let groups = map (candidate_of Groups table row standing mtu) handles in
     answered (SentTo table standing (ReadByGroupTypeRequest first last kind)) READ_BY_GROUP_TYPE_REQUEST
-    (range_refusal first last ∷ group_type_refusal first (number_of kind) ∷ not_found first groups ∷ first_refusal groups ∷ [])
+    (range_refusal first last ∷ group_type_refusal first (uuid_number kind) ∷ not_found first groups ∷ first_refusal groups ∷ [])
     (ReadByGroupTypeResponse (size_of_first groups) (elements_within mtu groups)) (λ handle code. tt)
     (λ none. sent-listed table row standing mtu Groups (size_of_first groups) ((mtu - 2) / size_of_first groups) handles)
 
@@ -269,7 +269,7 @@ value-sends : (table : Contents) (row : Row) (standing : Standing) (mtu : Mtu) (
     → SentTo table standing (ReadRequest handle) (value_answer table row standing mtu handle)
 unfolding value_answer
 value-sends table row standing mtu handle =
-    answered (SentTo table standing (ReadRequest handle)) READ_REQUEST (refusal_of table.attributes standing handle ∷ [])
+    answered (SentTo table standing (ReadRequest handle)) READ_REQUEST (read_refusal table.attributes standing handle ∷ [])
     (ReadResponse (take (mtu - 1) (value_for table row handle))) (λ at code. tt)
     (λ none. (may-read table.attributes standing handle none.0, tt))
 
@@ -279,7 +279,7 @@ unfolding part_answer
 part-sends table row standing mtu handle offset =
     let value = value_for table row handle in
     answered (SentTo table standing (ReadBlobRequest handle offset)) READ_BLOB_REQUEST
-    (refusal_of table.attributes standing handle ∷ offset_refusal handle offset value ∷ [])
+    (read_refusal table.attributes standing handle ∷ offset_refusal handle offset value ∷ [])
     (ReadBlobResponse (take (mtu - 1) (drop offset value))) (λ at code. tt)
     (λ none. (may-read table.attributes standing handle none.0, tt))
 
@@ -287,7 +287,7 @@ multiple-sends : (table : Contents) (row : Row) (standing : Standing) (mtu : Mtu
     → SentTo table standing (ReadMultipleRequest handles) (multiple_answer table row standing mtu handles)
 unfolding multiple_answer
 multiple-sends table row standing mtu handles =
-    answered (SentTo table standing (ReadMultipleRequest handles)) READ_MULTIPLE_REQUEST (map (refusal_of table.attributes standing) handles)
+    answered (SentTo table standing (ReadMultipleRequest handles)) READ_MULTIPLE_REQUEST (map (read_refusal table.attributes standing) handles)
     (ReadMultipleResponse (take (mtu - 1) (flat_map (value_for table row) handles))) (λ at code. tt)
     (λ none. all-read table row standing mtu handles none)
 
@@ -300,9 +300,9 @@ sends_what_may_be_read table row conn (ReadBlobRequest handle offset) = part-sen
 sends_what_may_be_read table row conn (ReadMultipleRequest handles) = multiple-sends table row conn.standing conn.mtu handles
 sends_what_may_be_read table row conn (ReadByGroupTypeRequest first last kind) = groups-send table row conn.standing conn.mtu first last kind
 sends_what_may_be_read table row conn (WriteRequest handle value) =
-    sends-none table conn.standing (WriteRequest handle value) WRITE_REQUEST WriteResponse (applied_to Write table row conn.standing (whole handle value ∷ [])) tt (λ at code. tt)
-sends_what_may_be_read table row conn (PrepareWriteRequest handle offset part) =
-    prepare-sends table conn.standing handle offset part (entry_at handle offset part) (prepare_fault table.attributes conn.standing conn.queue (entry_at handle offset part))
+    sends-none table conn.standing (WriteRequest handle value) WRITE_REQUEST WriteResponse (applied_to Write table row conn.standing (whole_value handle value ∷ [])) tt (λ at code. tt)
+sends_what_may_be_read table row conn (PrepareWriteRequest handle offset connection) =
+    prepare-sends table conn.standing handle offset connection (entry_at handle offset connection) (prepare_fault table.attributes conn.standing conn.queue (entry_at handle offset connection))
 sends_what_may_be_read table row conn (ExecuteWriteRequest flags.Cancel) = tt
 sends_what_may_be_read table row conn (ExecuteWriteRequest flags.Write) =
     sends-none table conn.standing (ExecuteWriteRequest flags.Write) EXECUTE_WRITE_REQUEST ExecuteWriteResponse (applied_to Write table row conn.standing conn.queue) tt (λ at code. tt)
@@ -313,11 +313,11 @@ sends_what_may_be_read table row conn asked = tt
 -- where what is answered to a write is a refusal, nothing was written
 refused-write : (old : Stored) (request at : Opcode) (handle : Handle) (code : Code) (granted : Response) (done : Result Stored Refusal)
     → (granted ≡ ErrorResponse at handle code → ⊥) → Some (written_response request granted done) ≡ Some (ErrorResponse at handle code)
-    → written_after old done ≡ old
+    → stored_after old done ≡ old
 refused-write old request at handle code granted (Ok new) never is = absurd (never (cc is))
 refused-write old request at handle code granted (Err refusal) never is = refl
 
-same-queue : (conn : Connection) (entry : Entry) (fault : Option Code) (at : Opcode) (handle : Handle) (code : Code)
+same-queue : (conn : Bearer) (entry : Entry) (fault : Option Code) (at : Opcode) (handle : Handle) (code : Code)
     → Some (prepare_response entry fault) ≡ Some (ErrorResponse at handle code)
     → record conn { queue = queue_after conn.queue entry fault } ≡ conn
 same-queue conn entry (Some other) at handle code is = refl
@@ -333,12 +333,12 @@ refusals_change_nothing table row conn (Ok (ReadBlobRequest at offset)) request 
 refusals_change_nothing table row conn (Ok (ReadMultipleRequest handles)) request handle code is = (refl, refl)
 refusals_change_nothing table row conn (Ok (ReadByGroupTypeRequest first last kind)) request handle code is = (refl, refl)
 refusals_change_nothing table row conn (Ok (WriteRequest at value)) request handle code is = (
-  refused-write (stored_in table row) WRITE_REQUEST request handle code WriteResponse (applied_to Write table row conn.standing (whole at value ∷ [])) (λ e. cc e) is,
+  refused-write (stored_in table row) WRITE_REQUEST request handle code WriteResponse (applied_to Write table row conn.standing (whole_value at value ∷ [])) (λ e. cc e) is,
   refl,
 )
-refusals_change_nothing table row conn (Ok (PrepareWriteRequest at offset part)) request handle code is = (
+refusals_change_nothing table row conn (Ok (PrepareWriteRequest at offset connection)) request handle code is = (
   refl,
-  same-queue conn (entry_at at offset part) (prepare_fault table.attributes conn.standing conn.queue (entry_at at offset part)) request handle code is,
+  same-queue conn (entry_at at offset connection) (prepare_fault table.attributes conn.standing conn.queue (entry_at at offset connection)) request handle code is,
 )
 refusals_change_nothing table row conn (Ok (ExecuteWriteRequest flags.Cancel)) request handle code is = cc is
 refusals_change_nothing table row conn (Ok (ExecuteWriteRequest flags.Write)) request handle code is = (

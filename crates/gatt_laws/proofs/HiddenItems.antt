@@ -10,14 +10,14 @@ use Rattle.gatt_laws.proofs.ItemEvents.{means_its_event}
 use Rattle.gatt_laws.proofs.TwoWorlds.{keeps_alike, given_alike}
 use Rattle.gatt_laws.specs.laws.Alike.{is_of, Alike, Hides, may_read_at}
 use Rattle.gatt_laws.specs.machine.Event.{Ordinal, Event, Replaced}
-use Rattle.gatt_laws.specs.machine.Input.{Item, Course, after_item, course}
+use Rattle.gatt_laws.specs.machine.Input.{Item, Run, after_item, run}
 use Rattle.gatt_laws.specs.machine.ItemEvents.{event_at, after_if}
-use Rattle.gatt_laws.specs.laws.NothingCrosses.{knows, knows_in, is_known, is_replaced, known_while, hidden_while, SparedIf, given_by}
-use Rattle.gatt_laws.specs.machine.Part.{Part, is_live, row_of, standing_of}
+use Rattle.gatt_laws.specs.laws.NothingCrosses.{knows, knows_in, is_value_known, is_replaced, known_while, hidden_while, SparedIf, packets_given_by}
+use Rattle.gatt_laws.specs.machine.ConnectionState.{ConnectionState, is_live, row_in_force, standing_of}
 use Rattle.gatt_laws.specs.laws.Settled.{has_slot, IsSettled}
 use Rattle.gatt_laws.specs.machine.State.{State, step}
 use Rattle.gatt_laws.specs.laws.Runs.{events_in}
-use Rattle.gatt_laws.specs.laws.TwoWorlds.{SameTable, Matched, Agrees, Spared, given_in, given_of}
+use Rattle.gatt_laws.specs.laws.TwoWorlds.{SameTable, Matched, Agrees, Spared, packets_given_in, packets_given_at}
 use Rattle.gatt_subs.specs.Hearing.{may_hear_at}
 use Rattle.le_hci.specs.declared.peer.Peer.{Peer}
 use Rattle.octets.specs.Number.{Octets}
@@ -61,43 +61,43 @@ unknown-in peer state handle ordinal (Some other ∷ slots) none has =
     unknown-slot peer state handle ordinal other (has_slot ordinal slots) (knows peer state handle other) (list_any (knows_in peer state handle) slots) refl none has
     (λ there more. unknown-in peer state handle ordinal slots more there)
 
-live-has-slot : (state : State) (ordinal : Ordinal) → IsSettled state → is_live (state.parts ordinal).mark ≡ true → has_slot ordinal state.slots ≡ true
+live-has-slot : (state : State) (ordinal : Ordinal) → IsSettled state → is_live (state.connections ordinal).mark ≡ true → has_slot ordinal state.slots ≡ true
 live-has-slot state ordinal settled live =
     elim (has_slot ordinal state.slots) as (λ (has : Bool). has_slot ordinal state.slots ≡ has → has ≡ true) [
       | true ↦ λ is. refl
-      | false ↦ λ is. cc (sym (ap (λ (p : Part). is_live p.mark) (settled.gone ordinal is)) ∙ live)
+      | false ↦ λ is. cc (sym (ap (λ (p : ConnectionState). is_live p.mark) (settled.gone ordinal is)) ∙ live)
     ] refl
 
-pub hides-unknown : (peer : Peer) (hidden : Handle → Bool) (state : State) → IsSettled state → ((handle : Handle) → hidden handle ≡ true → is_known peer state handle ≡ false)
+pub hides-unknown : (peer : Peer) (hidden : Handle → Bool) (state : State) → IsSettled state → ((handle : Handle) → hidden handle ≡ true → is_value_known peer state handle ≡ false)
     → Hides peer hidden state
 hides-unknown peer hidden state settled unknown ordinal live mine handle is =
-    let part : Part = state.parts ordinal in
-    let attributes = state.room.table.attributes in
-    let reads : Bool = may_read_at attributes (standing_of state.room part) handle in
-    let hears : Bool = may_hear_at attributes (row_of (state.bonds part.peer) part) (standing_of state.room part) handle in
+    let connection : ConnectionState = state.connections ordinal in
+    let attributes = state.shared.table.attributes in
+    let reads : Bool = may_read_at attributes (standing_of state.shared connection) handle in
+    let hears : Bool = may_hear_at attributes (row_in_force (state.bonds connection.peer) connection) (standing_of state.shared connection) handle in
     let none : knows peer state handle ordinal ≡ false =
     unknown-in peer state handle ordinal state.slots (unknown handle is) (live-has-slot state ordinal settled live) in
-    let neither : (reads || hears) ≡ false = false-then (is_of peer part) (reads || hears) mine (false-then (is_live part.mark) (is_of peer part && (reads || hears)) live none) in
+    let neither : (reads || hears) ≡ false = false-then (is_of peer connection) (reads || hears) mine (false-then (is_live connection.mark) (is_of peer connection && (reads || hears)) live none) in
     record { unread = first-false reads hears neither; unheard = second-false reads hears neither }
 
-pub now-unknown : (peer : Peer) (course : Course) (items : List Item) (handle : Handle) → hidden_while peer course items handle ≡ true
-    → is_known peer course.intake.state handle ≡ false
-now-unknown peer course [] handle is = not-true (is_known peer course.intake.state handle) is
-now-unknown peer course (item ∷ items) handle is = first-false (is_known peer course.intake.state handle) _ (not-true _ is)
+pub now-unknown : (peer : Peer) (run : Run) (items : List Item) (handle : Handle) → hidden_while peer run items handle ≡ true
+    → is_value_known peer run.intake.state handle ≡ false
+now-unknown peer run [] handle is = not-true (is_value_known peer run.intake.state handle) is
+now-unknown peer run (item ∷ items) handle is = first-false (is_value_known peer run.intake.state handle) _ (not-true _ is)
 
-pub later-unknown : (peer : Peer) (course : Course) (item : Item) (items : List Item) (handle : Handle) → is_replaced course.intake item ≡ false
-    → hidden_while peer course (item ∷ items) handle ≡ true → hidden_while peer (after_item course item) items handle ≡ true
-later-unknown peer course item items handle stays is =
-    let later : Bool = known_while peer (after_item course item) items handle in
-    let none : (if is_replaced course.intake item then false else later) ≡ false =
-    second-false (is_known peer course.intake.state handle) (if is_replaced course.intake item then false else later) (not-true _ is) in
+pub later-unknown : (peer : Peer) (run : Run) (item : Item) (items : List Item) (handle : Handle) → is_replaced run.intake item ≡ false
+    → hidden_while peer run (item ∷ items) handle ≡ true → hidden_while peer (after_item run item) items handle ≡ true
+later-unknown peer run item items handle stays is =
+    let later : Bool = known_while peer (after_item run item) items handle in
+    let none : (if is_replaced run.intake item then false else later) ≡ false =
+    second-false (is_value_known peer run.intake.state handle) (if is_replaced run.intake item then false else later) (not-true _ is) in
     not-false later (sym (ap (λ (replaced : Bool). if replaced then false else later) stays) ∙ none)
 
 -- more may be hidden
 pub alike-more : (peer : Peer) (hidden more : Handle → Bool) (one other : State) → ((handle : Handle) → hidden handle ≡ true → more handle ≡ true) → Alike peer hidden one other
     → Alike peer more one other
 alike-more peer hidden more one other wider alike = record {
-  room = alike.room;
+  shared = alike.shared;
   values = record {
     count = alike.values.count;
     lengths = alike.values.lengths;
@@ -120,21 +120,21 @@ alike-more peer hidden more one other wider alike = record {
 
 abbrev pub given_if : Peer → Ordinal → State → Option Event → List Octets
 given_if peer ordinal state None = []
-given_if peer ordinal state (Some event) = given_of peer ordinal state event
+given_if peer ordinal state (Some event) = packets_given_at peer ordinal state event
 
 then-given : (peer : Peer) (ordinal : Ordinal) (state : State) (event : Option Event) (events : List Event)
-    → given_in peer ordinal state (option_to_list event ++ events) ≡ given_if peer ordinal state event ++ given_in peer ordinal (after_if state event) events
+    → packets_given_in peer ordinal state (option_to_list event ++ events) ≡ given_if peer ordinal state event ++ packets_given_in peer ordinal (after_if state event) events
 then-given peer ordinal state None events = refl
 then-given peer ordinal state (Some event) events = refl
 
-pub given-next : (peer : Peer) (ordinal : Ordinal) (course : Course) (item : Item) (items : List Item)
-    → given_by peer ordinal course (item ∷ items)
-    ≡ given_if peer ordinal course.intake.state (event_at course.intake item) ++ given_by peer ordinal (after_item course item) items
-given-next peer ordinal course item items =
-    let event : Option Event = event_at course.intake item in
-    let events : List Event = events_in (after_item course item) items in
-    then-given peer ordinal course.intake.state event events
-    ∙ ap (λ (state : State). given_if peer ordinal course.intake.state event ++ given_in peer ordinal state events) (sym (means_its_event course item).state)
+pub given-next : (peer : Peer) (ordinal : Ordinal) (run : Run) (item : Item) (items : List Item)
+    → packets_given_by peer ordinal run (item ∷ items)
+    ≡ given_if peer ordinal run.intake.state (event_at run.intake item) ++ packets_given_by peer ordinal (after_item run item) items
+given-next peer ordinal run item items =
+    let event : Option Event = event_at run.intake item in
+    let events : List Event = events_in (after_item run item) items in
+    then-given peer ordinal run.intake.state event events
+    ∙ ap (λ (state : State). given_if peer ordinal run.intake.state event ++ packets_given_in peer ordinal state events) (sym (means_its_event run item).state)
 
 -- One event, if there is one.
 

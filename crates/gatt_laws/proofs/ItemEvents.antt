@@ -7,7 +7,7 @@ use Rattle.gatt_laws.specs.laws.Possible.{IsFine, IsMeant}
 use Rattle.gatt_laws.specs.machine.Calls.{Call, call_event, call_meaning, replacement_event, replacement_meaning}
 use Rattle.gatt_laws.specs.machine.Context.{context_of}
 use Rattle.gatt_laws.specs.machine.Event.{Event}
-use Rattle.gatt_laws.specs.machine.Input.{Item, AnOctet, APacket, ACall, ATable, TheEnd, Intake, Course, after_result, packet_taken, after_packet, with_unfinished, after_first, taken, unless_stopped, after_item}
+use Rattle.gatt_laws.specs.machine.Input.{Item, AnOctet, APacket, ACall, ATable, TheEnd, Intake, Run, after_result, packet_taken, after_packet, with_unfinished, run_after_first, taken, unless_stopped, after_item}
 use Rattle.gatt_laws.specs.machine.ItemEvents.{event_if, event_of_packet, event_of_first, event_taken, event_at, DoesAs, MeansItsEvent}
 use Rattle.gatt_laws.specs.machine.Packets.{Fault, Desync, Fragments, arrival, arrival_of, recombinations_of, packet_event, packet_meaning, with_arrival}
 use Rattle.gatt_laws.specs.machine.State.{State}
@@ -18,47 +18,47 @@ use Rattle.octets.specs.Number.{Octets}
 
 -- An item does what its event does.
 
-nothing-done : (old new : Course) → new.intake.state ≡ old.intake.state → new.gone ≡ old.gone → DoesAs old new None
-nothing-done old new state gone = record { state = state; gone = gone ∙ sym (append-nil old.gone) }
+nothing-done : (old new : Run) → new.intake.state ≡ old.intake.state → new.sent ≡ old.sent → DoesAs old new None
+nothing-done old new state sent = record { state = state; sent = sent ∙ sym (append-nil old.sent) }
 
-module _ (course : Course) where
+module _ (run : Run) where
   abbrev before : State
-  before = course.intake.state
+  before = run.intake.state
 
-  result-means : {E : Type 0} (result : Result Event E) → DoesAs course (after_result course result) (event_if result)
-  result-means (Ok event) = record { state = refl; gone = refl }
-  result-means (Err fault) = nothing-done course course refl refl
+  result-means : {E : Type 0} (result : Result Event E) → DoesAs run (after_result run result) (event_if result)
+  result-means (Ok event) = record { state = refl; sent = refl }
+  result-means (Err fault) = nothing-done run run refl refl
 
   packet-means : (octets : Octets) (packet : Packet) (result : Result Event Fault)
-      → DoesAs course (packet_taken (with_unfinished course octets) packet result) (event_if result)
-  packet-means octets packet (Ok event) = record { state = refl; gone = refl }
-  packet-means octets packet (Err fault) = nothing-done course (packet_taken (with_unfinished course octets) packet (Err fault)) refl refl
+      → DoesAs run (packet_taken (with_unfinished run octets) packet result) (event_if result)
+  packet-means octets packet (Ok event) = record { state = refl; sent = refl }
+  packet-means octets packet (Err fault) = nothing-done run (packet_taken (with_unfinished run octets) packet (Err fault)) refl refl
 
-  first-means : (octets : Octets) (first : First) → DoesAs course (after_first course octets first) (event_of_first before course.intake.fragments first)
+  first-means : (octets : Octets) (first : First) → DoesAs run (run_after_first run octets first) (event_of_first before run.intake.fragments first)
   first-means octets (FirstPacket packet rest) =
-      elim (is_long packet) as (λ (long : Bool). DoesAs course (if long then with_unfinished course rest else after_packet (with_unfinished course rest) packet)
-      (if long then None else event_if (packet_event before course.intake.fragments packet))) [
-        | true ↦ nothing-done course (with_unfinished course rest) refl refl
-        | false ↦ packet-means rest packet (packet_event before course.intake.fragments packet)
+      elim (is_long packet) as (λ (long : Bool). DoesAs run (if long then with_unfinished run rest else after_packet (with_unfinished run rest) packet)
+      (if long then None else event_if (packet_event before run.intake.fragments packet))) [
+        | true ↦ nothing-done run (with_unfinished run rest) refl refl
+        | false ↦ packet-means rest packet (packet_event before run.intake.fragments packet)
       ]
-  first-means octets NoneYet = nothing-done course (after_first course octets NoneYet) refl refl
-  first-means octets (NoPacket indicator) = nothing-done course (after_first course octets (NoPacket indicator)) refl refl
+  first-means octets NoneYet = nothing-done run (run_after_first run octets NoneYet) refl refl
+  first-means octets (NoPacket indicator) = nothing-done run (run_after_first run octets (NoPacket indicator)) refl refl
 
-  taken-means : (item : Item) → DoesAs course (taken course item) (event_taken course.intake item)
-  taken-means (AnOctet octet) = first-means (course.intake.unfinished ++ octet ∷ []) (first_of (course.intake.unfinished ++ octet ∷ []))
-  taken-means (APacket packet) = first-means [] (FirstPacket packet course.intake.unfinished)
+  taken-means : (item : Item) → DoesAs run (taken run item) (event_taken run.intake item)
+  taken-means (AnOctet octet) = first-means (run.intake.unfinished ++ octet ∷ []) (first_of (run.intake.unfinished ++ octet ∷ []))
+  taken-means (APacket packet) = first-means [] (FirstPacket packet run.intake.unfinished)
   taken-means (ACall call) = result-means (call_event before call)
   taken-means (ATable table) = result-means (replacement_event before table)
-  taken-means TheEnd = nothing-done course (taken course TheEnd) refl refl
+  taken-means TheEnd = nothing-done run (taken run TheEnd) refl refl
 
-  unless-means : (fault : Option Fault) (new : Course) (event : Option Event) → DoesAs course new event
-      → DoesAs course (unless_stopped fault course new) (if is_some fault then None else event)
-  unless-means (Some fault) new event means = nothing-done course course refl refl
+  unless-means : (fault : Option Fault) (new : Run) (event : Option Event) → DoesAs run new event
+      → DoesAs run (unless_stopped fault run new) (if is_some fault then None else event)
+  unless-means (Some fault) new event means = nothing-done run run refl refl
   unless-means None new event means = means
 
 pub means_its_event : MeansItsEvent
 unfolding after_item
-means_its_event course item = unless-means course course.intake.fault (taken course item) (event_taken course.intake item) (taken-means course item)
+means_its_event run item = unless-means run run.intake.fault (taken run item) (event_taken run.intake item) (taken-means run item)
 
 -- And it is meant in the state.
 module _ (Fine : Contents → Type 0) where
@@ -108,10 +108,10 @@ pub record Kept : Type 0 where
   pub fragments : Fragments
   pub fault : Option Fault
 
-abbrev pub kept : Course → Kept
-kept course = record { unfinished = course.intake.unfinished; fragments = course.intake.fragments; fault = course.intake.fault }
+abbrev pub kept : Run → Kept
+kept run = record { unfinished = run.intake.unfinished; fragments = run.intake.fragments; fault = run.intake.fault }
 
-module _ (one other : Course) (looks : context_of one.intake.state ≡ context_of other.intake.state) where
+module _ (one other : Run) (looks : context_of one.intake.state ≡ context_of other.intake.state) where
   packets-same : (fragments its : Fragments) → fragments ≡ its → (packet : Packet)
       → packet_event one.intake.state fragments packet ≡ packet_event other.intake.state its packet
   unfolding packet_event
@@ -164,7 +164,7 @@ module _ (one other : Course) (looks : context_of one.intake.state ≡ context_o
         ∙ ap (λ (r : Result Event Fault). kept (packet_taken (with_unfinished other octets) packet r))
         (packets-same one.intake.fragments other.intake.fragments (ap (λ (k : Kept). k.fragments) same) packet)
 
-    first-kept : (octets : Octets) (first : First) → kept (after_first one octets first) ≡ kept (after_first other octets first)
+    first-kept : (octets : Octets) (first : First) → kept (run_after_first one octets first) ≡ kept (run_after_first other octets first)
     first-kept octets (FirstPacket packet rest) =
         elim (is_long packet) as (λ (long : Bool). kept (if long then with_unfinished one rest else after_packet (with_unfinished one rest) packet)
         ≡ kept (if long then with_unfinished other rest else after_packet (with_unfinished other rest) packet)) [
@@ -183,15 +183,15 @@ module _ (one other : Course) (looks : context_of one.intake.state ≡ context_o
     pub taken_kept : (item : Item) → kept (taken one item) ≡ kept (taken other item)
     taken_kept (AnOctet octet) =
         first-kept (one.intake.unfinished ++ octet ∷ []) (first_of (one.intake.unfinished ++ octet ∷ []))
-        ∙ ap (λ (k : Kept). let octets = k.unfinished ++ octet ∷ [] in kept (after_first other octets (first_of octets))) same
+        ∙ ap (λ (k : Kept). let octets = k.unfinished ++ octet ∷ [] in kept (run_after_first other octets (first_of octets))) same
     taken_kept (APacket packet) =
         first-kept [] (FirstPacket packet one.intake.unfinished)
-        ∙ ap (λ (k : Kept). kept (after_first other [] (FirstPacket packet k.unfinished))) same
+        ∙ ap (λ (k : Kept). kept (run_after_first other [] (FirstPacket packet k.unfinished))) same
     taken_kept (ACall call) = result-kept (call_event one.intake.state call) (call_event other.intake.state call) (calls-same call)
     taken_kept (ATable table) = result-kept (replacement_event one.intake.state table) (replacement_event other.intake.state table) (replacements-same table)
     taken_kept TheEnd = λ i. record (same i) { unfinished = [] }
 
-    pub unless_kept : (new too : Course) (fault its : Option Fault) → fault ≡ its → kept new ≡ kept too → kept (unless_stopped fault one new) ≡ kept (unless_stopped its other too)
+    pub unless_kept : (new too : Run) (fault its : Option Fault) → fault ≡ its → kept new ≡ kept too → kept (unless_stopped fault one new) ≡ kept (unless_stopped its other too)
     unless_kept new too (Some fault) (Some its) equal later = same
     unless_kept new too None None equal later = later
     unless_kept new too (Some fault) None equal later = cc equal
@@ -202,14 +202,14 @@ module _ (one other : Course) (looks : context_of one.intake.state ≡ context_o
     item_kept item = unless_kept (taken one item) (taken other item) one.intake.fault other.intake.fault (ap (λ (k : Kept). k.fault) same) (taken_kept item)
 
 -- a table that is handed in leaves all of that
-pub table_kept : (course : Course) (table : Contents) → kept (after_item course (ATable table)) ≡ kept course
+pub table_kept : (run : Run) (table : Contents) → kept (after_item run (ATable table)) ≡ kept run
 unfolding after_item
-table_kept course table = unless-table course.intake.fault (replacement_event course.intake.state table)
+table_kept run table = unless-table run.intake.fault (replacement_event run.intake.state table)
   where
-    result-table : {E : Type 0} (result : Result Event E) → kept (after_result course result) ≡ kept course
+    result-table : {E : Type 0} (result : Result Event E) → kept (after_result run result) ≡ kept run
     result-table (Ok event) = refl
     result-table (Err fault) = refl
 
-    unless-table : {E : Type 0} (fault : Option Fault) (result : Result Event E) → kept (unless_stopped fault course (after_result course result)) ≡ kept course
+    unless-table : {E : Type 0} (fault : Option Fault) (result : Result Event E) → kept (unless_stopped fault run (after_result run result)) ≡ kept run
     unless-table (Some fault) result = refl
     unless-table None result = result-table result

@@ -22,14 +22,14 @@ use Rattle.gatt_laws.specs.machine.Event.{Replaced}
 use Rattle.gatt_laws.specs.machine.Notice.{Notice, Disconnected, Secured, are_both, are_same_facts}
 use Rattle.gatt_laws.specs.machine.Notice.{link_told}
 use Rattle.gatt_laws.specs.machine.Notice.{end_told, own_told, noticed}
-use Rattle.gatt_laws.specs.machine.Part.{Part, come, is_live, is_there, key_of, mtu_of, with_pdus}
-use Rattle.gatt_laws.specs.machine.Part.{after_ending}
-use Rattle.gatt_laws.specs.machine.Room.{Room}
+use Rattle.gatt_laws.specs.machine.ConnectionState.{ConnectionState, fresh_connection, is_live, is_there, key_of, connection_mtu, with_pdus}
+use Rattle.gatt_laws.specs.machine.ConnectionState.{after_ending}
+use Rattle.gatt_laws.specs.machine.SharedState.{SharedState}
 use Rattle.gatt_laws.specs.laws.RowNotices.{tells_key, TellsEachKey}
-use Rattle.gatt_laws.specs.machine.State.{State, change_of, part_replaced}
-use Rattle.gatt_laws.specs.machine.Turn.{Turn, turn_to, turn_of, live_turn, served, is_full}
-use Rattle.gatt_laws.specs.machine.Turn.{after_channel, channel_answer}
-use Rattle.gatt_laws.specs.machine.Turn.{remote_user_terminated}
+use Rattle.gatt_laws.specs.machine.State.{State, change_of, connection_after_replacement}
+use Rattle.gatt_laws.specs.machine.Effect.{Effect, effect_on_connection, effect_of, live_effect, served, is_full}
+use Rattle.gatt_laws.specs.machine.Effect.{after_other_channel, channel_answer}
+use Rattle.gatt_laws.specs.machine.Effect.{remote_user_terminated}
 use Rattle.gatt_subs.specs.Indications.{after_replacement}
 use Rattle.octets.specs.Number.{Octets}
 
@@ -78,121 +78,121 @@ link-same handle (Some old) (Some new) none = same-or-told handle old new
 
 -- One connection.
 
-either-key : (part : Part) (one other : Turn) (test : Bool) → key_of one.part ≡ key_of part
-    → key_of other.part ≡ key_of part
-    → key_of (if test then one else other).part ≡ key_of part
-either-key part one other true first second = first
-either-key part one other false first second = second
+either-key : (connection : ConnectionState) (one other : Effect) (test : Bool) → key_of one.connection ≡ key_of connection
+    → key_of other.connection ≡ key_of connection
+    → key_of (if test then one else other).connection ≡ key_of connection
+either-key connection one other true first second = first
+either-key connection one other false first second = second
 
-channel-key : (room : Room) (part : Part) (channel : ℕ) (answer : Option Octets)
-    → key_of (after_channel room part channel answer) ≡ key_of part
-channel-key room part channel None = refl
-channel-key room part channel (Some answer) =
-    elim (is_full room part) as (λ (full : Bool). key_of
-    (if full then after_ending part remote_user_terminated
-    else with_pdus part ((channel, answer) ∷ [])) ≡ key_of part) [ true ↦ refl | false ↦ refl ]
+channel-key : (shared : SharedState) (connection : ConnectionState) (channel : ℕ) (answer : Option Octets)
+    → key_of (after_other_channel shared connection channel answer) ≡ key_of connection
+channel-key shared connection channel None = refl
+channel-key shared connection channel (Some answer) =
+    elim (is_full shared connection) as (λ (full : Bool). key_of
+    (if full then after_ending connection remote_user_terminated
+    else with_pdus connection ((channel, answer) ∷ [])) ≡ key_of connection) [ true ↦ refl | false ↦ refl ]
 
-module _ (room : Room) (bond : Row) (owed : Bool) (part : Part) where
-  abbrev turn : Own → Turn
-  turn own = turn_of room bond owed part own
+module _ (shared : SharedState) (bond : Row) (owed : Bool) (connection : ConnectionState) where
+  abbrev effect : Own → Effect
+  effect own = effect_of shared bond owed connection own
 
   abbrev told : Own → List Notice
-  told own = own_told room bond part own (turn own)
+  told own = own_told shared bond connection own (effect own)
 
   -- a link whose key is told
-  linked : (own : Own) (live : Bool) → is_live part.mark ≡ live
-      → key_of (if live then live_turn room bond owed part own
-      else turn_to room bond owed part).part ≡ key_of (turn own).part
-      → Untold part.handle (if live then link_told part.handle (key_of part)
-      (key_of (turn own).part)
-      ++ end_told part.handle (turn own).part else [])
-      → key_of (if live then live_turn room bond owed part own
-      else turn_to room bond owed part).part ≡ key_of part
+  linked : (own : Own) (live : Bool) → is_live connection.mark ≡ live
+      → key_of (if live then live_effect shared bond owed connection own
+      else effect_on_connection shared bond owed connection).connection ≡ key_of (effect own).connection
+      → Untold connection.handle (if live then link_told connection.handle (key_of connection)
+      (key_of (effect own).connection)
+      ++ end_told connection.handle (effect own).connection else [])
+      → key_of (if live then live_effect shared bond owed connection own
+      else effect_on_connection shared bond owed connection).connection ≡ key_of connection
   linked own true is same none =
-      let notices : List Notice = link_told part.handle (key_of part) (key_of (turn own).part) in
-      let end : List Notice = end_told part.handle (turn own).part in
-      same ∙ link-same part.handle (key_of part) (key_of (turn own).part)
-      (or-first (list_any (tells_key part.handle) notices) (list_any (tells_key part.handle) end)
-      (sym (list_any-append (tells_key part.handle) notices end) ∙ none))
+      let notices : List Notice = link_told connection.handle (key_of connection) (key_of (effect own).connection) in
+      let end : List Notice = end_told connection.handle (effect own).connection in
+      same ∙ link-same connection.handle (key_of connection) (key_of (effect own).connection)
+      (or-first (list_any (tells_key connection.handle) notices) (list_any (tells_key connection.handle) end)
+      (sym (list_any-append (tells_key connection.handle) notices end) ∙ none))
   linked own false is same none = refl
 
-  if-live-keeps : (own : Own) → key_of (live_turn room bond owed part own).part ≡ key_of part
-      → key_of (if is_live part.mark then live_turn room bond owed part own
-      else turn_to room bond owed part).part ≡ key_of part
+  if-live-keeps : (own : Own) → key_of (live_effect shared bond owed connection own).connection ≡ key_of connection
+      → key_of (if is_live connection.mark then live_effect shared bond owed connection own
+      else effect_on_connection shared bond owed connection).connection ≡ key_of connection
   if-live-keeps own is =
-      either-key part (live_turn room bond owed part own) (turn_to room bond owed part)
-      (is_live part.mark) is refl
+      either-key connection (live_effect shared bond owed connection own) (effect_on_connection shared bond owed connection)
+      (is_live connection.mark) is refl
 
-  own-key : (own : Own) → is_there part.mark ≡ true → Untold part.handle (told own)
-      → key_of (turn own).part ≡ key_of part
-  unfolding live_turn
+  own-key : (own : Own) → is_there connection.mark ≡ true → Untold connection.handle (told own)
+      → key_of (effect own).connection ≡ key_of connection
+  unfolding live_effect
   own-key (Connected handle peer) there none =
-      ap (λ (is : Bool). key_of (if is then part else come handle peer)) there
+      ap (λ (is : Bool). key_of (if is then connection else fresh_connection handle peer)) there
   own-key Gone there none =
-      told-here part.handle false
-      (ap (λ (is : Bool). list_any (tells_key part.handle)
-      (if is then Disconnected part.handle ∷ [] else [])) (sym there) ∙ none)
+      told-here connection.handle false
+      (ap (λ (is : Bool). list_any (tells_key connection.handle)
+      (if is then Disconnected connection.handle ∷ [] else [])) (sym there) ∙ none)
   own-key (Encrypted status enabled) there none = linked (Encrypted status enabled)
-      (is_live part.mark) refl refl none
+      (is_live connection.mark) refl refl none
   own-key (Refreshed status) there none = linked (Refreshed status)
-      (is_live part.mark) refl refl none
+      (is_live connection.mark) refl refl none
   own-key (Asks pdu) there none =
-      let asked : Question = request_of pdu (mtu_of room part) in
+      let asked : Question = request_of pdu (connection_mtu shared connection) in
       if-live-keeps (Asks pdu)
-      (either-key part (turn_to room bond owed (after_ending part remote_user_terminated))
-      (served room bond owed part pdu asked)
-      (is_due asked && is_full room part) refl refl)
+      (either-key connection (effect_on_connection shared bond owed (after_ending connection remote_user_terminated))
+      (served shared bond owed connection pdu asked)
+      (is_due asked && is_full shared connection) refl refl)
   own-key (Signals channel payload) there none =
       if-live-keeps (Signals channel payload)
-      (channel-key room part channel (channel_answer channel payload))
+      (channel-key shared connection channel (channel_answer channel payload))
   own-key own there none = if-live-keeps own refl
 
 -- And each event.
 
 of-key : (state : State) (at ordinal : Ordinal) (own : Own) (same : Bool) → (ordinal == at) ≡ same
-    → is_there (state.parts ordinal).mark ≡ true
-    → Untold (state.parts ordinal).handle (noticed state (Of at own))
-    → (let part = state.parts at in
-    key_of (if same then (turn_of state.room (state.bonds part.peer)
-    (state.owed part.peer) part own).part else state.parts ordinal)
-    ≡ key_of (state.parts ordinal))
+    → is_there (state.connections ordinal).mark ≡ true
+    → Untold (state.connections ordinal).handle (noticed state (Of at own))
+    → (let connection = state.connections at in
+    key_of (if same then (effect_of state.shared (state.bonds connection.peer)
+    (state.owed connection.peer) connection own).connection else state.connections ordinal)
+    ≡ key_of (state.connections ordinal))
 unfolding noticed
 of-key state at ordinal own true is there none =
     let here : ordinal ≡ at = eqb-true ordinal at is in
-    let part = state.parts at in
-    own-key state.room (state.bonds part.peer) (state.owed part.peer) part own
-    (subst (λ (one : Ordinal). is_there (state.parts one).mark ≡ true) here there)
-    (subst (λ (one : Ordinal). Untold (state.parts one).handle
+    let connection = state.connections at in
+    own-key state.shared (state.bonds connection.peer) (state.owed connection.peer) connection own
+    (subst (λ (one : Ordinal). is_there (state.connections one).mark ≡ true) here there)
+    (subst (λ (one : Ordinal). Untold (state.connections one).handle
     (noticed state (Of at own))) here none)
-    ∙ ap (λ (one : Ordinal). key_of (state.parts one)) (sym here)
+    ∙ ap (λ (one : Ordinal). key_of (state.connections one)) (sym here)
 of-key state at ordinal own false is there none = refl
 
-replaced-key : (old new : Contents) (part : Part) → key_of (part_replaced old new part)
-    ≡ key_of part
-replaced-key old new part =
-    elim (is_live part.mark) as (λ (live : Bool).
+replaced-key : (old new : Contents) (connection : ConnectionState) → key_of (connection_after_replacement old new connection)
+    ≡ key_of connection
+replaced-key old new connection =
+    elim (is_live connection.mark) as (λ (live : Bool).
     key_of (record (if live
-    then record part { said = Dropped ∷ part.said; pending = after_replacement part.pending }
-    else part) {
-      row = kept_row old.attributes new.attributes part.row;
-    }) ≡ key_of part) [ true ↦ refl | false ↦ refl ]
+    then record connection { said = Dropped ∷ connection.said; pending = after_replacement connection.pending }
+    else connection) {
+      row = kept_row old.attributes new.attributes connection.row;
+    }) ≡ key_of connection) [ true ↦ refl | false ↦ refl ]
 
 change-key : (state : State) (event : Event) (ordinal : Ordinal)
-    → is_there (state.parts ordinal).mark ≡ true
-    → Untold (state.parts ordinal).handle (noticed state event)
-    → key_of ((change_of state event).state.parts ordinal) ≡ key_of (state.parts ordinal)
+    → is_there (state.connections ordinal).mark ≡ true
+    → Untold (state.connections ordinal).handle (noticed state event)
+    → key_of ((change_of state event).state.connections ordinal) ≡ key_of (state.connections ordinal)
 unfolding change_of
 change-key state (Of at own) ordinal there none = of-key state at ordinal own
     (ordinal == at) refl there none
 change-key state (Completed entries) ordinal there none = completed_steady key_of
-    (λ part done. refl) ordinal entries (state.parts ordinal)
+    (λ connection done. refl) ordinal entries (state.connections ordinal)
 change-key state (Credit allowed opcode status (Some init)) ordinal there none = refl
 change-key state (Credit allowed opcode status None) ordinal there none = refl
-change-key state (Replaced table) ordinal there none = replaced-key state.room.table table
-    (state.parts ordinal)
+change-key state (Replaced table) ordinal there none = replaced-key state.shared.table table
+    (state.connections ordinal)
 change-key state event ordinal there none = refl
 
 pub tells_each_key : TellsEachKey
 tells_each_key state event ordinal there none =
-    end_keeps key_of (λ part pdus pending given reply reason. refl) state event ordinal
+    end_keeps key_of (λ connection pdus pending given reply reason. refl) state event ordinal
     ∙ change-key state event ordinal there none

@@ -1,4 +1,4 @@
--- A listener knows who is there, after each event and in every course.
+-- A listener knows who is there, after each event and in every run.
 use Rattle.std.proofs.Common.{◌≡◌, ℕ, Bool, true, false, List, [], ◌∷◌, Option, Some, None}
 use Rattle.std.proofs.Common.{refl, sym, ap, subst, ◌∙◌, arith}
 use Rattle.std.specs.Prelude.{◌==◌, ◌&&◌, if◌then◌else◌}
@@ -20,20 +20,20 @@ use Rattle.gatt_laws.specs.machine.Controller.{with_freed}
 use Rattle.gatt_laws.specs.machine.Event as event
 use Rattle.gatt_laws.specs.machine.Event.{Ordinal, Event, KeyAsked, Encrypted, Refreshed, Asks}
 use Rattle.gatt_laws.specs.machine.Event.{Signals, Authorized, Ended, Of, Credit, Tick}
-use Rattle.gatt_laws.specs.machine.Input.{Item, Course, after_item, after_items, at_start, course}
+use Rattle.gatt_laws.specs.machine.Input.{Item, Run, after_item, after_items, run_at_start, run}
 use Rattle.gatt_laws.specs.machine.ItemEvents.{event_at, after_if}
 use Rattle.gatt_laws.specs.machine.Notice.{Notice, Connected, Disconnected, noticed, notices_of, notices_in}
-use Rattle.gatt_laws.specs.machine.Part.{Part, come, is_there}
-use Rattle.gatt_laws.specs.laws.Possible.{Possible, MayCome}
-use Rattle.gatt_laws.specs.laws.Present.{ComesUnused}
+use Rattle.gatt_laws.specs.machine.ConnectionState.{ConnectionState, fresh_connection, is_there}
+use Rattle.gatt_laws.specs.laws.Possible.{Possible, MayConnect}
+use Rattle.gatt_laws.specs.laws.Present.{ConnectsUnused}
 use Rattle.gatt_laws.specs.laws.Present.{Present, present_in, nobody_present, peers_in, HasOneHandleEach}
 use Rattle.gatt_laws.specs.laws.Present.{AlwaysHasOneHandleEach, IsKnowing, TellsWhoIsThere}
 use Rattle.gatt_laws.specs.laws.Present.{KnowsWhoIsThere}
-use Rattle.gatt_laws.specs.laws.RowNotices.{is_coming_or_going}
+use Rattle.gatt_laws.specs.laws.RowNotices.{is_connection_or_disconnection}
 use Rattle.gatt_laws.specs.laws.Settled.{has_slot}
 use Rattle.gatt_laws.specs.machine.Start.{Start, state_at}
 use Rattle.gatt_laws.specs.machine.State.{State, change_of, step}
-use Rattle.gatt_laws.specs.machine.Turn.{turn_of}
+use Rattle.gatt_laws.specs.machine.Effect.{effect_of}
 use Rattle.le_hci.specs.declared.peer.Peer.{Peer}
 
 and-false : (test : Bool) → (test && false) ≡ false
@@ -53,7 +53,7 @@ apart state at ordinal lacks has =
     ] refl
 
 module _ (state : State) (at : Ordinal) (handle : ℕ) (peer : Peer) (is : IsKnowing state)
-    (may : MayCome state at) (unused : holding state handle ≡ None) where
+    (may : MayConnect state at) (unused : holding state handle ≡ None) where
   abbrev coming : Event
   coming = Of at (event.Connected handle peer)
 
@@ -61,23 +61,23 @@ module _ (state : State) (at : Ordinal) (handle : ℕ) (peer : Peer) (is : IsKno
   lacks = subst (λ (one : Ordinal). has_slot one state.slots ≡ false) (sym may.next)
       (none_next state.next state.next state.slots (omega arith) is.settled.slots)
 
-  away : is_there (state.parts at).mark ≡ false
-  away = ap (λ (part : Part). is_there part.mark) (is.settled.gone at lacks)
+  away : is_there (state.connections at).mark ≡ false
+  away = ap (λ (connection : ConnectionState). is_there connection.mark) (is.settled.gone at lacks)
 
-  comes : (change_of state coming).state.parts at ≡ come handle peer
+  comes : (change_of state coming).state.connections at ≡ fresh_connection handle peer
   unfolding change_of
   comes =
       ap (λ (same : Bool). if same
-      then (if is_there (state.parts at).mark then state.parts at else come handle peer)
-      else state.parts at) (eq-eqb at at refl)
-      ∙ ap (λ (there : Bool). if there then state.parts at else come handle peer) away
+      then (if is_there (state.connections at).mark then state.connections at else fresh_connection handle peer)
+      else state.connections at) (eq-eqb at at refl)
+      ∙ ap (λ (there : Bool). if there then state.connections at else fresh_connection handle peer) away
 
-  came-named : IsNamedAs (come handle peer) ((step state coming).parts at)
-  came-named = subst (λ (part : Part). IsNamedAs part ((step state coming).parts at)) comes
+  came-named : IsNamedAs (fresh_connection handle peer) ((step state coming).connections at)
+  came-named = subst (λ (connection : ConnectionState). IsNamedAs connection ((step state coming).connections at)) comes
       (end_named state coming at)
 
   others-named : (ordinal : Ordinal) → (ordinal == at) ≡ false
-      → IsNamedAs (state.parts ordinal) ((step state coming).parts ordinal)
+      → IsNamedAs (state.connections ordinal) ((step state coming).connections ordinal)
   others-named ordinal differs = step_named state coming ordinal
       (ap (λ (same : Bool). same && true) differs)
 
@@ -87,8 +87,8 @@ module _ (state : State) (at : Ordinal) (handle : ℕ) (peer : Peer) (is : IsKno
   coming-peers asked =
       ap (λ (there : Bool). present_in (peers_in state)
       (if there then [] else Connected handle peer ∷ []) asked) away
-      ∙ sym (taken-peers state.parts
-      (step state coming).parts at handle peer came-named state.slots asked may.free unused
+      ∙ sym (taken-peers state.connections
+      (step state coming).connections at handle peer came-named state.slots asked may.free unused
       (λ ordinal has. others-named ordinal (apart state at ordinal lacks has)))
 
   old-slot : (ordinal : Ordinal) → (ordinal == at) ≡ false
@@ -102,18 +102,18 @@ module _ (state : State) (at : Ordinal) (handle : ℕ) (peer : Peer) (is : IsKno
   -- it has a handle of its own
   not-its : (ordinal : Ordinal) → (ordinal == at) ≡ false
       → has_slot ordinal (step state coming).slots ≡ true
-      → ((step state coming).parts ordinal).handle ≡ handle → ⊥
+      → ((step state coming).connections ordinal).handle ≡ handle → ⊥
   not-its ordinal differs has same =
-      let other = none-has state.parts state.slots handle ordinal unused
+      let other = none-has state.connections state.slots handle ordinal unused
       (old-slot ordinal differs has) in
-      let equal : (state.parts ordinal).handle
+      let equal : (state.connections ordinal).handle
       ≡ handle = sym (others-named ordinal differs).handle ∙ same in
-      cc (eq-eqb (state.parts ordinal).handle handle equal, other)
+      cc (eq-eqb (state.connections ordinal).handle handle equal, other)
 
   its-handle : (ordinal : Ordinal) → (ordinal == at) ≡ true
-      → ((step state coming).parts ordinal).handle ≡ handle
+      → ((step state coming).connections ordinal).handle ≡ handle
   its-handle ordinal same =
-      ap (λ (one : Ordinal). ((step state coming).parts one).handle) (eqb-true ordinal at same)
+      ap (λ (one : Ordinal). ((step state coming).connections one).handle) (eqb-true ordinal at same)
       ∙ came-named.handle
 
   coming-alone : HasOneHandleEach (step state coming)
@@ -133,7 +133,7 @@ module _ (state : State) (at : Ordinal) (is : IsKnowing state) where
   going = Of at event.Gone
 
   stay-named : (ordinal : Ordinal) → (ordinal == at) ≡ false
-      → IsNamedAs (state.parts ordinal) ((step state going).parts ordinal)
+      → IsNamedAs (state.connections ordinal) ((step state going).connections ordinal)
   stay-named ordinal differs = step_named state going ordinal
       (ap (λ (same : Bool). same && true) differs)
 
@@ -142,26 +142,26 @@ module _ (state : State) (at : Ordinal) (is : IsKnowing state) where
   unfolding step change_of noticed
   going-by asked true has =
       ap (λ (there : Bool). present_in (peers_in state)
-      (if there then Disconnected (state.parts at).handle ∷ [] else []) asked)
+      (if there then Disconnected (state.connections at).handle ∷ [] else []) asked)
       (is.placed.there at has)
-      ∙ sym (freed-peers state.parts (step state going).parts at state.slots asked
+      ∙ sym (freed-peers state.connections (step state going).connections at state.slots asked
       (λ ordinal has_too same. is.handles ordinal at has_too has same) stay-named)
   going-by asked false lacks =
-      ap (λ (part : Part). present_in (peers_in state)
-      (if is_there part.mark then Disconnected part.handle ∷ [] else []) asked)
+      ap (λ (connection : ConnectionState). present_in (peers_in state)
+      (if is_there connection.mark then Disconnected connection.handle ∷ [] else []) asked)
       (is.settled.gone at lacks)
-      ∙ sym (ap (λ slots. peer_at (step state going).parts slots asked)
+      ∙ sym (ap (λ slots. peer_at (step state going).connections slots asked)
       (freed-none at state.slots lacks)
-      ∙ same-peers state.parts (step state going).parts state.slots asked
+      ∙ same-peers state.connections (step state going).connections state.slots asked
       (λ ordinal has. stay-named ordinal (apart state at ordinal lacks has)))
 
 -- where nobody comes and nobody goes
 module _ (state : State) (happens : Event)
-    (kind : (ordinal : Ordinal) → is_coming_or_going ordinal happens ≡ false) where
+    (kind : (ordinal : Ordinal) → is_connection_or_disconnection ordinal happens ≡ false) where
   still : (asked : ℕ) → peers_in state asked
-      ≡ peer_at (step state happens).parts state.slots asked
+      ≡ peer_at (step state happens).connections state.slots asked
   still asked =
-      sym (same-peers state.parts (step state happens).parts state.slots asked
+      sym (same-peers state.connections (step state happens).connections state.slots asked
       (λ ordinal has. step_named state happens ordinal (kind ordinal)))
 
 pub tells_who_is_there : TellsWhoIsThere
@@ -171,62 +171,62 @@ tells_who_is_there state (Of at (event.Connected handle peer)) asked is possible
 tells_who_is_there state (Of at event.Gone) asked is possible unused = going-by state at is asked
     (has_slot at state.slots) refl
 tells_who_is_there state (Of at (KeyAsked random_number diversifier)) asked is possible unused =
-    let part : Part = state.parts at in
-    let bond : Row = state.bonds part.peer in
+    let connection : ConnectionState = state.connections at in
+    let bond : Row = state.bonds connection.peer in
     ap (λ (present : Present). present asked)
-    (if-live-others state.room bond part (KeyAsked random_number diversifier)
-    (turn_of state.room bond (state.owed part.peer) part (KeyAsked random_number diversifier))
+    (if-live-others state.shared bond connection (KeyAsked random_number diversifier)
+    (effect_of state.shared bond (state.owed connection.peer) connection (KeyAsked random_number diversifier))
     (peers_in state))
     ∙ still state (Of at (KeyAsked random_number diversifier))
     (λ ordinal. and-false (ordinal == at)) asked
 tells_who_is_there state (Of at (Encrypted status enabled)) asked is possible unused =
-    let part : Part = state.parts at in
-    let bond : Row = state.bonds part.peer in
+    let connection : ConnectionState = state.connections at in
+    let bond : Row = state.bonds connection.peer in
     ap (λ (present : Present). present asked)
-    (if-live-others state.room bond part (Encrypted status enabled)
-    (turn_of state.room bond (state.owed part.peer) part (Encrypted status enabled))
+    (if-live-others state.shared bond connection (Encrypted status enabled)
+    (effect_of state.shared bond (state.owed connection.peer) connection (Encrypted status enabled))
     (peers_in state))
     ∙ still state (Of at (Encrypted status enabled)) (λ ordinal. and-false (ordinal == at)) asked
 tells_who_is_there state (Of at (Refreshed status)) asked is possible unused =
-    let part : Part = state.parts at in
-    let bond : Row = state.bonds part.peer in
+    let connection : ConnectionState = state.connections at in
+    let bond : Row = state.bonds connection.peer in
     ap (λ (present : Present). present asked)
-    (if-live-others state.room bond part (Refreshed status)
-    (turn_of state.room bond (state.owed part.peer) part (Refreshed status)) (peers_in state))
+    (if-live-others state.shared bond connection (Refreshed status)
+    (effect_of state.shared bond (state.owed connection.peer) connection (Refreshed status)) (peers_in state))
     ∙ still state (Of at (Refreshed status)) (λ ordinal. and-false (ordinal == at)) asked
 tells_who_is_there state (Of at (Asks pdu)) asked is possible unused =
-    let part : Part = state.parts at in
-    let bond : Row = state.bonds part.peer in
+    let connection : ConnectionState = state.connections at in
+    let bond : Row = state.bonds connection.peer in
     ap (λ (present : Present). present asked)
-    (if-live-others state.room bond part (Asks pdu)
-    (turn_of state.room bond (state.owed part.peer) part (Asks pdu)) (peers_in state))
+    (if-live-others state.shared bond connection (Asks pdu)
+    (effect_of state.shared bond (state.owed connection.peer) connection (Asks pdu)) (peers_in state))
     ∙ still state (Of at (Asks pdu)) (λ ordinal. and-false (ordinal == at)) asked
 tells_who_is_there state (Of at (Signals channel payload)) asked is possible unused =
-    let part : Part = state.parts at in
-    let bond : Row = state.bonds part.peer in
+    let connection : ConnectionState = state.connections at in
+    let bond : Row = state.bonds connection.peer in
     ap (λ (present : Present). present asked)
-    (if-live-others state.room bond part (Signals channel payload)
-    (turn_of state.room bond (state.owed part.peer) part (Signals channel payload))
+    (if-live-others state.shared bond connection (Signals channel payload)
+    (effect_of state.shared bond (state.owed connection.peer) connection (Signals channel payload))
     (peers_in state))
     ∙ still state (Of at (Signals channel payload)) (λ ordinal. and-false (ordinal == at)) asked
 tells_who_is_there state (Of at (Authorized until)) asked is possible unused =
-    let part : Part = state.parts at in
-    let bond : Row = state.bonds part.peer in
+    let connection : ConnectionState = state.connections at in
+    let bond : Row = state.bonds connection.peer in
     ap (λ (present : Present). present asked)
-    (if-live-others state.room bond part (Authorized until)
-    (turn_of state.room bond (state.owed part.peer) part (Authorized until)) (peers_in state))
+    (if-live-others state.shared bond connection (Authorized until)
+    (effect_of state.shared bond (state.owed connection.peer) connection (Authorized until)) (peers_in state))
     ∙ still state (Of at (Authorized until)) (λ ordinal. and-false (ordinal == at)) asked
 tells_who_is_there state (Of at Ended) asked is possible unused =
-    let part : Part = state.parts at in
-    let bond : Row = state.bonds part.peer in
+    let connection : ConnectionState = state.connections at in
+    let bond : Row = state.bonds connection.peer in
     ap (λ (present : Present). present asked)
-    (if-live-others state.room bond part Ended
-    (turn_of state.room bond (state.owed part.peer) part Ended) (peers_in state))
+    (if-live-others state.shared bond connection Ended
+    (effect_of state.shared bond (state.owed connection.peer) connection Ended) (peers_in state))
     ∙ still state (Of at Ended) (λ ordinal. and-false (ordinal == at)) asked
 tells_who_is_there state (Credit allowed opcode status (Some init)) asked is possible unused =
     let happens : Event = Credit allowed opcode status (Some init) in
     still state happens (λ ordinal. refl) asked
-    ∙ sym (init-peers (step state happens).parts state.room.slots init state.slots asked
+    ∙ sym (init-peers (step state happens).connections state.shared.slots init state.slots asked
     (is.settled.early possible))
 tells_who_is_there state (Credit allowed opcode status None) asked is possible unused =
     still state (Credit allowed opcode status None) (λ ordinal. refl) asked
@@ -240,7 +240,7 @@ tells_who_is_there state event asked is possible unused = still state event (λ 
 -- where each that has a slot had it, and kept its name
 stay-alone : (state : State) (happens : Event)
     → ((ordinal : Ordinal) → has_slot ordinal (step state happens).slots ≡ true
-    → (has_slot ordinal state.slots ≡ true) × (is_coming_or_going ordinal happens ≡ false))
+    → (has_slot ordinal state.slots ≡ true) × (is_connection_or_disconnection ordinal happens ≡ false))
     → HasOneHandleEach state → HasOneHandleEach (step state happens)
 stay-alone state happens back alone one other has has_too same =
     let first = back one has in
@@ -252,7 +252,7 @@ stay-alone state happens back alone one other has has_too same =
 freed-back : (at ordinal : Ordinal) (state : State) → has_slot ordinal (with_freed at state.slots)
     ≡ true
     → (has_slot ordinal state.slots ≡ true) ×
-    (is_coming_or_going ordinal (Of at event.Gone) ≡ false)
+    (is_connection_or_disconnection ordinal (Of at event.Gone) ≡ false)
 freed-back at ordinal state has = (
   freed-has at ordinal state.slots has,
   elim (ordinal == at) as (λ (same : Bool). (ordinal == at) ≡ same → (same && true) ≡ false) [
@@ -266,7 +266,7 @@ freed-back at ordinal state has = (
 )
 
 keeps-alone : (state : State) (happens : Event) → Possible (λ table. Unit) state happens
-    → ComesUnused state happens
+    → ConnectsUnused state happens
     → IsKnowing state → HasOneHandleEach (step state happens)
 unfolding step change_of
 keeps-alone state (Of at (event.Connected handle peer)) possible unused is =
@@ -295,14 +295,14 @@ keeps-alone state (Of at Ended) possible unused is =
     (λ ordinal has. (has, and-false (ordinal == at))) is.handles
 keeps-alone state (Credit allowed opcode status (Some init)) possible unused is =
     stay-alone state (Credit allowed opcode status (Some init))
-    (λ ordinal has. (init-has state.room.slots init ordinal state.slots has, refl)) is.handles
+    (λ ordinal has. (init-has state.shared.slots init ordinal state.slots has, refl)) is.handles
 keeps-alone state (Credit allowed opcode status None) possible unused is =
     stay-alone state (Credit allowed opcode status None) (λ ordinal has. (has, refl)) is.handles
 keeps-alone state event possible unused is = stay-alone state event
     (λ ordinal has. (has, refl)) is.handles
 
 stays-knowing : (state : State) (happens : Event) → Possible (λ table. Unit) state happens
-    → ComesUnused state happens → IsKnowing state → IsKnowing (step state happens)
+    → ConnectsUnused state happens → IsKnowing state → IsKnowing (step state happens)
 stays-knowing state happens possible unused is = record {
   settled = stays_settled state happens possible is.settled;
   placed = stays_placed state happens possible is.placed;
@@ -316,7 +316,7 @@ knowing-at-first start = record {
   handles = λ one other has. cc has;
 }
 
--- In every course.
+-- In every run.
 
 record Goes (state new : State) (notices : List Notice) : Type 0 where
   knowing : IsKnowing new
@@ -334,7 +334,7 @@ event-goes state (Some happens) is meant =
       present = λ i asked. tells_who_is_there state happens asked is possible unused i;
     }
 
-item-goes : (old : Course) (item : Item) → IsKnowing old.intake.state
+item-goes : (old : Run) (item : Item) → IsKnowing old.intake.state
     → Goes old.intake.state (after_item old item).intake.state (notices_of old item)
 item-goes old item is =
     subst (λ (state : State). Goes old.intake.state state (notices_of old item))
@@ -342,11 +342,11 @@ item-goes old item is =
     (event-goes old.intake.state (event_at old.intake item) is
     (item_meant (λ table. Unit) old.intake item (any_table item)))
 
-record GoesOn (new : Course) (present : Present) (notices : List Notice) : Type 0 where
+record GoesOn (new : Run) (present : Present) (notices : List Notice) : Type 0 where
   knowing : IsKnowing new.intake.state
   right : present_in present notices ≡ peers_in new.intake.state
 
-all-present : (old : Course) (items : List Item) (present : Present) → IsKnowing old.intake.state
+all-present : (old : Run) (items : List Item) (present : Present) → IsKnowing old.intake.state
     → present ≡ peers_in old.intake.state
     → GoesOn (after_items old items) present (notices_in old items)
 all-present old [] present is right = record { knowing = is; right = right }
@@ -362,15 +362,15 @@ all-present old (item ∷ items) present is right =
     }
 
 in-course : (start : Start) (input : List Item)
-    → GoesOn (after_items (at_start start) input) nobody_present (notices_in (at_start start) input)
+    → GoesOn (after_items (run_at_start start) input) nobody_present (notices_in (run_at_start start) input)
 in-course start input =
-    all-present (at_start start) input nobody_present (knowing-at-first start) (λ i asked. None)
+    all-present (run_at_start start) input nobody_present (knowing-at-first start) (λ i asked. None)
 
 pub always_has_one_handle_each : AlwaysHasOneHandleEach
-unfolding course
+unfolding run
 always_has_one_handle_each start input = (in-course start input).knowing.handles
 
 pub knows_who_is_there : KnowsWhoIsThere
-unfolding course
+unfolding run
 knows_who_is_there start input handle =
     ap (λ (present : Present). present handle) (in-course start input).right

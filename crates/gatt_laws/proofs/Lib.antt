@@ -5,7 +5,7 @@ pub mod Always
 pub mod AnswersAlike
 pub mod ChangersAlike
 pub mod ChangesAlike
-pub mod Courses
+pub mod Inputs
 pub mod Deadline
 pub mod Ends
 pub mod Given
@@ -19,7 +19,7 @@ pub mod KnowingWho
 pub mod MayBeHeard
 pub mod Meant
 pub mod Named
-pub mod NextParts
+pub mod NextConnections
 pub mod NothingCrosses
 pub mod Notices
 pub mod OwnQueues
@@ -34,7 +34,7 @@ pub mod Renaming
 pub mod RowNotices
 pub mod RowsOfTheTable
 pub mod Runs
-pub mod SameCourse
+pub mod SameRun
 pub mod SameView
 pub mod Settled
 pub mod Silence
@@ -44,7 +44,7 @@ pub mod StreamNotices
 pub mod Streams
 pub mod Telling
 pub mod ToldIsSo
-pub mod TurnsAlike
+pub mod EffectsAlike
 pub mod TwoWorlds
 pub mod Unfinished
 pub mod ValuesOfTheTable

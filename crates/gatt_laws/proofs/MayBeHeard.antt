@@ -6,11 +6,11 @@ use Rattle.att_numbers.specs.Types.{Handle, Values}
 use Rattle.att_pdu.specs.Response.{Response}
 use Rattle.att_attributes.specs.declared.attr.Attr.{Attr}
 use Rattle.gatt_laws.specs.laws.Headline.{Each}
-use Rattle.gatt_laws.specs.machine.Heard.{Heard, heard_raised, hearer_after, heard_in_turn}
+use Rattle.gatt_laws.specs.machine.Heard.{Heard, heard_when_notifying, hearer_after, heard_in_turn}
 use Rattle.gatt_laws.specs.laws.MayBeHeard.{handle_told, handles_told, TellsWhatMayBeHeard}
 use Rattle.gatt_subs.proofs.Heard.{both, releases_only_what_is_heard}
 use Rattle.gatt_subs.specs.Hearing.{may_hear_at, wants_indications}
-use Rattle.gatt_subs.specs.Indications.{hears, is_notified, released_handle}
+use Rattle.gatt_subs.specs.Indications.{hears, is_notified, indicated_handle}
 use Rattle.gatt_subs.specs.Told.{Hearer, notification_of, indication_of}
 
 each-append : (P : Handle → Type 0) (handles more : List Handle) → Each P handles → Each P more → Each P (handles ++ more)
@@ -35,7 +35,7 @@ abbrev MayHear : List Attr → Hearer → Handle → Type 0
 MayHear attributes hearer handle = may_hear_at attributes hearer.row hearer.standing handle ≡ true
 
 raised-may : (attributes : List Attr) (values : Values) (hearer : Hearer) (handle : Handle)
-    → Each (MayHear attributes hearer) (handles_told (heard_raised attributes values hearer handle).responses)
+    → Each (MayHear attributes hearer) (handles_told (heard_when_notifying attributes values hearer handle).responses)
 raised-may attributes values hearer handle =
     elim (hearer.live && is_notified hearer.pending attributes hearer.row hearer.standing handle hearer.backlog) as
     (λ (tells : Bool). (hearer.live && is_notified hearer.pending attributes hearer.row hearer.standing handle hearer.backlog) ≡ tells
@@ -49,11 +49,11 @@ raised-may attributes values hearer handle =
 
 released-may : (attributes : List Attr) (values : Values) (hearer : Hearer) (live : Bool)
     → Each (MayHear attributes hearer) (handles_told (option_to_list (if live then option_map (λ handle. indication_of values handle hearer.mtu)
-    (released_handle hearer.pending attributes hearer.row hearer.standing hearer.backlog) else None)))
+    (indicated_handle hearer.pending attributes hearer.row hearer.standing hearer.backlog) else None)))
 released-may attributes values hearer false = tt
 released-may attributes values hearer true =
-    elim (released_handle hearer.pending attributes hearer.row hearer.standing hearer.backlog) as
-    (λ (found : Option Handle). released_handle hearer.pending attributes hearer.row hearer.standing hearer.backlog ≡ found
+    elim (indicated_handle hearer.pending attributes hearer.row hearer.standing hearer.backlog) as
+    (λ (found : Option Handle). indicated_handle hearer.pending attributes hearer.row hearer.standing hearer.backlog ≡ found
     → Each (MayHear attributes hearer) (handles_told (option_to_list (option_map (λ handle. indication_of values handle hearer.mtu) found)))) [
       | None ↦ λ is. tt
       | Some handle ↦ λ is. ((releases_only_what_is_heard hearer.pending attributes hearer.row hearer.standing hearer.backlog handle is).may, tt)
@@ -62,6 +62,6 @@ released-may attributes values hearer true =
 pub tells_what_may_be_heard : TellsWhatMayBeHeard
 tells_what_may_be_heard attributes values hearer now [] = released-may attributes values hearer hearer.live
 tells_what_may_be_heard attributes values hearer now (handle ∷ handles) =
-    let first : Heard = heard_raised attributes values hearer handle in
+    let first : Heard = heard_when_notifying attributes values hearer handle in
     each-told (MayHear attributes hearer) first.responses (heard_in_turn attributes values (hearer_after hearer first) now handles).responses
     (raised-may attributes values hearer handle) (tells_what_may_be_heard attributes values (hearer_after hearer first) now handles)

@@ -11,7 +11,7 @@ use Rattle.att_attributes.specs.Attributes.{attribute_at, is_value}
 use Rattle.att_table.specs.Changer.{changer_of}
 use Rattle.att_table.specs.Table.{Contents}
 use Rattle.gatt_laws.specs.laws.Possible.{ServesInASlot, OwnIsMeant, HaveSlots, IsMeant, Possible}
-use Rattle.gatt_laws.specs.laws.Present.{ComesUnused}
+use Rattle.gatt_laws.specs.laws.Present.{ConnectsUnused}
 use Rattle.gatt_laws.specs.laws.Settled.{has_slot}
 use Rattle.gatt_laws.specs.machine.Calls.{Call, UpdateCall, AuthorizeCall, DisconnectCall, TickCall}
 use Rattle.gatt_laws.specs.machine.Calls.{NotAValue, BadLength, TimeWentBack, NoServiceChanged}
@@ -24,12 +24,12 @@ use Rattle.gatt_laws.specs.machine.Event.{Ordinal, Own, Event, Connected, Gone, 
 use Rattle.gatt_laws.specs.machine.Event.{Refreshed, Asks, Signals, Of}
 use Rattle.gatt_laws.specs.machine.Event.{Credit, Update, Tick, Replaced, Nothing}
 use Rattle.gatt_laws.specs.machine.Packets.{Fault, following_of, is_awaited, answered, own_event}
-use Rattle.gatt_laws.specs.machine.Packets.{peripheral, last_connection_handle, completed_entries}
+use Rattle.gatt_laws.specs.machine.Packets.{peripheral, last_connection_handle, entries_of_connections}
 use Rattle.gatt_laws.specs.machine.Packets.{connection_event, connection_event_if_ready}
 use Rattle.gatt_laws.specs.machine.Packets.{reported_event, event_or_bad, of_frame, of_octets}
 use Rattle.gatt_laws.specs.machine.Packets.{frame_event, Recombination, data_event}
 use Rattle.gatt_laws.specs.machine.Packets.{Fragments, recombinations_of, packet_event}
-use Rattle.gatt_laws.specs.machine.Part.{is_live}
+use Rattle.gatt_laws.specs.machine.ConnectionState.{is_live}
 use Rattle.gatt_laws.specs.machine.State.{State}
 use Rattle.le_acl.specs.Fragment.{Fragment, fragment_of}
 use Rattle.le_h4.specs.Packet.{Packet, AclPacket, EventPacket, ScoPacket}
@@ -40,7 +40,7 @@ use Rattle.le_hci.specs.declared.init.Init.{Init}
 use Rattle.le_hci.specs.declared.peer.Peer.{Peer}
 use Rattle.le_hci.specs.Event as event
 use Rattle.le_hci.specs.Event.{Reported, event_of}
-use Rattle.le_hci.specs.Init.{command_awaited, outcome_of}
+use Rattle.le_hci.specs.Init.{command_awaited, init_outcome}
 use Rattle.le_l2cap.specs.declared.channel.TheConstants.{ATT, LE_SIGNALLING, SECURITY_MANAGER}
 use Rattle.le_l2cap.specs.declared.frame.Skip.{Skip}
 use Rattle.le_l2cap.specs.Frame.{BasicFrame, frame_of}
@@ -104,17 +104,17 @@ is-found test (Some other ∷ slots) ordinal is =
 holds-a-slot : (state : State) (handle : ℕ) (ordinal : Ordinal)
     → holding state handle ≡ Some ordinal → has_slot ordinal state.slots ≡ true
 holds-a-slot state handle ordinal is =
-    (is-found (λ ordinal. (state.parts ordinal).handle == handle) state.slots ordinal is).has
+    (is-found (λ ordinal. (state.connections ordinal).handle == handle) state.slots ordinal is).has
 
 pub serves_in_a_slot : (state : State) (handle : ℕ) (ordinal : Ordinal)
     → serving state handle ≡ Some ordinal → ServesInASlot state ordinal
 serves_in_a_slot state handle ordinal is =
     let found =
-    is-found (λ ordinal. is_live (state.parts ordinal).mark && (state.parts ordinal).handle == handle) state.slots ordinal is in
+    is-found (λ ordinal. is_live (state.connections ordinal).mark && (state.connections ordinal).handle == handle) state.slots ordinal is in
     record {
       has = found.has;
       live =
-          first-true (is_live (state.parts ordinal).mark) ((state.parts ordinal).handle == handle) found.passes;
+          first-true (is_live (state.connections ordinal).mark) ((state.connections ordinal).handle == handle) found.passes;
     }
 
 module _ (Fine : Contents → Type 0) where
@@ -172,10 +172,10 @@ module _ (Fine : Contents → Type 0) where
   have-slots : (slots : Slots) (found : ℕ → Option Ordinal)
       → ((handle : ℕ) (ordinal : Ordinal) → found handle ≡ Some ordinal
       → has_slot ordinal slots ≡ true)
-      → (entries : List CompletedPackets) → HaveSlots slots (completed_entries found entries)
+      → (entries : List CompletedPackets) → HaveSlots slots (entries_of_connections found entries)
   have-slots slots found has [] = tt
   have-slots slots found has (entry ∷ entries) =
-      one-more slots entry.packets (found entry.handle) (completed_entries found entries)
+      one-more slots entry.packets (found entry.handle) (entries_of_connections found entries)
       (has entry.handle) (have-slots slots found has entries)
 
   connection-meant : (state : State) (reported : Reported) → is_ready state.controller ≡ true
@@ -214,12 +214,12 @@ module _ (Fine : Contents → Type 0) where
   reported-meant state (event.CommandComplete allowed opcode returned) =
       answered-meant state allowed opcode _ _
       (λ init is. awaited-early state.controller opcode (is_awaited state.controller opcode)
-      (following_of (outcome_of state.controller.init returned)) init (λ so. so) is)
+      (following_of (init_outcome state.controller.init returned)) init (λ so. so) is)
   reported-meant state (event.CommandStatus status allowed opcode) =
       answered-meant state allowed opcode _ _
       (λ init is. awaited-early state.controller opcode
       (is_awaited state.controller opcode && not (status == 0))
-      (following_of (outcome_of state.controller.init (status ∷ []))) init
+      (following_of (init_outcome state.controller.init (status ∷ []))) init
       (λ so. first-true (is_awaited state.controller opcode) (not (status == 0)) so) is)
   reported-meant state (event.HardwareError code) = tt
   reported-meant state reported = if-ready state reported
@@ -270,7 +270,7 @@ module _ (Fine : Contents → Type 0) where
   packet_meant state fragments ScoPacket = tt
 
   update-meant : (state : State) (handle : Handle) (value : Octets) (found : Option Attr)
-      → attribute_at state.room.table.attributes handle ≡ found
+      → attribute_at state.shared.table.attributes handle ≡ found
       → MeantIfAny state (update_event handle value found)
   update-meant state handle value None at = tt
   update-meant state handle value (Some attr) at =
@@ -301,22 +301,22 @@ module _ (Fine : Contents → Type 0) where
 
   pub call_meant : (state : State) (call : Call) → MeantIfAny state (call_event state call)
   call_meant state (UpdateCall handle value) =
-      update-meant state handle value (attribute_at state.room.table.attributes handle) refl
+      update-meant state handle value (attribute_at state.shared.table.attributes handle) refl
   call_meant state (AuthorizeCall handle until) =
       authorize-meant state until (serving state handle) (serves_in_a_slot state handle)
   call_meant state (DisconnectCall handle) =
       disconnect-meant state (serving state handle) (serves_in_a_slot state handle)
   call_meant state (TickCall time) =
-      elim (nat_lt time state.room.time) as (λ back. nat_lt time state.room.time ≡ back
+      elim (nat_lt time state.shared.time) as (λ back. nat_lt time state.shared.time ≡ back
       → MeantIfAny state (if back then Err TimeWentBack else Ok (Tick time))) [
         | true ↦ λ is. tt
-        | false ↦ λ is. omega (arith, ltb-false time state.room.time is)
+        | false ↦ λ is. omega (arith, ltb-false time state.shared.time is)
       ] refl
 
   pub replacement_meant : (state : State) (table : Contents) → Fine table
       → MeantIfAny state (replacement_event state table)
   replacement_meant state table is =
-      elim (same_changer state.room.changer (changer_of table)) as
+      elim (same_changer state.shared.changer (changer_of table)) as
       (λ same. MeantIfAny state (if same then Ok (Replaced table) else Err NoServiceChanged))
       [ true ↦ is | false ↦ tt ]
 
@@ -331,6 +331,6 @@ module _ (Fine : Contents → Type 0) where
   possible_where_meant state event is = tt
 
   pub unused_where_meant : (state : State) (event : Event) → IsMeant Fine state event
-      → ComesUnused state event
+      → ConnectsUnused state event
   unused_where_meant state (Of ordinal (Connected handle peer)) is = is.unused
   unused_where_meant state event is = tt

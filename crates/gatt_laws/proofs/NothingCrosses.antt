@@ -16,10 +16,10 @@ use Rattle.gatt_laws.specs.machine.Calls.{Refused, NoServiceChanged, same_change
 use Rattle.gatt_laws.specs.machine.Context.{context_of, ordinal_where}
 use Rattle.gatt_laws.specs.machine.Controller.{has_free}
 use Rattle.gatt_laws.specs.machine.Event.{Ordinal, Event, Replaced}
-use Rattle.gatt_laws.specs.machine.Input.{Item, AnOctet, APacket, ACall, ATable, TheEnd, Course, after_item, after_items, at_start, course}
+use Rattle.gatt_laws.specs.machine.Input.{Item, AnOctet, APacket, ACall, ATable, TheEnd, Run, after_item, after_items, run_at_start, run}
 use Rattle.gatt_laws.specs.machine.ItemEvents.{event_if, event_at, after_if}
-use Rattle.gatt_laws.specs.laws.NothingCrosses.{Agree, is_replaced, hidden_while, StartsAgree, ItemsAgree, InputsAgree, SparedIf, SparedIn, given_by, NothingCrosses, LeavesConnectionsTheSame}
-use Rattle.gatt_laws.specs.machine.Part.{is_live}
+use Rattle.gatt_laws.specs.laws.NothingCrosses.{Agree, is_replaced, hidden_while, StartsAgree, ItemsAgree, InputsAgree, SparedIf, SparedIn, packets_given_by, NothingCrosses, LeavesConnectionsTheSame}
+use Rattle.gatt_laws.specs.machine.ConnectionState.{is_live}
 use Rattle.gatt_laws.specs.laws.Possible.{AllTables}
 use Rattle.gatt_laws.specs.laws.Settled.{IsSettled}
 use Rattle.gatt_laws.specs.machine.Start.{Start, before_first_command}
@@ -28,8 +28,8 @@ use Rattle.gatt_laws.specs.laws.TwoWorlds.{SameTable}
 use Rattle.le_hci.specs.declared.peer.Peer.{Peer}
 use Rattle.gatt_laws.proofs.HiddenItems.{AfterBoth, after-both, after-same, alike-more, given-next, given_if, hides-unknown, later-unknown, now-unknown}
 
--- All that is so of two courses on their way.
-record Together (peer : Peer) (one other : Course) (items : List Item) : Type 0 where
+-- All that is so of two runs on their way.
+record Together (peer : Peer) (one other : Run) (items : List Item) : Type 0 where
   settled : IsSettled one.intake.state
   alike : Alike peer (hidden_while peer one items) one.intake.state other.intake.state
   same : kept one ≡ kept other
@@ -37,26 +37,26 @@ record Together (peer : Peer) (one other : Course) (items : List Item) : Type 0 
 -- a connection that is found is found alike by what is not erased of each
 looks-same : (peer : Peer) (hidden : Handle → Bool) (one other : State) → Alike peer hidden one other → context_of one ≡ context_of other
 looks-same peer hidden one other alike =
-    let room = alike.room in
+    let shared = alike.shared in
     let others = alike.others in
     let slots = alike.slots in
     let next = alike.next in
     let controller = alike.controller in
     λ i. record {
       controller = controller i;
-      attributes = (room i).table.attributes;
-      changer = (room i).changer;
-      time = (room i).time;
+      attributes = (shared i).table.attributes;
+      changer = (shared i).changer;
+      time = (shared i).time;
       serving = λ handle. ordinal_where (λ ordinal. is_live (others ordinal i).mark && (others ordinal i).handle == handle) (slots i);
       holding = λ handle. ordinal_where (λ ordinal. (others ordinal i).handle == handle) (slots i);
       coming = if has_free (slots i) then Some (next i) else None;
     }
 
-settled-then : (course : Course) (item : Item) → IsSettled course.intake.state → IsSettled (after_item course item).intake.state
-settled-then course item settled = always (λ table. Unit) IsSettled stays_settled course (item ∷ []) (any_tables (item ∷ [])) settled
+settled-then : (run : Run) (item : Item) → IsSettled run.intake.state → IsSettled (after_item run item).intake.state
+settled-then run item settled = always (λ table. Unit) IsSettled stays_settled run (item ∷ []) (any_tables (item ∷ [])) settled
 
 -- an item that is no replacement
-module _ (peer : Peer) (ordinal : Ordinal) (one other : Course) (item : Item) (items : List Item) (together : Together peer one other (item ∷ items)) where
+module _ (peer : Peer) (ordinal : Ordinal) (one other : Run) (item : Item) (items : List Item) (together : Together peer one other (item ∷ items)) where
   abbrev hidden : Handle → Bool
   hidden = hidden_while peer one (item ∷ items)
 
@@ -120,13 +120,13 @@ module _ (peer : Peer) (ordinal : Ordinal) (one other : Course) (item : Item) (i
   next-replaced : (table its : Contents) → item ≡ ATable table → SameTable hidden_then table its → is_replaced one.intake (ATable table) ≡ true
       → SparedIf peer one.intake.state (event_at one.intake item) → SparedIf peer other.intake.state (event_at other.intake (ATable its)) → Next (ATable its)
   next-replaced table its is tables replaced spared spared_too =
-      let facts = replaced-by (is_some one.intake.fault) (same_changer one.intake.state.room.changer (changer_of table)) table replaced in
+      let facts = replaced-by (is_some one.intake.fault) (same_changer one.intake.state.shared.changer (changer_of table)) table replaced in
       let same = together.same in
       let changer = tables.changer in
       let events : event_at one.intake item ≡ Some (Replaced table) =
-      ap (event_at one.intake) is ∙ replacement (is_some one.intake.fault) (same_changer one.intake.state.room.changer (changer_of table)) table facts.0 facts.1 in
+      ap (event_at one.intake) is ∙ replacement (is_some one.intake.fault) (same_changer one.intake.state.shared.changer (changer_of table)) table facts.0 facts.1 in
       let events_too : event_at other.intake (ATable its) ≡ Some (Replaced its) =
-      replacement (is_some other.intake.fault) (same_changer other.intake.state.room.changer (changer_of its)) its
+      replacement (is_some other.intake.fault) (same_changer other.intake.state.shared.changer (changer_of its)) its
       (sym (λ i. is_some (same i).fault) ∙ facts.0) (sym (λ i. same_changer (looks i).changer (changer i)) ∙ facts.1) in
       let then_hides : Hides peer hidden_then (step one.intake.state (Replaced table)) =
       subst (Hides peer hidden_then) ((means_its_event one item).state ∙ ap (after_if one.intake.state) events) hides-then in
@@ -147,7 +147,7 @@ module _ (peer : Peer) (ordinal : Ordinal) (one other : Course) (item : Item) (i
 abbrev pub HasHandles : Contents → Type 0
 HasHandles table = HaveHandlesFrom 1 table.attributes
 
-next-table : (peer : Peer) (ordinal : Ordinal) (one other : Course) (table : Contents) (items : List Item) (together : Together peer one other (ATable table ∷ items)) (its : Item)
+next-table : (peer : Peer) (ordinal : Ordinal) (one other : Run) (table : Contents) (items : List Item) (together : Together peer one other (ATable table ∷ items)) (its : Item)
     → (replaced : Bool) → is_replaced one.intake (ATable table) ≡ replaced → HasHandles table
     → ItemsAgree (hidden_while peer (after_item one (ATable table)) items) replaced (ATable table) its → SparedIf peer one.intake.state (event_at one.intake (ATable table))
     → SparedIf peer other.intake.state (event_at other.intake its) → Next peer ordinal one other (ATable table) items together its
@@ -159,7 +159,7 @@ next-table peer ordinal one other table items together its true is fine agree sp
 next-table peer ordinal one other table items together its false is fine agree spared spared_too =
     next-equal peer ordinal one other (ATable table) items together its agree is spared spared_too
 
-next-item : (peer : Peer) (ordinal : Ordinal) (one other : Course) (item : Item) (items : List Item) (together : Together peer one other (item ∷ items)) (its : Item)
+next-item : (peer : Peer) (ordinal : Ordinal) (one other : Run) (item : Item) (items : List Item) (together : Together peer one other (item ∷ items)) (its : Item)
     → AllTables HasHandles (item ∷ items) → ItemsAgree (hidden_while peer (after_item one item) items) (is_replaced one.intake item) item its
     → SparedIf peer one.intake.state (event_at one.intake item) → SparedIf peer other.intake.state (event_at other.intake its)
     → Next peer ordinal one other item items together its
@@ -172,8 +172,8 @@ other-tables : (item : Item) (items : List Item) → AllTables HasHandles (item 
 other-tables (ATable table) items tables = tables.1
 other-tables item items tables = tables
 
-given-same : (peer : Peer) (ordinal : Ordinal) (items others : List Item) (one other : Course) → Together peer one other items → AllTables HasHandles items
-    → InputsAgree peer one items others → SparedIn peer one items → SparedIn peer other others → given_by peer ordinal one items ≡ given_by peer ordinal other others
+given-same : (peer : Peer) (ordinal : Ordinal) (items others : List Item) (one other : Run) → Together peer one other items → AllTables HasHandles items
+    → InputsAgree peer one items others → SparedIn peer one items → SparedIn peer other others → packets_given_by peer ordinal one items ≡ packets_given_by peer ordinal other others
 given-same peer ordinal [] [] one other together tables agree spared spared_too = refl
 given-same peer ordinal (item ∷ items) [] one other together tables agree spared spared_too = absurd agree
 given-same peer ordinal [] (its ∷ others) one other together tables agree spared spared_too = absurd agree
@@ -183,7 +183,7 @@ given-same peer ordinal (item ∷ items) (its ∷ others) one other together tab
     let later = given-same peer ordinal items others (after_item one item) (after_item other its) next.after (other-tables item items tables) agree.1 spared.1 spared_too.1 in
     given-next peer ordinal one item items ∙ (λ i. first i ++ later i) ∙ sym (given-next peer ordinal other its others)
 
-together-then : (peer : Peer) (items others : List Item) (one other : Course) → Together peer one other items → AllTables HasHandles items
+together-then : (peer : Peer) (items others : List Item) (one other : Run) → Together peer one other items → AllTables HasHandles items
     → InputsAgree peer one items others → SparedIn peer one items → SparedIn peer other others → Together peer (after_items one items) (after_items other others) []
 together-then peer [] [] one other together tables agree spared spared_too = together
 together-then peer (item ∷ items) [] one other together tables agree spared spared_too = absurd agree
@@ -201,14 +201,14 @@ starts-alike peer hidden one other fine agree =
     let changer = tables.changer in
     let far : Start = record one { table = other.table } in
     subst (λ (s : Start). Alike peer hidden (before_first_command one) (before_first_command s)) agree.rest (record {
-      room = λ i. record {
+      shared = λ i. record {
         table = record { attributes = attributes i; values = other.table.values };
         changer = changer i;
         keys = one.keys;
         slots = one.slots;
         rx_mtu = one.rx_mtu;
         time = 0;
-        told = None;
+        buffers = None;
       };
       values = tables.values;
       bonds = refl;
@@ -220,24 +220,24 @@ starts-alike peer hidden one other fine agree =
       controller = refl;
     })
 
-settled-start : (start : Start) → IsSettled (at_start start).intake.state
-unfolding course
+settled-start : (start : Start) → IsSettled (run_at_start start).intake.state
+unfolding run
 settled-start start = is_always_settled start []
 
-together-at-first : (peer : Peer) (one other : Start) (input : List Item) → HasHandles one.table → StartsAgree (hidden_while peer (at_start one) input) one other
-    → Together peer (at_start one) (at_start other) input
+together-at-first : (peer : Peer) (one other : Start) (input : List Item) → HasHandles one.table → StartsAgree (hidden_while peer (run_at_start one) input) one other
+    → Together peer (run_at_start one) (run_at_start other) input
 together-at-first peer one other input handles agree = record {
   settled = settled-start one;
-  alike = commands_alike peer (hidden_while peer (at_start one) input) (before_first_command one) (before_first_command other)
-      (starts-alike peer (hidden_while peer (at_start one) input) one other handles agree);
+  alike = commands_alike peer (hidden_while peer (run_at_start one) input) (before_first_command one) (before_first_command other)
+      (starts-alike peer (hidden_while peer (run_at_start one) input) one other handles agree);
   same = refl;
 }
 
 pub crosses_nowhere : (peer : Peer) (one other : Start) (input its : List Item) → HasHandles one.table → AllTables HasHandles input → Agree peer one other input its
-    → SparedIn peer (at_start one) input → SparedIn peer (at_start other) its → (ordinal : Ordinal)
-    → given_by peer ordinal (at_start one) input ≡ given_by peer ordinal (at_start other) its
+    → SparedIn peer (run_at_start one) input → SparedIn peer (run_at_start other) its → (ordinal : Ordinal)
+    → packets_given_by peer ordinal (run_at_start one) input ≡ packets_given_by peer ordinal (run_at_start other) its
 crosses_nowhere peer one other input its handles tables agree spared spared_too ordinal =
-    given-same peer ordinal input its (at_start one) (at_start other) (together-at-first peer one other input handles agree.starts)
+    given-same peer ordinal input its (run_at_start one) (run_at_start other) (together-at-first peer one other input handles agree.starts)
     tables agree.inputs spared spared_too
 
 all-handles : (items : List Item) → AllTables IsTable items → AllTables HasHandles items
@@ -253,8 +253,8 @@ nothing_crosses peer one other input its is tables agree spared spared_too ordin
     crosses_nowhere peer one other input its is.handles (all-handles input tables) agree spared spared_too ordinal
 
 pub leaves_connections_the_same : LeavesConnectionsTheSame
-unfolding course
+unfolding run
 leaves_connections_the_same peer one other input its is tables agree spared spared_too =
-    let end = together-then peer input its (at_start one) (at_start other) (together-at-first peer one other input is.handles agree.starts)
+    let end = together-then peer input its (run_at_start one) (run_at_start other) (together-at-first peer one other input is.handles agree.starts)
     (all-handles input tables) agree.inputs spared spared_too in
     end.alike.own

@@ -15,11 +15,11 @@ use Rattle.att_policy.specs.Refusal.{Refusal}
 use Rattle.att_table.specs.ConfigRow.{bits_at}
 use Rattle.att_table.specs.Table.{Contents, value_at}
 use Rattle.att_writes.proofs.Untouched.{keeps_others}
-use Rattle.att_writes.specs.Applied.{Stored, stored_in, applied_to, stored_after as kept_or_new}
+use Rattle.att_writes.specs.Applied.{Stored, stored_in, applied_to, stored_after}
 use Rattle.att_writes.specs.Entry.{Entry}
 use Rattle.att_writes.specs.Queue.{once_each, touched_by}
 use Rattle.att_writes.specs.SameBut.{is_touched}
-use Rattle.gatt_conn.specs.Answer.{Question, Writing, writing_asked, stored_after, handles_after}
+use Rattle.gatt_conn.specs.Answer.{Question, Writing, writing_asked, stored_after_writing, handles_after}
 use Rattle.gatt_conn.specs.Answer.{handles_by, is_confirmation}
 use Rattle.gatt_laws.proofs.Stores.{leaves-configurations, other-value}
 use Rattle.gatt_laws.specs.machine.Event.{Own, Event, Connected, Gone, Asks}
@@ -28,11 +28,11 @@ use Rattle.gatt_laws.specs.machine.Event.{Replaced}
 use Rattle.gatt_laws.specs.machine.Notice.{Notice, Configured, Written, write_told, end_told, live_told}
 use Rattle.gatt_laws.specs.machine.Notice.{confirmation_told, own_told, noticed}
 use Rattle.gatt_laws.specs.laws.Notices.{tells_value, is_value_told, sets_value, TellsEachValue}
-use Rattle.gatt_laws.specs.machine.Part.{Part, is_live, mtu_of, row_of, connection_of, after_ending}
+use Rattle.gatt_laws.specs.machine.ConnectionState.{ConnectionState, is_live, connection_mtu, row_in_force, bearer_of, after_ending}
 use Rattle.gatt_laws.specs.laws.Possible.{Possible}
-use Rattle.gatt_laws.specs.machine.Room.{Room}
+use Rattle.gatt_laws.specs.machine.SharedState.{SharedState}
 use Rattle.gatt_laws.specs.machine.State.{State, step, change_of}
-use Rattle.gatt_laws.specs.machine.Turn.{Turn, turn_to, turn_of, live_turn, served, is_full, remote_user_terminated, handles_written}
+use Rattle.gatt_laws.specs.machine.Effect.{Effect, effect_on_connection, effect_of, live_effect, served, is_full, remote_user_terminated, handles_written}
 use Rattle.octets.specs.Number.{Octets}
 
 -- Handles that were written, each once.
@@ -149,7 +149,7 @@ module _ (table : Contents) (row new_row : Row) (standing : Standing) (handle : 
   value-if : (writing : Writing) (attribute : Handle) (result : Result Stored Refusal)
       → applied_to writing.access table row standing writing.entries ≡ result → 0 < attribute
       → Untold attribute (touched_by writing.entries result)
-      → value_at (kept_or_new (stored_in table row) result).values attribute
+      → value_at (stored_after (stored_in table row) result).values attribute
       ≡ value_at table.values attribute
   value-if writing attribute (Ok new) is used none =
       value-by-kind writing new attribute
@@ -158,7 +158,7 @@ module _ (table : Contents) (row new_row : Row) (standing : Standing) (handle : 
 
   value-kept : (writing : Option Writing) (attribute : Handle) → 0 < attribute
       → Untold attribute (handles_after table row standing writing)
-      → value_at (stored_after table row standing writing).values attribute
+      → value_at (stored_after_writing table row standing writing).values attribute
       ≡ value_at table.values attribute
   value-kept None attribute used none = refl
   value-kept (Some writing) attribute used none =
@@ -167,9 +167,9 @@ module _ (table : Contents) (row new_row : Row) (standing : Standing) (handle : 
 
 -- One connection.
 
-abbrev UntoldBy : Handle → Room → Row → Bool → Part → Own → Type 0
-UntoldBy attribute room bond owed part own =
-    is_value_told attribute (own_told room bond part own (turn_of room bond owed part own)) ≡ false
+abbrev UntoldBy : Handle → SharedState → Row → Bool → ConnectionState → Own → Type 0
+UntoldBy attribute shared bond owed connection own =
+    is_value_told attribute (own_told shared bond connection own (effect_of shared bond owed connection own)) ≡ false
 
 none-first : (attribute : Handle) (one other : List Notice)
     → is_value_told attribute (one ++ other) ≡ false
@@ -179,81 +179,81 @@ none-first attribute one other none =
     (sym (list_any-append (tells_value attribute) one other) ∙ none)
 
 -- where there is no room for the answer, nothing is written
-request-values : (room : Room) (bond new_row : Row) (owed : Bool) (part : Part) (pdu : Octets)
+request-values : (shared : SharedState) (bond new_row : Row) (owed : Bool) (connection : ConnectionState) (pdu : Octets)
     (attribute : Handle) (full : Bool) → 0 < attribute
-    → is_value_told attribute (map (write_told room.table.attributes new_row part.handle)
-    (if not full then handles_by room.table (row_of bond part) (connection_of room part)
-    (request_of pdu (mtu_of room part)) else [])) ≡ false
-    → value_at (if full then turn_to room bond owed (after_ending part remote_user_terminated)
-    else served room bond owed part pdu (request_of pdu (mtu_of room part))).values attribute
-    ≡ value_at room.table.values attribute
-request-values room bond new_row owed part pdu attribute true used none = refl
-request-values room bond new_row owed part pdu attribute false used none =
-    let conn = connection_of room part in
+    → is_value_told attribute (map (write_told shared.table.attributes new_row connection.handle)
+    (if not full then handles_by shared.table (row_in_force bond connection) (bearer_of shared connection)
+    (request_of pdu (connection_mtu shared connection)) else [])) ≡ false
+    → value_at (if full then effect_on_connection shared bond owed (after_ending connection remote_user_terminated)
+    else served shared bond owed connection pdu (request_of pdu (connection_mtu shared connection))).values attribute
+    ≡ value_at shared.table.values attribute
+request-values shared bond new_row owed connection pdu attribute true used none = refl
+request-values shared bond new_row owed connection pdu attribute false used none =
+    let conn = bearer_of shared connection in
     let asked : Question = request_of pdu conn.mtu in
-    value-kept room.table (row_of bond part) new_row conn.standing part.handle
+    value-kept shared.table (row_in_force bond connection) new_row conn.standing connection.handle
     (writing_asked conn.queue asked) attribute used none
 
-asks-values : (room : Room) (bond : Row) (owed : Bool) (part : Part) (pdu : Octets)
+asks-values : (shared : SharedState) (bond : Row) (owed : Bool) (connection : ConnectionState) (pdu : Octets)
     (attribute : Handle)
-    (live : Bool) → is_live part.mark ≡ live → 0 < attribute
+    (live : Bool) → is_live connection.mark ≡ live → 0 < attribute
     → is_value_told attribute
-    (if live then live_told room bond part (Asks pdu) (turn_of room bond owed part (Asks pdu))
-    ++ end_told part.handle (turn_of room bond owed part (Asks pdu)).part else []) ≡ false
-    → value_at (if live then live_turn room bond owed part (Asks pdu)
-    else turn_to room bond owed part).values attribute
-    ≡ value_at room.table.values attribute
-unfolding live_turn
-asks-values room bond owed part pdu attribute true is used none =
-    let asked : Question = request_of pdu (mtu_of room part) in
-    let full : Bool = is_due asked && is_full room part in
-    let turn : Turn = turn_of room bond owed part (Asks pdu) in
-    let new_row : Row = row_of turn.bond turn.part in
-    let tells : Handle → Notice = write_told room.table.attributes new_row part.handle in
-    let wrote : List Notice = map tells (handles_written room bond part (Asks pdu)) in
+    (if live then live_told shared bond connection (Asks pdu) (effect_of shared bond owed connection (Asks pdu))
+    ++ end_told connection.handle (effect_of shared bond owed connection (Asks pdu)).connection else []) ≡ false
+    → value_at (if live then live_effect shared bond owed connection (Asks pdu)
+    else effect_on_connection shared bond owed connection).values attribute
+    ≡ value_at shared.table.values attribute
+unfolding live_effect
+asks-values shared bond owed connection pdu attribute true is used none =
+    let asked : Question = request_of pdu (connection_mtu shared connection) in
+    let full : Bool = is_due asked && is_full shared connection in
+    let effect : Effect = effect_of shared bond owed connection (Asks pdu) in
+    let new_row : Row = row_in_force effect.bond effect.connection in
+    let tells : Handle → Notice = write_told shared.table.attributes new_row connection.handle in
+    let wrote : List Notice = map tells (handles_written shared bond connection (Asks pdu)) in
     let confirmed : List Notice =
-    if is_confirmation pdu then confirmation_told part.handle part.pending.unconfirmed else [] in
+    if is_confirmation pdu then confirmation_told connection.handle connection.pending.unconfirmed else [] in
     let before_end = none-first attribute (wrote ++ confirmed)
-    (end_told part.handle turn.part) none in
-    request-values room bond new_row owed part pdu attribute full used
+    (end_told connection.handle effect.connection) none in
+    request-values shared bond new_row owed connection pdu attribute full used
     (ap (λ (lives : Bool). is_value_told attribute (map tells
-    (if lives && not full then handles_by room.table (row_of bond part)
-    (connection_of room part) asked
+    (if lives && not full then handles_by shared.table (row_in_force bond connection)
+    (bearer_of shared connection) asked
     else []))) (sym is)
     ∙ none-first attribute wrote confirmed before_end)
-asks-values room bond owed part pdu attribute false is used none = refl
+asks-values shared bond owed connection pdu attribute false is used none = refl
 
 -- all else that happens to it leaves the values
-turn-either : (values : Values) (one other : Turn) (test : Bool) → one.values ≡ values
+turn-either : (values : Values) (one other : Effect) (test : Bool) → one.values ≡ values
     → other.values ≡ values → (if test then one else other).values ≡ values
 turn-either values one other true first second = first
 turn-either values one other false first second = second
 
-abbrev Leaves : Room → Row → Bool → Part → Own → Type 0
-Leaves room bond owed part own =
-    (if is_live part.mark then live_turn room bond owed part own
-    else turn_to room bond owed part).values
-    ≡ room.table.values
+abbrev Leaves : SharedState → Row → Bool → ConnectionState → Own → Type 0
+Leaves shared bond owed connection own =
+    (if is_live connection.mark then live_effect shared bond owed connection own
+    else effect_on_connection shared bond owed connection).values
+    ≡ shared.table.values
 
-leaves : (room : Room) (bond : Row) (owed : Bool) (part : Part) (own : Own)
-    → (live_turn room bond owed part own).values ≡ room.table.values
-    → Leaves room bond owed part own
-leaves room bond owed part own is =
-    turn-either room.table.values (live_turn room bond owed part own) (turn_to room bond owed part)
-    (is_live part.mark) is refl
+leaves : (shared : SharedState) (bond : Row) (owed : Bool) (connection : ConnectionState) (own : Own)
+    → (live_effect shared bond owed connection own).values ≡ shared.table.values
+    → Leaves shared bond owed connection own
+leaves shared bond owed connection own is =
+    turn-either shared.table.values (live_effect shared bond owed connection own) (effect_on_connection shared bond owed connection)
+    (is_live connection.mark) is refl
 
-own-values : (room : Room) (bond : Row) (owed : Bool) (part : Part) (own : Own) (attribute : Handle)
-    → 0 < attribute → UntoldBy attribute room bond owed part own
-    → value_at (turn_of room bond owed part own).values attribute
-    ≡ value_at room.table.values attribute
-unfolding live_turn
-own-values room bond owed part (Connected handle peer) attribute used none = refl
-own-values room bond owed part Gone attribute used none = refl
-own-values room bond owed part (Asks pdu) attribute used none =
-    asks-values room bond owed part pdu attribute (is_live part.mark) refl used none
-own-values room bond owed part own attribute used none =
+own-values : (shared : SharedState) (bond : Row) (owed : Bool) (connection : ConnectionState) (own : Own) (attribute : Handle)
+    → 0 < attribute → UntoldBy attribute shared bond owed connection own
+    → value_at (effect_of shared bond owed connection own).values attribute
+    ≡ value_at shared.table.values attribute
+unfolding live_effect
+own-values shared bond owed connection (Connected handle peer) attribute used none = refl
+own-values shared bond owed connection Gone attribute used none = refl
+own-values shared bond owed connection (Asks pdu) attribute used none =
+    asks-values shared bond owed connection pdu attribute (is_live connection.mark) refl used none
+own-values shared bond owed connection own attribute used none =
     ap (λ (of : Values). value_at of attribute)
-    (leaves room bond owed part own refl)
+    (leaves shared bond owed connection own refl)
 
 -- And each event.
 
@@ -266,19 +266,19 @@ used-there attributes (suc handle) attr there = omega arith
 change-values : (state : State) (event : Event) (attribute : Handle) → 0 < attribute
     → Possible (λ table. Unit) state event → sets_value attribute event ≡ false
     → is_value_told attribute (noticed state event) ≡ false
-    → value_at (change_of state event).state.room.table.values attribute
-    ≡ value_at state.room.table.values attribute
+    → value_at (change_of state event).state.shared.table.values attribute
+    ≡ value_at state.shared.table.values attribute
 unfolding change_of noticed
 change-values state (Of ordinal own) attribute used possible sets none =
-    let part : Part = state.parts ordinal in
-    own-values state.room (state.bonds part.peer)
-    (state.owed part.peer) part own attribute used none
+    let connection : ConnectionState = state.connections ordinal in
+    own-values state.shared (state.bonds connection.peer)
+    (state.owed connection.peer) connection own attribute used none
 change-values state (Credit allowed opcode status
     (Some init)) attribute used possible sets none = refl
 change-values state (Credit allowed opcode status None) attribute used possible sets none = refl
 change-values state (Update handle value) attribute used possible sets none =
-    other-value state.room.table.values handle attribute value
-    (used-there state.room.table.attributes handle possible.attr possible.there) used sets
+    other-value state.shared.table.values handle attribute value
+    (used-there state.shared.table.attributes handle possible.attr possible.there) used sets
 change-values state (Replaced table) attribute used possible sets none = cc sets
 change-values state event attribute used possible sets none = refl
 

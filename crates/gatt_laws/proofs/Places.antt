@@ -1,4 +1,4 @@
--- What is so of each connection in every course: it comes once and stays with its peer, and what the controller told stays
+-- What is so of each connection in every run: it comes once and stays with its peer, and what the controller told stays
 -- once connections may come.
 use Rattle.std.proofs.Common.{◌≡◌, ℕ, ◌+◌, ◌-◌, ◌<◌, Bool, true, false, List, [], ◌∷◌, length, Option, Some, None, refl, sym, subst, ap, ◌∙◌, arith}
 use Rattle.std.specs.Prelude.{min, nat_lt, ◌==◌, ◌&&◌, if◌then◌else◌}
@@ -13,15 +13,15 @@ use Rattle.gatt_laws.proofs.Ends.{end_keeps}
 use Rattle.gatt_laws.proofs.Silence.{only_serves_the_live}
 use Rattle.gatt_laws.specs.machine.Controller.{Controller, command_of_init, count_before, without_command, is_ready}
 use Rattle.gatt_laws.specs.machine.Event.{Ordinal, Own, Event, Connected, Gone, KeyAsked, Encrypted, Refreshed, Asks, Signals, Authorized, Ended, Of, Completed, Credit, Update, Tick, Replaced, Nothing}
-use Rattle.gatt_laws.specs.machine.Part.{Mark, Absent, Live, Ending, Part, absent, come, is_live, is_there, key_of, mtu_of, with_pdus, after_ending}
+use Rattle.gatt_laws.specs.machine.ConnectionState.{Mark, Absent, Live, Ending, ConnectionState, no_connection, fresh_connection, is_live, is_there, key_of, connection_mtu, with_pdus, after_ending}
 use Rattle.gatt_laws.specs.laws.Possible.{Possible}
-use Rattle.gatt_laws.specs.machine.Room.{Room}
+use Rattle.gatt_laws.specs.machine.SharedState.{SharedState}
 use Rattle.gatt_laws.specs.laws.Runs.{after_events, ArePossible}
 use Rattle.gatt_laws.specs.laws.Settled.{has_slot, IsSettled}
 use Rattle.gatt_laws.specs.machine.Start.{Start, before_first_command, state_at}
-use Rattle.gatt_laws.specs.machine.State.{State, Change, next_after, told_of, is_refusal, with_completed, after_completed, part_replaced, change_of, finished, parts_finished, step}
-use Rattle.gatt_laws.specs.machine.Turn.{turn_to, served, is_full, request_turn, after_channel, channel_answer, with_step, lost_encryption, live_turn, turn_of, remote_user_terminated, authentication_failure}
-use Rattle.gatt_laws.specs.laws.View.{own_coming, peer_coming, peer_in}
+use Rattle.gatt_laws.specs.machine.State.{State, Change, next_after, advertising_after, is_refusal, with_packets_completed, after_packets_completed, connection_after_replacement, change_of, finished, connections_finished, step}
+use Rattle.gatt_laws.specs.machine.Effect.{effect_on_connection, served, is_full, request_effect, after_other_channel, channel_answer, with_step, lost_encryption, live_effect, effect_of, remote_user_terminated, authentication_failure}
+use Rattle.gatt_laws.specs.laws.View.{own_connecting, peer_connecting, peer_in}
 use Rattle.gatt_subs.specs.Indications.{after_tick}
 use Rattle.le_hci.specs.declared.peer.Peer.{Peer}
 use Rattle.le_security.specs.Link.{Step, Encryption, Refresh}
@@ -29,29 +29,29 @@ use Rattle.octets.specs.Number.{Octets}
 
 -- A connection that is there stays with its peer, and of one that is not, nothing is kept.
 
-pub record HasPlace (peer : Peer) (part : Part) : Type 0 where
-  pub of : is_there part.mark ≡ true → part.peer ≡ peer
-  pub gone : is_there part.mark ≡ false → part ≡ absent
+pub record HasPlace (peer : Peer) (connection : ConnectionState) : Type 0 where
+  pub of : is_there connection.mark ≡ true → connection.peer ≡ peer
+  pub gone : is_there connection.mark ≡ false → connection ≡ no_connection
 
 -- what leaves a connection with its peer
-record StaysWith (old new : Part) : Type 0 where
+record StaysWith (old new : ConnectionState) : Type 0 where
   there : is_there new.mark ≡ is_there old.mark
   peer : new.peer ≡ old.peer
 
 module _ (peer : Peer) where
-  stays-in-place : (change : Part → Part) (part : Part) → StaysWith part (change part) → change absent ≡ absent → HasPlace peer part → HasPlace peer (change part)
-  stays-in-place change part stays none place = record {
+  stays-in-place : (change : ConnectionState → ConnectionState) (connection : ConnectionState) → StaysWith connection (change connection) → change no_connection ≡ no_connection → HasPlace peer connection → HasPlace peer (change connection)
+  stays-in-place change connection stays none place = record {
     of = λ there. stays.peer ∙ place.of (sym stays.there ∙ there);
     gone = λ lacks. ap change (place.gone (sym stays.there ∙ lacks)) ∙ none;
   }
 
-  pub absent_place : HasPlace peer absent
+  pub absent_place : HasPlace peer no_connection
   absent_place = record { of = λ there. cc there; gone = λ lacks. refl }
 
-  come-place : (handle : ℕ) (other : Peer) → other ≡ peer → HasPlace peer (come handle other)
+  come-place : (handle : ℕ) (other : Peer) → other ≡ peer → HasPlace peer (fresh_connection handle other)
   come-place handle other same = record { of = λ there. same; gone = λ lacks. cc lacks }
 
-there-place : (old new : Part) → is_there old.mark ≡ true → is_there new.mark ≡ true → new.peer ≡ old.peer → StaysWith old new
+there-place : (old new : ConnectionState) → is_there old.mark ≡ true → is_there new.mark ≡ true → new.peer ≡ old.peer → StaysWith old new
 there-place old new was is same = record { there = is ∙ sym was; peer = same }
 
 live-there : (mark : Mark) → is_live mark ≡ true → is_there mark ≡ true
@@ -59,148 +59,148 @@ live-there Absent is = cc is
 live-there Live is = refl
 live-there Ending is = refl
 
-stays-itself : (part : Part) → StaysWith part part
-stays-itself part = record { there = refl; peer = refl }
+stays-itself : (connection : ConnectionState) → StaysWith connection connection
+stays-itself connection = record { there = refl; peer = refl }
 
-ending-stays : (part : Part) (reason : ℕ) → is_there part.mark ≡ true → StaysWith part (after_ending part reason)
-ending-stays part reason there = record { there = sym there; peer = refl }
+ending-stays : (connection : ConnectionState) (reason : ℕ) → is_there connection.mark ≡ true → StaysWith connection (after_ending connection reason)
+ending-stays connection reason there = record { there = sym there; peer = refl }
 
-request-stays : (room : Room) (bond : Row) (owed : Bool) (part : Part) (pdu : Octets) → is_there part.mark ≡ true → StaysWith part (request_turn room bond owed part pdu).part
-request-stays room bond owed part pdu there =
-    let asked : Question = request_of pdu (mtu_of room part) in
-    elim (is_due asked && is_full room part) as (λ (full : Bool).
-    StaysWith part (if full then turn_to room bond owed (after_ending part remote_user_terminated) else served room bond owed part pdu asked).part) [
-      | true ↦ ending-stays part remote_user_terminated there
+request-stays : (shared : SharedState) (bond : Row) (owed : Bool) (connection : ConnectionState) (pdu : Octets) → is_there connection.mark ≡ true → StaysWith connection (request_effect shared bond owed connection pdu).connection
+request-stays shared bond owed connection pdu there =
+    let asked : Question = request_of pdu (connection_mtu shared connection) in
+    elim (is_due asked && is_full shared connection) as (λ (full : Bool).
+    StaysWith connection (if full then effect_on_connection shared bond owed (after_ending connection remote_user_terminated) else served shared bond owed connection pdu asked).connection) [
+      | true ↦ ending-stays connection remote_user_terminated there
       | false ↦ record { there = refl; peer = refl }
     ]
 
-channel-stays : (room : Room) (part : Part) (channel : ℕ) (answer : Option Octets) → is_there part.mark ≡ true → StaysWith part (after_channel room part channel answer)
-channel-stays room part channel None there = stays-itself part
-channel-stays room part channel (Some answer) there =
-    elim (is_full room part) as (λ (full : Bool). StaysWith part (if full then after_ending part remote_user_terminated else with_pdus part ((channel, answer) ∷ []))) [
-      | true ↦ ending-stays part remote_user_terminated there
+channel-stays : (shared : SharedState) (connection : ConnectionState) (channel : ℕ) (answer : Option Octets) → is_there connection.mark ≡ true → StaysWith connection (after_other_channel shared connection channel answer)
+channel-stays shared connection channel None there = stays-itself connection
+channel-stays shared connection channel (Some answer) there =
+    elim (is_full shared connection) as (λ (full : Bool). StaysWith connection (if full then after_ending connection remote_user_terminated else with_pdus connection ((channel, answer) ∷ []))) [
+      | true ↦ ending-stays connection remote_user_terminated there
       | false ↦ record { there = refl; peer = refl }
     ]
 
-link-stays : (part : Part) (step : Step) (lost : Bool) → is_there part.mark ≡ true
-    → StaysWith part (if lost then after_ending (with_step part step) authentication_failure else with_step part step)
-link-stays part step true there = record { there = sym there; peer = refl }
-link-stays part step false there = record { there = refl; peer = refl }
+link-stays : (connection : ConnectionState) (step : Step) (lost : Bool) → is_there connection.mark ≡ true
+    → StaysWith connection (if lost then after_ending (with_step connection step) authentication_failure else with_step connection step)
+link-stays connection step true there = record { there = sym there; peer = refl }
+link-stays connection step false there = record { there = refl; peer = refl }
 
-live-stays : (room : Room) (bond : Row) (owed : Bool) (part : Part) (own : Own) → is_there part.mark ≡ true → StaysWith part (live_turn room bond owed part own).part
-unfolding live_turn
-live-stays room bond owed part (Asks pdu) there = request-stays room bond owed part pdu there
-live-stays room bond owed part (Signals channel payload) there = channel-stays room part channel (channel_answer channel payload) there
-live-stays room bond owed part (KeyAsked random_number diversifier) there = record { there = refl; peer = refl }
-live-stays room bond owed part (Encrypted status enabled) there =
-    link-stays part (Encryption status enabled) (lost_encryption (key_of part) (key_of (with_step part (Encryption status enabled)))) there
-live-stays room bond owed part (Refreshed status) there =
-    link-stays part (Refresh status) (lost_encryption (key_of part) (key_of (with_step part (Refresh status)))) there
-live-stays room bond owed part (Authorized until) there = record { there = refl; peer = refl }
-live-stays room bond owed part Ended there = ending-stays part remote_user_terminated there
-live-stays room bond owed part (Connected handle peer) there = stays-itself part
-live-stays room bond owed part Gone there = stays-itself part
+live-stays : (shared : SharedState) (bond : Row) (owed : Bool) (connection : ConnectionState) (own : Own) → is_there connection.mark ≡ true → StaysWith connection (live_effect shared bond owed connection own).connection
+unfolding live_effect
+live-stays shared bond owed connection (Asks pdu) there = request-stays shared bond owed connection pdu there
+live-stays shared bond owed connection (Signals channel payload) there = channel-stays shared connection channel (channel_answer channel payload) there
+live-stays shared bond owed connection (KeyAsked random_number diversifier) there = record { there = refl; peer = refl }
+live-stays shared bond owed connection (Encrypted status enabled) there =
+    link-stays connection (Encryption status enabled) (lost_encryption (key_of connection) (key_of (with_step connection (Encryption status enabled)))) there
+live-stays shared bond owed connection (Refreshed status) there =
+    link-stays connection (Refresh status) (lost_encryption (key_of connection) (key_of (with_step connection (Refresh status)))) there
+live-stays shared bond owed connection (Authorized until) there = record { there = refl; peer = refl }
+live-stays shared bond owed connection Ended there = ending-stays connection remote_user_terminated there
+live-stays shared bond owed connection (Connected handle peer) there = stays-itself connection
+live-stays shared bond owed connection Gone there = stays-itself connection
 
-if-live-place : (peer : Peer) (room : Room) (bond : Row) (owed : Bool) (part : Part) (own : Own) (live : Bool) → is_live part.mark ≡ live → HasPlace peer part
-    → HasPlace peer (if live then live_turn room bond owed part own else turn_to room bond owed part).part
-if-live-place peer room bond owed part own true is place =
-    let there : is_there part.mark ≡ true = live-there part.mark is in
-    let stays = live-stays room bond owed part own there in
+if-live-place : (peer : Peer) (shared : SharedState) (bond : Row) (owed : Bool) (connection : ConnectionState) (own : Own) (live : Bool) → is_live connection.mark ≡ live → HasPlace peer connection
+    → HasPlace peer (if live then live_effect shared bond owed connection own else effect_on_connection shared bond owed connection).connection
+if-live-place peer shared bond owed connection own true is place =
+    let there : is_there connection.mark ≡ true = live-there connection.mark is in
+    let stays = live-stays shared bond owed connection own there in
     record {
       of = λ after. stays.peer ∙ place.of there;
       gone = λ lacks. absurd (cc (lacks, stays.there, there));
     }
-if-live-place peer room bond owed part own false is place = place
+if-live-place peer shared bond owed connection own false is place = place
 
-if-there-place : (peer other : Peer) (part : Part) (handle : ℕ) (there : Bool) → other ≡ peer → HasPlace peer part → HasPlace peer (if there then part else come handle other)
-if-there-place peer other part handle true same place = place
-if-there-place peer other part handle false same place = come-place peer handle other same
+if-there-place : (peer other : Peer) (connection : ConnectionState) (handle : ℕ) (there : Bool) → other ≡ peer → HasPlace peer connection → HasPlace peer (if there then connection else fresh_connection handle other)
+if-there-place peer other connection handle true same place = place
+if-there-place peer other connection handle false same place = come-place peer handle other same
 
 -- a connection comes from this peer
 abbrev pub ComesFrom : Peer → Option Peer → Type 0
 ComesFrom peer coming = (other : Peer) → coming ≡ Some other → other ≡ peer
 
-turn-place : (peer : Peer) (room : Room) (bond : Row) (owed : Bool) (part : Part) (own : Own) → ComesFrom peer (own_coming own) → HasPlace peer part
-    → HasPlace peer (turn_of room bond owed part own).part
-turn-place peer room bond owed part (Connected handle other) from place = if-there-place peer other part handle (is_there part.mark) (from other refl) place
-turn-place peer room bond owed part Gone from place = absent_place peer
-turn-place peer room bond owed part own from place = if-live-place peer room bond owed part own (is_live part.mark) refl place
+turn-place : (peer : Peer) (shared : SharedState) (bond : Row) (owed : Bool) (connection : ConnectionState) (own : Own) → ComesFrom peer (own_connecting own) → HasPlace peer connection
+    → HasPlace peer (effect_of shared bond owed connection own).connection
+turn-place peer shared bond owed connection (Connected handle other) from place = if-there-place peer other connection handle (is_there connection.mark) (from other refl) place
+turn-place peer shared bond owed connection Gone from place = absent_place peer
+turn-place peer shared bond owed connection own from place = if-live-place peer shared bond owed connection own (is_live connection.mark) refl place
 
-completed-stays : (ordinal : Ordinal) (entries : List (Ordinal × ℕ)) (old part : Part) → StaysWith old part → StaysWith old (after_completed ordinal entries part)
-completed-stays ordinal [] old part stays = stays
-completed-stays ordinal (entry ∷ entries) old part stays =
-    completed-stays ordinal entries old (if entry.0 == ordinal then with_completed part entry.1 else part)
-    (elim (entry.0 == ordinal) as (λ (own : Bool). StaysWith old (if own then with_completed part entry.1 else part)) [
+completed-stays : (ordinal : Ordinal) (entries : List (Ordinal × ℕ)) (old connection : ConnectionState) → StaysWith old connection → StaysWith old (after_packets_completed ordinal entries connection)
+completed-stays ordinal [] old connection stays = stays
+completed-stays ordinal (entry ∷ entries) old connection stays =
+    completed-stays ordinal entries old (if entry.0 == ordinal then with_packets_completed connection entry.1 else connection)
+    (elim (entry.0 == ordinal) as (λ (own : Bool). StaysWith old (if own then with_packets_completed connection entry.1 else connection)) [
       | true ↦ record { there = stays.there; peer = stays.peer }
       | false ↦ stays
     ])
 
-completed-none : (count : ℕ) → with_completed absent count ≡ absent
+completed-none : (count : ℕ) → with_packets_completed no_connection count ≡ no_connection
 completed-none count =
     let none : 0 + min count (0 - 0) ≡ 0 = omega arith in
-    ap (λ (done : ℕ). record absent { done = done }) none
+    ap (λ (done : ℕ). record no_connection { done = done }) none
 
-pub completed_gone : (ordinal : Ordinal) (entries : List (Ordinal × ℕ)) → after_completed ordinal entries absent ≡ absent
+pub completed_gone : (ordinal : Ordinal) (entries : List (Ordinal × ℕ)) → after_packets_completed ordinal entries no_connection ≡ no_connection
 completed_gone ordinal [] = refl
 completed_gone ordinal (entry ∷ entries) =
-    elim (entry.0 == ordinal) as (λ is. after_completed ordinal entries (if is then with_completed absent entry.1 else absent) ≡ absent) [
-      | true ↦ ap (after_completed ordinal entries) (completed-none entry.1) ∙ completed_gone ordinal entries
+    elim (entry.0 == ordinal) as (λ is. after_packets_completed ordinal entries (if is then with_packets_completed no_connection entry.1 else no_connection) ≡ no_connection) [
+      | true ↦ ap (after_packets_completed ordinal entries) (completed-none entry.1) ∙ completed_gone ordinal entries
       | false ↦ completed_gone ordinal entries
     ]
 
-replaced-stays : (old new : Contents) (part : Part) → StaysWith part (part_replaced old new part)
-replaced-stays old new part =
-    elim (is_live part.mark) as (λ (live : Bool).
-    StaysWith part (record (if live then record part { said = Dropped ∷ part.said; pending = Rattle.gatt_subs.specs.Indications.after_replacement part.pending } else part) { row = Rattle.att_table.specs.ConfigRow.kept_row old.attributes new.attributes part.row })) [
+replaced-stays : (old new : Contents) (connection : ConnectionState) → StaysWith connection (connection_after_replacement old new connection)
+replaced-stays old new connection =
+    elim (is_live connection.mark) as (λ (live : Bool).
+    StaysWith connection (record (if live then record connection { said = Dropped ∷ connection.said; pending = Rattle.gatt_subs.specs.Indications.after_replacement connection.pending } else connection) { row = Rattle.att_table.specs.ConfigRow.kept_row old.attributes new.attributes connection.row })) [
       | true ↦ record { there = refl; peer = refl }
       | false ↦ record { there = refl; peer = refl }
     ]
 
 of-place : (peer : Peer) (state : State) (ordinal at : Ordinal) (own : Own) (same : Bool) → (ordinal == at) ≡ same
-    → ComesFrom peer (if same then own_coming own else None) → HasPlace peer (state.parts ordinal)
-    → HasPlace peer (if same then (turn_of state.room (state.bonds (state.parts at).peer) (state.owed (state.parts at).peer) (state.parts at) own).part else state.parts ordinal)
+    → ComesFrom peer (if same then own_connecting own else None) → HasPlace peer (state.connections ordinal)
+    → HasPlace peer (if same then (effect_of state.shared (state.bonds (state.connections at).peer) (state.owed (state.connections at).peer) (state.connections at) own).connection else state.connections ordinal)
 of-place peer state ordinal at own true is from place =
-    turn-place peer state.room (state.bonds (state.parts at).peer) (state.owed (state.parts at).peer) (state.parts at) own from
-    (subst (λ (one : Ordinal). HasPlace peer (state.parts one)) (eqb-true ordinal at is) place)
+    turn-place peer state.shared (state.bonds (state.connections at).peer) (state.owed (state.connections at).peer) (state.connections at) own from
+    (subst (λ (one : Ordinal). HasPlace peer (state.connections one)) (eqb-true ordinal at is) place)
 of-place peer state ordinal at own false is from place = place
 
-change-place : (peer : Peer) (ordinal : Ordinal) (state : State) (event : Event) → ComesFrom peer (peer_coming ordinal event) → HasPlace peer (state.parts ordinal)
-    → HasPlace peer ((change_of state event).state.parts ordinal)
+change-place : (peer : Peer) (ordinal : Ordinal) (state : State) (event : Event) → ComesFrom peer (peer_connecting ordinal event) → HasPlace peer (state.connections ordinal)
+    → HasPlace peer ((change_of state event).state.connections ordinal)
 unfolding change_of
 change-place peer ordinal state (Of at own) from place =
     of-place peer state ordinal at own (ordinal == at) refl from place
 change-place peer ordinal state (Completed entries) from place =
-    stays-in-place peer (after_completed ordinal entries) (state.parts ordinal) (completed-stays ordinal entries (state.parts ordinal) (state.parts ordinal) (stays-itself (state.parts ordinal)))
+    stays-in-place peer (after_packets_completed ordinal entries) (state.connections ordinal) (completed-stays ordinal entries (state.connections ordinal) (state.connections ordinal) (stays-itself (state.connections ordinal)))
     (completed_gone ordinal entries) place
 change-place peer ordinal state (Credit allowed opcode status (Some init)) from place = place
 change-place peer ordinal state (Credit allowed opcode status None) from place = place
 change-place peer ordinal state (Update handle value) from place = place
 change-place peer ordinal state (Tick time) from place =
-    stays-in-place peer (λ (part : Part). record part { pending = after_tick part.pending time }) (state.parts ordinal) (record { there = refl; peer = refl }) refl place
+    stays-in-place peer (λ (connection : ConnectionState). record connection { pending = after_tick connection.pending time }) (state.connections ordinal) (record { there = refl; peer = refl }) refl place
 change-place peer ordinal state (Replaced table) from place =
-    stays-in-place peer (part_replaced state.room.table table) (state.parts ordinal) (replaced-stays state.room.table table (state.parts ordinal)) refl place
+    stays-in-place peer (connection_after_replacement state.shared.table table) (state.connections ordinal) (replaced-stays state.shared.table table (state.connections ordinal)) refl place
 change-place peer ordinal state Nothing from place = place
 
-sent-absent : (part : Part) (sent : Bool) → part ≡ absent → (if sent then without_command part else part) ≡ absent
-sent-absent part true is = ap without_command is
-sent-absent part false is = is
+sent-absent : (connection : ConnectionState) (sent : Bool) → connection ≡ no_connection → (if sent then without_command connection else connection) ≡ no_connection
+sent-absent connection true is = ap without_command is
+sent-absent connection false is = is
 
-pub step_place : (peer : Peer) (ordinal : Ordinal) (state : State) (event : Event) → ComesFrom peer (peer_coming ordinal event) → HasPlace peer (state.parts ordinal)
-    → HasPlace peer ((step state event).parts ordinal)
+pub step_place : (peer : Peer) (ordinal : Ordinal) (state : State) (event : Event) → ComesFrom peer (peer_connecting ordinal event) → HasPlace peer (state.connections ordinal)
+    → HasPlace peer ((step state event).connections ordinal)
 unfolding step
 step_place peer ordinal state event from place =
     let change : Change = change_of state event in
-    let part : Part = change.state.parts ordinal in
+    let connection : ConnectionState = change.state.connections ordinal in
     let now = change-place peer ordinal state event from place in
-    let marks : ((step state event).parts ordinal).mark ≡ part.mark = end_keeps (λ (of : Part). of.mark) (λ of pdus pending given reply reason. refl) state event ordinal in
-    let peers : ((step state event).parts ordinal).peer ≡ part.peer = end_keeps (λ (of : Part). of.peer) (λ of pdus pending given reply reason. refl) state event ordinal in
+    let marks : ((step state event).connections ordinal).mark ≡ connection.mark = end_keeps (λ (of : ConnectionState). of.mark) (λ of pdus pending given reply reason. refl) state event ordinal in
+    let peers : ((step state event).connections ordinal).peer ≡ connection.peer = end_keeps (λ (of : ConnectionState). of.peer) (λ of pdus pending given reply reason. refl) state event ordinal in
     record {
       of = λ there. peers ∙ now.of (ap is_there (sym marks) ∙ there);
       gone = λ lacks.
-          let none : part ≡ absent = now.gone (ap is_there (sym marks) ∙ lacks) in
-          sent-absent (parts_finished change ordinal)
-          (nat_lt (length (command_of_init change.state.controller) + count_before ordinal (parts_finished change) change.state.slots) change.state.controller.credit)
-          (ap (finished change.state.room change.state.bonds (change.raised ordinal)) none ∙ only_serves_the_live change.state.room change.state.bonds (change.raised ordinal) absent refl);
+          let none : connection ≡ no_connection = now.gone (ap is_there (sym marks) ∙ lacks) in
+          sent-absent (connections_finished change ordinal)
+          (nat_lt (length (command_of_init change.state.controller) + count_before ordinal (connections_finished change) change.state.slots) change.state.controller.credit)
+          (ap (finished change.state.shared change.state.bonds (change.to_notify ordinal)) none ∙ only_serves_the_live change.state.shared change.state.bonds (change.to_notify ordinal) no_connection refl);
     }
 
 -- Once the controller is initialised, what it told stays.
@@ -209,10 +209,10 @@ abbrev pub IsAny : Contents → Type 0
 IsAny table = Unit
 
 record StaysTold (old new : State) : Type 0 where
-  told : new.room.told ≡ old.room.told
+  told : new.shared.buffers ≡ old.shared.buffers
   ready : is_ready new.controller ≡ true
 
-told-ready : (own : Own) (controller : Controller) → is_ready (told_of own controller) ≡ is_ready controller
+told-ready : (own : Own) (controller : Controller) → is_ready (advertising_after own controller) ≡ is_ready controller
 told-ready (Connected handle peer) controller = refl
 told-ready own controller = refl
 
@@ -234,18 +234,18 @@ unfolding step
 step-told state event possible ready =
     let stays = change-told state event possible ready in record { told = stays.told; ready = stays.ready }
 
-pub run_told : (state : State) (events : List Event) → ArePossible IsAny state events → is_ready state.controller ≡ true → (after_events state events).room.told ≡ state.room.told
+pub run_told : (state : State) (events : List Event) → ArePossible IsAny state events → is_ready state.controller ≡ true → (after_events state events).shared.buffers ≡ state.shared.buffers
 run_told state [] possible ready = refl
 run_told state (event ∷ events) possible ready =
     let stays = step-told state event possible.0 ready in
     run_told (step state event) events possible.1 stays.ready ∙ stays.told
 
 -- a connection is there only then
-pub ready_at : (state : State) (ordinal : Ordinal) (ready : Bool) → is_ready state.controller ≡ ready → IsSettled state → is_there (state.parts ordinal).mark ≡ true → ready ≡ true
+pub ready_at : (state : State) (ordinal : Ordinal) (ready : Bool) → is_ready state.controller ≡ ready → IsSettled state → is_there (state.connections ordinal).mark ≡ true → ready ≡ true
 ready_at state ordinal true is settled there = refl
 ready_at state ordinal false is settled there =
-    let none : state.parts ordinal ≡ absent = settled.gone ordinal (ap (has_slot ordinal) (settled.early is)) in
-    absurd (cc (ap (λ (part : Part). is_there part.mark) (sym none) ∙ there))
+    let none : state.connections ordinal ≡ no_connection = settled.gone ordinal (ap (has_slot ordinal) (settled.early is)) in
+    absurd (cc (ap (λ (connection : ConnectionState). is_there connection.mark) (sym none) ∙ there))
 
 -- A connection comes once, so from one peer.
 
@@ -262,7 +262,7 @@ next_grows state event ordinal below = below
 
 -- who comes is the next one
 came-own : (state : State) (at ordinal : Ordinal) (own : Own) (peer : Peer) (same : Bool) → (ordinal == at) ≡ same → Possible IsAny state (Of at own)
-    → (if same then own_coming own else None) ≡ Some peer → (ordinal ≡ state.next) × (next_after own state.next ≡ state.next + 1)
+    → (if same then own_connecting own else None) ≡ Some peer → (ordinal ≡ state.next) × (next_after own state.next ≡ state.next + 1)
 came-own state at ordinal (Connected handle other) peer true is may found = (eqb-true ordinal at is ∙ may.next, refl)
 came-own state at ordinal Gone peer true is may found = cc found
 came-own state at ordinal (KeyAsked random_number diversifier) peer true is may found = cc found
@@ -278,7 +278,7 @@ record Comes (state : State) (event : Event) (ordinal : Ordinal) : Type 0 where
   itself : ordinal ≡ state.next
   next : (step state event).next ≡ state.next + 1
 
-came : (state : State) (event : Event) (ordinal : Ordinal) (peer : Peer) → Possible IsAny state event → peer_coming ordinal event ≡ Some peer → Comes state event ordinal
+came : (state : State) (event : Event) (ordinal : Ordinal) (peer : Peer) → Possible IsAny state event → peer_connecting ordinal event ≡ Some peer → Comes state event ordinal
 unfolding step change_of
 came state (Of at own) ordinal peer may found =
     let both = came-own state at ordinal own peer (ordinal == at) refl may found in record { itself = both.0; next = both.1 }
@@ -286,7 +286,7 @@ came state event ordinal peer may found = cc found
 
 abbrev pub ComesOnlyFrom : Peer → Ordinal → List Event → Type 0
 ComesOnlyFrom peer ordinal [] = Unit
-ComesOnlyFrom peer ordinal (event ∷ events) = ComesFrom peer (peer_coming ordinal event) × ComesOnlyFrom peer ordinal events
+ComesOnlyFrom peer ordinal (event ∷ events) = ComesFrom peer (peer_connecting ordinal event) × ComesOnlyFrom peer ordinal events
 
 pub none_comes : (peer : Peer) (ordinal : Ordinal) (state : State) (events : List Event) → ArePossible IsAny state events → ordinal < state.next → ComesOnlyFrom peer ordinal events
 none_comes peer ordinal state [] possible below = tt
@@ -295,10 +295,10 @@ none_comes peer ordinal state (event ∷ events) possible below = (
   none_comes peer ordinal (step state event) events possible.1 (next_grows state event ordinal below),
 )
 
-comes-at : (ordinal : Ordinal) (state : State) (event : Event) (events : List Event) (found : Option Peer) → peer_coming ordinal event ≡ found
+comes-at : (ordinal : Ordinal) (state : State) (event : Event) (events : List Event) (found : Option Peer) → peer_connecting ordinal event ≡ found
     → Possible IsAny state event → ArePossible IsAny (step state event) events
     → ComesOnlyFrom (peer_in ordinal events) ordinal events
-    → ComesFrom (option_map_or (λ peer. peer) found (peer_in ordinal events)) (peer_coming ordinal event)
+    → ComesFrom (option_map_or (λ peer. peer) found (peer_in ordinal events)) (peer_connecting ordinal event)
     × ComesOnlyFrom (option_map_or (λ peer. peer) found (peer_in ordinal events)) ordinal events
 comes-at ordinal state event events None is may possible later = ((λ other so. absurd (cc (is, so))), later)
 comes-at ordinal state event events (Some peer) is may possible later =
@@ -313,10 +313,10 @@ comes-at ordinal state event events (Some peer) is may possible later =
 pub comes_only : (ordinal : Ordinal) (state : State) (events : List Event) → ArePossible IsAny state events → ComesOnlyFrom (peer_in ordinal events) ordinal events
 comes_only ordinal state [] possible = tt
 comes_only ordinal state (event ∷ events) possible =
-    comes-at ordinal state event events (peer_coming ordinal event) refl possible.0 possible.1 (comes_only ordinal (step state event) events possible.1)
+    comes-at ordinal state event events (peer_connecting ordinal event) refl possible.0 possible.1 (comes_only ordinal (step state event) events possible.1)
 
 -- at first nobody is there
-pub start_absent : (start : Start) (ordinal : Ordinal) → (state_at start).parts ordinal ≡ absent
+pub start_absent : (start : Start) (ordinal : Ordinal) → (state_at start).connections ordinal ≡ no_connection
 start_absent start ordinal =
     let old : State = before_first_command start in
-    sent-absent absent (nat_lt (length (command_of_init old.controller) + count_before ordinal old.parts old.slots) old.controller.credit) refl
+    sent-absent no_connection (nat_lt (length (command_of_init old.controller) + count_before ordinal old.connections old.slots) old.controller.credit) refl

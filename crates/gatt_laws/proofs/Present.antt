@@ -20,14 +20,14 @@ use Rattle.gatt_laws.specs.machine.Notice.{Notice, Secured, Written}
 use Rattle.gatt_laws.specs.machine.Notice.{Configured, Confirmed, TimedOut, Ending, are_same_facts}
 use Rattle.gatt_laws.specs.machine.Notice.{link_told, write_told, confirmation_told, end_told, live_told}
 use Rattle.gatt_laws.specs.machine.Notice.{late_told, slot_told}
-use Rattle.gatt_laws.specs.machine.Part.{Part, come, is_live, key_of, row_of}
+use Rattle.gatt_laws.specs.machine.ConnectionState.{ConnectionState, fresh_connection, is_live, key_of, row_in_force}
 use Rattle.gatt_laws.specs.laws.Present.{Present, present_after, present_in}
-use Rattle.gatt_laws.specs.machine.Room.{Room}
+use Rattle.gatt_laws.specs.machine.SharedState.{SharedState}
 use Rattle.gatt_laws.specs.laws.Settled.{has_slot}
-use Rattle.gatt_laws.specs.machine.State.{State, slots_for}
-use Rattle.gatt_laws.specs.machine.Turn.{Turn, handles_written}
+use Rattle.gatt_laws.specs.machine.State.{State, slots_when_ready}
+use Rattle.gatt_laws.specs.machine.Effect.{Effect, handles_written}
 use Rattle.gatt_subs.specs.declared.pending.Unconfirmed.{Unconfirmed}
-use Rattle.le_acl.specs.Shares.{usable}
+use Rattle.le_acl.specs.Quotas.{usable}
 use Rattle.le_hci.specs.declared.init.Init.{Init}
 use Rattle.le_hci.specs.declared.init.Init.TheVariants.{Ready}
 use Rattle.le_hci.specs.declared.peer.Peer.{Peer}
@@ -89,51 +89,51 @@ reason-others : (handle : ℕ) (reason : Option ℕ)
 reason-others handle None present = refl
 reason-others handle (Some reason) present = refl
 
-end-others : (handle : ℕ) (new : Part) → AreOthers (end_told handle new)
+end-others : (handle : ℕ) (new : ConnectionState) → AreOthers (end_told handle new)
 end-others handle new =
     either-others [] (map (Ending handle) (option_to_list new.reason)) (is_live new.mark)
     (λ present. refl)
     (reason-others handle new.reason)
 
-live-others : (room : Room) (bond : Row) (part : Part) (own : Own) (turn : Turn)
-    → AreOthers (live_told room bond part own turn)
-live-others room bond part (Asks pdu) turn =
-    both-others (map (write_told room.table.attributes (row_of turn.bond turn.part) part.handle)
-    (handles_written room bond part (Asks pdu)))
-    (if is_confirmation pdu then confirmation_told part.handle part.pending.unconfirmed else [])
-    (writes-others room.table.attributes (row_of turn.bond turn.part) part.handle
-    (handles_written room bond part (Asks pdu)))
-    (either-others (confirmation_told part.handle part.pending.unconfirmed) [] (is_confirmation pdu)
-    (confirmation-others part.handle part.pending.unconfirmed) (λ present. refl))
-live-others room bond part (Encrypted status enabled) turn =
-    link-others part.handle (key_of part) (key_of turn.part)
-live-others room bond part (Refreshed status) turn =
-    link-others part.handle (key_of part) (key_of turn.part)
-live-others room bond part own turn = λ present. refl
+live-others : (shared : SharedState) (bond : Row) (connection : ConnectionState) (own : Own) (effect : Effect)
+    → AreOthers (live_told shared bond connection own effect)
+live-others shared bond connection (Asks pdu) effect =
+    both-others (map (write_told shared.table.attributes (row_in_force effect.bond effect.connection) connection.handle)
+    (handles_written shared bond connection (Asks pdu)))
+    (if is_confirmation pdu then confirmation_told connection.handle connection.pending.unconfirmed else [])
+    (writes-others shared.table.attributes (row_in_force effect.bond effect.connection) connection.handle
+    (handles_written shared bond connection (Asks pdu)))
+    (either-others (confirmation_told connection.handle connection.pending.unconfirmed) [] (is_confirmation pdu)
+    (confirmation-others connection.handle connection.pending.unconfirmed) (λ present. refl))
+live-others shared bond connection (Encrypted status enabled) effect =
+    link-others connection.handle (key_of connection) (key_of effect.connection)
+live-others shared bond connection (Refreshed status) effect =
+    link-others connection.handle (key_of connection) (key_of effect.connection)
+live-others shared bond connection own effect = λ present. refl
 
-pub if-live-others : (room : Room) (bond : Row) (part : Part) (own : Own) (turn : Turn)
-    → AreOthers (if is_live part.mark
-    then live_told room bond part own turn ++ end_told part.handle turn.part else [])
-if-live-others room bond part own turn =
-    either-others (live_told room bond part own turn ++ end_told part.handle turn.part) []
-    (is_live part.mark)
-    (both-others (live_told room bond part own turn) (end_told part.handle turn.part)
-    (live-others room bond part own turn) (end-others part.handle turn.part)) (λ present. refl)
+pub if-live-others : (shared : SharedState) (bond : Row) (connection : ConnectionState) (own : Own) (effect : Effect)
+    → AreOthers (if is_live connection.mark
+    then live_told shared bond connection own effect ++ end_told connection.handle effect.connection else [])
+if-live-others shared bond connection own effect =
+    either-others (live_told shared bond connection own effect ++ end_told connection.handle effect.connection) []
+    (is_live connection.mark)
+    (both-others (live_told shared bond connection own effect) (end_told connection.handle effect.connection)
+    (live-others shared bond connection own effect) (end-others connection.handle effect.connection)) (λ present. refl)
 
 pub slots-others : (state : State) (time : ℕ) (slots : Slots)
     → AreOthers (flat_map (slot_told state time) slots)
 slots-others state time [] = λ present. refl
 slots-others state time (None ∷ slots) = slots-others state time slots
 slots-others state time (Some ordinal ∷ slots) =
-    let part : Part = state.parts ordinal in
-    both-others (late_told time part) (flat_map (slot_told state time) slots)
-    (either-others (TimedOut part.handle ∷ []) [] _ (λ present. refl) (λ present. refl))
+    let connection : ConnectionState = state.connections ordinal in
+    both-others (late_told time connection) (flat_map (slot_told state time) slots)
+    (either-others (TimedOut connection.handle ∷ []) [] _ (λ present. refl) (λ present. refl))
     (slots-others state time slots)
 
 -- Who is found at a handle.
 
 abbrev pub Parts : Type 0
-Parts = Ordinal → Part
+Parts = Ordinal → ConnectionState
 
 abbrev pub found_at : Parts → Slots → ℕ → Option Ordinal
 found_at parts slots handle = ordinal_where (λ ordinal. (parts ordinal).handle == handle) slots
@@ -196,7 +196,7 @@ none-has parts (Some one ∷ slots) handle ordinal none has =
 
 -- a connection takes a slot
 module _ (old new : Parts) (at : Ordinal) (handle : ℕ) (peer : Peer)
-    (is : IsNamedAs (come handle peer) (new at)) where
+    (is : IsNamedAs (fresh_connection handle peer) (new at)) where
   -- an earlier slot is of another handle
   later-one : (one other is_new : Bool) (own : Peer) (rest : Option Peer)
       → (is_new ≡ true → one ≡ false)
@@ -243,21 +243,21 @@ abbrev no-peer : Option Peer
 no-peer = None
 
 module _ (old new : Parts) (at : Ordinal) where
-  abbrev pub gone : ℕ
-  gone = (old at).handle
+  abbrev pub sent : ℕ
+  sent = (old at).handle
 
   freed-one : (asked : ℕ) (ordinal : Ordinal) (slots : Slots) (same : Bool) → (ordinal == at) ≡ same
-      → ((old ordinal).handle ≡ gone → ordinal ≡ at)
+      → ((old ordinal).handle ≡ sent → ordinal ≡ at)
       → (same ≡ false → IsNamedAs (old ordinal) (new ordinal))
       → peer_at new (with_freed at slots) asked
-      ≡ (if gone == asked then None else peer_at old slots asked)
+      ≡ (if sent == asked then None else peer_at old slots asked)
       → peer_at new ((if same then None else Some ordinal) ∷ with_freed at slots) asked
-      ≡ (if gone == asked then None else if (old ordinal).handle == asked then Some
+      ≡ (if sent == asked then None else if (old ordinal).handle == asked then Some
       (old ordinal).peer else peer_at old slots asked)
   freed-one asked ordinal slots true is alone named later =
-      later ∙ own-or-not (gone == asked) refl
+      later ∙ own-or-not (sent == asked) refl
     where
-      own-or-not : (own : Bool) → (gone == asked) ≡ own
+      own-or-not : (own : Bool) → (sent == asked) ≡ own
           → (if own then None else peer_at old slots asked)
           ≡ (if own then None else if (old ordinal).handle == asked then Some (old ordinal).peer
           else peer_at old slots asked)
@@ -271,16 +271,16 @@ module _ (old new : Parts) (at : Ordinal) where
       let own = named refl in
       peer-first new ordinal (with_freed at slots) asked
       ∙ (λ i. if own.handle i == asked then Some (own.peer i) else later i)
-      ∙ apart ((old ordinal).handle == asked) (gone == asked) refl refl
+      ∙ apart ((old ordinal).handle == asked) (sent == asked) refl refl
     where
-      apart : (one other : Bool) → ((old ordinal).handle == asked) ≡ one → (gone == asked) ≡ other
+      apart : (one other : Bool) → ((old ordinal).handle == asked) ≡ one → (sent == asked) ≡ other
           → (if one then Some (old ordinal).peer else if other then None
           else peer_at old slots asked)
           ≡ (if other then None else if one then Some (old ordinal).peer
           else peer_at old slots asked)
       apart true true first second =
-          let equal : (old ordinal).handle ≡ gone =
-          eqb-true (old ordinal).handle asked first ∙ sym (eqb-true gone asked second) in
+          let equal : (old ordinal).handle ≡ sent =
+          eqb-true (old ordinal).handle asked first ∙ sym (eqb-true sent asked second) in
           let same : (ordinal == at) ≡ true = eq-eqb ordinal at (alone equal) in
           absurd (cc (same, is))
       apart true false first second = refl
@@ -288,13 +288,13 @@ module _ (old new : Parts) (at : Ordinal) where
       apart false false first second = refl
 
   pub freed-peers : (slots : Slots) (asked : ℕ)
-      → ((ordinal : Ordinal) → has_slot ordinal slots ≡ true → (old ordinal).handle ≡ gone
+      → ((ordinal : Ordinal) → has_slot ordinal slots ≡ true → (old ordinal).handle ≡ sent
       → ordinal ≡ at)
       → ((ordinal : Ordinal) → (ordinal == at) ≡ false → IsNamedAs (old ordinal) (new ordinal))
       → peer_at new (with_freed at slots) asked
-      ≡ (if gone == asked then None else peer_at old slots asked)
+      ≡ (if sent == asked then None else peer_at old slots asked)
   freed-peers [] asked alone named =
-      elim (gone == asked) as (λ (is : Bool). no-peer
+      elim (sent == asked) as (λ (is : Bool). no-peer
       ≡ (if is then no-peer else no-peer)) [ true ↦ refl | false ↦ refl ]
   freed-peers (None ∷ slots) asked alone named = freed-peers slots asked alone named
   freed-peers (Some ordinal ∷ slots) asked alone named =
@@ -302,7 +302,7 @@ module _ (old new : Parts) (at : Ordinal) where
       ap (λ (same : Bool). same || has_slot ordinal slots) (eq-eqb ordinal ordinal refl) in
       freed-one asked ordinal slots (ordinal == at) refl (alone ordinal here) (named ordinal)
       (freed-peers slots asked (λ one has. alone one (or-has (ordinal == one) _ has)) named)
-      ∙ ap (λ (of : Option Peer). if gone == asked then None else of)
+      ∙ ap (λ (of : Option Peer). if sent == asked then None else of)
       (sym (peer-first old ordinal slots asked))
 
 -- and where it has none, nothing is freed
@@ -325,7 +325,7 @@ free-peers parts zero handle = refl
 free-peers parts (suc count) handle = free-peers parts count handle
 
 pub init-peers : (parts : Parts) (count : ℕ) (init : Init) (slots : Slots) (handle : ℕ) → slots ≡ []
-    → peer_at parts (slots_for count init slots) handle ≡ peer_at parts slots handle
+    → peer_at parts (slots_when_ready count init slots) handle ≡ peer_at parts slots handle
 init-peers parts count (Ready length packets) slots handle none =
     free-peers parts (usable count packets) handle
     ∙ ap (λ (of : Slots). peer_at parts of handle) (sym none)

@@ -18,22 +18,22 @@ use Rattle.att_table.specs.Table.{Contents}
 use Rattle.gatt_conn.specs.Transcript.{Dropped}
 use Rattle.gatt_laws.proofs.Settled.{stays_settled, settled_at_first}
 use Rattle.gatt_laws.specs.machine.Controller.{command_of_init, count_before, without_command, is_ready}
-use Rattle.gatt_laws.specs.machine.Input.{at_start, course}
+use Rattle.gatt_laws.specs.machine.Input.{run_at_start, run}
 use Rattle.gatt_laws.specs.laws.Possible.{Possible}
-use Rattle.gatt_laws.specs.machine.Room.{Room, Bonds, share_of, size_of}
+use Rattle.gatt_laws.specs.machine.SharedState.{SharedState, Bonds, quota_of, fragment_size_of}
 use Rattle.gatt_laws.specs.laws.Settled.{has_slot, IsSettled}
 use Rattle.gatt_laws.specs.machine.Start.{before_first_command}
-use Rattle.gatt_laws.specs.machine.State.{State, Change, own_change, with_completed, after_completed, part_replaced, change_of, finished, parts_finished, step}
-use Rattle.gatt_laws.specs.machine.Turn.{turn_to, served, is_full, request_turn, after_channel, channel_answer, with_step, lost_encryption, live_turn, turn_of, remote_user_terminated, authentication_failure}
+use Rattle.gatt_laws.specs.machine.State.{State, Change, own_change, with_packets_completed, after_packets_completed, connection_after_replacement, change_of, finished, connections_finished, step}
+use Rattle.gatt_laws.specs.machine.Effect.{effect_on_connection, served, is_full, request_effect, after_other_channel, channel_answer, with_step, lost_encryption, live_effect, effect_of, remote_user_terminated, authentication_failure}
 use Rattle.gatt_subs.specs.Indications.{after_replacement}
 use Rattle.le_acl.specs.History.{packets_allowed}
 use Rattle.le_security.specs.Link.{Step, Encryption, Refresh}
 use Rattle.octets.specs.Number.{Octets}
 use Rattle.gatt_laws.specs.machine.Event.{Ordinal, Own, Event, Connected, Gone, Encrypted, Refreshed, Asks, Signals, Of, Completed, Credit, Update, Tick, Replaced, Nothing}
-use Rattle.gatt_laws.specs.machine.Heard.{Heard, hearer_of, after_hearing, heard_raised, hearer_after, heard_in_turn, att_pdu}
-use Rattle.gatt_laws.specs.machine.Part.{Part, absent, come, is_live, is_there, key_of, row_of, mtu_of, connection_of, backlog_of, with_pdus, after_ending}
+use Rattle.gatt_laws.specs.machine.Heard.{Heard, hearer_of, after_hearing, heard_when_notifying, hearer_after, heard_in_turn, att_pdu}
+use Rattle.gatt_laws.specs.machine.ConnectionState.{ConnectionState, no_connection, fresh_connection, is_live, is_there, key_of, row_in_force, connection_mtu, bearer_of, backlog_of, with_pdus, after_ending}
 use Rattle.gatt_laws.specs.laws.Queued.{IsWithinBounds, HasBoundedQueues, AlwaysHasBoundedQueues}
-use Rattle.gatt_subs.specs.Indications.{first_of, from_due, is_notified, may_indicate, released_handle}
+use Rattle.gatt_subs.specs.Indications.{first_handle, from_due, is_notified, may_indicate, indicated_handle}
 use Rattle.gatt_subs.specs.Hearing.{is_indicated}
 use Rattle.gatt_subs.specs.Told.{Hearer, notification_of, indication_of}
 use Rattle.le_acl.proofs.Shares.{fragments-some, rest-push}
@@ -44,18 +44,18 @@ use Rattle.le_acl.specs.Packets.{Pdu, fragments_of, packets_of, total, rest}
 rest-most : (given : ℕ) (queued : List (List Fragment)) → length (rest given queued) ≤ length queued
 rest-most given [] = omega arith
 rest-most given (packets ∷ queued) = elim (cases_lt given (length packets)) [
-  | inl part ↦ rw (lt-ltb given (length packets) part) (omega arith)
+  | inl connection ↦ rw (lt-ltb given (length packets) connection) (omega arith)
   | inr past ↦ rw (le-ltb given (length packets) past) (omega (arith, rest-most (given - length packets) queued))
 ]
 
 rest-fewer : (given more : ℕ) (queued : List (List Fragment)) → given ≤ more → length (rest more queued) ≤ length (rest given queued)
 rest-fewer given more [] le = omega arith
 rest-fewer given more (packets ∷ queued) le = elim (cases_lt given (length packets)) [
-  | inl part ↦
+  | inl connection ↦
       elim (cases_lt more (length packets)) [
-        | inl both ↦ rw (lt-ltb given (length packets) part) (rw (lt-ltb more (length packets) both) (omega arith))
+        | inl both ↦ rw (lt-ltb given (length packets) connection) (rw (lt-ltb more (length packets) both) (omega arith))
         | inr past ↦
-            rw (lt-ltb given (length packets) part) (rw (le-ltb more (length packets) past) (omega (arith, rest-most (more - length packets) queued)))
+            rw (lt-ltb given (length packets) connection) (rw (le-ltb more (length packets) past) (omega (arith, rest-most (more - length packets) queued)))
       ]
   | inr past ↦
       rw (le-ltb given (length packets) past) (rw (le-ltb more (length packets) (omega arith))
@@ -107,30 +107,30 @@ one-or-none (Some x) count few = omega arith
 one-or-none None count few = omega arith
 
 raised-few : (attributes : List Attr) (values : Values) (hearer : Hearer) (handle : Handle) → hearer.backlog ≤ 16
-    → hearer.backlog + length (heard_raised attributes values hearer handle).responses ≤ 16
+    → hearer.backlog + length (heard_when_notifying attributes values hearer handle).responses ≤ 16
 raised-few attributes values hearer handle few =
     elim (hearer.live && is_notified hearer.pending attributes hearer.row hearer.standing handle hearer.backlog) as
     (λ (tells : Bool). (hearer.live && is_notified hearer.pending attributes hearer.row hearer.standing handle hearer.backlog) ≡ tells
     → hearer.backlog + length (option_to_list (if tells then Some (notification_of values handle hearer.mtu) else None)) ≤ 16) [
       | true ↦ λ is.
-          let room : nat_lt hearer.backlog 8 ≡ true = last-true _ _ (last-true hearer.live _ is) in
-          omega (arith, ltb-true hearer.backlog 8 room)
+          let shared : nat_lt hearer.backlog 8 ≡ true = last-true _ _ (last-true hearer.live _ is) in
+          omega (arith, ltb-true hearer.backlog 8 shared)
       | false ↦ λ is. omega (arith, few)
     ] refl
 
 released-if : (attributes : List Attr) (values : Values) (hearer : Hearer) (live : Bool) → hearer.backlog ≤ 16
     → hearer.backlog + length (option_to_list (if live then option_map (λ handle. indication_of values handle hearer.mtu)
-    (released_handle hearer.pending attributes hearer.row hearer.standing hearer.backlog) else None)) ≤ 16
+    (indicated_handle hearer.pending attributes hearer.row hearer.standing hearer.backlog) else None)) ≤ 16
 released-if attributes values hearer false few = omega (arith, few)
 released-if attributes values hearer true few =
     elim (may_indicate hearer.pending hearer.backlog) as
     (λ (may : Bool). may_indicate hearer.pending hearer.backlog ≡ may
     → hearer.backlog + length (option_to_list (option_map (λ handle. indication_of values handle hearer.mtu)
-    (if may then first_of (from_due (is_indicated attributes hearer.row hearer.standing) hearer.pending.waiting) else None))) ≤ 16) [
+    (if may then first_handle (from_due (is_indicated attributes hearer.row hearer.standing) hearer.pending.waiting) else None))) ≤ 16) [
       | true ↦ λ is.
-          let room : nat_lt hearer.backlog 8 ≡ true = last-true _ _ is in
-          one-or-none (option_map (λ handle. indication_of values handle hearer.mtu) (first_of (from_due (is_indicated attributes hearer.row hearer.standing) hearer.pending.waiting)))
-          hearer.backlog (omega (arith, ltb-true hearer.backlog 8 room))
+          let shared : nat_lt hearer.backlog 8 ≡ true = last-true _ _ is in
+          one-or-none (option_map (λ handle. indication_of values handle hearer.mtu) (first_handle (from_due (is_indicated attributes hearer.row hearer.standing) hearer.pending.waiting)))
+          hearer.backlog (omega (arith, ltb-true hearer.backlog 8 shared))
       | false ↦ λ is. omega (arith, few)
     ] refl
 
@@ -138,7 +138,7 @@ heard-few : (attributes : List Attr) (values : Values) (hearer : Hearer) (now : 
     → hearer.backlog + length (heard_in_turn attributes values hearer now handles).responses ≤ 16
 heard-few attributes values hearer now [] few = released-if attributes values hearer hearer.live few
 heard-few attributes values hearer now (handle ∷ handles) few =
-    let first : Heard = heard_raised attributes values hearer handle in
+    let first : Heard = heard_when_notifying attributes values hearer handle in
     let others : Heard = heard_in_turn attributes values (hearer_after hearer first) now handles in
     omega (
       arith,
@@ -149,153 +149,153 @@ heard-few attributes values hearer now (handle ∷ handles) few =
 -- one connection
 few-answers : (count : ℕ) (answer : Option Response) (due full : Bool) → is_some answer ≡ due → (due && full) ≡ false → (full ≡ false → count < 16) → count ≤ 16
     → count + length (map att_pdu (option_to_list answer)) ≤ 16
-few-answers count (Some response) true false is room below few = omega (arith, below refl)
-few-answers count (Some response) true true is room below few = cc room
-few-answers count (Some response) false full is room below few = cc is
-few-answers count None due full is room below few = omega (arith, few)
+few-answers count (Some response) true false is shared below few = omega (arith, below refl)
+few-answers count (Some response) true true is shared below few = cc shared
+few-answers count (Some response) false full is shared below few = cc is
+few-answers count None due full is shared below few = omega (arith, few)
 
 module _ (share size : ℕ) where
-  abbrev Within : Part → Type 0
-  Within part = IsWithinBounds share size part
+  abbrev Within : ConnectionState → Type 0
+  Within connection = IsWithinBounds share size connection
 
-  nothing-queued : (part : Part) → part.pdus ≡ [] → part.given ≡ 0 → part.done ≡ 0 → Within part
-  nothing-queued part none given done = record {
-    few = subst (λ (pdus : List Pdu). length (rest part.given (map (fragments_of size) pdus)) ≤ 16) (sym none) (omega arith);
+  nothing-queued : (connection : ConnectionState) → connection.pdus ≡ [] → connection.given ≡ 0 → connection.done ≡ 0 → Within connection
+  nothing-queued connection none given done = record {
+    few = subst (λ (pdus : List Pdu). length (rest connection.given (map (fragments_of size) pdus)) ≤ 16) (sym none) (omega arith);
     given = omega (arith, given);
     within = omega (arith, given);
     done = omega (arith, done);
   }
 
-  with-more : (part : Part) (more : List Pdu) → Within part → left size part.given part.pdus + length more ≤ 16 → Within (with_pdus part more)
+  with-more : (connection : ConnectionState) (more : List Pdu) → Within connection → left size connection.given connection.pdus + length more ≤ 16 → Within (with_pdus connection more)
   unfolding left
-  with-more part more is few =
-      let queued = has-more size part.given part.pdus more is.given in
+  with-more connection more is few =
+      let queued = has-more size connection.given connection.pdus more is.given in
       record { few = omega (arith, queued.count, few); given = queued.total; within = is.within; done = is.done }
 
   -- a slot is full
   not-full : (count : ℕ) → nat_le 16 count ≡ false → count < 16
   not-full count is = omega (arith, leb-false 16 count is)
 
-  module _ (room : Room) (shares : share_of room.slots room.told ≡ share) (sizes : size_of room.told ≡ size) where
-    below : (part : Part) → is_full room part ≡ false → left size part.given part.pdus < 16
+  module _ (shared : SharedState) (shares : quota_of shared.slots shared.buffers ≡ share) (sizes : fragment_size_of shared.buffers ≡ size) where
+    below : (connection : ConnectionState) → is_full shared connection ≡ false → left size connection.given connection.pdus < 16
     unfolding left
-    below part is =
-        subst (λ (n : ℕ). length (rest part.given (map (fragments_of n) part.pdus)) < 16) sizes (not-full (backlog_of room part) is)
+    below connection is =
+        subst (λ (n : ℕ). length (rest connection.given (map (fragments_of n) connection.pdus)) < 16) sizes (not-full (backlog_of shared connection) is)
 
-    ending : (part : Part) (reason : ℕ) → Within part → Within (after_ending part reason)
-    ending part reason is = record { few = is.few; given = is.given; within = is.within; done = is.done }
+    ending : (connection : ConnectionState) (reason : ℕ) → Within connection → Within (after_ending connection reason)
+    ending connection reason is = record { few = is.few; given = is.given; within = is.within; done = is.done }
 
-    served-within : (bond : Row) (owed : Bool) (part : Part) (pdu : Octets) (asked : Question) → (is_due asked && is_full room part) ≡ false → Within part
-        → Within (served room bond owed part pdu asked).part
+    served-within : (bond : Row) (owed : Bool) (connection : ConnectionState) (pdu : Octets) (asked : Question) → (is_due asked && is_full shared connection) ≡ false → Within connection
+        → Within (served shared bond owed connection pdu asked).connection
     unfolding left
-    served-within bond owed part pdu asked room_is is =
-        let answer = answer_to room.table (row_of bond part) (connection_of room part) asked in
-        let more : Within (with_pdus part (map att_pdu (option_to_list answer))) =
-        with-more part (map att_pdu (option_to_list answer)) is
-        (few-answers (left size part.given part.pdus) answer (is_due asked) (is_full room part)
-        (answered_where_due room.table (row_of bond part) (connection_of room part) asked) room_is (below part) is.few) in
+    served-within bond owed connection pdu asked room_is is =
+        let answer = answer_to shared.table (row_in_force bond connection) (bearer_of shared connection) asked in
+        let more : Within (with_pdus connection (map att_pdu (option_to_list answer))) =
+        with-more connection (map att_pdu (option_to_list answer)) is
+        (few-answers (left size connection.given connection.pdus) answer (is_due asked) (is_full shared connection)
+        (answered_where_due shared.table (row_in_force bond connection) (bearer_of shared connection) asked) room_is (below connection) is.few) in
         record { few = more.few; given = more.given; within = more.within; done = more.done }
 
-    request-within : (bond : Row) (owed : Bool) (part : Part) (pdu : Octets) → Within part → Within (request_turn room bond owed part pdu).part
-    request-within bond owed part pdu is =
-        let asked : Question = request_of pdu (mtu_of room part) in
-        elim (is_due asked && is_full room part) as (λ (full : Bool). (is_due asked && is_full room part) ≡ full
-        → Within (if full then turn_to room bond owed (after_ending part remote_user_terminated) else served room bond owed part pdu asked).part) [
-          | true ↦ λ full. ending part remote_user_terminated is
-          | false ↦ λ free. served-within bond owed part pdu asked free is
+    request-within : (bond : Row) (owed : Bool) (connection : ConnectionState) (pdu : Octets) → Within connection → Within (request_effect shared bond owed connection pdu).connection
+    request-within bond owed connection pdu is =
+        let asked : Question = request_of pdu (connection_mtu shared connection) in
+        elim (is_due asked && is_full shared connection) as (λ (full : Bool). (is_due asked && is_full shared connection) ≡ full
+        → Within (if full then effect_on_connection shared bond owed (after_ending connection remote_user_terminated) else served shared bond owed connection pdu asked).connection) [
+          | true ↦ λ full. ending connection remote_user_terminated is
+          | false ↦ λ free. served-within bond owed connection pdu asked free is
         ] refl
 
-    channel-within : (part : Part) (channel : ℕ) (answer : Option Octets) → Within part → Within (after_channel room part channel answer)
+    channel-within : (connection : ConnectionState) (channel : ℕ) (answer : Option Octets) → Within connection → Within (after_other_channel shared connection channel answer)
     unfolding left
-    channel-within part channel None is = is
-    channel-within part channel (Some answer) is =
-        elim (is_full room part) as (λ (full : Bool). is_full room part ≡ full
-        → Within (if full then after_ending part remote_user_terminated else with_pdus part ((channel, answer) ∷ []))) [
-          | true ↦ λ full. ending part remote_user_terminated is
-          | false ↦ λ free. with-more part ((channel, answer) ∷ []) is (omega (arith, below part free))
+    channel-within connection channel None is = is
+    channel-within connection channel (Some answer) is =
+        elim (is_full shared connection) as (λ (full : Bool). is_full shared connection ≡ full
+        → Within (if full then after_ending connection remote_user_terminated else with_pdus connection ((channel, answer) ∷ []))) [
+          | true ↦ λ full. ending connection remote_user_terminated is
+          | false ↦ λ free. with-more connection ((channel, answer) ∷ []) is (omega (arith, below connection free))
         ] refl
 
-    link-within : (part : Part) (step : Step) (lost : Bool) → Within part
-        → Within (if lost then after_ending (with_step part step) authentication_failure else with_step part step)
-    link-within part step true is = record { few = is.few; given = is.given; within = is.within; done = is.done }
-    link-within part step false is = record { few = is.few; given = is.given; within = is.within; done = is.done }
+    link-within : (connection : ConnectionState) (step : Step) (lost : Bool) → Within connection
+        → Within (if lost then after_ending (with_step connection step) authentication_failure else with_step connection step)
+    link-within connection step true is = record { few = is.few; given = is.given; within = is.within; done = is.done }
+    link-within connection step false is = record { few = is.few; given = is.given; within = is.within; done = is.done }
 
-    live-within : (bond : Row) (owed : Bool) (part : Part) (own : Own) → Within part → Within (live_turn room bond owed part own).part
-    unfolding live_turn
-    live-within bond owed part (Asks pdu) is = request-within bond owed part pdu is
-    live-within bond owed part (Signals channel payload) is = channel-within part channel (channel_answer channel payload) is
-    live-within bond owed part (Encrypted status enabled) is =
-        link-within part (Encryption status enabled) (lost_encryption (key_of part) (key_of (with_step part (Encryption status enabled)))) is
-    live-within bond owed part (Refreshed status) is =
-        link-within part (Refresh status) (lost_encryption (key_of part) (key_of (with_step part (Refresh status)))) is
-    live-within bond owed part (Connected handle peer) is = is
-    live-within bond owed part Gone is = is
-    live-within bond owed part own is = record { few = is.few; given = is.given; within = is.within; done = is.done }
+    live-within : (bond : Row) (owed : Bool) (connection : ConnectionState) (own : Own) → Within connection → Within (live_effect shared bond owed connection own).connection
+    unfolding live_effect
+    live-within bond owed connection (Asks pdu) is = request-within bond owed connection pdu is
+    live-within bond owed connection (Signals channel payload) is = channel-within connection channel (channel_answer channel payload) is
+    live-within bond owed connection (Encrypted status enabled) is =
+        link-within connection (Encryption status enabled) (lost_encryption (key_of connection) (key_of (with_step connection (Encryption status enabled)))) is
+    live-within bond owed connection (Refreshed status) is =
+        link-within connection (Refresh status) (lost_encryption (key_of connection) (key_of (with_step connection (Refresh status)))) is
+    live-within bond owed connection (Connected handle peer) is = is
+    live-within bond owed connection Gone is = is
+    live-within bond owed connection own is = record { few = is.few; given = is.given; within = is.within; done = is.done }
 
-    if-live : (bond : Row) (owed : Bool) (part : Part) (own : Own) (live : Bool) → Within part
-        → Within (if live then live_turn room bond owed part own else turn_to room bond owed part).part
-    if-live bond owed part own true is = live-within bond owed part own is
-    if-live bond owed part own false is = is
+    if-live : (bond : Row) (owed : Bool) (connection : ConnectionState) (own : Own) (live : Bool) → Within connection
+        → Within (if live then live_effect shared bond owed connection own else effect_on_connection shared bond owed connection).connection
+    if-live bond owed connection own true is = live-within bond owed connection own is
+    if-live bond owed connection own false is = is
 
-    turn-within : (bond : Row) (owed : Bool) (part : Part) (own : Own) → Within part → Within (turn_of room bond owed part own).part
-    turn-within bond owed part (Connected handle peer) is =
-        elim (is_there part.mark) as (λ (there : Bool). Within (if there then part else come handle peer)) [ true ↦ is | false ↦ nothing-queued (come handle peer) refl refl refl ]
-    turn-within bond owed part Gone is = nothing-queued absent refl refl refl
-    turn-within bond owed part own is = if-live bond owed part own (is_live part.mark) is
+    turn-within : (bond : Row) (owed : Bool) (connection : ConnectionState) (own : Own) → Within connection → Within (effect_of shared bond owed connection own).connection
+    turn-within bond owed connection (Connected handle peer) is =
+        elim (is_there connection.mark) as (λ (there : Bool). Within (if there then connection else fresh_connection handle peer)) [ true ↦ is | false ↦ nothing-queued (fresh_connection handle peer) refl refl refl ]
+    turn-within bond owed connection Gone is = nothing-queued no_connection refl refl refl
+    turn-within bond owed connection own is = if-live bond owed connection own (is_live connection.mark) is
 
     -- and at the end of an event
-    pub heard-within : (bond : Row) (handles : List Handle) (part : Part) → Within part → Within (after_hearing room bond handles part)
+    pub heard-within : (bond : Row) (handles : List Handle) (connection : ConnectionState) → Within connection → Within (after_hearing shared bond handles connection)
     unfolding after_hearing left
-    heard-within bond handles part is =
-        let hearer : Hearer = hearer_of room bond part in
-        let heard : Heard = heard_in_turn room.table.attributes room.table.values hearer room.time handles in
-        let few : backlog_of room part ≤ 16 = subst (λ (n : ℕ). length (rest part.given (map (fragments_of n) part.pdus)) ≤ 16) (sym sizes) is.few in
-        let told : backlog_of room part + length heard.responses ≤ 16 = heard-few room.table.attributes room.table.values hearer room.time handles few in
-        let same : backlog_of room part ≡ left size part.given part.pdus = ap (λ (n : ℕ). length (rest part.given (map (fragments_of n) part.pdus))) sizes in
-        let more : Within (with_pdus part (map att_pdu heard.responses)) =
-        with-more part (map att_pdu heard.responses) is (omega (arith, told, same, length-map heard.responses att_pdu)) in
+    heard-within bond handles connection is =
+        let hearer : Hearer = hearer_of shared bond connection in
+        let heard : Heard = heard_in_turn shared.table.attributes shared.table.values hearer shared.time handles in
+        let few : backlog_of shared connection ≤ 16 = subst (λ (n : ℕ). length (rest connection.given (map (fragments_of n) connection.pdus)) ≤ 16) (sym sizes) is.few in
+        let told : backlog_of shared connection + length heard.responses ≤ 16 = heard-few shared.table.attributes shared.table.values hearer shared.time handles few in
+        let same : backlog_of shared connection ≡ left size connection.given connection.pdus = ap (λ (n : ℕ). length (rest connection.given (map (fragments_of n) connection.pdus))) sizes in
+        let more : Within (with_pdus connection (map att_pdu heard.responses)) =
+        with-more connection (map att_pdu heard.responses) is (omega (arith, told, same, length-map heard.responses att_pdu)) in
         record { few = more.few; given = more.given; within = more.within; done = more.done }
 
-    given-within : (part : Part) (live : Bool) → Within part
-        → Within (if live then record part { given = packets_allowed (share_of room.slots room.told) (size_of room.told) part.pdus part.done } else part)
-    given-within part false is = is
-    given-within part true is =
-        let given : ℕ = packets_allowed (share_of room.slots room.told) (size_of room.told) part.pdus part.done in
-        let same : given ≡ min (total size part.pdus) (share + part.done) =
-        ap (λ (n : ℕ). min (total n part.pdus) (share_of room.slots room.told + part.done)) sizes ∙ ap (λ (n : ℕ). min (total size part.pdus) (n + part.done)) shares in
-        let more : part.given ≤ given = omega (arith, same, is.given, is.within) in
+    given-within : (connection : ConnectionState) (live : Bool) → Within connection
+        → Within (if live then record connection { given = packets_allowed (quota_of shared.slots shared.buffers) (fragment_size_of shared.buffers) connection.pdus connection.done } else connection)
+    given-within connection false is = is
+    given-within connection true is =
+        let given : ℕ = packets_allowed (quota_of shared.slots shared.buffers) (fragment_size_of shared.buffers) connection.pdus connection.done in
+        let same : given ≡ min (total size connection.pdus) (share + connection.done) =
+        ap (λ (n : ℕ). min (total n connection.pdus) (quota_of shared.slots shared.buffers + connection.done)) sizes ∙ ap (λ (n : ℕ). min (total size connection.pdus) (n + connection.done)) shares in
+        let more : connection.given ≤ given = omega (arith, same, is.given, is.within) in
         record {
-          few = omega (arith, rest-fewer part.given given (map (fragments_of size) part.pdus) more, is.few);
+          few = omega (arith, rest-fewer connection.given given (map (fragments_of size) connection.pdus) more, is.few);
           given = omega (arith, same);
           within = omega (arith, same);
           done = omega (arith, is.done, more);
         }
 
-    finished-within : (bonds : Bonds) (handles : List Handle) (part : Part) → Within part → Within (finished room bonds handles part)
-    finished-within bonds handles part is =
-        let heard : Part = after_hearing room (bonds part.peer) handles part in
-        given-within heard (is_live heard.mark) (heard-within (bonds part.peer) handles part is)
+    finished-within : (bonds : Bonds) (handles : List Handle) (connection : ConnectionState) → Within connection → Within (finished shared bonds handles connection)
+    finished-within bonds handles connection is =
+        let heard : ConnectionState = after_hearing shared (bonds connection.peer) handles connection in
+        given-within heard (is_live heard.mark) (heard-within (bonds connection.peer) handles connection is)
 
-  sent-within : (part : Part) (sent : Bool) → Within part → Within (if sent then without_command part else part)
-  sent-within part true is =
-      elim (is_some part.reason) as (λ (has : Bool). Within (if has then record part { reason = None } else record part { reply = None })) [
+  sent-within : (connection : ConnectionState) (sent : Bool) → Within connection → Within (if sent then without_command connection else connection)
+  sent-within connection true is =
+      elim (is_some connection.reason) as (λ (has : Bool). Within (if has then record connection { reason = None } else record connection { reply = None })) [
         | true ↦ record { few = is.few; given = is.given; within = is.within; done = is.done }
         | false ↦ record { few = is.few; given = is.given; within = is.within; done = is.done }
       ]
-  sent-within part false is = is
+  sent-within connection false is = is
 
-  completed-within : (ordinal : Ordinal) (entries : List (Ordinal × ℕ)) (part : Part) → Within part → Within (after_completed ordinal entries part)
-  completed-within ordinal [] part is = is
-  completed-within ordinal (entry ∷ entries) part is =
-      completed-within ordinal entries (if entry.0 == ordinal then with_completed part entry.1 else part)
-      (elim (entry.0 == ordinal) as (λ (own : Bool). Within (if own then with_completed part entry.1 else part)) [
+  completed-within : (ordinal : Ordinal) (entries : List (Ordinal × ℕ)) (connection : ConnectionState) → Within connection → Within (after_packets_completed ordinal entries connection)
+  completed-within ordinal [] connection is = is
+  completed-within ordinal (entry ∷ entries) connection is =
+      completed-within ordinal entries (if entry.0 == ordinal then with_packets_completed connection entry.1 else connection)
+      (elim (entry.0 == ordinal) as (λ (own : Bool). Within (if own then with_packets_completed connection entry.1 else connection)) [
         | true ↦ record { few = is.few; given = is.given; within = omega (arith, is.within); done = omega (arith, is.done) }
         | false ↦ is
       ])
 
-  replaced-within : (old new : Contents) (part : Part) → Within part → Within (part_replaced old new part)
-  replaced-within old new part is =
-      elim (is_live part.mark) as (λ (live : Bool). Within (record (if live then record part { said = Dropped ∷ part.said; pending = after_replacement part.pending } else part) { row = kept_row old.attributes new.attributes part.row })) [
+  replaced-within : (old new : Contents) (connection : ConnectionState) → Within connection → Within (connection_after_replacement old new connection)
+  replaced-within old new connection is =
+      elim (is_live connection.mark) as (λ (live : Bool). Within (record (if live then record connection { said = Dropped ∷ connection.said; pending = after_replacement connection.pending } else connection) { row = kept_row old.attributes new.attributes connection.row })) [
         | true ↦ record { few = is.few; given = is.given; within = is.within; done = is.done }
         | false ↦ record { few = is.few; given = is.given; within = is.within; done = is.done }
       ]
@@ -307,54 +307,54 @@ pub record IsKept (state : State) : Type 0 where
 
 own-queued : (state : State) (at : Ordinal) (own : Own) → HasBoundedQueues state → HasBoundedQueues (own_change state at own).state
 own-queued state at own queued = λ ordinal.
-    let part : Part = state.parts at in
-    let share = share_of state.room.slots state.room.told in
-    let size = size_of state.room.told in
-    elim (ordinal == at) as (λ (same : Bool). IsWithinBounds share size (if same then (turn_of state.room (state.bonds part.peer) (state.owed part.peer) part own).part else state.parts ordinal)) [
-      | true ↦ turn-within share size state.room refl refl (state.bonds part.peer) (state.owed part.peer) part own (queued at)
+    let connection : ConnectionState = state.connections at in
+    let share = quota_of state.shared.slots state.shared.buffers in
+    let size = fragment_size_of state.shared.buffers in
+    elim (ordinal == at) as (λ (same : Bool). IsWithinBounds share size (if same then (effect_of state.shared (state.bonds connection.peer) (state.owed connection.peer) connection own).connection else state.connections ordinal)) [
+      | true ↦ turn-within share size state.shared refl refl (state.bonds connection.peer) (state.owed connection.peer) connection own (queued at)
       | false ↦ queued ordinal
     ]
 
 -- before the controller is initialised nobody is there
-early-queued : (state : State) (share size : ℕ) (ordinal : Ordinal) → IsSettled state → is_ready state.controller ≡ false → IsWithinBounds share size (state.parts ordinal)
+early-queued : (state : State) (share size : ℕ) (ordinal : Ordinal) → IsSettled state → is_ready state.controller ≡ false → IsWithinBounds share size (state.connections ordinal)
 early-queued state share size ordinal settled early =
-    let none : state.parts ordinal ≡ absent = settled.gone ordinal (ap (has_slot ordinal) (settled.early early)) in
-    subst (λ (part : Part). IsWithinBounds share size part) (sym none) (nothing-queued share size absent refl refl refl)
+    let none : state.connections ordinal ≡ no_connection = settled.gone ordinal (ap (has_slot ordinal) (settled.early early)) in
+    subst (λ (connection : ConnectionState). IsWithinBounds share size connection) (sym none) (nothing-queued share size no_connection refl refl refl)
 
 pub change-queued : (state : State) (event : Event) → Possible (λ table. Unit) state event → IsKept state → HasBoundedQueues (change_of state event).state
 unfolding change_of
 change-queued state (Of at own) possible kept = own-queued state at own kept.queued
-change-queued state (Completed entries) possible kept = λ ordinal. completed-within _ _ ordinal entries (state.parts ordinal) (kept.queued ordinal)
+change-queued state (Completed entries) possible kept = λ ordinal. completed-within _ _ ordinal entries (state.connections ordinal) (kept.queued ordinal)
 change-queued state (Credit allowed opcode status (Some init)) possible kept = λ ordinal. early-queued state _ _ ordinal kept.settled possible
 change-queued state (Credit allowed opcode status None) possible kept = kept.queued
 change-queued state (Update handle value) possible kept = kept.queued
 change-queued state (Tick time) possible kept = λ ordinal.
     let is = kept.queued ordinal in record { few = is.few; given = is.given; within = is.within; done = is.done }
-change-queued state (Replaced table) possible kept = λ ordinal. replaced-within _ _ state.room.table table (state.parts ordinal) (kept.queued ordinal)
+change-queued state (Replaced table) possible kept = λ ordinal. replaced-within _ _ state.shared.table table (state.connections ordinal) (kept.queued ordinal)
 change-queued state Nothing possible kept = kept.queued
 
 pub stays-kept : (state : State) (event : Event) → Possible (λ table. Unit) state event → IsKept state → IsKept (step state event)
 unfolding step
 stays-kept state event possible kept =
     let change : Change = change_of state event in
-    let share = share_of change.state.room.slots change.state.room.told in
-    let size = size_of change.state.room.told in
+    let share = quota_of change.state.shared.slots change.state.shared.buffers in
+    let size = fragment_size_of change.state.shared.buffers in
     record {
       settled = stays_settled state event possible kept.settled;
       queued = λ ordinal.
-          sent-within share size (parts_finished change ordinal)
-          (nat_lt (length (command_of_init change.state.controller) + count_before ordinal (parts_finished change) change.state.slots) change.state.controller.credit)
-          (finished-within share size change.state.room refl refl change.state.bonds (change.raised ordinal) (change.state.parts ordinal)
+          sent-within share size (connections_finished change ordinal)
+          (nat_lt (length (command_of_init change.state.controller) + count_before ordinal (connections_finished change) change.state.slots) change.state.controller.credit)
+          (finished-within share size change.state.shared refl refl change.state.bonds (change.to_notify ordinal) (change.state.connections ordinal)
           (change-queued state event possible kept ordinal));
     }
 
 pub always_has_bounded_queues : AlwaysHasBoundedQueues
-unfolding course
+unfolding run
 always_has_bounded_queues start input =
     let old : State = before_first_command start in
-    (always (λ table. Unit) IsKept stays-kept (at_start start) input (any_tables input) (record {
+    (always (λ table. Unit) IsKept stays-kept (run_at_start start) input (any_tables input) (record {
       settled = settled_at_first start;
       queued = λ ordinal.
-          sent-within _ _ absent (nat_lt (length (command_of_init old.controller) + count_before ordinal old.parts old.slots) old.controller.credit)
-          (nothing-queued _ _ absent refl refl refl);
+          sent-within _ _ no_connection (nat_lt (length (command_of_init old.controller) + count_before ordinal old.connections old.slots) old.controller.credit)
+          (nothing-queued _ _ no_connection refl refl refl);
     })).queued

@@ -23,7 +23,7 @@ use Rattle.gatt_laws.specs.machine.Event.{Happening, Completed, Update, Tick, Re
 use Rattle.gatt_laws.specs.machine.Event.{Nothing}
 use Rattle.gatt_laws.specs.machine.Packets.{Fault, following_of, is_awaited, answered, status_of}
 use Rattle.gatt_laws.specs.machine.Packets.{completed_event, status_event, own_event, peripheral}
-use Rattle.gatt_laws.specs.machine.Packets.{last_connection_handle, coming_event, completed_entries}
+use Rattle.gatt_laws.specs.machine.Packets.{last_connection_handle, connection_complete_event, entries_of_connections}
 use Rattle.gatt_laws.specs.machine.Packets.{connection_event, connection_event_if_ready}
 use Rattle.gatt_laws.specs.machine.Packets.{reported_event, event_or_bad, of_octets, frame_event}
 use Rattle.gatt_laws.specs.machine.Packets.{Recombination, data_event, packet_meaning}
@@ -35,7 +35,7 @@ use Rattle.le_hci.specs.declared.init.Init.{Init}
 use Rattle.le_hci.specs.declared.peer.Peer.{Peer}
 use Rattle.le_hci.specs.Event as event
 use Rattle.le_hci.specs.Event.{Reported, event_of}
-use Rattle.le_hci.specs.Init.{outcome_of}
+use Rattle.le_hci.specs.Init.{init_outcome}
 use Rattle.octets.specs.Number.{Octets}
 
 module _ (C D : Type 0) (names : C → D) where
@@ -134,16 +134,16 @@ module _ (C D : Type 0) (names : C → D) where
 
     -- what is reported of connections, once the controller is initialised
     module _ (ready : is_ready one.controller ≡ true) where
-      entries-renamed : (entries : List CompletedPackets) → completed_entries other.holding entries
-          ≡ map (renamed_entry names) (completed_entries one.holding entries)
+      entries-renamed : (entries : List CompletedPackets) → entries_of_connections other.holding entries
+          ≡ map (renamed_entry names) (entries_of_connections one.holding entries)
       entries-renamed [] = refl
       entries-renamed (entry ∷ entries) =
           ap (λ (found : Option D). option_to_list
-          (option_map (λ connection. (connection, entry.packets)) found) ++ completed_entries
+          (option_map (λ connection. (connection, entry.packets)) found) ++ entries_of_connections
           other.holding entries)
           (alike.holding ready entry.handle)
           ∙ entry-renamed (one.holding entry.handle) entry.packets
-          (completed_entries one.holding entries) (completed_entries other.holding entries)
+          (entries_of_connections one.holding entries) (entries_of_connections other.holding entries)
           (entries-renamed entries)
 
       serving-renamed : (handle : ℕ) (own : Own) → own_event (other.serving handle) own
@@ -163,8 +163,8 @@ module _ (C D : Type 0) (names : C → D) where
       unused-same (Some connection) = refl
 
       coming-renamed : (status handle role : ℕ) (peer : Peer)
-          → coming_event other status handle role peer
-          ≡ other_name (coming_event one status handle role peer)
+          → connection_complete_event other status handle role peer
+          ≡ other_name (connection_complete_event one status handle role peer)
       coming-renamed status handle role peer =
           let made : Bool =
           (status == 0) && (role == peripheral) && nat_le handle last_connection_handle in
@@ -216,12 +216,12 @@ module _ (C D : Type 0) (names : C → D) where
         alike.controller
         ∙ answered-renamed allowed opcode (status_of returned)
         (if is_awaited one.controller opcode then following_of
-        (outcome_of one.controller.init returned) else Ok None)
+        (init_outcome one.controller.init returned) else Ok None)
     reported-renamed (event.CommandStatus status allowed opcode) =
         ap (λ (controller : Controller). status_event controller status allowed opcode)
         alike.controller
         ∙ answered-renamed allowed opcode (Some status)
-        (if is_awaited one.controller opcode && not (status == 0) then following_of (outcome_of one.controller.init (status ∷ [])) else Ok None)
+        (if is_awaited one.controller opcode && not (status == 0) then following_of (init_outcome one.controller.init (status ∷ [])) else Ok None)
     reported-renamed (event.HardwareError code) = refl
     reported-renamed reported = ap Ok (initialised-renamed reported)
 

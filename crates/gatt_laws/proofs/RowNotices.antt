@@ -15,9 +15,9 @@ use Rattle.att_table.proofs.Rows.{bits_at_other}
 use Rattle.att_table.specs.ConfigRow.{bits_at, with_bits}
 use Rattle.att_table.specs.Table.{Contents}
 use Rattle.att_writes.proofs.Untouched.{keeps_others}
-use Rattle.att_writes.specs.Applied.{Stored, stored_in, applied_to, stored_after as kept_or_new}
-use Rattle.att_writes.specs.Queue.{handles_of, touched_by}
-use Rattle.gatt_conn.specs.Answer.{Question, Writing, writing_asked, stored_after, stored_by}
+use Rattle.att_writes.specs.Applied.{Stored, stored_in, applied_to, stored_after}
+use Rattle.att_writes.specs.Queue.{handles_of_entries, touched_by}
+use Rattle.gatt_conn.specs.Answer.{Question, Writing, writing_asked, stored_after_writing, stored_by}
 use Rattle.gatt_conn.specs.Answer.{handles_after, handles_by, is_confirmation}
 use Rattle.gatt_laws.proofs.Ends.{end_keeps}
 use Rattle.gatt_laws.proofs.Notices.{or-first, or-second, both-none, is_among, none-once}
@@ -29,13 +29,13 @@ use Rattle.gatt_laws.specs.machine.Event.{Refreshed, Asks, Signals, Authorized, 
 use Rattle.gatt_laws.specs.machine.Event.{Replaced}
 use Rattle.gatt_laws.specs.machine.Notice.{Notice, Configured, Written, write_told, confirmation_told}
 use Rattle.gatt_laws.specs.machine.Notice.{end_told, own_told, noticed}
-use Rattle.gatt_laws.specs.machine.Part.{Part, is_live, key_of, mtu_of, row_of, connection_of, after_ending}
-use Rattle.gatt_laws.specs.machine.Room.{Room}
+use Rattle.gatt_laws.specs.machine.ConnectionState.{ConnectionState, is_live, key_of, connection_mtu, row_in_force, bearer_of, after_ending}
+use Rattle.gatt_laws.specs.machine.SharedState.{SharedState}
 use Rattle.gatt_laws.specs.laws.RowNotices.{tells_bits, is_bits_told, is_replacement}
-use Rattle.gatt_laws.specs.laws.RowNotices.{is_coming_or_going, TellsEachOwnRow, TellsEachBond}
+use Rattle.gatt_laws.specs.laws.RowNotices.{is_connection_or_disconnection, TellsEachOwnRow, TellsEachBond}
 use Rattle.gatt_laws.specs.laws.Silence.{is_for_all}
 use Rattle.gatt_laws.specs.machine.State.{State, change_of, step}
-use Rattle.gatt_laws.specs.machine.Turn.{Turn, turn_to, turn_of, live_turn, served, is_full, remote_user_terminated, handles_written}
+use Rattle.gatt_laws.specs.machine.Effect.{Effect, effect_on_connection, effect_of, live_effect, served, is_full, remote_user_terminated, handles_written}
 use Rattle.le_hci.specs.declared.peer.Peer.{Peer}
 use Rattle.le_security.proofs.Peers.{equal_peers}
 use Rattle.le_security.specs.Entry.{same_peer}
@@ -120,12 +120,12 @@ module _ (table : Contents) (row new_row : Row) (standing : Standing) (handle : 
       ap (λ (one : Row). bits_at one attribute)
       (sets_written writing.access table.attributes standing writing.entries
       (stored_in table row) new is)
-      ∙ set-others table.attributes new.row row attribute (handles_of writing.entries) of
+      ∙ set-others table.attributes new.row row attribute (handles_of_entries writing.entries) of
 
   bits-if : (writing : Writing) (attribute : Handle) (result : Result Stored Refusal)
       → applied_to writing.access table row standing writing.entries ≡ result
       → Untold attribute (touched_by writing.entries result)
-      → bits_at (kept_or_new (stored_in table row) result).row attribute ≡ bits_at row attribute
+      → bits_at (stored_after (stored_in table row) result).row attribute ≡ bits_at row attribute
   bits-if writing attribute (Ok new) is none =
       bits-by-kind writing new attribute
       (is_configuration_at table.attributes attribute) refl is none
@@ -133,7 +133,7 @@ module _ (table : Contents) (row new_row : Row) (standing : Standing) (handle : 
 
   bits-kept : (writing : Option Writing) (attribute : Handle)
       → Untold attribute (handles_after table row standing writing)
-      → bits_at (stored_after table row standing writing).row attribute ≡ bits_at row attribute
+      → bits_at (stored_after_writing table row standing writing).row attribute ≡ bits_at row attribute
   bits-kept None attribute none = refl
   bits-kept (Some writing) attribute none =
       bits-if writing attribute
@@ -148,140 +148,140 @@ none-first handle attribute one other none =
     or-first (is_bits_told handle attribute one) (is_bits_told handle attribute other)
     (sym (list_any-append (tells_bits handle attribute) one other) ∙ none)
 
-module _ (room : Room) (bond : Row) (owed : Bool) (part : Part) (pdu : Octets)
+module _ (shared : SharedState) (bond : Row) (owed : Bool) (connection : ConnectionState) (pdu : Octets)
     (attribute : Handle) where
   abbrev asked : Question
-  asked = request_of pdu (mtu_of room part)
+  asked = request_of pdu (connection_mtu shared connection)
 
   abbrev full : Bool
-  full = is_due asked && is_full room part
+  full = is_due asked && is_full shared connection
 
   abbrev stored : Stored
-  stored = stored_by room.table (row_of bond part) (connection_of room part) asked
+  stored = stored_by shared.table (row_in_force bond connection) (bearer_of shared connection) asked
 
   abbrev Unchanged : Type 0
-  Unchanged = bits_at stored.row attribute ≡ bits_at (row_of bond part) attribute
+  Unchanged = bits_at stored.row attribute ≡ bits_at (row_in_force bond connection) attribute
 
   untold-row : (new_row : Row) (served : Bool) → served ≡ true
-      → is_bits_told part.handle attribute
-      (map (write_told room.table.attributes new_row part.handle)
-      (if served then handles_by room.table (row_of bond part) (connection_of room part) asked
+      → is_bits_told connection.handle attribute
+      (map (write_told shared.table.attributes new_row connection.handle)
+      (if served then handles_by shared.table (row_in_force bond connection) (bearer_of shared connection) asked
       else [])) ≡ false
       → Unchanged
   untold-row new_row true is none =
-      let conn = connection_of room part in
-      bits-kept room.table (row_of bond part) new_row conn.standing part.handle
+      let conn = bearer_of shared connection in
+      bits-kept shared.table (row_in_force bond connection) new_row conn.standing connection.handle
       (writing_asked conn.queue asked) attribute none
   untold-row new_row false is none = cc is
 
-  unchanged : (turn : Turn) → is_live part.mark ≡ true → full ≡ false
-      → is_bits_told part.handle attribute (own_told room bond part (Asks pdu) turn) ≡ false
+  unchanged : (effect : Effect) → is_live connection.mark ≡ true → full ≡ false
+      → is_bits_told connection.handle attribute (own_told shared bond connection (Asks pdu) effect) ≡ false
       → Unchanged
-  unchanged turn live room_left none =
-      let new_row : Row = row_of turn.bond turn.part in
-      let tells : Handle → Notice = write_told room.table.attributes new_row part.handle in
-      let wrote : List Notice = map tells (handles_written room bond part (Asks pdu)) in
+  unchanged effect live room_left none =
+      let new_row : Row = row_in_force effect.bond effect.connection in
+      let tells : Handle → Notice = write_told shared.table.attributes new_row connection.handle in
+      let wrote : List Notice = map tells (handles_written shared bond connection (Asks pdu)) in
       let confirmed : List Notice =
-      if is_confirmation pdu then confirmation_told part.handle part.pending.unconfirmed else [] in
-      let lives : is_bits_told part.handle attribute
-      ((wrote ++ confirmed) ++ end_told part.handle turn.part) ≡ false =
-      ap (λ (of : Bool). is_bits_told part.handle attribute (if of then (wrote ++ confirmed)
-      ++ end_told part.handle turn.part else [])) (sym live) ∙ none in
-      untold-row new_row (is_live part.mark && not full) (λ i. live i && not (room_left i))
-      (none-first part.handle attribute wrote confirmed
-      (none-first part.handle attribute (wrote ++ confirmed)
-      (end_told part.handle turn.part) lives))
+      if is_confirmation pdu then confirmation_told connection.handle connection.pending.unconfirmed else [] in
+      let lives : is_bits_told connection.handle attribute
+      ((wrote ++ confirmed) ++ end_told connection.handle effect.connection) ≡ false =
+      ap (λ (of : Bool). is_bits_told connection.handle attribute (if of then (wrote ++ confirmed)
+      ++ end_told connection.handle effect.connection else [])) (sym live) ∙ none in
+      untold-row new_row (is_live connection.mark && not full) (λ i. live i && not (room_left i))
+      (none-first connection.handle attribute wrote confirmed
+      (none-first connection.handle attribute (wrote ++ confirmed)
+      (end_told connection.handle effect.connection) lives))
 
   -- its own row, and the row of its peer's bond, which is in force by its key
-  abbrev OwnUntold : Turn → Type 0
-  OwnUntold turn = is_some (key_of part) ≡ false
-      → is_bits_told part.handle attribute (own_told room bond part (Asks pdu) turn) ≡ false
+  abbrev OwnUntold : Effect → Type 0
+  OwnUntold effect = is_some (key_of connection) ≡ false
+      → is_bits_told connection.handle attribute (own_told shared bond connection (Asks pdu) effect) ≡ false
 
-  abbrev BondUntold : Turn → Type 0
-  BondUntold turn = is_some (key_of part) ≡ true
-      → is_bits_told part.handle attribute (own_told room bond part (Asks pdu) turn) ≡ false
+  abbrev BondUntold : Effect → Type 0
+  BondUntold effect = is_some (key_of connection) ≡ true
+      → is_bits_told connection.handle attribute (own_told shared bond connection (Asks pdu) effect) ≡ false
 
   own-by-key : (keyed : Bool)
       → (keyed ≡ false → bits_at stored.row attribute
-      ≡ bits_at (if keyed then bond else part.row) attribute)
-      → bits_at (if keyed then part.row else stored.row) attribute ≡ bits_at part.row attribute
+      ≡ bits_at (if keyed then bond else connection.row) attribute)
+      → bits_at (if keyed then connection.row else stored.row) attribute ≡ bits_at connection.row attribute
   own-by-key true same = refl
   own-by-key false same = same refl
 
   bond-by-key : (keyed : Bool)
       → (keyed ≡ true → bits_at stored.row attribute
-      ≡ bits_at (if keyed then bond else part.row) attribute)
+      ≡ bits_at (if keyed then bond else connection.row) attribute)
       → bits_at (if keyed then stored.row else bond) attribute ≡ bits_at bond attribute
   bond-by-key true same = same refl
   bond-by-key false same = refl
 
-  abbrev request : Bool → Turn
+  abbrev request : Bool → Effect
   request is_ended =
-      if is_ended then turn_to room bond owed (after_ending part remote_user_terminated)
-      else served room bond owed part pdu asked
+      if is_ended then effect_on_connection shared bond owed (after_ending connection remote_user_terminated)
+      else served shared bond owed connection pdu asked
 
-  request-own : (turn : Turn) (is_ended : Bool) → full ≡ is_ended → is_live part.mark ≡ true
-      → OwnUntold turn
-      → bits_at (request is_ended).part.row attribute ≡ bits_at part.row attribute
-  request-own turn true is live untold = refl
-  request-own turn false is live untold =
-      own-by-key (is_some (key_of part)) (λ none. unchanged turn live is (untold none))
+  request-own : (effect : Effect) (is_ended : Bool) → full ≡ is_ended → is_live connection.mark ≡ true
+      → OwnUntold effect
+      → bits_at (request is_ended).connection.row attribute ≡ bits_at connection.row attribute
+  request-own effect true is live untold = refl
+  request-own effect false is live untold =
+      own-by-key (is_some (key_of connection)) (λ none. unchanged effect live is (untold none))
 
-  request-bond : (turn : Turn) (is_ended : Bool) → full ≡ is_ended → is_live part.mark ≡ true
-      → BondUntold turn
+  request-bond : (effect : Effect) (is_ended : Bool) → full ≡ is_ended → is_live connection.mark ≡ true
+      → BondUntold effect
       → bits_at (request is_ended).bond attribute ≡ bits_at bond attribute
-  request-bond turn true is live untold = refl
-  request-bond turn false is live untold =
-      bond-by-key (is_some (key_of part)) (λ keyed. unchanged turn live is (untold keyed))
+  request-bond effect true is live untold = refl
+  request-bond effect false is live untold =
+      bond-by-key (is_some (key_of connection)) (λ keyed. unchanged effect live is (untold keyed))
 
-  asks-own : (turn : Turn) (live : Bool) → is_live part.mark ≡ live → OwnUntold turn
-      → bits_at (if live then live_turn room bond owed part (Asks pdu)
-      else turn_to room bond owed part).part.row attribute
-      ≡ bits_at part.row attribute
-  unfolding live_turn
-  asks-own turn true is untold = request-own turn full refl is untold
-  asks-own turn false is untold = refl
+  asks-own : (effect : Effect) (live : Bool) → is_live connection.mark ≡ live → OwnUntold effect
+      → bits_at (if live then live_effect shared bond owed connection (Asks pdu)
+      else effect_on_connection shared bond owed connection).connection.row attribute
+      ≡ bits_at connection.row attribute
+  unfolding live_effect
+  asks-own effect true is untold = request-own effect full refl is untold
+  asks-own effect false is untold = refl
 
-  asks-bond : (turn : Turn) (live : Bool) → is_live part.mark ≡ live → BondUntold turn
-      → bits_at (if live then live_turn room bond owed part (Asks pdu)
-      else turn_to room bond owed part).bond attribute
+  asks-bond : (effect : Effect) (live : Bool) → is_live connection.mark ≡ live → BondUntold effect
+      → bits_at (if live then live_effect shared bond owed connection (Asks pdu)
+      else effect_on_connection shared bond owed connection).bond attribute
       ≡ bits_at bond attribute
-  unfolding live_turn
-  asks-bond turn true is untold = request-bond turn full refl is untold
-  asks-bond turn false is untold = refl
+  unfolding live_effect
+  asks-bond effect true is untold = request-bond effect full refl is untold
+  asks-bond effect false is untold = refl
 
 -- All that happens to one connection.
 
-abbrev row : Part → Row
-row part = part.row
+abbrev row : ConnectionState → Row
+row connection = connection.row
 
-either-own : (part : Part) (one other : Turn) (test : Bool) → one.part.row ≡ part.row
-    → other.part.row ≡ part.row
-    → (if test then one else other).part.row ≡ part.row
-either-own part one other true first second = first
-either-own part one other false first second = second
+either-own : (connection : ConnectionState) (one other : Effect) (test : Bool) → one.connection.row ≡ connection.row
+    → other.connection.row ≡ connection.row
+    → (if test then one else other).connection.row ≡ connection.row
+either-own connection one other true first second = first
+either-own connection one other false first second = second
 
-module _ (room : Room) (bond : Row) (owed : Bool) (part : Part) (attribute : Handle) where
+module _ (shared : SharedState) (bond : Row) (owed : Bool) (connection : ConnectionState) (attribute : Handle) where
   other-own : (own : Own) → is_asking own ≡ false
-      → bits_at (if is_live part.mark then live_turn room bond owed part own
-      else turn_to room bond owed part).part.row attribute
-      ≡ bits_at part.row attribute
+      → bits_at (if is_live connection.mark then live_effect shared bond owed connection own
+      else effect_on_connection shared bond owed connection).connection.row attribute
+      ≡ bits_at connection.row attribute
   other-own own kind =
       ap (λ (of : Row). bits_at of attribute)
-      (either-own part (live_turn room bond owed part own) (turn_to room bond owed part)
-      (is_live part.mark)
+      (either-own connection (live_effect shared bond owed connection own) (effect_on_connection shared bond owed connection)
+      (is_live connection.mark)
       (live_steady row (λ of mark until steps said pending pdus reply reason. refl)
-      room bond owed part own kind) refl)
+      shared bond owed connection own kind) refl)
 
   own-row : (own : Own) → is_for_all own ≡ false
-      → (is_some (key_of part) ≡ false → is_bits_told part.handle attribute
-      (own_told room bond part own (turn_of room bond owed part own)) ≡ false)
-      → bits_at (turn_of room bond owed part own).part.row attribute ≡ bits_at part.row attribute
+      → (is_some (key_of connection) ≡ false → is_bits_told connection.handle attribute
+      (own_told shared bond connection own (effect_of shared bond owed connection own)) ≡ false)
+      → bits_at (effect_of shared bond owed connection own).connection.row attribute ≡ bits_at connection.row attribute
   own-row (Connected handle peer) kind untold = cc kind
   own-row Gone kind untold = cc kind
   own-row (Asks pdu) kind untold =
-      asks-own room bond owed part pdu attribute (turn_of room bond owed part (Asks pdu))
-      (is_live part.mark) refl untold
+      asks-own shared bond owed connection pdu attribute (effect_of shared bond owed connection (Asks pdu))
+      (is_live connection.mark) refl untold
   own-row (KeyAsked random_number diversifier) kind untold = other-own
       (KeyAsked random_number diversifier) refl
   own-row (Encrypted status enabled) kind untold = other-own (Encrypted status enabled) refl
@@ -290,30 +290,30 @@ module _ (room : Room) (bond : Row) (owed : Bool) (part : Part) (attribute : Han
   own-row (Authorized until) kind untold = other-own (Authorized until) refl
   own-row Ended kind untold = other-own Ended refl
 
-  either-bond : (one other : Turn) (test : Bool) → one.bond ≡ bond → other.bond ≡ bond
+  either-bond : (one other : Effect) (test : Bool) → one.bond ≡ bond → other.bond ≡ bond
       → (if test then one else other).bond ≡ bond
   either-bond one other true first second = first
   either-bond one other false first second = second
 
-  other-bond : (own : Own) → (live_turn room bond owed part own).bond ≡ bond
-      → bits_at (if is_live part.mark then live_turn room bond owed part own
-      else turn_to room bond owed part).bond attribute
+  other-bond : (own : Own) → (live_effect shared bond owed connection own).bond ≡ bond
+      → bits_at (if is_live connection.mark then live_effect shared bond owed connection own
+      else effect_on_connection shared bond owed connection).bond attribute
       ≡ bits_at bond attribute
   other-bond own is =
       ap (λ (of : Row). bits_at of attribute)
-      (either-bond (live_turn room bond owed part own) (turn_to room bond owed part)
-      (is_live part.mark) is refl)
+      (either-bond (live_effect shared bond owed connection own) (effect_on_connection shared bond owed connection)
+      (is_live connection.mark) is refl)
 
   own-bond : (own : Own)
-      → (is_some (key_of part) ≡ true → is_bits_told part.handle attribute
-      (own_told room bond part own (turn_of room bond owed part own)) ≡ false)
-      → bits_at (turn_of room bond owed part own).bond attribute ≡ bits_at bond attribute
-  unfolding live_turn
+      → (is_some (key_of connection) ≡ true → is_bits_told connection.handle attribute
+      (own_told shared bond connection own (effect_of shared bond owed connection own)) ≡ false)
+      → bits_at (effect_of shared bond owed connection own).bond attribute ≡ bits_at bond attribute
+  unfolding live_effect
   own-bond (Connected handle peer) untold = refl
   own-bond Gone untold = refl
   own-bond (Asks pdu) untold =
-      asks-bond room bond owed part pdu attribute (turn_of room bond owed part (Asks pdu))
-      (is_live part.mark) refl untold
+      asks-bond shared bond owed connection pdu attribute (effect_of shared bond owed connection (Asks pdu))
+      (is_live connection.mark) refl untold
   own-bond own untold = other-bond own refl
 
 -- And each event.
@@ -321,36 +321,36 @@ module _ (room : Room) (bond : Row) (owed : Bool) (part : Part) (attribute : Han
 of-own-row : (state : State) (at ordinal : Ordinal) (own : Own) (attribute : Handle) (same : Bool)
     → (ordinal == at) ≡ same
     → (same && is_for_all own) ≡ false
-    → (let part = state.parts ordinal in is_some (key_of part) ≡ false
-    → is_bits_told part.handle attribute (noticed state (Of at own)) ≡ false)
-    → (let part = state.parts at in
+    → (let connection = state.connections ordinal in is_some (key_of connection) ≡ false
+    → is_bits_told connection.handle attribute (noticed state (Of at own)) ≡ false)
+    → (let connection = state.connections at in
     bits_at (if same then
-    (turn_of state.room (state.bonds part.peer) (state.owed part.peer) part own).part
-    else state.parts ordinal).row attribute
-    ≡ bits_at (state.parts ordinal).row attribute)
+    (effect_of state.shared (state.bonds connection.peer) (state.owed connection.peer) connection own).connection
+    else state.connections ordinal).row attribute
+    ≡ bits_at (state.connections ordinal).row attribute)
 unfolding noticed
 of-own-row state at ordinal own attribute true is kind untold =
     let here : ordinal ≡ at = eqb-true ordinal at is in
-    let part = state.parts at in
-    own-row state.room (state.bonds part.peer) (state.owed part.peer) part attribute own kind
-    (subst (λ (one : Ordinal). is_some (key_of (state.parts one)) ≡ false
-    → is_bits_told (state.parts one).handle attribute (noticed state (Of at own))
+    let connection = state.connections at in
+    own-row state.shared (state.bonds connection.peer) (state.owed connection.peer) connection attribute own kind
+    (subst (λ (one : Ordinal). is_some (key_of (state.connections one)) ≡ false
+    → is_bits_told (state.connections one).handle attribute (noticed state (Of at own))
     ≡ false) here untold)
-    ∙ ap (λ (one : Ordinal). bits_at (state.parts one).row attribute) (sym here)
+    ∙ ap (λ (one : Ordinal). bits_at (state.connections one).row attribute) (sym here)
 of-own-row state at ordinal own attribute false is kind untold = refl
 
 change-own-row : (state : State) (event : Event) (ordinal : Ordinal) (attribute : Handle)
-    → is_replacement event ≡ false → is_coming_or_going ordinal event ≡ false
-    → (let part = state.parts ordinal in is_some (key_of part) ≡ false
-    → is_bits_told part.handle attribute (noticed state event) ≡ false)
-    → bits_at ((change_of state event).state.parts ordinal).row attribute
-    ≡ bits_at (state.parts ordinal).row attribute
+    → is_replacement event ≡ false → is_connection_or_disconnection ordinal event ≡ false
+    → (let connection = state.connections ordinal in is_some (key_of connection) ≡ false
+    → is_bits_told connection.handle attribute (noticed state event) ≡ false)
+    → bits_at ((change_of state event).state.connections ordinal).row attribute
+    ≡ bits_at (state.connections ordinal).row attribute
 unfolding change_of
 change-own-row state (Of at own) ordinal attribute kind stays untold =
     of-own-row state at ordinal own attribute (ordinal == at) refl stays untold
 change-own-row state (Completed entries) ordinal attribute kind stays untold =
     ap (λ (of : Row). bits_at of attribute)
-    (completed_steady row (λ part done. refl) ordinal entries (state.parts ordinal))
+    (completed_steady row (λ connection done. refl) ordinal entries (state.connections ordinal))
 change-own-row state (Credit allowed opcode status
     (Some init)) ordinal attribute kind stays untold = refl
 change-own-row state (Credit allowed opcode status None) ordinal attribute kind stays untold = refl
@@ -360,35 +360,35 @@ change-own-row state event ordinal attribute kind stays untold = refl
 pub tells_each_own_row : TellsEachOwnRow
 tells_each_own_row state event ordinal attribute kind stays untold =
     ap (λ (of : Row). bits_at of attribute)
-    (end_keeps row (λ part pdus pending given reply reason. refl) state event ordinal)
+    (end_keeps row (λ connection pdus pending given reply reason. refl) state event ordinal)
     ∙ change-own-row state event ordinal attribute kind stays untold
 
 abbrev BondUntoldIn : State → Event → Peer → Handle → Type 0
 BondUntoldIn state event peer attribute = (ordinal : Ordinal)
-    → same_peer peer (state.parts ordinal).peer ≡ true
-    → is_some (key_of (state.parts ordinal)) ≡ true
-    → is_bits_told (state.parts ordinal).handle attribute (noticed state event) ≡ false
+    → same_peer peer (state.connections ordinal).peer ≡ true
+    → is_some (key_of (state.connections ordinal)) ≡ true
+    → is_bits_told (state.connections ordinal).handle attribute (noticed state event) ≡ false
 
 of-bond : (state : State) (at : Ordinal) (own : Own) (peer : Peer) (attribute : Handle)
     (same : Bool)
-    → same_peer peer (state.parts at).peer ≡ same → BondUntoldIn state (Of at own) peer attribute
-    → (let part = state.parts at in
+    → same_peer peer (state.connections at).peer ≡ same → BondUntoldIn state (Of at own) peer attribute
+    → (let connection = state.connections at in
     bits_at (if same then
-    (turn_of state.room (state.bonds part.peer) (state.owed part.peer) part own).bond
+    (effect_of state.shared (state.bonds connection.peer) (state.owed connection.peer) connection own).bond
     else state.bonds peer) attribute
     ≡ bits_at (state.bonds peer) attribute)
 unfolding noticed
 of-bond state at own peer attribute true is untold =
-    let part = state.parts at in
-    own-bond state.room (state.bonds part.peer) (state.owed part.peer) part attribute own
+    let connection = state.connections at in
+    own-bond state.shared (state.bonds connection.peer) (state.owed connection.peer) connection attribute own
     (λ keyed. untold at is keyed)
-    ∙ ap (λ (one : Peer). bits_at (state.bonds one) attribute) (sym (equal_peers peer part.peer is))
+    ∙ ap (λ (one : Peer). bits_at (state.bonds one) attribute) (sym (equal_peers peer connection.peer is))
 of-bond state at own peer attribute false is untold = refl
 
 pub tells_each_bond : TellsEachBond
 unfolding step change_of
 tells_each_bond state (Of at own) peer attribute kind untold =
-    of-bond state at own peer attribute (same_peer peer (state.parts at).peer) refl untold
+    of-bond state at own peer attribute (same_peer peer (state.connections at).peer) refl untold
 tells_each_bond state (Credit allowed opcode status (Some init)) peer attribute kind untold = refl
 tells_each_bond state (Credit allowed opcode status None) peer attribute kind untold = refl
 tells_each_bond state (Replaced table) peer attribute kind untold = cc kind

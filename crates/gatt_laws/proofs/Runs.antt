@@ -6,9 +6,9 @@ use Rattle.gatt_laws.proofs.Always.{first_fine}
 use Rattle.gatt_laws.proofs.ItemEvents.{MeantIfSome, item_meant, means_its_event}
 use Rattle.gatt_laws.proofs.Meant.{possible_where_meant}
 use Rattle.gatt_laws.specs.laws.Possible.{AllTables}
-use Rattle.gatt_laws.specs.laws.Runs.{after_events, events_in, events_of, IsWhereEventsLead, ArePossible, MeansPossibleEvents}
+use Rattle.gatt_laws.specs.laws.Runs.{after_events, events_in, events_of, IsAfterItsEvents, ArePossible, MeansPossibleEvents}
 use Rattle.gatt_laws.specs.machine.Event.{Event}
-use Rattle.gatt_laws.specs.machine.Input.{Item, Course, after_item, after_items, at_start, course}
+use Rattle.gatt_laws.specs.machine.Input.{Item, Run, after_item, after_items, run_at_start, run}
 use Rattle.gatt_laws.specs.machine.ItemEvents.{after_if, event_at}
 use Rattle.gatt_laws.specs.machine.State.{State}
 
@@ -16,16 +16,16 @@ then-led : (state : State) (event : Option Event) (events : List Event) → afte
 then-led state None events = refl
 then-led state (Some event) events = refl
 
-pub items_lead : (old : Course) (items : List Item) → (after_items old items).intake.state ≡ after_events old.intake.state (events_in old items)
+pub items_lead : (old : Run) (items : List Item) → (after_items old items).intake.state ≡ after_events old.intake.state (events_in old items)
 items_lead old [] = refl
 items_lead old (item ∷ items) =
     items_lead (after_item old item) items
     ∙ ap (λ (state : State). after_events state (events_in (after_item old item) items)) (means_its_event old item).state
     ∙ sym (then-led old.intake.state (event_at old.intake item) (events_in (after_item old item) items))
 
-pub is_where_events_lead : IsWhereEventsLead
-unfolding course events_of
-is_where_events_lead start input = items_lead (at_start start) input
+pub is_where_events_lead : IsAfterItsEvents
+unfolding run events_of
+is_where_events_lead start input = items_lead (run_at_start start) input
 
 -- Each of the events is possible.
 
@@ -36,7 +36,7 @@ module _ (Fine : Contents → Type 0) where
   then-possible state new (Some event) events meant is later =
       (possible_where_meant Fine state event meant, subst (λ (of : State). ArePossible Fine of events) is later)
 
-  pub items_possible : (old : Course) (items : List Item) → AllTables Fine items → ArePossible Fine old.intake.state (events_in old items)
+  pub items_possible : (old : Run) (items : List Item) → AllTables Fine items → ArePossible Fine old.intake.state (events_in old items)
   items_possible old [] tables = tt
   items_possible old (item ∷ items) tables =
       let fine = first_fine Fine item items tables in
@@ -45,4 +45,4 @@ module _ (Fine : Contents → Type 0) where
 
 pub means_possible_events : (Fine : Contents → Type 0) → MeansPossibleEvents Fine
 unfolding events_of
-means_possible_events Fine start input tables = items_possible Fine (at_start start) input tables
+means_possible_events Fine start input tables = items_possible Fine (run_at_start start) input tables

@@ -8,16 +8,16 @@ use Rattle.gatt_laws.proofs.Always.{always, any_tables}
 use Rattle.gatt_laws.proofs.Silence.{only_serves_the_live}
 use Rattle.gatt_laws.specs.machine.Controller.{Controller, Slots, has_free, with_taken, with_freed, command_of_init, count_before, without_command, is_ready}
 use Rattle.gatt_laws.specs.machine.Event.{Ordinal, Own, Event, Connected, Gone, Of, Completed, Credit, Update, Tick, Replaced, Nothing}
-use Rattle.gatt_laws.specs.machine.Input.{at_start, course}
-use Rattle.gatt_laws.specs.machine.Part.{Part, absent}
+use Rattle.gatt_laws.specs.machine.Input.{run_at_start, run}
+use Rattle.gatt_laws.specs.machine.ConnectionState.{ConnectionState, no_connection}
 use Rattle.gatt_laws.specs.laws.Possible.{Possible}
-use Rattle.gatt_laws.specs.machine.Room.{Room, Bonds}
+use Rattle.gatt_laws.specs.machine.SharedState.{SharedState, Bonds}
 use Rattle.gatt_laws.specs.laws.Settled.{is_slot_of, has_slot, HaveOneSlotEach, IsSettled, IsAlwaysSettled}
 use Rattle.gatt_laws.specs.machine.Start.{Start, before_first_command, state_at}
-use Rattle.gatt_laws.specs.machine.State.{State, Change, slots_after, slots_for, own_change, told_of, is_refusal, with_completed, after_completed, after_credit, part_replaced, change_of, finished, parts_finished, before_commands, step}
-use Rattle.gatt_laws.specs.machine.Turn.{turn_of}
+use Rattle.gatt_laws.specs.machine.State.{State, Change, slots_after, slots_when_ready, own_change, advertising_after, is_refusal, with_packets_completed, after_packets_completed, after_command_complete, connection_after_replacement, change_of, finished, connections_finished, before_commands, step}
+use Rattle.gatt_laws.specs.machine.Effect.{effect_of}
 use Rattle.gatt_subs.specs.Indications.{after_tick}
-use Rattle.le_acl.specs.Shares.{usable}
+use Rattle.le_acl.specs.Quotas.{usable}
 use Rattle.le_hci.specs.Init.{command_awaited}
 use Rattle.le_hci.specs.declared.init.Init.{Init}
 use Rattle.le_hci.specs.declared.init.Init.TheVariants.{Ready}
@@ -124,48 +124,48 @@ all-free next zero = tt
 all-free next (suc count) = all-free next count
 
 -- a connection of which nothing is kept stays so
-completed-none : (count : ℕ) → with_completed absent count ≡ absent
+completed-none : (count : ℕ) → with_packets_completed no_connection count ≡ no_connection
 completed-none count =
     let none : 0 + min count (0 - 0) ≡ 0 = omega arith in
-    ap (λ (done : ℕ). record absent { done = done }) none
+    ap (λ (done : ℕ). record no_connection { done = done }) none
 
-completed-gone : (ordinal : Ordinal) (entries : List (Ordinal × ℕ)) → after_completed ordinal entries absent ≡ absent
+completed-gone : (ordinal : Ordinal) (entries : List (Ordinal × ℕ)) → after_packets_completed ordinal entries no_connection ≡ no_connection
 completed-gone ordinal [] = refl
 completed-gone ordinal (entry ∷ entries) =
-    elim (entry.0 == ordinal) as (λ is. after_completed ordinal entries (if is then with_completed absent entry.1 else absent) ≡ absent) [
-      | true ↦ ap (after_completed ordinal entries) (completed-none entry.1) ∙ completed-gone ordinal entries
+    elim (entry.0 == ordinal) as (λ is. after_packets_completed ordinal entries (if is then with_packets_completed no_connection entry.1 else no_connection) ≡ no_connection) [
+      | true ↦ ap (after_packets_completed ordinal entries) (completed-none entry.1) ∙ completed-gone ordinal entries
       | false ↦ completed-gone ordinal entries
     ]
 
-sent-gone : (part : Part) (sent : Bool) → part ≡ absent → (if sent then without_command part else part) ≡ absent
-sent-gone part true is = ap without_command is
-sent-gone part false is = is
+sent-gone : (connection : ConnectionState) (sent : Bool) → connection ≡ no_connection → (if sent then without_command connection else connection) ≡ no_connection
+sent-gone connection true is = ap without_command is
+sent-gone connection false is = is
 
-finished-gone : (room : Room) (bonds : Bonds) (handles : List Handle) (part : Part) → part ≡ absent → finished room bonds handles part ≡ absent
-finished-gone room bonds handles part is = ap (finished room bonds handles) is ∙ only_serves_the_live room bonds handles absent refl
+finished-gone : (shared : SharedState) (bonds : Bonds) (handles : List Handle) (connection : ConnectionState) → connection ≡ no_connection → finished shared bonds handles connection ≡ no_connection
+finished-gone shared bonds handles connection is = ap (finished shared bonds handles) is ∙ only_serves_the_live shared bonds handles no_connection refl
 
 -- before the end of an event
 abbrev IsGone : State → Ordinal → Type 0
-IsGone state ordinal = has_slot ordinal state.slots ≡ false → state.parts ordinal ≡ absent
+IsGone state ordinal = has_slot ordinal state.slots ≡ false → state.connections ordinal ≡ no_connection
 
 other-gone : (state : State) (at ordinal : Ordinal) (own : Own) → IsSettled state → ((same : ordinal ≡ at) → IsGone (own_change state at own).state ordinal)
     → (has_slot ordinal (slots_after own at state.slots) ≡ false → (ordinal == at) ≡ false → has_slot ordinal state.slots ≡ false)
     → IsGone (own_change state at own).state ordinal
 other-gone state at ordinal own settled here before lacks =
-    elim (ordinal == at) as (λ is. (ordinal == at) ≡ is → (own_change state at own).state.parts ordinal ≡ absent) [
+    elim (ordinal == at) as (λ is. (ordinal == at) ≡ is → (own_change state at own).state.connections ordinal ≡ no_connection) [
       | true ↦ λ same. here (eqb-true ordinal at same) lacks
       | false ↦ λ differs. rw differs (settled.gone ordinal (before lacks differs))
     ] refl
 
 -- where nothing comes and nothing goes
 same-slots : (state : State) (at ordinal : Ordinal) (own : Own) → IsSettled state → slots_after own at state.slots ≡ state.slots
-    → (turn_of state.room (state.bonds absent.peer) (state.owed absent.peer) absent own).part ≡ absent → IsGone (own_change state at own).state ordinal
-same-slots state at ordinal own settled slots turn =
+    → (effect_of state.shared (state.bonds no_connection.peer) (state.owed no_connection.peer) no_connection own).connection ≡ no_connection → IsGone (own_change state at own).state ordinal
+same-slots state at ordinal own settled slots effect =
     other-gone state at ordinal own settled
     (λ same lacks.
-    let none : state.parts at ≡ absent = settled.gone at (ap (λ (one : Ordinal). has_slot one state.slots) (sym same) ∙ ap (has_slot ordinal) (sym slots) ∙ lacks) in
+    let none : state.connections at ≡ no_connection = settled.gone at (ap (λ (one : Ordinal). has_slot one state.slots) (sym same) ∙ ap (has_slot ordinal) (sym slots) ∙ lacks) in
     rw same (rw (eq-eqb at at refl)
-    (ap (λ (part : Part). (turn_of state.room (state.bonds part.peer) (state.owed part.peer) part own).part) none ∙ turn)))
+    (ap (λ (connection : ConnectionState). (effect_of state.shared (state.bonds connection.peer) (state.owed connection.peer) connection own).connection) none ∙ effect)))
     (λ lacks differs. ap (has_slot ordinal) (sym slots) ∙ lacks)
 
 own-gone : (state : State) (at ordinal : Ordinal) (own : Own) → IsSettled state → Possible (λ table. Unit) state (Of at own) → IsGone (own_change state at own).state ordinal
@@ -180,19 +180,19 @@ own-gone state at ordinal Gone settled may =
 own-gone state at ordinal own settled may = same-slots state at ordinal own settled refl refl
 
 credit-gone : (state : State) (allowed opcode : ℕ) (status : Option ℕ) (init : Init) (ordinal : Ordinal) → IsSettled state → is_ready state.controller ≡ false
-    → IsGone (after_credit state allowed opcode status (Some init)) ordinal
+    → IsGone (after_command_complete state allowed opcode status (Some init)) ordinal
 credit-gone state allowed opcode status init ordinal settled early lacks = settled.gone ordinal (ap (has_slot ordinal) (settled.early early))
 
 change-gone : (state : State) (event : Event) (ordinal : Ordinal) → Possible (λ table. Unit) state event → IsSettled state → IsGone (change_of state event).state ordinal
 unfolding change_of
 change-gone state (Of at own) ordinal possible settled lacks = own-gone state at ordinal own settled possible lacks
-change-gone state (Completed entries) ordinal possible settled lacks = ap (after_completed ordinal entries) (settled.gone ordinal lacks) ∙ completed-gone ordinal entries
+change-gone state (Completed entries) ordinal possible settled lacks = ap (after_packets_completed ordinal entries) (settled.gone ordinal lacks) ∙ completed-gone ordinal entries
 change-gone state (Credit allowed opcode status (Some init)) ordinal possible settled lacks = credit-gone state allowed opcode status init ordinal settled possible lacks
 change-gone state (Credit allowed opcode status None) ordinal possible settled lacks = settled.gone ordinal lacks
 change-gone state (Update handle value) ordinal possible settled lacks = settled.gone ordinal lacks
 change-gone state (Tick time) ordinal possible settled lacks =
-    ap (λ (part : Part). record part { pending = after_tick part.pending time }) (settled.gone ordinal lacks)
-change-gone state (Replaced table) ordinal possible settled lacks = ap (part_replaced state.room.table table) (settled.gone ordinal lacks)
+    ap (λ (connection : ConnectionState). record connection { pending = after_tick connection.pending time }) (settled.gone ordinal lacks)
+change-gone state (Replaced table) ordinal possible settled lacks = ap (connection_after_replacement state.shared.table table) (settled.gone ordinal lacks)
 change-gone state Nothing ordinal possible settled lacks = settled.gone ordinal lacks
 
 -- the slots
@@ -208,16 +208,16 @@ own-slots state at (Connected handle peer) each may =
 own-slots state at Gone each may = without-one state.next at state.slots each
 own-slots state at own each may = each
 
-init-slots : (next count : ℕ) (init : Init) (slots : Slots) → HaveOneSlotEach next slots → HaveOneSlotEach next (slots_for count init slots)
+init-slots : (next count : ℕ) (init : Init) (slots : Slots) → HaveOneSlotEach next slots → HaveOneSlotEach next (slots_when_ready count init slots)
 init-slots next count (Ready length packets) slots each = all-free next (usable count packets)
 init-slots next count init slots each = each
 
-init-early : (count : ℕ) (init : Init) (slots : Slots) → slots ≡ [] → is_none (command_awaited init) ≡ false → slots_for count init slots ≡ []
+init-early : (count : ℕ) (init : Init) (slots : Slots) → slots ≡ [] → is_none (command_awaited init) ≡ false → slots_when_ready count init slots ≡ []
 init-early count (Ready length packets) slots none early = cc early
 init-early count init slots none early = none
 
 -- initialisation stays where it is, but for the answer to its command
-told-early : (own : Own) (controller : Controller) → is_ready (told_of own controller) ≡ is_ready controller
+told-early : (own : Own) (controller : Controller) → is_ready (advertising_after own controller) ≡ is_ready controller
 told-early (Connected handle peer) controller = refl
 told-early own controller = refl
 
@@ -238,8 +238,8 @@ change-slots state (Of at own) possible settled = record {
 }
 change-slots state (Completed entries) possible settled = record { early = settled.early; slots = settled.slots }
 change-slots state (Credit allowed opcode status (Some init)) possible settled = record {
-  early = λ early. init-early state.room.slots init state.slots (settled.early possible) early;
-  slots = init-slots state.next state.room.slots init state.slots settled.slots;
+  early = λ early. init-early state.shared.slots init state.slots (settled.early possible) early;
+  slots = init-slots state.next state.shared.slots init state.slots settled.slots;
 }
 change-slots state (Credit allowed opcode status None) possible settled = record {
   early = λ early. settled.early (sym (refused-early state.controller allowed (is_ready state.controller && is_refusal opcode status)) ∙ early);
@@ -258,7 +258,7 @@ settled_before_commands state event possible settled =
       early = slots.early;
       slots = slots.slots;
       gone = λ ordinal lacks.
-          finished-gone change.state.room change.state.bonds (change.raised ordinal) (change.state.parts ordinal) (change-gone state event ordinal possible settled lacks);
+          finished-gone change.state.shared change.state.bonds (change.to_notify ordinal) (change.state.connections ordinal) (change-gone state event ordinal possible settled lacks);
     }
 
 pub stays_settled : (state : State) (event : Event) → Possible (λ table. Unit) state event → IsSettled state → IsSettled (step state event)
@@ -270,8 +270,8 @@ stays_settled state event possible settled =
       early = before.early;
       slots = before.slots;
       gone = λ ordinal lacks.
-          sent-gone (parts_finished change ordinal)
-          (nat_lt (length (command_of_init change.state.controller) + count_before ordinal (parts_finished change) change.state.slots) change.state.controller.credit)
+          sent-gone (connections_finished change ordinal)
+          (nat_lt (length (command_of_init change.state.controller) + count_before ordinal (connections_finished change) change.state.slots) change.state.controller.credit)
           (before.gone ordinal lacks);
     }
 
@@ -282,9 +282,9 @@ settled_at_first start =
       early = λ early. refl;
       slots = tt;
       gone = λ ordinal lacks.
-          sent-gone absent (nat_lt (length (command_of_init old.controller) + count_before ordinal old.parts old.slots) old.controller.credit) refl;
+          sent-gone no_connection (nat_lt (length (command_of_init old.controller) + count_before ordinal old.connections old.slots) old.controller.credit) refl;
     }
 
 pub is_always_settled : IsAlwaysSettled
-unfolding course
-is_always_settled start input = always (λ table. Unit) IsSettled stays_settled (at_start start) input (any_tables input) (settled_at_first start)
+unfolding run
+is_always_settled start input = always (λ table. Unit) IsSettled stays_settled (run_at_start start) input (any_tables input) (settled_at_first start)

@@ -5,11 +5,11 @@ use Rattle.att_numbers.specs.Types.{Handle, Values}
 use Rattle.att_attributes.specs.declared.attr.Attr.{Attr}
 use Rattle.gatt_laws.specs.machine.Controller.{command_of_init, count_before, without_command}
 use Rattle.gatt_laws.specs.machine.Heard.{Heard, heard_in_turn, hearer_of, with_heard, after_hearing}
-use Rattle.gatt_laws.specs.machine.Part.{Part, is_live, after_giving}
-use Rattle.gatt_laws.specs.machine.Room.{Room, share_of, size_of}
+use Rattle.gatt_laws.specs.machine.ConnectionState.{ConnectionState, is_live, after_giving}
+use Rattle.gatt_laws.specs.machine.SharedState.{SharedState, quota_of, fragment_size_of}
 use Rattle.gatt_laws.specs.machine.Event.{Connected, Gone}
 use Rattle.gatt_laws.specs.laws.Silence.{OnlyServesTheLive, OnlyTheLiveAct, IsAllGiven, GivesAllThatItMay}
-use Rattle.gatt_laws.specs.machine.State.{Change, parts_finished, step, change_of}
+use Rattle.gatt_laws.specs.machine.State.{Change, connections_finished, step, change_of}
 use Rattle.gatt_subs.specs.Told.{Hearer}
 use Rattle.le_acl.specs.History.{packets_allowed}
 
@@ -22,44 +22,44 @@ hears-nothing : (attributes : List Attr) (values : Values) (hearer : Hearer) (no
 hears-nothing attributes values hearer now [] is = rw is refl
 hears-nothing attributes values hearer now (handle ∷ handles) is = rw is (hears-nothing attributes values (record hearer { live = false; backlog = hearer.backlog + 0 }) now handles refl)
 
-given-kept : (room : Room) (part : Part) → is_live part.mark ≡ false → after_giving room part ≡ part
-given-kept room part is = rw is refl
+given-kept : (shared : SharedState) (connection : ConnectionState) → is_live connection.mark ≡ false → after_giving shared connection ≡ connection
+given-kept shared connection is = rw is refl
 
 pub only_serves_the_live : OnlyServesTheLive
 unfolding after_hearing
-only_serves_the_live room bonds handles part is =
-    let hearer : Hearer = hearer_of room (bonds part.peer) part in
-    ap (λ (heard : Heard). after_giving room (with_heard part heard)) (hears-nothing room.table.attributes room.table.values hearer room.time handles is)
-    ∙ ap (λ pdus. after_giving room (record part { pdus = pdus })) (append-nil part.pdus)
-    ∙ given-kept room part is
+only_serves_the_live shared bonds handles connection is =
+    let hearer : Hearer = hearer_of shared (bonds connection.peer) connection in
+    ap (λ (heard : Heard). after_giving shared (with_heard connection heard)) (hears-nothing shared.table.attributes shared.table.values hearer shared.time handles is)
+    ∙ ap (λ pdus. after_giving shared (record connection { pdus = pdus })) (append-nil connection.pdus)
+    ∙ given-kept shared connection is
 
-all-given : (room : Room) (part : Part) (live : Bool) → is_live part.mark ≡ live
-    → IsAllGiven room (if live then record part { given = packets_allowed (share_of room.slots room.told) (size_of room.told) part.pdus part.done } else part)
-all-given room part true is lives = refl
-all-given room part false is lives = cc (is, lives)
+all-given : (shared : SharedState) (connection : ConnectionState) (live : Bool) → is_live connection.mark ≡ live
+    → IsAllGiven shared (if live then record connection { given = packets_allowed (quota_of shared.slots shared.buffers) (fragment_size_of shared.buffers) connection.pdus connection.done } else connection)
+all-given shared connection true is lives = refl
+all-given shared connection false is lives = cc (is, lives)
 
 -- commands that are sent change nothing of it
-sent-command : (room : Room) (part : Part) (has : Bool) → IsAllGiven room part
-    → IsAllGiven room (if has then record part { reason = None } else record part { reply = None })
-sent-command room part true all = all
-sent-command room part false all = all
+sent-command : (shared : SharedState) (connection : ConnectionState) (has : Bool) → IsAllGiven shared connection
+    → IsAllGiven shared (if has then record connection { reason = None } else record connection { reply = None })
+sent-command shared connection true all = all
+sent-command shared connection false all = all
 
-sent-or-not : (room : Room) (part : Part) (sent : Bool) → IsAllGiven room part
-    → IsAllGiven room (if sent then without_command part else part)
-sent-or-not room part true all = sent-command room part (is_some part.reason) all
-sent-or-not room part false all = all
+sent-or-not : (shared : SharedState) (connection : ConnectionState) (sent : Bool) → IsAllGiven shared connection
+    → IsAllGiven shared (if sent then without_command connection else connection)
+sent-or-not shared connection true all = sent-command shared connection (is_some connection.reason) all
+sent-or-not shared connection false all = all
 
 pub gives_all_that_it_may : GivesAllThatItMay
 unfolding step
 gives_all_that_it_may state event ordinal =
     let change : Change = change_of state event in
-    let room : Room = change.state.room in
-    let heard : Part = after_hearing room (change.state.bonds (change.state.parts ordinal).peer) (change.raised ordinal) (change.state.parts ordinal) in
-    sent-or-not room (parts_finished change ordinal)
-    (nat_lt (length (command_of_init change.state.controller) + count_before ordinal (parts_finished change) change.state.slots) change.state.controller.credit)
-    (all-given room heard (is_live heard.mark) refl)
+    let shared : SharedState = change.state.shared in
+    let heard : ConnectionState = after_hearing shared (change.state.bonds (change.state.connections ordinal).peer) (change.to_notify ordinal) (change.state.connections ordinal) in
+    sent-or-not shared (connections_finished change ordinal)
+    (nat_lt (length (command_of_init change.state.controller) + count_before ordinal (connections_finished change) change.state.slots) change.state.controller.credit)
+    (all-given shared heard (is_live heard.mark) refl)
 
 pub only_the_live_act : OnlyTheLiveAct
-only_the_live_act room bond owed part (Connected handle peer) is kind = cc kind
-only_the_live_act room bond owed part Gone is kind = cc kind
-only_the_live_act room bond owed part own is kind = rw is refl
+only_the_live_act shared bond owed connection (Connected handle peer) is kind = cc kind
+only_the_live_act shared bond owed connection Gone is kind = cc kind
+only_the_live_act shared bond owed connection own is kind = rw is refl

@@ -7,24 +7,24 @@ use Rattle.att_numbers.specs.Types.{Row}
 use Rattle.gatt_conn.specs.Transcript.{Said, Dropped}
 use Rattle.gatt_laws.specs.machine.Event.{Ordinal, Own, Connected, Gone, KeyAsked, Encrypted, Refreshed}
 use Rattle.gatt_laws.specs.machine.Event.{Asks, Signals, Authorized, Ended}
-use Rattle.gatt_laws.specs.machine.Part.{Mark, Ending, Part, KeyReply, key_of, with_pdus, after_ending}
-use Rattle.gatt_laws.specs.machine.Room.{Room}
-use Rattle.gatt_laws.specs.machine.State.{with_completed, after_completed}
-use Rattle.gatt_laws.specs.machine.Turn.{is_full, after_channel, channel_answer, with_step}
-use Rattle.gatt_laws.specs.machine.Turn.{lost_encryption, live_turn, authentication_failure}
-use Rattle.gatt_laws.specs.machine.Turn.{remote_user_terminated}
+use Rattle.gatt_laws.specs.machine.ConnectionState.{Mark, Ending, ConnectionState, KeyReply, key_of, with_pdus, after_ending}
+use Rattle.gatt_laws.specs.machine.SharedState.{SharedState}
+use Rattle.gatt_laws.specs.machine.State.{with_packets_completed, after_packets_completed}
+use Rattle.gatt_laws.specs.machine.Effect.{is_full, after_other_channel, channel_answer, with_step}
+use Rattle.gatt_laws.specs.machine.Effect.{lost_encryption, live_effect, authentication_failure}
+use Rattle.gatt_laws.specs.machine.Effect.{remote_user_terminated}
 use Rattle.gatt_subs.specs.Indications.{Indications, after_end}
 use Rattle.le_acl.specs.Packets.{Pdu}
 use Rattle.le_security.specs.declared.entry.Key.{Key}
-use Rattle.le_security.specs.Keys.{answer_of}
+use Rattle.le_security.specs.Keys.{key_asked_for}
 use Rattle.le_security.specs.Link.{Step, Request, Encryption, Refresh}
 use Rattle.octets.specs.Number.{Octets}
 
 -- it reads none of these
-abbrev pub IsSteady : {A : Type 0} → (Part → A) → Type 0
-IsSteady fact = (part : Part) (mark : Mark) (until : ℕ) (steps : List Step) (said : List Said)
+abbrev pub IsSteady : {A : Type 0} → (ConnectionState → A) → Type 0
+IsSteady fact = (connection : ConnectionState) (mark : Mark) (until : ℕ) (steps : List Step) (said : List Said)
     (pending : Indications) (pdus : List Pdu) (reply : Option KeyReply) (reason : Option ℕ)
-    → fact (record part {
+    → fact (record connection {
       mark = mark;
       until = until;
       steps = steps;
@@ -34,80 +34,80 @@ IsSteady fact = (part : Part) (mark : Mark) (until : ℕ) (steps : List Step) (s
       reply = reply;
       reason = reason;
     })
-    ≡ fact part
+    ≡ fact connection
 
 abbrev pub is_asking : Own → Bool
 is_asking (Asks pdu) = true
 is_asking own = false
 
-module _ {A : Type 0} (fact : Part → A) (steady : IsSteady fact) where
-  channel-steady : (room : Room) (part : Part) (channel : ℕ) (answer : Option Octets)
-      → fact (after_channel room part channel answer) ≡ fact part
-  channel-steady room part channel None = refl
-  channel-steady room part channel (Some answer) =
-      elim (is_full room part) as (λ (full : Bool). fact
-      (if full then after_ending part remote_user_terminated
-      else with_pdus part ((channel, answer) ∷ [])) ≡ fact part) [
+module _ {A : Type 0} (fact : ConnectionState → A) (steady : IsSteady fact) where
+  channel-steady : (shared : SharedState) (connection : ConnectionState) (channel : ℕ) (answer : Option Octets)
+      → fact (after_other_channel shared connection channel answer) ≡ fact connection
+  channel-steady shared connection channel None = refl
+  channel-steady shared connection channel (Some answer) =
+      elim (is_full shared connection) as (λ (full : Bool). fact
+      (if full then after_ending connection remote_user_terminated
+      else with_pdus connection ((channel, answer) ∷ [])) ≡ fact connection) [
         | true ↦
-            steady part Ending part.until part.steps (Dropped ∷ part.said)
-            (after_end part.pending) part.pdus None
+            steady connection Ending connection.until connection.steps (Dropped ∷ connection.said)
+            (after_end connection.pending) connection.pdus None
             (Some remote_user_terminated)
         | false ↦
-            steady part part.mark part.until part.steps part.said part.pending
-            (part.pdus ++ ((channel, answer) ∷ []))
-            part.reply part.reason
+            steady connection connection.mark connection.until connection.steps connection.said connection.pending
+            (connection.pdus ++ ((channel, answer) ∷ []))
+            connection.reply connection.reason
       ]
 
-  link-steady : (part : Part) (step : Step) (lost : Bool)
-      → fact (if lost then after_ending (with_step part step) authentication_failure
-      else with_step part step)
-      ≡ fact part
-  link-steady part step true =
-      steady part Ending part.until (step ∷ part.steps) (Dropped ∷ part.said)
-      (after_end part.pending) part.pdus None
+  link-steady : (connection : ConnectionState) (step : Step) (lost : Bool)
+      → fact (if lost then after_ending (with_step connection step) authentication_failure
+      else with_step connection step)
+      ≡ fact connection
+  link-steady connection step true =
+      steady connection Ending connection.until (step ∷ connection.steps) (Dropped ∷ connection.said)
+      (after_end connection.pending) connection.pdus None
       (Some authentication_failure)
-  link-steady part step false =
-      steady part part.mark part.until
-      (step ∷ part.steps) part.said part.pending part.pdus part.reply part.reason
+  link-steady connection step false =
+      steady connection connection.mark connection.until
+      (step ∷ connection.steps) connection.said connection.pending connection.pdus connection.reply connection.reason
 
   -- whatever happens to a connection that serves, but for a request
-  pub live_steady : (room : Room) (bond : Row) (owed : Bool) (part : Part) (own : Own)
+  pub live_steady : (shared : SharedState) (bond : Row) (owed : Bool) (connection : ConnectionState) (own : Own)
       → is_asking own ≡ false
-      → fact (live_turn room bond owed part own).part ≡ fact part
-  unfolding live_turn
-  live_steady room bond owed part (Asks pdu) kind = cc kind
-  live_steady room bond owed part (Signals channel payload) kind =
-      channel-steady room part channel (channel_answer channel payload)
-  live_steady room bond owed part (KeyAsked random_number diversifier) kind =
-      let found : Option Key = answer_of room.keys part.peer random_number diversifier in
-      steady part part.mark part.until
-      (Request (option_map (λ (key : Key). key.facts) found) ∷ part.steps) part.said
-      part.pending part.pdus (Some (option_map (λ (key : Key). key.ltk) found)) part.reason
-  live_steady room bond owed part (Encrypted status enabled) kind =
-      link-steady part (Encryption status enabled)
-      (lost_encryption (key_of part) (key_of (with_step part (Encryption status enabled))))
-  live_steady room bond owed part (Refreshed status) kind =
-      link-steady part (Refresh status)
-      (lost_encryption (key_of part) (key_of (with_step part (Refresh status))))
-  live_steady room bond owed part (Authorized until) kind =
-      steady part part.mark until part.steps part.said part.pending part.pdus part.reply part.reason
-  live_steady room bond owed part Ended kind =
-      steady part Ending part.until part.steps (Dropped ∷ part.said) (after_end part.pending) part.pdus None
+      → fact (live_effect shared bond owed connection own).connection ≡ fact connection
+  unfolding live_effect
+  live_steady shared bond owed connection (Asks pdu) kind = cc kind
+  live_steady shared bond owed connection (Signals channel payload) kind =
+      channel-steady shared connection channel (channel_answer channel payload)
+  live_steady shared bond owed connection (KeyAsked random_number diversifier) kind =
+      let found : Option Key = key_asked_for shared.keys connection.peer random_number diversifier in
+      steady connection connection.mark connection.until
+      (Request (option_map (λ (key : Key). key.facts) found) ∷ connection.steps) connection.said
+      connection.pending connection.pdus (Some (option_map (λ (key : Key). key.ltk) found)) connection.reason
+  live_steady shared bond owed connection (Encrypted status enabled) kind =
+      link-steady connection (Encryption status enabled)
+      (lost_encryption (key_of connection) (key_of (with_step connection (Encryption status enabled))))
+  live_steady shared bond owed connection (Refreshed status) kind =
+      link-steady connection (Refresh status)
+      (lost_encryption (key_of connection) (key_of (with_step connection (Refresh status))))
+  live_steady shared bond owed connection (Authorized until) kind =
+      steady connection connection.mark until connection.steps connection.said connection.pending connection.pdus connection.reply connection.reason
+  live_steady shared bond owed connection Ended kind =
+      steady connection Ending connection.until connection.steps (Dropped ∷ connection.said) (after_end connection.pending) connection.pdus None
       (Some remote_user_terminated)
-  live_steady room bond owed part (Connected handle peer) kind = refl
-  live_steady room bond owed part Gone kind = refl
+  live_steady shared bond owed connection (Connected handle peer) kind = refl
+  live_steady shared bond owed connection Gone kind = refl
 
 -- packets that are completed leave what does not count them
-pub completed_steady : {A : Type 0} (fact : Part → A)
-    → ((part : Part) (done : ℕ) → fact (record part { done = done }) ≡ fact part)
-    → (ordinal : Ordinal) (entries : List (Ordinal × ℕ)) (part : Part)
-    → fact (after_completed ordinal entries part) ≡ fact part
-completed_steady fact keeps ordinal [] part = refl
-completed_steady fact keeps ordinal (entry ∷ entries) part =
+pub completed_steady : {A : Type 0} (fact : ConnectionState → A)
+    → ((connection : ConnectionState) (done : ℕ) → fact (record connection { done = done }) ≡ fact connection)
+    → (ordinal : Ordinal) (entries : List (Ordinal × ℕ)) (connection : ConnectionState)
+    → fact (after_packets_completed ordinal entries connection) ≡ fact connection
+completed_steady fact keeps ordinal [] connection = refl
+completed_steady fact keeps ordinal (entry ∷ entries) connection =
     completed_steady fact keeps ordinal entries
-    (if entry.0 == ordinal then with_completed part entry.1 else part)
+    (if entry.0 == ordinal then with_packets_completed connection entry.1 else connection)
     ∙ elim (entry.0 == ordinal) as (λ (own : Bool).
-    fact (if own then with_completed part entry.1 else part) ≡ fact part) [
-      | true ↦ keeps part (with_completed part entry.1).done
+    fact (if own then with_packets_completed connection entry.1 else connection) ≡ fact connection) [
+      | true ↦ keeps connection (with_packets_completed connection entry.1).done
       | false ↦ refl
     ]

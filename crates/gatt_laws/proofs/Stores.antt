@@ -13,10 +13,10 @@ use Rattle.att_attributes.specs.Attributes.{is_configuration_at, is_fixed_at}
 use Rattle.att_table.specs.ConfigRow.{bits_at, with_bits, has_entry}
 use Rattle.att_table.specs.Table.{value_at, with_value}
 use Rattle.att_values.specs.Cell.{value_with_part}
-use Rattle.att_writes.specs.Applied.{Stored, after_entry, after_entries, first_octet, unless_refused}
+use Rattle.att_writes.specs.Applied.{Stored, after_entry, after_entries, first_octet, unless_entry_refused}
 use Rattle.att_writes.specs.Entry.{Entry}
-use Rattle.att_writes.specs.Fault.{fault_of}
-use Rattle.att_writes.specs.Queue.{once_each, handles_of}
+use Rattle.att_writes.specs.Fault.{entry_fault}
+use Rattle.att_writes.specs.Queue.{once_each, handles_of_entries}
 use Rattle.att_writes.specs.SameBut.{values_put, bits_put}
 use Rattle.att_writes.proofs.AtOnce.{fits_unless_refused}
 use Rattle.att_writes.proofs.Put.{handles_in, stored_touched}
@@ -157,8 +157,8 @@ entry-leaves attributes stored entry false is used_one = λ handle of.
     used_one (not-first attributes handle of) (not-same attributes entry.handle handle (entry.handle == handle) refl is of)
 
 leaves-at : (access : Access) (attributes : List Attr) (standing : Standing) (stored new : Stored) (entry : Entry) (rest : List Entry) (fault : Option Code)
-    → fault_of access attributes standing (length (value_at stored.values entry.handle)) entry ≡ fault
-    → unless_refused entry fault (after_entries access attributes standing (after_entry attributes stored entry) rest) ≡ Ok new
+    → entry_fault access attributes standing (length (value_at stored.values entry.handle)) entry ≡ fault
+    → unless_entry_refused entry fault (after_entries access attributes standing (after_entry attributes stored entry) rest) ≡ Ok new
     → (after_entries access attributes standing (after_entry attributes stored entry) rest ≡ Ok new → LeavesConfigurations attributes (after_entry attributes stored entry) new)
     → LeavesConfigurations attributes stored new
 leaves-at access attributes standing stored new entry rest (Some code) judged is later = cc is
@@ -172,7 +172,7 @@ unfolding after_entries
 leaves-configurations access attributes standing [] stored new is =
     let same : stored ≡ new = cc is in λ handle of. ap (λ (one : Stored). value_at one.values handle) (sym same)
 leaves-configurations access attributes standing (entry ∷ rest) stored new is =
-    leaves-at access attributes standing stored new entry rest (fault_of access attributes standing (length (value_at stored.values entry.handle)) entry) refl is
+    leaves-at access attributes standing stored new entry rest (entry_fault access attributes standing (length (value_at stored.values entry.handle)) entry) refl is
     (leaves-configurations access attributes standing rest (after_entry attributes stored entry) new)
 
 not-not : (test : Bool) → not test ≡ false → test ≡ true
@@ -182,7 +182,7 @@ not-not false is = cc is
 -- what is written is the old values with those of the written handles stored, each once
 pub stores_written : (access : Access) (attributes : List Attr) (standing : Standing) (entries : List Entry) (stored new : Stored)
     → after_entries access attributes standing stored entries ≡ Ok new
-    → new.values ≡ store (map (λ handle. (handle, value_at new.values handle)) (filter (λ handle. not (is_configuration_at attributes handle)) (handles_of entries))) stored.values
+    → new.values ≡ store (map (λ handle. (handle, value_at new.values handle)) (filter (λ handle. not (is_configuration_at attributes handle)) (handles_of_entries entries))) stored.values
 stores_written access attributes standing entries stored new is =
     let from : Values = new.values in
     let test : Handle → Bool = λ handle. not (is_configuration_at attributes handle) in
@@ -194,7 +194,7 @@ stores_written access attributes standing entries stored new is =
     ∙ puts-all from (handles_in entries) stored.values
     ∙ kind (put_value from) (value-again from) (value-still from) test (handles_in entries) stored.values there
     ∙ once (put_value from) (value-again from) (value-still from) test (handles_in entries) stored.values
-    ∙ stores-all from (filter test (handles_of entries)) stored.values
+    ∙ stores-all from (filter test (handles_of_entries entries)) stored.values
 
 -- Configurations.
 
@@ -274,10 +274,10 @@ puts-bits from (handle ∷ rest) into = puts-bits from rest (put_bits from into 
 -- and the old row with the bits of the written configurations set, each once
 pub sets_written : (access : Access) (attributes : List Attr) (standing : Standing) (entries : List Entry) (stored new : Stored)
     → after_entries access attributes standing stored entries ≡ Ok new
-    → new.row ≡ set_bits (map (λ handle. (handle, bits_at new.row handle)) (filter (is_configuration_at attributes) (handles_of entries))) stored.row
+    → new.row ≡ set_bits (map (λ handle. (handle, bits_at new.row handle)) (filter (is_configuration_at attributes) (handles_of_entries entries))) stored.row
 sets_written access attributes standing entries stored new is =
     let from : Row = new.row in
     row_touched access attributes standing entries stored new is
     ∙ puts-bits from (filter (is_configuration_at attributes) (handles_in entries)) stored.row
     ∙ once (put_bits from) (bits-again from) (bits-still from) (is_configuration_at attributes) (handles_in entries) stored.row
-    ∙ sets-all from (filter (is_configuration_at attributes) (handles_of entries)) stored.row
+    ∙ sets-all from (filter (is_configuration_at attributes) (handles_of_entries entries)) stored.row

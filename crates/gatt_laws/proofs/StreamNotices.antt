@@ -4,63 +4,63 @@ use Rattle.std.specs.Prelude.{if◌then◌else◌, is_some, Result, Ok, Err}
 use Rattle.std.specs.Option.{option_map_or}
 use Rattle.gatt_laws.proofs.Streams.{EndsWithIt, ends_first}
 use Rattle.gatt_laws.specs.machine.Event.{Event}
-use Rattle.gatt_laws.specs.machine.Input.{Item, AnOctet, APacket, Course, after_first, after_item, after_packet, after_whole, packet_taken, stopped, taken, unless_stopped, with_unfinished}
+use Rattle.gatt_laws.specs.machine.Input.{Item, AnOctet, APacket, Run, run_after_first, after_item, after_packet, after_whole, packet_taken, stopped, taken, unless_stopped, with_unfinished}
 use Rattle.gatt_laws.specs.machine.ItemEvents.{event_if, event_of_first, event_taken}
 use Rattle.gatt_laws.specs.machine.Notice.{Notice, noticed, notices_in, notices_of}
 use Rattle.gatt_laws.specs.machine.Packets.{Fault, Desync, packet_event}
 use Rattle.gatt_laws.specs.laws.StreamNotices.{TellsOfTheDivision}
 use Rattle.le_h4.proofs.Dividing.{division_first, division-lost, division-part}
 use Rattle.le_h4.proofs.Firsts.{first_append-packet}
-use Rattle.le_h4.specs.Division.{Division, after_first as divided, before, division, division_within, is_long}
+use Rattle.le_h4.specs.Division.{Division, after_first, before, division, division_within, is_long}
 use Rattle.le_h4.specs.Packet.{Packet, First, FirstPacket, NoneYet, NoPacket, first_of}
 use Rattle.octets.specs.Number.{Octets}
 
 -- what is unfinished does not matter to what is told of packets
-apart-taken : (old : Course) (octets : Octets) (packet : Packet) (result : Result Event Fault)
+apart-taken : (old : Run) (octets : Octets) (packet : Packet) (result : Result Event Fault)
     → packet_taken (with_unfinished old octets) packet result ≡ with_unfinished (packet_taken old packet result) octets
 apart-taken old octets packet (Ok event) = refl
 apart-taken old octets packet (Err fault) = refl
 
-apart-whole : (old : Course) (octets : Octets) (packet : Packet) (long : Bool)
+apart-whole : (old : Run) (octets : Octets) (packet : Packet) (long : Bool)
     → cond long (with_unfinished old octets) (after_packet (with_unfinished old octets) packet)
     ≡ with_unfinished (cond long old (after_packet old packet)) octets
 apart-whole old octets packet true = refl
 apart-whole old octets packet false =
     apart-taken old octets packet (packet_event old.intake.state old.intake.fragments packet)
 
-apart-item : (old : Course) (octets : Octets) (packet : Packet) (fault : Option Fault)
+apart-item : (old : Run) (octets : Octets) (packet : Packet) (fault : Option Fault)
     → unless_stopped fault (with_unfinished old octets) (after_whole (with_unfinished old octets) packet)
     ≡ with_unfinished (unless_stopped fault old (after_whole old packet)) octets
 apart-item old octets packet (Some why) = refl
 apart-item old octets packet None = apart-whole old octets packet (is_long packet)
 
-told-apart : (packets : List Packet) (old : Course) (octets : Octets)
+told-apart : (packets : List Packet) (old : Run) (octets : Octets)
     → notices_in (with_unfinished old octets) (map APacket packets) ≡ notices_in old (map APacket packets)
 unfolding after_item
 told-apart [] old octets = refl
 told-apart (packet ∷ packets) old octets =
-    ap (λ (new : Course). notices_of old (APacket packet) ++ notices_in new (map APacket packets))
+    ap (λ (new : Run). notices_of old (APacket packet) ++ notices_in new (map APacket packets))
     (apart-item old octets packet old.intake.fault)
     ∙ ap (λ (told : List Notice). notices_of old (APacket packet) ++ told)
     (told-apart packets (after_item old (APacket packet)) octets)
 
 -- where a fault stands nothing is told
-pub stopped_silent : (course : Course) (why : Fault) (items : List Item) → course.intake.fault ≡ Some why
-    → notices_in course items ≡ []
+pub stopped_silent : (run : Run) (why : Fault) (items : List Item) → run.intake.fault ≡ Some why
+    → notices_in run items ≡ []
 unfolding after_item
-stopped_silent course why [] is = refl
-stopped_silent course why (item ∷ items) is =
-    ap (λ (fault : Option Fault). option_map_or (noticed course.intake.state) (if is_some fault then None else event_taken course.intake item) []
-    ++ notices_in (unless_stopped fault course (taken course item)) items) is
-    ∙ stopped_silent course why items is
+stopped_silent run why [] is = refl
+stopped_silent run why (item ∷ items) is =
+    ap (λ (fault : Option Fault). option_map_or (noticed run.intake.state) (if is_some fault then None else event_taken run.intake item) []
+    ++ notices_in (unless_stopped fault run (taken run item)) items) is
+    ∙ stopped_silent run why items is
 
 -- what the octets that follow tell
 abbrev Follows : Octets → Type 0
-Follows octets = (old : Course) → old.intake.fault ≡ None → first_of old.intake.unfinished ≡ NoneYet
+Follows octets = (old : Run) → old.intake.fault ≡ None → first_of old.intake.unfinished ≡ NoneYet
     → notices_in old (map AnOctet octets) ≡ notices_in old (map APacket (division (old.intake.unfinished ++ octets)).packets)
 
 -- a packet that is taken, and then they
-behind : (new : Course) (octets : Octets) (fault : Option Fault) → new.intake.fault ≡ fault → Follows octets
+behind : (new : Run) (octets : Octets) (fault : Option Fault) → new.intake.fault ≡ fault → Follows octets
     → notices_in (with_unfinished new []) (map AnOctet octets) ≡ notices_in new (map APacket (division octets).packets)
 behind new octets (Some why) is follows =
     stopped_silent (with_unfinished new []) why (map AnOctet octets) is
@@ -68,7 +68,7 @@ behind new octets (Some why) is follows =
 behind new octets None is follows =
     follows (with_unfinished new []) is refl ∙ told-apart (division octets).packets new []
 
-told-whole : (old : Course) (packet : Packet) (octets : Octets) (long : Bool) → old.intake.fault ≡ None → is_long packet ≡ long
+told-whole : (old : Run) (packet : Packet) (octets : Octets) (long : Bool) → old.intake.fault ≡ None → is_long packet ≡ long
     → Follows octets
     → option_map_or (noticed old.intake.state)
     (if long then None else event_if (packet_event old.intake.state old.intake.fragments packet)) []
@@ -78,19 +78,19 @@ unfolding after_item
 told-whole old packet octets true none is follows = behind old octets None none follows
 told-whole old packet octets false none is follows =
     let event : Option Event = event_if (packet_event old.intake.state old.intake.fragments packet) in
-    let new : Course = after_packet old packet in
+    let new : Run = after_packet old packet in
     let rest : List Item = map APacket (division octets).packets in
-    ap (λ (course : Course). option_map_or (noticed old.intake.state) event [] ++ notices_in course (map AnOctet octets))
+    ap (λ (run : Run). option_map_or (noticed old.intake.state) event [] ++ notices_in run (map AnOctet octets))
     (apart-taken old [] packet (packet_event old.intake.state old.intake.fragments packet))
     ∙ ap (λ (told : List Notice). option_map_or (noticed old.intake.state) event [] ++ told)
     (behind new octets new.intake.fault refl follows)
     ∙ (λ i. option_map_or (noticed old.intake.state) (if is_some (sym none i) then None else if (sym is i) then None else event) []
     ++ notices_in (unless_stopped (sym none i) old (cond (sym is i) old new)) rest)
 
-told-octet : (old : Course) (octets : Octets) (octet : ℕ) (first : First) → old.intake.fault ≡ None
+told-octet : (old : Run) (octets : Octets) (octet : ℕ) (first : First) → old.intake.fault ≡ None
     → first_of (old.intake.unfinished ++ octet ∷ []) ≡ first → EndsWithIt NoneYet first → Follows octets
     → option_map_or (noticed old.intake.state) (event_of_first old.intake.state old.intake.fragments first) []
-    ++ notices_in (after_first old (old.intake.unfinished ++ octet ∷ []) first) (map AnOctet octets)
+    ++ notices_in (run_after_first old (old.intake.unfinished ++ octet ∷ []) first) (map AnOctet octets)
     ≡ notices_in old (map APacket (division ((old.intake.unfinished ++ octet ∷ []) ++ octets)).packets)
 told-octet old octets octet NoneYet none is ends follows =
     let all : Octets = old.intake.unfinished ++ octet ∷ [] in
@@ -101,29 +101,29 @@ told-octet old octets octet (NoPacket indicator) none is ends follows =
     ∙ ap (λ (d : Division). notices_in old (map APacket d.packets)) (sym (division-lost all octets indicator is))
 told-octet old octets octet (FirstPacket packet rest) none is ends follows =
     let all : Octets = old.intake.unfinished ++ octet ∷ [] in
-    let divides : division (all ++ octets) ≡ divided (FirstPacket packet (rest ++ octets)) division =
-    division_first (all ++ octets) ∙ ap (λ (first : First). divided first division) (first_append-packet all octets rest packet is) in
+    let divides : division (all ++ octets) ≡ after_first (FirstPacket packet (rest ++ octets)) division =
+    division_first (all ++ octets) ∙ ap (λ (first : First). after_first first division) (first_append-packet all octets rest packet is) in
     ap (λ (left : Octets). option_map_or (noticed old.intake.state) (event_of_first old.intake.state old.intake.fragments (FirstPacket packet left)) []
-    ++ notices_in (after_first old all (FirstPacket packet left)) (map AnOctet octets)) ends
+    ++ notices_in (run_after_first old all (FirstPacket packet left)) (map AnOctet octets)) ends
     ∙ told-whole old packet octets (is_long packet) none refl follows
-    ∙ ap (λ (left : Octets). notices_in old (map APacket (divided (FirstPacket packet (left ++ octets)) division).packets)) (sym ends)
+    ∙ ap (λ (left : Octets). notices_in old (map APacket (after_first (FirstPacket packet (left ++ octets)) division).packets)) (sym ends)
     ∙ ap (λ (d : Division). notices_in old (map APacket d.packets)) (sym divides)
 
 follows-all : (octets : Octets) → Follows octets
 unfolding after_item
-follows-all [] old none part =
+follows-all [] old none connection =
     ap (λ (d : Division). notices_in old (map APacket d.packets))
-    (sym (division-part old.intake.unfinished part) ∙ ap division (sym (append-nil old.intake.unfinished)))
-follows-all (octet ∷ octets) old none part =
+    (sym (division-part old.intake.unfinished connection) ∙ ap division (sym (append-nil old.intake.unfinished)))
+follows-all (octet ∷ octets) old none connection =
     let all : Octets = old.intake.unfinished ++ octet ∷ [] in
     ap (λ (fault : Option Fault). option_map_or (noticed old.intake.state) (if is_some fault then None else event_taken old.intake (AnOctet octet)) []
     ++ notices_in (unless_stopped fault old (taken old (AnOctet octet))) (map AnOctet octets)) none
     ∙ told-octet old octets octet (first_of all) none refl
-    (subst (λ (first : First). EndsWithIt first (first_of all)) part (ends_first octet old.intake.unfinished)) (follows-all octets)
+    (subst (λ (first : First). EndsWithIt first (first_of all)) connection (ends_first octet old.intake.unfinished)) (follows-all octets)
     ∙ ap (λ (all : Octets). notices_in old (map APacket (division all).packets)) (append_assoc old.intake.unfinished (octet ∷ []) octets)
 
 pub tells_of_the_division : TellsOfTheDivision
-tells_of_the_division old octets none part = follows-all octets old none part
+tells_of_the_division old octets none connection = follows-all octets old none connection
 
 -- no packet of a division is too long
 abbrev pub AreKept : List Packet → Type 0
@@ -136,7 +136,7 @@ kept-first packet true rest is kept = kept
 kept-first packet false rest is kept = (is, kept)
 
 kept-after : (first : First) (divide : Octets → Division) → ((octets : Octets) → AreKept (divide octets).packets)
-    → AreKept (divided first divide).packets
+    → AreKept (after_first first divide).packets
 kept-after (FirstPacket packet rest) divide kept = kept-first packet (is_long packet) (divide rest) refl (kept rest)
 kept-after NoneYet divide kept = tt
 kept-after (NoPacket indicator) divide kept = tt

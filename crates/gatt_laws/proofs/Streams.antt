@@ -4,12 +4,12 @@ use Rattle.std.proofs.lemmas.List.{drop_all, length-append}
 use Rattle.std.proofs.lemmas.Bool.{cases_Bool, leb-false}
 use Rattle.std.specs.Prelude.{nat_le, ◌==◌, Result, Ok, Err}
 use Rattle.gatt_laws.specs.machine.Event.{Event}
-use Rattle.gatt_laws.specs.machine.Input.{Item, AnOctet, Course, stopped, packet_taken, after_packet, with_unfinished, after_first, taken, unless_stopped, after_item, after_items}
-use Rattle.gatt_laws.specs.laws.Laws.{after_packets, after_division, whole, TakesTheDivision}
+use Rattle.gatt_laws.specs.machine.Input.{Item, AnOctet, Run, stopped, packet_taken, after_packet, with_unfinished, run_after_first, taken, unless_stopped, after_item, after_items}
+use Rattle.gatt_laws.specs.laws.Laws.{after_packets, after_division, with_nothing_unfinished, TakesTheDivision}
 use Rattle.gatt_laws.specs.machine.Packets.{Fault, Desync, packet_event}
 use Rattle.le_h4.proofs.Dividing.{division_first, division-part, division-lost}
 use Rattle.le_h4.proofs.Firsts.{first_append-packet}
-use Rattle.le_h4.specs.Division.{Division, End, Unfinished, Lost, before, division, is_long, after_first as divided}
+use Rattle.le_h4.specs.Division.{Division, End, Unfinished, Lost, before, division, is_long, after_first}
 use Rattle.le_h4.specs.Packet.{Packet, ScoPacket, EventPacket, First, FirstPacket, NoneYet, NoPacket, first_of, with_data, acl_packet, acl_form, sco_form, event_form}
 use Rattle.octets.specs.Number.{Octets, from_two}
 
@@ -44,7 +44,7 @@ ends-none octet packet size =
     let none : Octets = [] in
     elim (cases_Bool (nat_le size (length none))) [
       | inl all ↦ rw all (drop_all size none (omega arith))
-      | inr part ↦ rw part tt
+      | inr connection ↦ rw connection tt
     ]
 
 ends-acl : (octet : ℕ) (octets : Octets) → EndsWithIt (acl_form octets) (acl_form (octets ++ octet ∷ []))
@@ -78,95 +78,95 @@ ends_first octet (indicator ∷ octets) =
     (ends-either (indicator == 0x03) _ _ _ _ (ends-sco octet octets)
     (ends-either (indicator == 0x04) _ _ _ _ (ends-event octet octets) tt))
 
--- a course that has stopped
-pub stays_stopped : (old : Course) (fault : Fault) (items : List Item) → old.intake.fault ≡ Some fault → after_items old items ≡ old
+-- a run that has stopped
+pub stays_stopped : (old : Run) (fault : Fault) (items : List Item) → old.intake.fault ≡ Some fault → after_items old items ≡ old
 unfolding after_item
 stays_stopped old fault [] is = refl
 stays_stopped old fault (item ∷ items) is =
     ap (λ (stands : Option Fault). after_items (unless_stopped stands old (taken old item)) items) is ∙ stays_stopped old fault items is
 
 -- what is unfinished does not matter to a packet
-packet-apart : (old : Course) (octets : Octets) (packet : Packet) (result : Result Event Fault)
+packet-apart : (old : Run) (octets : Octets) (packet : Packet) (result : Result Event Fault)
     → packet_taken (with_unfinished old octets) packet result ≡ with_unfinished (packet_taken old packet result) octets
 packet-apart old octets packet (Ok event) = refl
 packet-apart old octets packet (Err fault) = refl
 
-packets-apart : (packets : List Packet) (end : End) (old : Course) (octets : Octets)
-    → whole (after_packets (with_unfinished old octets) packets end) ≡ whole (after_packets old packets end)
+packets-apart : (packets : List Packet) (end : End) (old : Run) (octets : Octets)
+    → with_nothing_unfinished (after_packets (with_unfinished old octets) packets end) ≡ with_nothing_unfinished (after_packets old packets end)
 packets-apart [] Unfinished old octets = refl
 packets-apart [] (Lost indicator) old octets = refl
 packets-apart (packet ∷ packets) end old octets =
-    let new : Course = after_packet old packet in
-    ap (λ (course : Course). whole (unless_stopped course.intake.fault course (after_packets course packets end)))
+    let new : Run = after_packet old packet in
+    ap (λ (run : Run). with_nothing_unfinished (unless_stopped run.intake.fault run (after_packets run packets end)))
     (packet-apart old octets packet (packet_event old.intake.state old.intake.fragments packet))
     ∙ apart-unless new octets (after_packets (with_unfinished new octets) packets end) (after_packets new packets end) new.intake.fault
     (packets-apart packets end new octets)
   where
-    apart-unless : (new : Course) (octets : Octets) (one other : Course) (fault : Option Fault) → whole one ≡ whole other
-        → whole (unless_stopped fault (with_unfinished new octets) one) ≡ whole (unless_stopped fault new other)
+    apart-unless : (new : Run) (octets : Octets) (one other : Run) (fault : Option Fault) → with_nothing_unfinished one ≡ with_nothing_unfinished other
+        → with_nothing_unfinished (unless_stopped fault (with_unfinished new octets) one) ≡ with_nothing_unfinished (unless_stopped fault new other)
     apart-unless new octets one other (Some fault) same = refl
     apart-unless new octets one other None same = same
 
 -- what the octets that follow do
 abbrev Follows : Octets → Type 0
-Follows octets = (old : Course) → old.intake.fault ≡ None → first_of old.intake.unfinished ≡ NoneYet →
-    whole (after_items old (map AnOctet octets)) ≡ whole (after_division old (division (old.intake.unfinished ++ octets)))
+Follows octets = (old : Run) → old.intake.fault ≡ None → first_of old.intake.unfinished ≡ NoneYet →
+    with_nothing_unfinished (after_items old (map AnOctet octets)) ≡ with_nothing_unfinished (after_division old (division (old.intake.unfinished ++ octets)))
 
 -- a packet that is taken, and then they
-after-packet : (new : Course) (octets : Octets) (fault : Option Fault) → new.intake.fault ≡ fault → new.intake.unfinished ≡ [] → Follows octets
-    → whole (after_items new (map AnOctet octets)) ≡ whole (unless_stopped fault new (after_division new (division octets)))
-after-packet new octets (Some fault) is empty follows = ap whole (stays_stopped new fault (map AnOctet octets) is)
+after-packet : (new : Run) (octets : Octets) (fault : Option Fault) → new.intake.fault ≡ fault → new.intake.unfinished ≡ [] → Follows octets
+    → with_nothing_unfinished (after_items new (map AnOctet octets)) ≡ with_nothing_unfinished (unless_stopped fault new (after_division new (division octets)))
+after-packet new octets (Some fault) is empty follows = ap with_nothing_unfinished (stays_stopped new fault (map AnOctet octets) is)
 after-packet new octets None is empty follows =
-    follows new is (ap first_of empty) ∙ ap (λ (unfinished : Octets). whole (after_division new (division (unfinished ++ octets)))) empty
+    follows new is (ap first_of empty) ∙ ap (λ (unfinished : Octets). with_nothing_unfinished (after_division new (division (unfinished ++ octets)))) empty
 
-pub packet_kept : (old : Course) (packet : Packet) (result : Result Event Fault) → (packet_taken old packet result).intake.unfinished ≡ old.intake.unfinished
+pub packet_kept : (old : Run) (packet : Packet) (result : Result Event Fault) → (packet_taken old packet result).intake.unfinished ≡ old.intake.unfinished
 packet_kept old packet (Ok event) = refl
 packet_kept old packet (Err fault) = refl
 
-after-whole : (old : Course) (packet : Packet) (octets : Octets) (long : Bool) → old.intake.fault ≡ None → Follows octets
-    → whole (after_items (cond long (with_unfinished old []) (after_packet (with_unfinished old []) packet)) (map AnOctet octets))
-    ≡ whole (after_division (with_unfinished old []) (cond long (division octets) (before (packet ∷ []) (division octets))))
+after-whole : (old : Run) (packet : Packet) (octets : Octets) (long : Bool) → old.intake.fault ≡ None → Follows octets
+    → with_nothing_unfinished (after_items (cond long (with_unfinished old []) (after_packet (with_unfinished old []) packet)) (map AnOctet octets))
+    ≡ with_nothing_unfinished (after_division (with_unfinished old []) (cond long (division octets) (before (packet ∷ []) (division octets))))
 after-whole old packet octets true none follows = follows (with_unfinished old []) none refl
 after-whole old packet octets false none follows =
-    let start : Course = with_unfinished old [] in
-    let new : Course = after_packet start packet in
+    let start : Run = with_unfinished old [] in
+    let new : Run = after_packet start packet in
     after-packet new octets new.intake.fault refl
     (packet_kept start packet (packet_event start.intake.state start.intake.fragments packet)) follows
 
-after-octet : (old : Course) (octets : Octets) (octet : ℕ) (first : First) → old.intake.fault ≡ None
+after-octet : (old : Run) (octets : Octets) (octet : ℕ) (first : First) → old.intake.fault ≡ None
     → first_of (old.intake.unfinished ++ octet ∷ []) ≡ first → EndsWithIt NoneYet first → Follows octets
-    → whole (after_items (after_first old (old.intake.unfinished ++ octet ∷ []) first) (map AnOctet octets))
-    ≡ whole (after_division old (division ((old.intake.unfinished ++ octet ∷ []) ++ octets)))
+    → with_nothing_unfinished (after_items (run_after_first old (old.intake.unfinished ++ octet ∷ []) first) (map AnOctet octets))
+    ≡ with_nothing_unfinished (after_division old (division ((old.intake.unfinished ++ octet ∷ []) ++ octets)))
 after-octet old octets octet NoneYet none is ends follows =
     let unfinished : Octets = old.intake.unfinished ++ octet ∷ [] in
     follows (with_unfinished old unfinished) none is
     ∙ packets-apart (division (unfinished ++ octets)).packets (division (unfinished ++ octets)).end old unfinished
 after-octet old octets octet (NoPacket indicator) none is ends follows =
     let unfinished : Octets = old.intake.unfinished ++ octet ∷ [] in
-    ap whole (stays_stopped (stopped old (Desync indicator)) (Desync indicator) (map AnOctet octets) refl)
-    ∙ ap (λ (d : Division). whole (after_division old d)) (sym (division-lost unfinished octets indicator is))
+    ap with_nothing_unfinished (stays_stopped (stopped old (Desync indicator)) (Desync indicator) (map AnOctet octets) refl)
+    ∙ ap (λ (d : Division). with_nothing_unfinished (after_division old d)) (sym (division-lost unfinished octets indicator is))
 after-octet old octets octet (FirstPacket packet rest) none is ends follows =
     let unfinished : Octets = old.intake.unfinished ++ octet ∷ [] in
-    let divides : division (unfinished ++ octets) ≡ divided (FirstPacket packet (rest ++ octets)) division =
-    division_first (unfinished ++ octets) ∙ ap (λ (first : First). divided first division) (first_append-packet unfinished octets rest packet is) in
-    ap (λ (left : Octets). whole (after_items (after_first old unfinished (FirstPacket packet left)) (map AnOctet octets))) ends
+    let divides : division (unfinished ++ octets) ≡ after_first (FirstPacket packet (rest ++ octets)) division =
+    division_first (unfinished ++ octets) ∙ ap (λ (first : First). after_first first division) (first_append-packet unfinished octets rest packet is) in
+    ap (λ (left : Octets). with_nothing_unfinished (after_items (run_after_first old unfinished (FirstPacket packet left)) (map AnOctet octets))) ends
     ∙ after-whole old packet octets (is_long packet) none follows
     ∙ packets-apart (cond (is_long packet) (division octets) (before (packet ∷ []) (division octets))).packets
     (cond (is_long packet) (division octets) (before (packet ∷ []) (division octets))).end old []
-    ∙ ap (λ (left : Octets). whole (after_division old (divided (FirstPacket packet (left ++ octets)) division))) (sym ends)
-    ∙ ap (λ (d : Division). whole (after_division old d)) (sym divides)
+    ∙ ap (λ (left : Octets). with_nothing_unfinished (after_division old (after_first (FirstPacket packet (left ++ octets)) division))) (sym ends)
+    ∙ ap (λ (d : Division). with_nothing_unfinished (after_division old d)) (sym divides)
 
 follows-all : (octets : Octets) → Follows octets
 unfolding after_item
-follows-all [] old none part =
-    ap (λ (d : Division). whole (after_division old d))
-    (sym (division-part old.intake.unfinished part) ∙ ap division (sym (append-nil old.intake.unfinished)))
-follows-all (octet ∷ octets) old none part =
+follows-all [] old none connection =
+    ap (λ (d : Division). with_nothing_unfinished (after_division old d))
+    (sym (division-part old.intake.unfinished connection) ∙ ap division (sym (append-nil old.intake.unfinished)))
+follows-all (octet ∷ octets) old none connection =
     let unfinished : Octets = old.intake.unfinished ++ octet ∷ [] in
-    ap (λ (stands : Option Fault). whole (after_items (unless_stopped stands old (taken old (AnOctet octet))) (map AnOctet octets))) none
+    ap (λ (stands : Option Fault). with_nothing_unfinished (after_items (unless_stopped stands old (taken old (AnOctet octet))) (map AnOctet octets))) none
     ∙ after-octet old octets octet (first_of unfinished) none refl
-    (subst (λ (first : First). EndsWithIt first (first_of unfinished)) part (ends_first octet old.intake.unfinished)) (follows-all octets)
-    ∙ ap (λ (all : Octets). whole (after_division old (division all))) (append_assoc old.intake.unfinished (octet ∷ []) octets)
+    (subst (λ (first : First). EndsWithIt first (first_of unfinished)) connection (ends_first octet old.intake.unfinished)) (follows-all octets)
+    ∙ ap (λ (all : Octets). with_nothing_unfinished (after_division old (division all))) (append_assoc old.intake.unfinished (octet ∷ []) octets)
 
 pub takes_the_division : TakesTheDivision
-takes_the_division old octets none part = follows-all octets old none part
+takes_the_division old octets none connection = follows-all octets old none connection

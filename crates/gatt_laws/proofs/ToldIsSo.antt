@@ -22,11 +22,11 @@ use Rattle.gatt_laws.specs.machine.Notice.{Notice, Connected, Disconnected, Secu
 use Rattle.gatt_laws.specs.machine.Notice.{Configured, Confirmed, TimedOut, Ending, are_same_facts}
 use Rattle.gatt_laws.specs.machine.Notice.{link_told, write_told, confirmation_told, end_told, live_told}
 use Rattle.gatt_laws.specs.machine.Notice.{late_told, slot_told, noticed}
-use Rattle.gatt_laws.specs.laws.OwnWrites.{row_in}
-use Rattle.gatt_laws.specs.machine.Part.{Part, come, is_live, is_there, key_of, row_of}
+use Rattle.gatt_laws.specs.laws.OwnWrites.{row_of_connection}
+use Rattle.gatt_laws.specs.machine.ConnectionState.{ConnectionState, fresh_connection, is_live, is_there, key_of, row_in_force}
 use Rattle.gatt_laws.specs.machine.State.{State, change_of, step}
 use Rattle.gatt_laws.specs.laws.ToldIsSo.{IsSo, TellsWhatIsSo}
-use Rattle.gatt_laws.specs.machine.Turn.{Turn, turn_to, turn_of, live_turn, handles_written}
+use Rattle.gatt_laws.specs.machine.Effect.{Effect, effect_on_connection, effect_of, live_effect, handles_written}
 use Rattle.gatt_subs.specs.declared.pending.Unconfirmed.{Unconfirmed}
 use Rattle.le_hci.specs.declared.peer.Peer.{Peer}
 use Rattle.le_security.proofs.Peers.{same_as_itself}
@@ -56,15 +56,15 @@ module _ (new : State) where
   slots-so state time [] = none-so
   slots-so state time (None ∷ slots) = slots-so state time slots
   slots-so state time (Some ordinal ∷ slots) =
-      let part : Part = state.parts ordinal in
-      both-so (late_told time part) (flat_map (slot_told state time) slots)
-      (either-so (TimedOut part.handle ∷ []) [] _ (λ is. one-so (TimedOut part.handle) tt)
+      let connection : ConnectionState = state.connections ordinal in
+      both-so (late_told time connection) (flat_map (slot_told state time) slots)
+      (either-so (TimedOut connection.handle ∷ []) [] _ (λ is. one-so (TimedOut connection.handle) tt)
       (λ is. none-so))
       (slots-so state time slots)
 
   -- a connection of a handle, its key and its row in force
-  module _ (ordinal : Ordinal) (handle : ℕ) (named : (new.parts ordinal).handle ≡ handle) where
-    link-so : (old key : Option KeyFacts) → key_of (new.parts ordinal) ≡ key
+  module _ (ordinal : Ordinal) (handle : ℕ) (named : (new.connections ordinal).handle ≡ handle) where
+    link-so : (old key : Option KeyFacts) → key_of (new.connections ordinal) ≡ key
         → AreSo (link_told handle old key)
     link-so None None is = none-so
     link-so None (Some facts) is =
@@ -76,7 +76,7 @@ module _ (new : State) where
         (λ differs. one-so (Secured handle facts)
         (record { ordinal = ordinal; named = named; holds = is }))
 
-    write-so : (row : Row) (attribute : Handle) (configuration : Bool) → row_in new ordinal ≡ row
+    write-so : (row : Row) (attribute : Handle) (configuration : Bool) → row_of_connection new ordinal ≡ row
         → IsSo new (if configuration then Configured handle attribute (bits_at row attribute)
         else Written handle attribute)
     write-so row attribute true is = record {
@@ -86,7 +86,7 @@ module _ (new : State) where
     }
     write-so row attribute false is = tt
 
-    writes-so : (attributes : List Attr) (row : Row) (handles : List Handle) → row_in new ordinal
+    writes-so : (attributes : List Attr) (row : Row) (handles : List Handle) → row_of_connection new ordinal
         ≡ row
         → AreSo (map (write_told attributes row handle) handles)
     writes-so attributes row [] is = none-so
@@ -103,7 +103,7 @@ module _ (new : State) where
         either-so [] (Confirmed handle unconfirmed.handle ∷ []) unconfirmed.outdated (λ is. none-so)
         (λ is. one-so (Confirmed handle unconfirmed.handle) tt)
 
-    reason-so : (reason : Option ℕ) → is_live (new.parts ordinal).mark ≡ false
+    reason-so : (reason : Option ℕ) → is_live (new.connections ordinal).mark ≡ false
         → AreSo (map (Ending handle) (option_to_list reason))
     reason-so None ended = none-so
     reason-so (Some reason) ended =
@@ -112,132 +112,132 @@ module _ (new : State) where
 -- What an event of a connection leaves of it.
 
 module _ (state : State) (at : Ordinal) (own : Own) where
-  abbrev part : Part
-  part = state.parts at
+  abbrev connection : ConnectionState
+  connection = state.connections at
 
-  abbrev turn : Turn
-  turn = turn_of state.room (state.bonds part.peer) (state.owed part.peer) part own
+  abbrev effect : Effect
+  effect = effect_of state.shared (state.bonds connection.peer) (state.owed connection.peer) connection own
 
   abbrev new : State
   new = step state (Of at own)
 
-  own-part : (change_of state (Of at own)).state.parts at ≡ turn.part
+  own-part : (change_of state (Of at own)).state.connections at ≡ effect.connection
   unfolding change_of
-  own-part = ap (λ (same : Bool). if same then turn.part else part) (eq-eqb at at refl)
+  own-part = ap (λ (same : Bool). if same then effect.connection else connection) (eq-eqb at at refl)
 
-  own-mark : (new.parts at).mark ≡ turn.part.mark
+  own-mark : (new.connections at).mark ≡ effect.connection.mark
   own-mark =
-      end_keeps (λ (of : Part). of.mark) (λ of pdus pending given reply reason. refl) state
+      end_keeps (λ (of : ConnectionState). of.mark) (λ of pdus pending given reply reason. refl) state
       (Of at own) at
-      ∙ ap (λ (of : Part). of.mark) own-part
+      ∙ ap (λ (of : ConnectionState). of.mark) own-part
 
-  own-key : key_of (new.parts at) ≡ key_of turn.part
+  own-key : key_of (new.connections at) ≡ key_of effect.connection
   own-key =
       end_keeps key_of (λ of pdus pending given reply reason. refl) state (Of at own) at
       ∙ ap key_of own-part
 
-  own-handle : (new.parts at).handle ≡ turn.part.handle
-  own-handle = (end_named state (Of at own) at).handle ∙ ap (λ (of : Part). of.handle) own-part
+  own-handle : (new.connections at).handle ≡ effect.connection.handle
+  own-handle = (end_named state (Of at own) at).handle ∙ ap (λ (of : ConnectionState). of.handle) own-part
 
-  own-peer : (new.parts at).peer ≡ turn.part.peer
-  own-peer = (end_named state (Of at own) at).peer ∙ ap (λ (of : Part). of.peer) own-part
+  own-peer : (new.connections at).peer ≡ effect.connection.peer
+  own-peer = (end_named state (Of at own) at).peer ∙ ap (λ (of : ConnectionState). of.peer) own-part
 
-  own-bond : turn.part.peer ≡ part.peer → new.bonds (new.parts at).peer ≡ turn.bond
+  own-bond : effect.connection.peer ≡ connection.peer → new.bonds (new.connections at).peer ≡ effect.bond
   unfolding step change_of
   own-bond same =
       ap new.bonds (own-peer ∙ same)
-      ∙ ap (λ (is : Bool). if is then turn.bond else state.bonds part.peer)
-      (same_as_itself part.peer)
+      ∙ ap (λ (is : Bool). if is then effect.bond else state.bonds connection.peer)
+      (same_as_itself connection.peer)
 
-  own-row : turn.part.peer ≡ part.peer → row_in new at ≡ row_of turn.bond turn.part
+  own-row : effect.connection.peer ≡ connection.peer → row_of_connection new at ≡ row_in_force effect.bond effect.connection
   own-row same =
-      let rows : (new.parts at).row ≡ turn.part.row =
-      end_keeps (λ (of : Part). of.row) (λ of pdus pending given reply reason. refl) state
+      let rows : (new.connections at).row ≡ effect.connection.row =
+      end_keeps (λ (of : ConnectionState). of.row) (λ of pdus pending given reply reason. refl) state
       (Of at own) at
-      ∙ ap (λ (of : Part). of.row) own-part in
+      ∙ ap (λ (of : ConnectionState). of.row) own-part in
       let bond = own-bond same in
       λ i. if is_some (own-key i) then bond i else rows i
 
   -- of one that served and stays
-  module _ (kept : IsNamedAs part turn.part) where
-    named : (new.parts at).handle ≡ part.handle
+  module _ (kept : IsNamedAs connection effect.connection) where
+    named : (new.connections at).handle ≡ connection.handle
     named = own-handle ∙ kept.handle
 
-    end-so : AreSo new (end_told part.handle turn.part)
+    end-so : AreSo new (end_told connection.handle effect.connection)
     end-so =
-        either-so new [] (map (Ending part.handle) (option_to_list turn.part.reason))
-        (is_live turn.part.mark)
+        either-so new [] (map (Ending connection.handle) (option_to_list effect.connection.reason))
+        (is_live effect.connection.mark)
         (λ is. none-so new)
-        (λ ended. reason-so new at part.handle named turn.part.reason (ap is_live own-mark ∙ ended))
+        (λ ended. reason-so new at connection.handle named effect.connection.reason (ap is_live own-mark ∙ ended))
 
-    told-so : AreSo new (live_told state.room (state.bonds part.peer) part own turn)
-        → AreSo new (if is_live part.mark then live_told state.room
-        (state.bonds part.peer) part own turn
-        ++ end_told part.handle turn.part else [])
+    told-so : AreSo new (live_told state.shared (state.bonds connection.peer) connection own effect)
+        → AreSo new (if is_live connection.mark then live_told state.shared
+        (state.bonds connection.peer) connection own effect
+        ++ end_told connection.handle effect.connection else [])
     told-so is =
-        either-so new (live_told state.room (state.bonds part.peer) part own turn
-        ++ end_told part.handle turn.part) []
-        (is_live part.mark)
-        (λ live. both-so new (live_told state.room (state.bonds part.peer) part own turn)
-        (end_told part.handle turn.part) is end-so) (λ idle. none-so new)
+        either-so new (live_told state.shared (state.bonds connection.peer) connection own effect
+        ++ end_told connection.handle effect.connection) []
+        (is_live connection.mark)
+        (λ live. both-so new (live_told state.shared (state.bonds connection.peer) connection own effect)
+        (end_told connection.handle effect.connection) is end-so) (λ idle. none-so new)
 
-    linked-so : AreSo new (link_told part.handle (key_of part) (key_of turn.part))
-    linked-so = link-so new at part.handle named (key_of part) (key_of turn.part) own-key
+    linked-so : AreSo new (link_told connection.handle (key_of connection) (key_of effect.connection))
+    linked-so = link-so new at connection.handle named (key_of connection) (key_of effect.connection) own-key
 
 stays-named : (state : State) (at : Ordinal) (own : Own)
-    → (let part = state.parts at in
-    let room = state.room in
-    let bond = state.bonds part.peer in
-    let owed = state.owed part.peer in
-    IsNamedAs part (if is_live part.mark then live_turn room bond owed part own
-    else turn_to room bond owed part).part)
+    → (let connection = state.connections at in
+    let shared = state.shared in
+    let bond = state.bonds connection.peer in
+    let owed = state.owed connection.peer in
+    IsNamedAs connection (if is_live connection.mark then live_effect shared bond owed connection own
+    else effect_on_connection shared bond owed connection).connection)
 stays-named state at own =
-    let part : Part = state.parts at in
-    if-live-named state.room (state.bonds part.peer) (state.owed part.peer) part own
+    let connection : ConnectionState = state.connections at in
+    if-live-named state.shared (state.bonds connection.peer) (state.owed connection.peer) connection own
 
 comes-named : (state : State) (at : Ordinal) (handle : ℕ) (peer : Peer)
-    → is_there (state.parts at).mark ≡ false
-    → (turn state at (event.Connected handle peer)).part ≡ come handle peer
+    → is_there (state.connections at).mark ≡ false
+    → (effect state at (event.Connected handle peer)).connection ≡ fresh_connection handle peer
 comes-named state at handle peer away =
-    ap (λ (there : Bool). if there then state.parts at else come handle peer) away
+    ap (λ (there : Bool). if there then state.connections at else fresh_connection handle peer) away
 
 pub tells_what_is_so : TellsWhatIsSo
 unfolding noticed
 tells_what_is_so state (Of at (event.Connected handle peer)) =
     let own : Own = event.Connected handle peer in
     either-so (step state (Of at own)) [] (Connected handle peer ∷ [])
-    (is_there (state.parts at).mark)
+    (is_there (state.connections at).mark)
     (λ there. none-so (step state (Of at own)))
     (λ away. one-so (step state (Of at own)) (Connected handle peer) (record {
       ordinal = at;
       named = own-handle state at own
-          ∙ ap (λ (of : Part). of.handle) (comes-named state at handle peer away);
+          ∙ ap (λ (of : ConnectionState). of.handle) (comes-named state at handle peer away);
       holds = own-peer state at own
-          ∙ ap (λ (of : Part). of.peer) (comes-named state at handle peer away);
+          ∙ ap (λ (of : ConnectionState). of.peer) (comes-named state at handle peer away);
     }))
 tells_what_is_so state (Of at event.Gone) =
-    let part : Part = state.parts at in
-    either-so (step state (Of at event.Gone)) (Disconnected part.handle ∷ []) []
-    (is_there part.mark)
-    (λ there. one-so (step state (Of at event.Gone)) (Disconnected part.handle) tt)
+    let connection : ConnectionState = state.connections at in
+    either-so (step state (Of at event.Gone)) (Disconnected connection.handle ∷ []) []
+    (is_there connection.mark)
+    (λ there. one-so (step state (Of at event.Gone)) (Disconnected connection.handle) tt)
     (λ away. none-so (step state (Of at event.Gone)))
 tells_what_is_so state (Of at (Asks pdu)) =
     let own : Own = Asks pdu in
-    let part : Part = state.parts at in
-    let bond : Row = state.bonds part.peer in
-    let after : Turn = turn state at own in
+    let connection : ConnectionState = state.connections at in
+    let bond : Row = state.bonds connection.peer in
+    let after : Effect = effect state at own in
     let new : State = step state (Of at own) in
     let kept = stays-named state at own in
     told-so state at own kept
-    (both-so new (map (write_told state.room.table.attributes
-    (row_of after.bond after.part) part.handle)
-    (handles_written state.room bond part own))
-    (if is_confirmation pdu then confirmation_told part.handle part.pending.unconfirmed else [])
-    (writes-so new at part.handle (named state at own kept) state.room.table.attributes
-    (row_of after.bond after.part) (handles_written state.room bond part own)
+    (both-so new (map (write_told state.shared.table.attributes
+    (row_in_force after.bond after.connection) connection.handle)
+    (handles_written state.shared bond connection own))
+    (if is_confirmation pdu then confirmation_told connection.handle connection.pending.unconfirmed else [])
+    (writes-so new at connection.handle (named state at own kept) state.shared.table.attributes
+    (row_in_force after.bond after.connection) (handles_written state.shared bond connection own)
     (own-row state at own kept.peer))
-    (either-so new (confirmation_told part.handle part.pending.unconfirmed) [] (is_confirmation pdu)
-    (λ is. confirmation-so new at part.handle (named state at own kept) part.pending.unconfirmed)
+    (either-so new (confirmation_told connection.handle connection.pending.unconfirmed) [] (is_confirmation pdu)
+    (λ is. confirmation-so new at connection.handle (named state at own kept) connection.pending.unconfirmed)
     (λ is. none-so new)))
 tells_what_is_so state (Of at (Encrypted status enabled)) =
     let own : Own = Encrypted status enabled in

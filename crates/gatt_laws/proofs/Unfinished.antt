@@ -4,71 +4,71 @@ use Rattle.std.specs.Prelude.{Result, Ok, Err}
 use Rattle.gatt_laws.proofs.Streams.{EndsWithIt, ends_first, packet_kept, stays_stopped}
 use Rattle.gatt_laws.specs.machine.Calls.{call_event, replacement_event}
 use Rattle.gatt_laws.specs.machine.Event.{Event}
-use Rattle.gatt_laws.specs.machine.Input.{Item, AnOctet, APacket, ACall, ATable, TheEnd, Course, after_first, after_item, after_items, after_packet, after_result, at_start, course, stopped, taken, unless_stopped, with_unfinished}
+use Rattle.gatt_laws.specs.machine.Input.{Item, AnOctet, APacket, ACall, ATable, TheEnd, Run, run_after_first, after_item, after_items, after_packet, after_result, run_at_start, run, stopped, taken, unless_stopped, with_unfinished}
 use Rattle.gatt_laws.specs.laws.Laws.{DividesOn, LeavesLessThanAPacket}
 use Rattle.gatt_laws.specs.machine.Packets.{Fault, Desync, packet_event}
 use Rattle.le_h4.proofs.Dividing.{division_first, division-part}
 use Rattle.le_h4.proofs.Firsts.{first_append-packet}
-use Rattle.le_h4.specs.Division.{Division, after_first as divided, before, division, is_long}
+use Rattle.le_h4.specs.Division.{Division, after_first, before, division, is_long}
 use Rattle.le_h4.specs.Packet.{Packet, First, FirstPacket, NoneYet, NoPacket, first_of}
 use Rattle.octets.specs.Number.{Octets}
 
 -- less than a packet
-abbrev IsPart : Course → Type 0
-IsPart course = first_of course.intake.unfinished ≡ NoneYet
+abbrev IsPart : Run → Type 0
+IsPart run = first_of run.intake.unfinished ≡ NoneYet
 
 -- a packet that is whole leaves what follows it
-left-behind : (old : Course) (packet : Packet) (rest : Octets) (long : Bool)
+left-behind : (old : Run) (packet : Packet) (rest : Octets) (long : Bool)
     → (cond long (with_unfinished old rest) (after_packet (with_unfinished old rest) packet)).intake.unfinished ≡ rest
 left-behind old packet rest true = refl
 left-behind old packet rest false =
     packet_kept (with_unfinished old rest) packet (packet_event old.intake.state old.intake.fragments packet)
 
-part-first : (old : Course) (octets : Octets) (first : First) → IsPart old → first_of octets ≡ first → EndsWithIt NoneYet first
-    → IsPart (after_first old octets first)
-part-first old octets NoneYet part is ends = is
-part-first old octets (NoPacket indicator) part is ends = part
-part-first old octets (FirstPacket packet rest) part is ends = ap first_of (left-behind old packet rest (is_long packet) ∙ ends)
+part-first : (old : Run) (octets : Octets) (first : First) → IsPart old → first_of octets ≡ first → EndsWithIt NoneYet first
+    → IsPart (run_after_first old octets first)
+part-first old octets NoneYet connection is ends = is
+part-first old octets (NoPacket indicator) connection is ends = connection
+part-first old octets (FirstPacket packet rest) connection is ends = ap first_of (left-behind old packet rest (is_long packet) ∙ ends)
 
-part-result : {E : Type 0} (old : Course) (result : Result Event E) → IsPart old → IsPart (after_result old result)
-part-result old (Ok event) part = part
-part-result old (Err refused) part = part
+part-result : {E : Type 0} (old : Run) (result : Result Event E) → IsPart old → IsPart (after_result old result)
+part-result old (Ok event) connection = connection
+part-result old (Err refused) connection = connection
 
 -- one octet more ends a packet, or none
-ends-next : (old : Course) (octet : ℕ) → IsPart old → EndsWithIt NoneYet (first_of (old.intake.unfinished ++ octet ∷ []))
-ends-next old octet part =
-    subst (λ (first : First). EndsWithIt first (first_of (old.intake.unfinished ++ octet ∷ []))) part (ends_first octet old.intake.unfinished)
+ends-next : (old : Run) (octet : ℕ) → IsPart old → EndsWithIt NoneYet (first_of (old.intake.unfinished ++ octet ∷ []))
+ends-next old octet connection =
+    subst (λ (first : First). EndsWithIt first (first_of (old.intake.unfinished ++ octet ∷ []))) connection (ends_first octet old.intake.unfinished)
 
-part-taken : (old : Course) (item : Item) → IsPart old → IsPart (taken old item)
-part-taken old (AnOctet octet) part =
-    let octets : Octets = old.intake.unfinished ++ octet ∷ [] in part-first old octets (first_of octets) part refl (ends-next old octet part)
-part-taken old (APacket packet) part = ap first_of (left-behind old packet old.intake.unfinished (is_long packet)) ∙ part
-part-taken old (ACall call) part = part-result old (call_event old.intake.state call) part
-part-taken old (ATable table) part = part-result old (replacement_event old.intake.state table) part
-part-taken old TheEnd part = refl
+part-taken : (old : Run) (item : Item) → IsPart old → IsPart (taken old item)
+part-taken old (AnOctet octet) connection =
+    let octets : Octets = old.intake.unfinished ++ octet ∷ [] in part-first old octets (first_of octets) connection refl (ends-next old octet connection)
+part-taken old (APacket packet) connection = ap first_of (left-behind old packet old.intake.unfinished (is_long packet)) ∙ connection
+part-taken old (ACall call) connection = part-result old (call_event old.intake.state call) connection
+part-taken old (ATable table) connection = part-result old (replacement_event old.intake.state table) connection
+part-taken old TheEnd connection = refl
 
-part-unless : (old new : Course) (fault : Option Fault) → IsPart old → IsPart new → IsPart (unless_stopped fault old new)
-part-unless old new (Some fault) part then_part = part
-part-unless old new None part then_part = then_part
+part-unless : (old new : Run) (fault : Option Fault) → IsPart old → IsPart new → IsPart (unless_stopped fault old new)
+part-unless old new (Some fault) connection then_part = connection
+part-unless old new None connection then_part = then_part
 
-part-items : (old : Course) (items : List Item) → IsPart old → IsPart (after_items old items)
+part-items : (old : Run) (items : List Item) → IsPart old → IsPart (after_items old items)
 unfolding after_item
-part-items old [] part = part
-part-items old (item ∷ items) part =
-    part-items (after_item old item) items (part-unless old (taken old item) old.intake.fault part (part-taken old item part))
+part-items old [] connection = connection
+part-items old (item ∷ items) connection =
+    part-items (after_item old item) items (part-unless old (taken old item) old.intake.fault connection (part-taken old item connection))
 
 pub leaves_less_than_a_packet : LeavesLessThanAPacket
-unfolding course
-leaves_less_than_a_packet start input = part-items (at_start start) input refl
+unfolding run
+leaves_less_than_a_packet start input = part-items (run_at_start start) input refl
 
--- a course that has a fault has it still
-never : (old : Course) (why : Fault) (items : List Item) → old.intake.fault ≡ Some why → (after_items old items).intake.fault ≡ None → ⊥
+-- a run that has a fault has it still
+never : (old : Run) (why : Fault) (items : List Item) → old.intake.fault ≡ Some why → (after_items old items).intake.fault ≡ None → ⊥
 never old why items is none =
-    let there : (after_items old items).intake.fault ≡ Some why = ap (λ (course : Course). course.intake.fault) (stays_stopped old why items is) ∙ is in
+    let there : (after_items old items).intake.fault ≡ Some why = ap (λ (run : Run). run.intake.fault) (stays_stopped old why items is) ∙ is in
     cc (there, none)
 
 -- behind a packet that is taken
-divides-packet : (new : Course) (packet : Packet) (octets rest : Octets) (fault : Option Fault) → new.intake.fault ≡ fault → new.intake.unfinished ≡ []
+divides-packet : (new : Run) (packet : Packet) (octets rest : Octets) (fault : Option Fault) → new.intake.fault ≡ fault → new.intake.unfinished ≡ []
     → DividesOn octets → (after_items new (map AnOctet octets)).intake.fault ≡ None
     → before (packet ∷ []) (division (octets ++ rest))
     ≡ before (packet ∷ (division octets).packets) (division ((after_items new (map AnOctet octets)).intake.unfinished ++ rest))
@@ -79,23 +79,23 @@ divides-packet new packet octets rest None is empty divides none =
     (subst (λ (octets_kept : Octets). division (octets_kept ++ (octets ++ rest)) ≡ before (division (octets_kept ++ octets)).packets (division behind)) empty
     (divides new is (ap first_of empty) none rest))
 
-divides-whole : (old : Course) (packet : Packet) (octets rest : Octets) (long : Bool) → old.intake.fault ≡ None → DividesOn octets
+divides-whole : (old : Run) (packet : Packet) (octets rest : Octets) (long : Bool) → old.intake.fault ≡ None → DividesOn octets
     → let new = after_items (cond long (with_unfinished old []) (after_packet (with_unfinished old []) packet)) (map AnOctet octets) in
     new.intake.fault ≡ None
     → cond long (division (octets ++ rest)) (before (packet ∷ []) (division (octets ++ rest)))
     ≡ before (cond long (division octets) (before (packet ∷ []) (division octets))).packets (division (new.intake.unfinished ++ rest))
 divides-whole old packet octets rest true none divides then_none = divides (with_unfinished old []) none refl then_none rest
 divides-whole old packet octets rest false none divides then_none =
-    let new : Course = after_packet (with_unfinished old []) packet in
+    let new : Run = after_packet (with_unfinished old []) packet in
     divides-packet new packet octets rest new.intake.fault refl (left-behind old packet [] false) divides then_none
 
 -- what follows one octet more
-abbrev DividesBehind : Course → Octets → First → Octets → Octets → Type 0
+abbrev DividesBehind : Run → Octets → First → Octets → Octets → Type 0
 DividesBehind old all first octets rest =
-    let new = after_items (after_first old all first) (map AnOctet octets) in
+    let new = after_items (run_after_first old all first) (map AnOctet octets) in
     new.intake.fault ≡ None → division (all ++ (octets ++ rest)) ≡ before (division (all ++ octets)).packets (division (new.intake.unfinished ++ rest))
 
-divides-octet : (old : Course) (all : Octets) (first : First) (octets rest : Octets) → old.intake.fault ≡ None → first_of all ≡ first
+divides-octet : (old : Run) (all : Octets) (first : First) (octets rest : Octets) → old.intake.fault ≡ None → first_of all ≡ first
     → EndsWithIt NoneYet first → DividesOn octets → DividesBehind old all first octets rest
 divides-octet old all NoneYet octets rest none is ends divides then_none = divides (with_unfinished old all) none is then_none rest
 divides-octet old all (NoPacket indicator) octets rest none is ends divides then_none =
@@ -103,9 +103,9 @@ divides-octet old all (NoPacket indicator) octets rest none is ends divides then
 divides-octet old all (FirstPacket packet left) octets rest none is ends divides then_none =
     let divides_so : (more : Octets) → division (all ++ more) ≡ cond (is_long packet) (division more) (before (packet ∷ []) (division more)) =
     λ more. division_first (all ++ more)
-    ∙ ap (λ (first : First). divided first division) (first_append-packet all more left packet is)
-    ∙ ap (λ (kept : Octets). divided (FirstPacket packet (kept ++ more)) division) ends in
-    let new : Octets → Course = λ kept. after_items (after_first old all (FirstPacket packet kept)) (map AnOctet octets) in
+    ∙ ap (λ (first : First). after_first first division) (first_append-packet all more left packet is)
+    ∙ ap (λ (kept : Octets). after_first (FirstPacket packet (kept ++ more)) division) ends in
+    let new : Octets → Run = λ kept. after_items (run_after_first old all (FirstPacket packet kept)) (map AnOctet octets) in
     let stands : (new []).intake.fault ≡ None =
     subst (λ (kept : Octets). (new kept).intake.fault ≡ None) ends then_none in
     divides_so (octets ++ rest)
@@ -114,14 +114,14 @@ divides-octet old all (FirstPacket packet left) octets rest none is ends divides
 
 pub divides_on : (octets : Octets) → DividesOn octets
 unfolding after_item
-divides_on [] old none part then_none rest =
+divides_on [] old none connection then_none rest =
     ap (λ (d : Division). before d.packets (division (old.intake.unfinished ++ rest)))
-    (sym (ap division (append-nil old.intake.unfinished) ∙ division-part old.intake.unfinished part))
-divides_on (octet ∷ octets) old none part then_none rest =
+    (sym (ap division (append-nil old.intake.unfinished) ∙ division-part old.intake.unfinished connection))
+divides_on (octet ∷ octets) old none connection then_none rest =
     let all : Octets = old.intake.unfinished ++ octet ∷ [] in
-    let new : Option Fault → Course = λ fault. after_items (unless_stopped fault old (taken old (AnOctet octet))) (map AnOctet octets) in
+    let new : Option Fault → Run = λ fault. after_items (unless_stopped fault old (taken old (AnOctet octet))) (map AnOctet octets) in
     let stands : (new None).intake.fault ≡ None =
     subst (λ (fault : Option Fault). (new fault).intake.fault ≡ None) none then_none in
     ap division (sym (append_assoc old.intake.unfinished (octet ∷ []) (octets ++ rest)))
-    ∙ divides-octet old all (first_of all) octets rest none refl (ends-next old octet part) (divides_on octets) stands
+    ∙ divides-octet old all (first_of all) octets rest none refl (ends-next old octet connection) (divides_on octets) stands
     ∙ (λ i. before (division (append_assoc old.intake.unfinished (octet ∷ []) octets i)).packets (division ((new (sym none i)).intake.unfinished ++ rest)))

@@ -18,10 +18,10 @@ use Rattle.att_table.proofs.Values.{length_stored, stored_alike}
 use Rattle.att_table.specs.Facts.{IsTable}
 use Rattle.att_table.specs.Table.{Contents, value_at, with_value}
 use Rattle.att_values.specs.Cell.{value_with_part}
-use Rattle.att_writes.specs.Applied.{Stored, after_entry, after_entries, stored_in, stored_after as written_after, unless_refused as unless_entry}
+use Rattle.att_writes.specs.Applied.{Stored, after_entry, after_entries, stored_in, stored_after, unless_entry_refused}
 use Rattle.att_writes.specs.Entry.{Entry}
-use Rattle.att_writes.specs.Fault.{configuration_fault, fault_of, form_fault, room_of, unless_broken, value_fault}
-use Rattle.gatt_conn.specs.Answer.{Writing, stored_after}
+use Rattle.att_writes.specs.Fault.{configuration_fault, entry_fault, form_fault, room_for, unless_broken, value_fault}
+use Rattle.gatt_conn.specs.Answer.{Writing, stored_after_writing}
 use Rattle.std.specs.List.{find}
 use Rattle.std.specs.Option.{option_map}
 use Rattle.att_pdu.specs.Grammar.{request_of, is_due}
@@ -32,13 +32,13 @@ use Rattle.gatt_laws.specs.machine.Event.{Ordinal, Own, Event, Connected, Gone, 
 use Rattle.gatt_laws.specs.laws.Headline.{MayUse}
 use Rattle.gatt_laws.proofs.Always.{always}
 use Rattle.gatt_laws.specs.machine.Calls.{has_length}
-use Rattle.gatt_laws.specs.machine.Input.{at_start, course}
+use Rattle.gatt_laws.specs.machine.Input.{run_at_start, run}
 use Rattle.gatt_laws.specs.laws.Possible.{Possible}
 use Rattle.gatt_laws.specs.laws.ValuesOfTheTable.{AlwaysHasATable}
-use Rattle.gatt_laws.specs.machine.Part.{Part, is_live, row_of, mtu_of, connection_of, after_ending}
-use Rattle.gatt_laws.specs.machine.Room.{Room}
+use Rattle.gatt_laws.specs.machine.ConnectionState.{ConnectionState, is_live, row_in_force, connection_mtu, bearer_of, after_ending}
+use Rattle.gatt_laws.specs.machine.SharedState.{SharedState}
 use Rattle.gatt_laws.specs.machine.State.{State, own_change, all_changed, change_of, step}
-use Rattle.gatt_laws.specs.machine.Turn.{turn_to, served, is_full, live_turn, remote_user_terminated}
+use Rattle.gatt_laws.specs.machine.Effect.{effect_on_connection, served, is_full, live_effect, remote_user_terminated}
 use Rattle.gatt_laws.proofs.Headline.{written-may}
 use Rattle.octets.specs.Number.{Octets}
 
@@ -71,23 +71,23 @@ stored-table table handle value is used fits exact = record {
         table.values table.values handle value value refl used (λ at at_used. is.fixed at) exact (suc other) (omega arith) fixed
 
 -- how long a value is once a part is written into it
-kept-length : (value : Octets) (offset : ℕ) (part : Octets) → offset + length part ≤ length value → length (value_with_part true value offset part) ≡ length value
-kept-length value offset part fits = simp (length-append, length-take, length-drop) (omega arith)
+kept-length : (value : Octets) (offset : ℕ) (connection : Octets) → offset + length connection ≤ length value → length (value_with_part true value offset connection) ≡ length value
+kept-length value offset connection fits = simp (length-append, length-take, length-drop) (omega arith)
 
-cut-length : (value : Octets) (offset : ℕ) (part : Octets) → offset ≤ length value → length (value_with_part false value offset part) ≡ offset + length part
-cut-length value offset part fits = simp (length-append, length-take, length-drop) (omega arith)
+cut-length : (value : Octets) (offset : ℕ) (connection : Octets) → offset ≤ length value → length (value_with_part false value offset connection) ≡ offset + length connection
+cut-length value offset connection fits = simp (length-append, length-take, length-drop) (omega arith)
 
 -- an entry with no fault fits
-record Fits (size offset count room : ℕ) : Type 0 where
+record Fits (size offset count shared : ℕ) : Type 0 where
   begins : offset ≤ size
-  ends : offset + count ≤ room
+  ends : offset + count ≤ shared
 
-fits-by : (size offset count room : ℕ) (low long : Code) (before behind : Bool) → nat_lt size offset ≡ before → nat_lt room (offset + count) ≡ behind
-    → (if before then Some low else if behind then Some long else None) ≡ None → Fits size offset count room
-fits-by size offset count room low long true behind is was none = cc none
-fits-by size offset count room low long false true is was none = cc none
-fits-by size offset count room low long false false is was none =
-    record { begins = omega (arith, ltb-false size offset is); ends = omega (arith, ltb-false room (offset + count) was) }
+fits-by : (size offset count shared : ℕ) (low long : Code) (before behind : Bool) → nat_lt size offset ≡ before → nat_lt shared (offset + count) ≡ behind
+    → (if before then Some low else if behind then Some long else None) ≡ None → Fits size offset count shared
+fits-by size offset count shared low long true behind is was none = cc none
+fits-by size offset count shared low long false true is was none = cc none
+fits-by size offset count shared low long false false is was none =
+    record { begins = omega (arith, ltb-false size offset is); ends = omega (arith, ltb-false shared (offset + count) was) }
 
 no-fault : (broken : Option (Rule × Code)) (fault : Option Code) → unless_broken broken fault ≡ None → fault ≡ None
 no-fault None fault none = none
@@ -116,7 +116,7 @@ value-table table entry false fixed is used fits =
 
 entry-table : (access : Access) (attributes : List Attr) (standing : Standing) (stored : Stored) (entry : Entry) (configuration : Bool)
     → is_configuration_at attributes entry.handle ≡ configuration → IsTable (table_with attributes stored.values)
-    → fault_of access attributes standing (length (value_at stored.values entry.handle)) entry ≡ None
+    → entry_fault access attributes standing (length (value_at stored.values entry.handle)) entry ≡ None
     → IsTable (table_with attributes (after_entry attributes stored entry).values)
 entry-table access attributes standing stored entry true configuration is none = rw configuration is
 entry-table access attributes standing stored entry false configuration is none =
@@ -125,64 +125,64 @@ entry-table access attributes standing stored entry false configuration is none 
     let value_none : value_fault attributes size entry ≡ None =
     ap (λ (test : Bool). if test then configuration_fault attributes entry else value_fault attributes size entry) (sym configuration)
     ∙ no-fault (first_broken_of access (guard_at attributes entry.handle) standing) (form_fault attributes size entry) none in
-    let room = room_of attributes entry.handle size in
-    let fits : Fits size entry.offset (length entry.part) room =
-    fits-by size entry.offset (length entry.part) room INVALID_OFFSET INVALID_ATTRIBUTE_VALUE_LENGTH
-    (nat_lt size entry.offset) (nat_lt room (entry.offset + length entry.part)) refl refl value_none in
+    let shared = room_for attributes entry.handle size in
+    let fits : Fits size entry.offset (length entry.part) shared =
+    fits-by size entry.offset (length entry.part) shared INVALID_OFFSET INVALID_ATTRIBUTE_VALUE_LENGTH
+    (nat_lt size entry.offset) (nat_lt shared (entry.offset + length entry.part)) refl refl value_none in
     rw configuration (value-table (table_with attributes stored.values) entry (is_fixed_at attributes entry.handle) refl is
     (handle-used access attributes standing entry.handle may) fits)
 
 unless-table : (attributes : List Attr) (old : Stored) (entry : Entry) (code : Option Code) (rest : Result Stored Refusal) → IsTable (table_with attributes old.values)
-    → (code ≡ None → IsTable (table_with attributes (written_after old rest).values))
-    → IsTable (table_with attributes (written_after old (unless_entry entry code rest)).values)
+    → (code ≡ None → IsTable (table_with attributes (stored_after old rest).values))
+    → IsTable (table_with attributes (stored_after old (unless_entry_refused entry code rest)).values)
 unless-table attributes old entry (Some code) rest before after = before
 unless-table attributes old entry None rest before after = after refl
 
 entries-table : (access : Access) (attributes : List Attr) (standing : Standing) (entries : List Entry) (old by : Stored)
     → IsTable (table_with attributes old.values) → IsTable (table_with attributes by.values)
-    → IsTable (table_with attributes (written_after old (after_entries access attributes standing by entries)).values)
+    → IsTable (table_with attributes (stored_after old (after_entries access attributes standing by entries)).values)
 unfolding after_entries
 entries-table access attributes standing [] old by before is = is
 entries-table access attributes standing (entry ∷ entries) old by before is =
-    unless-table attributes old entry (fault_of access attributes standing (length (value_at by.values entry.handle)) entry) _ before
+    unless-table attributes old entry (entry_fault access attributes standing (length (value_at by.values entry.handle)) entry) _ before
     (λ none. entries-table access attributes standing entries old (after_entry attributes by entry) before
     (entry-table access attributes standing by entry (is_configuration_at attributes entry.handle) refl is none))
 
 -- and so is what a request leaves
 pub writing-table : (table : Contents) (row : Row) (standing : Standing) (writing : Option Writing) → IsTable table
-    → IsTable (table_with table.attributes (stored_after table row standing writing).values)
+    → IsTable (table_with table.attributes (stored_after_writing table row standing writing).values)
 writing-table table row standing None is = is
 writing-table table row standing (Some writing) is =
     entries-table writing.access table.attributes standing writing.entries (stored_in table row) (stored_in table row) is is
 
 -- what an event of one connection leaves
-turn-table : (room : Room) (bond : Row) (owed : Bool) (part : Part) (own : Own) (live : Bool) → IsTable room.table
-    → IsTable (table_with room.table.attributes (if live then live_turn room bond owed part own else turn_to room bond owed part).values)
-unfolding live_turn
-turn-table room bond owed part (Asks pdu) true is = request-table room bond owed part pdu (is_due (request_of pdu (mtu_of room part)) && is_full room part) is
+turn-table : (shared : SharedState) (bond : Row) (owed : Bool) (connection : ConnectionState) (own : Own) (live : Bool) → IsTable shared.table
+    → IsTable (table_with shared.table.attributes (if live then live_effect shared bond owed connection own else effect_on_connection shared bond owed connection).values)
+unfolding live_effect
+turn-table shared bond owed connection (Asks pdu) true is = request-table shared bond owed connection pdu (is_due (request_of pdu (connection_mtu shared connection)) && is_full shared connection) is
   where
-    request-table : (room : Room) (bond : Row) (owed : Bool) (part : Part) (pdu : Octets) (full : Bool) → IsTable room.table
-        → IsTable (table_with room.table.attributes (if full then turn_to room bond owed (after_ending part remote_user_terminated)
-        else served room bond owed part pdu (request_of pdu (mtu_of room part))).values)
-    request-table room bond owed part pdu true is = is
-    request-table room bond owed part pdu false is =
-        let conn = connection_of room part in
-        writing-table room.table (row_of bond part) conn.standing (writing_asked conn.queue (request_of pdu (mtu_of room part))) is
-turn-table room bond owed part (Connected handle peer) true is = is
-turn-table room bond owed part Gone true is = is
-turn-table room bond owed part (KeyAsked random_number diversifier) true is = is
-turn-table room bond owed part (Encrypted status enabled) true is = is
-turn-table room bond owed part (Refreshed status) true is = is
-turn-table room bond owed part (Signals channel payload) true is = is
-turn-table room bond owed part (Authorized until) true is = is
-turn-table room bond owed part Ended true is = is
-turn-table room bond owed part own false is = is
+    request-table : (shared : SharedState) (bond : Row) (owed : Bool) (connection : ConnectionState) (pdu : Octets) (full : Bool) → IsTable shared.table
+        → IsTable (table_with shared.table.attributes (if full then effect_on_connection shared bond owed (after_ending connection remote_user_terminated)
+        else served shared bond owed connection pdu (request_of pdu (connection_mtu shared connection))).values)
+    request-table shared bond owed connection pdu true is = is
+    request-table shared bond owed connection pdu false is =
+        let conn = bearer_of shared connection in
+        writing-table shared.table (row_in_force bond connection) conn.standing (writing_asked conn.queue (request_of pdu (connection_mtu shared connection))) is
+turn-table shared bond owed connection (Connected handle peer) true is = is
+turn-table shared bond owed connection Gone true is = is
+turn-table shared bond owed connection (KeyAsked random_number diversifier) true is = is
+turn-table shared bond owed connection (Encrypted status enabled) true is = is
+turn-table shared bond owed connection (Refreshed status) true is = is
+turn-table shared bond owed connection (Signals channel payload) true is = is
+turn-table shared bond owed connection (Authorized until) true is = is
+turn-table shared bond owed connection Ended true is = is
+turn-table shared bond owed connection own false is = is
 
-own-table : (state : State) (ordinal : Ordinal) (own : Own) → IsTable state.room.table → IsTable (own_change state ordinal own).state.room.table
+own-table : (state : State) (ordinal : Ordinal) (own : Own) → IsTable state.shared.table → IsTable (own_change state ordinal own).state.shared.table
 own-table state ordinal (Connected handle peer) is = is
 own-table state ordinal Gone is = is
 own-table state ordinal own is =
-    let part = state.parts ordinal in turn-table state.room (state.bonds part.peer) (state.owed part.peer) part own (is_live part.mark) is
+    let connection = state.connections ordinal in turn-table state.shared (state.bonds connection.peer) (state.owed connection.peer) connection own (is_live connection.mark) is
 
 -- the changer of a table that replaces another has four octets, as what is written there
 announced-table : (table : Contents) (changer : Option Attr) → find (is_changer table) table.attributes ≡ changer → IsTable table
@@ -213,20 +213,20 @@ updated-table table (suc handle) value attr at has is =
     let fixed : is_fixed_at table.attributes (suc handle) ≡ attr.fixed = ap (λ (found : Option Attr). option_map_or (λ (a : Attr). a.fixed) found false) at in
     stored-table table (suc handle) value is (omega arith) (omega (arith, fits.0, largest)) (λ so. fits.1 (sym fixed ∙ so) ∙ sym largest)
 
-change-table : (state : State) (event : Event) → Possible IsTable state event → IsTable state.room.table → IsTable (change_of state event).state.room.table
+change-table : (state : State) (event : Event) → Possible IsTable state event → IsTable state.shared.table → IsTable (change_of state event).state.shared.table
 unfolding change_of
 change-table state (Of ordinal own) fits is = own-table state ordinal own is
 change-table state (Credit allowed opcode status (Some init)) fits is = is
 change-table state (Credit allowed opcode status None) fits is = is
-change-table state (Update handle value) fits is = updated-table state.room.table handle value fits.attr fits.there fits.fits is
+change-table state (Update handle value) fits is = updated-table state.shared.table handle value fits.attr fits.there fits.fits is
 change-table state (Replaced table) fits is = announced-table table (find (is_changer table) table.attributes) refl fits
 change-table state event fits is = is
 
-step-table : (state : State) (event : Event) → Possible IsTable state event → IsTable state.room.table → IsTable (step state event).room.table
+step-table : (state : State) (event : Event) → Possible IsTable state event → IsTable state.shared.table → IsTable (step state event).shared.table
 unfolding step
 step-table state event fits is = change-table state event fits is
 
 pub always_has_a_table : AlwaysHasATable
-unfolding course
+unfolding run
 always_has_a_table start input is tables =
-    always IsTable (λ (state : State). IsTable state.room.table) step-table (at_start start) input tables is
+    always IsTable (λ (state : State). IsTable state.shared.table) step-table (run_at_start start) input tables is

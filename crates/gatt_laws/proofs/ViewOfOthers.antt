@@ -13,18 +13,18 @@ use Rattle.att_attributes.specs.Attributes.{attribute_at, is_configuration, is_v
 use Rattle.att_table.specs.ConfigRow.{kept_row}
 use Rattle.att_table.specs.Table.{Contents, value_at}
 use Rattle.att_writes.specs.Applied.{Stored, applied_to, stored_in}
-use Rattle.gatt_conn.specs.Answer.{Question, Writing, writing_asked, stored_by, handles_by, stored_after, handles_after}
-use Rattle.gatt_conn.specs.Connection.{Connection}
+use Rattle.gatt_conn.specs.Answer.{Question, Writing, writing_asked, stored_by, handles_by, stored_after_writing, handles_after}
+use Rattle.gatt_conn.specs.Connection.{Bearer}
 use Rattle.gatt_conn.specs.Transcript.{Dropped}
 use Rattle.gatt_laws.proofs.Stores.{store, set_bits, stores_written, sets_written}
 use Rattle.gatt_laws.specs.machine.Event.{Ordinal, Own, Connected, Gone, KeyAsked, Encrypted, Refreshed, Asks, Signals, Authorized, Ended}
-use Rattle.gatt_laws.specs.machine.Part.{Part, absent, come, is_live, is_there, key_of, row_of, mtu_of, connection_of, after_ending}
-use Rattle.gatt_laws.specs.machine.Room.{Room, Bonds}
-use Rattle.gatt_laws.specs.laws.SameView.{Seen, without_commands, seen}
-use Rattle.gatt_laws.specs.machine.State.{State, at_peer, with_values, own_change, with_completed, after_completed, part_replaced, step}
-use Rattle.gatt_laws.specs.machine.Turn.{Turn, turn_to, served, is_full, request_turn, after_channel, channel_answer, with_step, lost_encryption, link_turn, values_among, live_turn, turn_of, remote_user_terminated, authentication_failure, handles_written}
-use Rattle.gatt_laws.specs.laws.View.{Written, values_there, bits_there, written_in, own_counts}
-use Rattle.gatt_subs.specs.Indications.{Indications, may_indicate, from_due, first_of, rest_of, unconfirmed_since, after_tick, after_replacement}
+use Rattle.gatt_laws.specs.machine.ConnectionState.{ConnectionState, no_connection, fresh_connection, is_live, is_there, key_of, row_in_force, connection_mtu, bearer_of, after_ending}
+use Rattle.gatt_laws.specs.machine.SharedState.{SharedState, Bonds}
+use Rattle.gatt_laws.specs.laws.SameView.{Seen, without_commands, seen_of}
+use Rattle.gatt_laws.specs.machine.State.{State, at_peer, with_values, own_change, with_packets_completed, after_packets_completed, connection_after_replacement, step}
+use Rattle.gatt_laws.specs.machine.Effect.{Effect, effect_on_connection, served, is_full, request_effect, after_other_channel, channel_answer, with_step, lost_encryption, link_effect, values_among, live_effect, effect_of, remote_user_terminated, authentication_failure, handles_written}
+use Rattle.gatt_laws.specs.laws.View.{WrittenByOthers, values_there, bits_there, written_in, own_counts}
+use Rattle.gatt_subs.specs.Indications.{Indications, may_indicate, from_due, first_handle, rest_of, unconfirmed_since, after_tick, after_replacement}
 use Rattle.le_hci.specs.declared.buffers.Buffers.{Buffers}
 use Rattle.le_hci.specs.declared.peer.Peer.{Peer}
 use Rattle.le_security.proofs.Peers.{equal_peers}
@@ -33,26 +33,26 @@ use Rattle.le_security.specs.Link.{Step, Encryption, Refresh}
 use Rattle.octets.specs.Number.{Octets}
 use Rattle.gatt_laws.proofs.ViewOfOwn.{seen_change, seen_end, told_room}
 
-unfoldable pub acknowledged : Part → List ℕ → Part
-acknowledged part [] = part
-acknowledged part (count ∷ counts) = acknowledged (with_completed part count) counts
+unfoldable pub acknowledged : ConnectionState → List ℕ → ConnectionState
+acknowledged connection [] = connection
+acknowledged connection (count ∷ counts) = acknowledged (with_packets_completed connection count) counts
 
-pub completed-silent : (ordinal : Ordinal) (entries : List (Ordinal × ℕ)) (part : Part)
-    → without_commands (after_completed ordinal entries part) ≡ acknowledged (without_commands part) (own_counts ordinal entries)
+pub completed-silent : (ordinal : Ordinal) (entries : List (Ordinal × ℕ)) (connection : ConnectionState)
+    → without_commands (after_packets_completed ordinal entries connection) ≡ acknowledged (without_commands connection) (own_counts ordinal entries)
 unfolding acknowledged
-completed-silent ordinal [] part = refl
-completed-silent ordinal (entry ∷ entries) part =
-    elim (entry.0 == ordinal) as (λ (own : Bool). without_commands (after_completed ordinal entries (if own then with_completed part entry.1 else part))
-    ≡ acknowledged (without_commands part) (if own then entry.1 ∷ own_counts ordinal entries else own_counts ordinal entries)) [
-      | true ↦ completed-silent ordinal entries (with_completed part entry.1)
-      | false ↦ completed-silent ordinal entries part
+completed-silent ordinal [] connection = refl
+completed-silent ordinal (entry ∷ entries) connection =
+    elim (entry.0 == ordinal) as (λ (own : Bool). without_commands (after_packets_completed ordinal entries (if own then with_packets_completed connection entry.1 else connection))
+    ≡ acknowledged (without_commands connection) (if own then entry.1 ∷ own_counts ordinal entries else own_counts ordinal entries)) [
+      | true ↦ completed-silent ordinal entries (with_packets_completed connection entry.1)
+      | false ↦ completed-silent ordinal entries connection
     ]
 
-pub replaced-silent : (old new : Contents) (part : Part) → without_commands (part_replaced old new part) ≡ part_replaced old new (without_commands part)
-replaced-silent old new part =
-    elim (is_live part.mark) as (λ (live : Bool).
-    without_commands (record (if live then record part { said = Dropped ∷ part.said; pending = after_replacement part.pending } else part) { row = kept_row old.attributes new.attributes part.row })
-    ≡ record (if live then record (without_commands part) { said = Dropped ∷ part.said; pending = after_replacement part.pending } else without_commands part) { row = kept_row old.attributes new.attributes part.row }) [
+pub replaced-silent : (old new : Contents) (connection : ConnectionState) → without_commands (connection_after_replacement old new connection) ≡ connection_after_replacement old new (without_commands connection)
+replaced-silent old new connection =
+    elim (is_live connection.mark) as (λ (live : Bool).
+    without_commands (record (if live then record connection { said = Dropped ∷ connection.said; pending = after_replacement connection.pending } else connection) { row = kept_row old.attributes new.attributes connection.row })
+    ≡ record (if live then record (without_commands connection) { said = Dropped ∷ connection.said; pending = after_replacement connection.pending } else without_commands connection) { row = kept_row old.attributes new.attributes connection.row }) [
       | true ↦ refl
       | false ↦ refl
     ]
@@ -73,17 +73,17 @@ applied-stores writing table row standing (Ok new) is = record {
 applied-stores writing table row standing (Err refusal) is = record { values = refl; row = refl }
 
 written-stores : (table : Contents) (row : Row) (standing : Standing) (writing : Option Writing)
-    → StoresAt table.attributes (stored_in table row) (stored_after table row standing writing) (handles_after table row standing writing)
+    → StoresAt table.attributes (stored_in table row) (stored_after_writing table row standing writing) (handles_after table row standing writing)
 written-stores table row standing None = record { values = refl; row = refl }
 written-stores table row standing (Some writing) =
     applied-stores writing table row standing (applied_to writing.access table row standing writing.entries) refl
 
 -- what a turn leaves to others
-record WritesAt (room : Room) (bond : Row) (owed : Bool) (part : Part) (turn : Turn) (handles : List Handle) : Type 0 where
-  stores : turn.values ≡ store (values_there room.table.attributes turn.values handles) room.table.values
-  sets : turn.bond ≡ (if is_some (key_of part) then set_bits (bits_there room.table.attributes turn.bond handles) bond else bond)
-  owes : turn.owed ≡ true → owed ≡ true
-  raises : turn.raised ≡ values_among room.table.attributes handles
+record WritesAt (shared : SharedState) (bond : Row) (owed : Bool) (connection : ConnectionState) (effect : Effect) (handles : List Handle) : Type 0 where
+  stores : effect.values ≡ store (values_there shared.table.attributes effect.values handles) shared.table.values
+  sets : effect.bond ≡ (if is_some (key_of connection) then set_bits (bits_there shared.table.attributes effect.bond handles) bond else bond)
+  owes : effect.owed ≡ true → owed ≡ true
+  raises : effect.to_notify ≡ values_among shared.table.attributes handles
 
 row-in-force : (attributes : List Attr) (bond own new : Row) (handles : List Handle) (keyed : Bool)
     → new ≡ set_bits (bits_there attributes new handles) (if keyed then bond else own)
@@ -99,67 +99,67 @@ pub left-true : (one other : Bool) → (one && other) ≡ true → one ≡ true
 left-true true other is = refl
 left-true false other is = cc is
 
-writes-nothing : (room : Room) (bond : Row) (owed : Bool) (part new : Part) → WritesAt room bond owed part (turn_to room bond owed new) []
-writes-nothing room bond owed part new = record {
+writes-nothing : (shared : SharedState) (bond : Row) (owed : Bool) (connection new : ConnectionState) → WritesAt shared bond owed connection (effect_on_connection shared bond owed new) []
+writes-nothing shared bond owed connection new = record {
   stores = refl;
-  sets = either-way (is_some (key_of part)) bond;
+  sets = either-way (is_some (key_of connection)) bond;
   owes = λ is. is;
   raises = refl;
 }
 
-served-writes : (room : Room) (bond : Row) (owed : Bool) (part : Part) (pdu : Octets) (asked : Question)
-    → WritesAt room bond owed part (served room bond owed part pdu asked) (handles_by room.table (row_of bond part) (connection_of room part) asked)
-served-writes room bond owed part pdu asked =
-    let conn : Connection = connection_of room part in
-    let stores = written-stores room.table (row_of bond part) conn.standing (writing_asked conn.queue asked) in
+served-writes : (shared : SharedState) (bond : Row) (owed : Bool) (connection : ConnectionState) (pdu : Octets) (asked : Question)
+    → WritesAt shared bond owed connection (served shared bond owed connection pdu asked) (handles_by shared.table (row_in_force bond connection) (bearer_of shared connection) asked)
+served-writes shared bond owed connection pdu asked =
+    let conn : Bearer = bearer_of shared connection in
+    let stores = written-stores shared.table (row_in_force bond connection) conn.standing (writing_asked conn.queue asked) in
     record {
       stores = stores.values;
-      sets = row-in-force room.table.attributes bond part.row (stored_by room.table (row_of bond part) conn asked).row
-          (handles_by room.table (row_of bond part) conn asked) (is_some (key_of part)) stores.row;
-      owes = λ is. left-true owed (not (Rattle.gatt_conn.specs.Answer.is_confirmation pdu && is_some (key_of part) && option_map_or (Rattle.gatt_subs.specs.Indications.is_told part.pending) room.changer false)) is;
+      sets = row-in-force shared.table.attributes bond connection.row (stored_by shared.table (row_in_force bond connection) conn asked).row
+          (handles_by shared.table (row_in_force bond connection) conn asked) (is_some (key_of connection)) stores.row;
+      owes = λ is. left-true owed (not (Rattle.gatt_conn.specs.Answer.is_confirmation pdu && is_some (key_of connection) && option_map_or (Rattle.gatt_subs.specs.Indications.is_told connection.pending) shared.changer false)) is;
       raises = refl;
     }
 
-asked-writes : (room : Room) (bond : Row) (owed : Bool) (part : Part) (pdu : Octets) (live full : Bool)
-    → let asked : Question = request_of pdu (mtu_of room part) in
-    WritesAt room bond owed part
-    (if live then (if full then turn_to room bond owed (after_ending part remote_user_terminated) else served room bond owed part pdu asked) else turn_to room bond owed part)
-    (if live && not full then handles_by room.table (row_of bond part) (connection_of room part) asked else [])
-asked-writes room bond owed part pdu true true = writes-nothing room bond owed part (after_ending part remote_user_terminated)
-asked-writes room bond owed part pdu true false = served-writes room bond owed part pdu (request_of pdu (mtu_of room part))
-asked-writes room bond owed part pdu false true = writes-nothing room bond owed part part
-asked-writes room bond owed part pdu false false = writes-nothing room bond owed part part
+asked-writes : (shared : SharedState) (bond : Row) (owed : Bool) (connection : ConnectionState) (pdu : Octets) (live full : Bool)
+    → let asked : Question = request_of pdu (connection_mtu shared connection) in
+    WritesAt shared bond owed connection
+    (if live then (if full then effect_on_connection shared bond owed (after_ending connection remote_user_terminated) else served shared bond owed connection pdu asked) else effect_on_connection shared bond owed connection)
+    (if live && not full then handles_by shared.table (row_in_force bond connection) (bearer_of shared connection) asked else [])
+asked-writes shared bond owed connection pdu true true = writes-nothing shared bond owed connection (after_ending connection remote_user_terminated)
+asked-writes shared bond owed connection pdu true false = served-writes shared bond owed connection pdu (request_of pdu (connection_mtu shared connection))
+asked-writes shared bond owed connection pdu false true = writes-nothing shared bond owed connection connection
+asked-writes shared bond owed connection pdu false false = writes-nothing shared bond owed connection connection
 
-link-writes : (room : Room) (bond : Row) (owed : Bool) (part : Part) (step : Step) (live : Bool)
-    → WritesAt room bond owed part (if live then link_turn room bond owed part step else turn_to room bond owed part) []
-link-writes room bond owed part step true =
-    let new : Part = if lost_encryption (key_of part) (key_of (with_step part step)) then after_ending (with_step part step) authentication_failure else with_step part step in
-    let nothing = writes-nothing room bond owed part new in
+link-writes : (shared : SharedState) (bond : Row) (owed : Bool) (connection : ConnectionState) (step : Step) (live : Bool)
+    → WritesAt shared bond owed connection (if live then link_effect shared bond owed connection step else effect_on_connection shared bond owed connection) []
+link-writes shared bond owed connection step true =
+    let new : ConnectionState = if lost_encryption (key_of connection) (key_of (with_step connection step)) then after_ending (with_step connection step) authentication_failure else with_step connection step in
+    let nothing = writes-nothing shared bond owed connection new in
     record { stores = nothing.stores; sets = nothing.sets; owes = nothing.owes; raises = nothing.raises }
-link-writes room bond owed part step false = writes-nothing room bond owed part part
+link-writes shared bond owed connection step false = writes-nothing shared bond owed connection connection
 
-if-writes-nothing : (room : Room) (bond : Row) (owed : Bool) (part new : Part) (live : Bool)
-    → WritesAt room bond owed part (if live then turn_to room bond owed new else turn_to room bond owed part) []
-if-writes-nothing room bond owed part new true = writes-nothing room bond owed part new
-if-writes-nothing room bond owed part new false = writes-nothing room bond owed part part
+if-writes-nothing : (shared : SharedState) (bond : Row) (owed : Bool) (connection new : ConnectionState) (live : Bool)
+    → WritesAt shared bond owed connection (if live then effect_on_connection shared bond owed new else effect_on_connection shared bond owed connection) []
+if-writes-nothing shared bond owed connection new true = writes-nothing shared bond owed connection new
+if-writes-nothing shared bond owed connection new false = writes-nothing shared bond owed connection connection
 
-turn-writes : (room : Room) (bond : Row) (owed : Bool) (part : Part) (own : Own) → WritesAt room bond owed part (turn_of room bond owed part own) (handles_written room bond part own)
-unfolding live_turn
-turn-writes room bond owed part (Connected handle peer) = writes-nothing room bond owed part (if is_there part.mark then part else come handle peer)
-turn-writes room bond owed part Gone = writes-nothing room bond owed part absent
-turn-writes room bond owed part (KeyAsked random_number diversifier) =
-    if-writes-nothing room bond owed part
-    (Rattle.gatt_laws.specs.machine.Turn.with_key_asked part (Rattle.le_security.specs.Keys.answer_of room.keys part.peer random_number diversifier)) (is_live part.mark)
-turn-writes room bond owed part (Encrypted status enabled) = link-writes room bond owed part (Encryption status enabled) (is_live part.mark)
-turn-writes room bond owed part (Refreshed status) = link-writes room bond owed part (Refresh status) (is_live part.mark)
-turn-writes room bond owed part (Asks pdu) =
-    asked-writes room bond owed part pdu (is_live part.mark) (is_due (request_of pdu (mtu_of room part)) && is_full room part)
-turn-writes room bond owed part (Signals channel payload) =
-    if-writes-nothing room bond owed part (after_channel room part channel (channel_answer channel payload)) (is_live part.mark)
-turn-writes room bond owed part (Authorized until) = if-writes-nothing room bond owed part (record part { until = until }) (is_live part.mark)
-turn-writes room bond owed part Ended = if-writes-nothing room bond owed part (after_ending part remote_user_terminated) (is_live part.mark)
+turn-writes : (shared : SharedState) (bond : Row) (owed : Bool) (connection : ConnectionState) (own : Own) → WritesAt shared bond owed connection (effect_of shared bond owed connection own) (handles_written shared bond connection own)
+unfolding live_effect
+turn-writes shared bond owed connection (Connected handle peer) = writes-nothing shared bond owed connection (if is_there connection.mark then connection else fresh_connection handle peer)
+turn-writes shared bond owed connection Gone = writes-nothing shared bond owed connection no_connection
+turn-writes shared bond owed connection (KeyAsked random_number diversifier) =
+    if-writes-nothing shared bond owed connection
+    (Rattle.gatt_laws.specs.machine.Effect.with_key_asked connection (Rattle.le_security.specs.Keys.key_asked_for shared.keys connection.peer random_number diversifier)) (is_live connection.mark)
+turn-writes shared bond owed connection (Encrypted status enabled) = link-writes shared bond owed connection (Encryption status enabled) (is_live connection.mark)
+turn-writes shared bond owed connection (Refreshed status) = link-writes shared bond owed connection (Refresh status) (is_live connection.mark)
+turn-writes shared bond owed connection (Asks pdu) =
+    asked-writes shared bond owed connection pdu (is_live connection.mark) (is_due (request_of pdu (connection_mtu shared connection)) && is_full shared connection)
+turn-writes shared bond owed connection (Signals channel payload) =
+    if-writes-nothing shared bond owed connection (after_other_channel shared connection channel (channel_answer channel payload)) (is_live connection.mark)
+turn-writes shared bond owed connection (Authorized until) = if-writes-nothing shared bond owed connection (record connection { until = until }) (is_live connection.mark)
+turn-writes shared bond owed connection Ended = if-writes-nothing shared bond owed connection (after_ending connection remote_user_terminated) (is_live connection.mark)
 
--- only values are raised, and they are among what is seen
+-- only values are notified, and they are among what is seen
 unfoldable pub handles_of_values : List (Handle × Octets) → List Handle
 handles_of_values written = map (λ (first : Handle × Octets). first.0) written
 
@@ -218,27 +218,27 @@ owed-seen peer other owed new true is less =
     owed-or-not (owed other) new less ∙ ap (λ (of : Peer). owed of && not (owed other && not new)) (sym (equal_peers peer other is))
 owed-seen peer other owed new false is less = without-ceasing (owed peer)
 
-unfoldable pub write-next : Seen → Written → Seen
+unfoldable pub write-next : Seen → WrittenByOthers → Seen
 write-next old written =
-    seen_end (with_values old.room (store written.values old.room.table.values)) (set_bits written.bits old.bond) (old.owed && not written.ceases)
-    (values_among old.room.table.attributes (handles_of_values written.values)) old.part
+    seen_end (with_values old.shared (store written.values old.shared.table.values)) (set_bits written.bits old.bond) (old.owed && not written.ceases)
+    (values_among old.shared.table.attributes (handles_of_values written.values)) old.connection
 
 pub other-seen : (told : Option Buffers) (peer : Peer) (ordinal : Ordinal) (state : State) (at : Ordinal) (own : Own) → (ordinal == at) ≡ false
-    → seen_change told peer ordinal (own_change state at own) ≡ write-next (seen told peer ordinal state) (written_in state peer at own)
+    → seen_change told peer ordinal (own_change state at own) ≡ write-next (seen_of told peer ordinal state) (written_in state peer at own)
 unfolding seen_change write-next
 other-seen told peer ordinal state at own differs =
-    let part : Part = state.parts at in
-    let bond : Row = state.bonds part.peer in
-    let owed : Bool = state.owed part.peer in
-    let turn : Turn = turn_of state.room bond owed part own in
-    let handles : List Handle = handles_written state.room bond part own in
-    let written : Written = written_in state peer at own in
-    let writes = turn-writes state.room bond owed part own in
-    let bonds = bond-seen peer part.peer state.bonds turn.bond (bits_there state.room.table.attributes turn.bond handles) (is_some (key_of part)) (same_peer peer part.peer) refl writes.sets in
-    let owes = owed-seen peer part.peer state.owed turn.owed (same_peer peer part.peer) refl writes.owes in
-    let raised : turn.raised ≡ values_among state.room.table.attributes (handles_of_values written.values) =
-    writes.raises ∙ sym (seen-raised state.room.table.attributes turn.values handles) in
+    let connection : ConnectionState = state.connections at in
+    let bond : Row = state.bonds connection.peer in
+    let owed : Bool = state.owed connection.peer in
+    let effect : Effect = effect_of state.shared bond owed connection own in
+    let handles : List Handle = handles_written state.shared bond connection own in
+    let written : WrittenByOthers = written_in state peer at own in
+    let writes = turn-writes state.shared bond owed connection own in
+    let bonds = bond-seen peer connection.peer state.bonds effect.bond (bits_there state.shared.table.attributes effect.bond handles) (is_some (key_of connection)) (same_peer peer connection.peer) refl writes.sets in
+    let owes = owed-seen peer connection.peer state.owed effect.owed (same_peer peer connection.peer) refl writes.owes in
+    let raised : effect.to_notify ≡ values_among state.shared.table.attributes (handles_of_values written.values) =
+    writes.raises ∙ sym (seen-raised state.shared.table.attributes effect.values handles) in
     ap (λ (same : Bool).
-    seen_end (told_room (with_values state.room turn.values) told) (at_peer part.peer turn.bond state.bonds peer) (at_peer part.peer turn.owed state.owed peer)
-    (if same then turn.raised_here else turn.raised) (without_commands (if same then turn.part else state.parts ordinal))) differs
-    ∙ (λ i. seen_end (told_room (with_values state.room (writes.stores i)) told) (bonds i) (owes i) (raised i) (without_commands (state.parts ordinal)))
+    seen_end (told_room (with_values state.shared effect.values) told) (at_peer connection.peer effect.bond state.bonds peer) (at_peer connection.peer effect.owed state.owed peer)
+    (if same then effect.to_notify_here else effect.to_notify) (without_commands (if same then effect.connection else state.connections ordinal))) differs
+    ∙ (λ i. seen_end (told_room (with_values state.shared (writes.stores i)) told) (bonds i) (owes i) (raised i) (without_commands (state.connections ordinal)))

@@ -13,14 +13,14 @@ use Rattle.gatt_laws.proofs.Silence.{only_serves_the_live}
 use Rattle.gatt_laws.specs.machine.Controller.{command_of_init, count_before, without_command}
 use Rattle.gatt_laws.specs.machine.Event.{Ordinal, Own, Event, Connected, Gone, Encrypted, Refreshed, Asks, Signals}
 use Rattle.gatt_laws.specs.machine.Heard.{Heard, heard_in_turn, hearer_of, with_heard, after_hearing}
-use Rattle.gatt_laws.specs.machine.Part.{Mark, Absent, Live, Ending, Part, absent, come, is_live, is_there, key_of, mtu_of, with_pdus, after_giving, after_ending}
-use Rattle.gatt_laws.specs.machine.Room.{Room, Bonds, share_of, size_of}
-use Rattle.gatt_laws.specs.laws.SameView.{Seen, without_commands, seen, IsReleased, IsKnown}
+use Rattle.gatt_laws.specs.machine.ConnectionState.{Mark, Absent, Live, Ending, ConnectionState, no_connection, fresh_connection, is_live, is_there, key_of, connection_mtu, with_pdus, after_giving, after_ending}
+use Rattle.gatt_laws.specs.machine.SharedState.{SharedState, Bonds, quota_of, fragment_size_of}
+use Rattle.gatt_laws.specs.laws.SameView.{Seen, without_commands, seen_of, IsIndicated, IsKnown}
 use Rattle.gatt_laws.specs.laws.Silence.{IsAllGiven}
-use Rattle.gatt_laws.specs.machine.State.{State, Change, at_peer, with_values, own_change, change_of, finished, parts_finished, step}
-use Rattle.gatt_laws.specs.machine.Turn.{Turn, turn_to, served, is_full, request_turn, after_channel, channel_answer, with_step, lost_encryption, link_turn, live_turn, turn_of, remote_user_terminated, authentication_failure}
+use Rattle.gatt_laws.specs.machine.State.{State, Change, at_peer, with_values, own_change, change_of, finished, connections_finished, step}
+use Rattle.gatt_laws.specs.machine.Effect.{Effect, effect_on_connection, served, is_full, request_effect, after_other_channel, channel_answer, with_step, lost_encryption, link_effect, live_effect, effect_of, remote_user_terminated, authentication_failure}
 use Rattle.gatt_subs.specs.Hearing.{is_indicated}
-use Rattle.gatt_subs.specs.Indications.{Indications, may_indicate, from_due, first_of, rest_of, unconfirmed_since}
+use Rattle.gatt_subs.specs.Indications.{Indications, may_indicate, from_due, first_handle, rest_of, unconfirmed_since}
 use Rattle.gatt_subs.specs.Told.{Hearer}
 use Rattle.le_acl.specs.History.{packets_allowed}
 use Rattle.le_hci.specs.declared.buffers.Buffers.{Buffers}
@@ -30,41 +30,41 @@ use Rattle.le_security.specs.Entry.{same_peer}
 use Rattle.le_security.specs.Link.{Step, Encryption, Refresh}
 use Rattle.octets.specs.Number.{Octets}
 
-unfoldable pub seen_end : Room → Row → Bool → List Handle → Part → Seen
-seen_end room bond owed handles part =
-    record { room = room; bond = bond; owed = owed; part = finished room (λ (peer : Peer). bond) handles part }
+unfoldable pub seen_end : SharedState → Row → Bool → List Handle → ConnectionState → Seen
+seen_end shared bond owed handles connection =
+    record { shared = shared; bond = bond; owed = owed; connection = finished shared (λ (peer : Peer). bond) handles connection }
 
-abbrev pub told_room : Room → Option Buffers → Room
-told_room room told = record room { told = told }
+abbrev pub told_room : SharedState → Option Buffers → SharedState
+told_room shared told = record shared { buffers = told }
 
-pub commands-kept : (part : Part) (sent : Bool) → without_commands (if sent then without_command part else part) ≡ without_commands part
-commands-kept part true =
-    elim (is_some part.reason) as (λ (has : Bool). without_commands (if has then record part { reason = None } else record part { reply = None }) ≡ without_commands part) [
+pub commands-kept : (connection : ConnectionState) (sent : Bool) → without_commands (if sent then without_command connection else connection) ≡ without_commands connection
+commands-kept connection true =
+    elim (is_some connection.reason) as (λ (has : Bool). without_commands (if has then record connection { reason = None } else record connection { reply = None }) ≡ without_commands connection) [
       | true ↦ refl
       | false ↦ refl
     ]
-commands-kept part false = refl
+commands-kept connection false = refl
 
-given-silent : (part : Part) (given : ℕ) (live : Bool)
-    → without_commands (if live then record part { given = given } else part) ≡ (if live then record (without_commands part) { given = given } else without_commands part)
-given-silent part given true = refl
-given-silent part given false = refl
+given-silent : (connection : ConnectionState) (given : ℕ) (live : Bool)
+    → without_commands (if live then record connection { given = given } else connection) ≡ (if live then record (without_commands connection) { given = given } else without_commands connection)
+given-silent connection given true = refl
+given-silent connection given false = refl
 
-finish-silent : (room : Room) (bond : Row) (handles : List Handle) (part : Part)
-    → without_commands (after_giving room (after_hearing room bond handles part)) ≡ after_giving room (after_hearing room bond handles (without_commands part))
+finish-silent : (shared : SharedState) (bond : Row) (handles : List Handle) (connection : ConnectionState)
+    → without_commands (after_giving shared (after_hearing shared bond handles connection)) ≡ after_giving shared (after_hearing shared bond handles (without_commands connection))
 unfolding after_hearing
-finish-silent room bond handles part =
-    let heard : Part = after_hearing room bond handles part in
-    given-silent heard (packets_allowed (share_of room.slots room.told) (size_of room.told) heard.pdus heard.done) (is_live heard.mark)
+finish-silent shared bond handles connection =
+    let heard : ConnectionState = after_hearing shared bond handles connection in
+    given-silent heard (packets_allowed (quota_of shared.slots shared.buffers) (fragment_size_of shared.buffers) heard.pdus heard.done) (is_live heard.mark)
 
-end-alike : (told : Option Buffers) (peer : Peer) (room : Room) (bonds : Bonds) (handles : List Handle) (part : Part) (live : Bool) → is_live part.mark ≡ live
-    → (is_live part.mark ≡ true → part.peer ≡ peer) → (is_live part.mark ≡ true → room.told ≡ told)
-    → finished room bonds handles part ≡ finished (told_room room told) (λ (other : Peer). bonds peer) handles part
-end-alike told peer room bonds handles part false is peers buffers =
-    only_serves_the_live room bonds handles part is ∙ sym (only_serves_the_live (told_room room told) (λ (other : Peer). bonds peer) handles part is)
-end-alike told peer room bonds handles part true is peers buffers =
-    ap (λ (of : Peer). after_giving room (after_hearing room (bonds of) handles part)) (peers is)
-    ∙ ap (λ (of : Option Buffers). after_giving (told_room room of) (after_hearing (told_room room of) (bonds peer) handles part)) (buffers is)
+end-alike : (told : Option Buffers) (peer : Peer) (shared : SharedState) (bonds : Bonds) (handles : List Handle) (connection : ConnectionState) (live : Bool) → is_live connection.mark ≡ live
+    → (is_live connection.mark ≡ true → connection.peer ≡ peer) → (is_live connection.mark ≡ true → shared.buffers ≡ told)
+    → finished shared bonds handles connection ≡ finished (told_room shared told) (λ (other : Peer). bonds peer) handles connection
+end-alike told peer shared bonds handles connection false is peers buffers =
+    only_serves_the_live shared bonds handles connection is ∙ sym (only_serves_the_live (told_room shared told) (λ (other : Peer). bonds peer) handles connection is)
+end-alike told peer shared bonds handles connection true is peers buffers =
+    ap (λ (of : Peer). after_giving shared (after_hearing shared (bonds of) handles connection)) (peers is)
+    ∙ ap (λ (of : Option Buffers). after_giving (told_room shared of) (after_hearing (told_room shared of) (bonds peer) handles connection)) (buffers is)
 
 pub there-if-live : (mark : Mark) → is_live mark ≡ true → is_there mark ≡ true
 there-if-live Absent is = cc is
@@ -73,34 +73,34 @@ there-if-live Ending is = refl
 
 unfoldable pub seen_change : Option Buffers → Peer → Ordinal → Change → Seen
 seen_change told peer ordinal change =
-    seen_end (told_room change.state.room told) (change.state.bonds peer) (change.state.owed peer) (change.raised ordinal) (without_commands (change.state.parts ordinal))
+    seen_end (told_room change.state.shared told) (change.state.bonds peer) (change.state.owed peer) (change.to_notify ordinal) (without_commands (change.state.connections ordinal))
 
 part-at-end : (told : Option Buffers) (peer : Peer) (ordinal : Ordinal) (state : State) (event : Event) → IsKnown told peer ordinal (step state event)
-    → without_commands ((step state event).parts ordinal)
-    ≡ finished (told_room (change_of state event).state.room told) (λ (other : Peer). (change_of state event).state.bonds peer) ((change_of state event).raised ordinal) (without_commands ((change_of state event).state.parts ordinal))
+    → without_commands ((step state event).connections ordinal)
+    ≡ finished (told_room (change_of state event).state.shared told) (λ (other : Peer). (change_of state event).state.bonds peer) ((change_of state event).to_notify ordinal) (without_commands ((change_of state event).state.connections ordinal))
 unfolding step
 part-at-end told peer ordinal state event known =
     let change : Change = change_of state event in
-    let part : Part = change.state.parts ordinal in
-    let marks : ((step state event).parts ordinal).mark ≡ part.mark = end_keeps (λ (of : Part). of.mark) (λ of pdus pending given reply reason. refl) state event ordinal in
-    let peers : ((step state event).parts ordinal).peer ≡ part.peer = end_keeps (λ (of : Part). of.peer) (λ of pdus pending given reply reason. refl) state event ordinal in
-    let there : is_live part.mark ≡ true → is_there ((step state event).parts ordinal).mark ≡ true =
-    λ live. ap is_there marks ∙ there-if-live part.mark live in
-    commands-kept (parts_finished change ordinal)
-    (nat_lt (length (command_of_init change.state.controller) + count_before ordinal (parts_finished change) change.state.slots) change.state.controller.credit)
-    ∙ finish-silent change.state.room (change.state.bonds part.peer) (change.raised ordinal) part
-    ∙ end-alike told peer change.state.room change.state.bonds (change.raised ordinal) (without_commands part) (is_live part.mark) refl
+    let connection : ConnectionState = change.state.connections ordinal in
+    let marks : ((step state event).connections ordinal).mark ≡ connection.mark = end_keeps (λ (of : ConnectionState). of.mark) (λ of pdus pending given reply reason. refl) state event ordinal in
+    let peers : ((step state event).connections ordinal).peer ≡ connection.peer = end_keeps (λ (of : ConnectionState). of.peer) (λ of pdus pending given reply reason. refl) state event ordinal in
+    let there : is_live connection.mark ≡ true → is_there ((step state event).connections ordinal).mark ≡ true =
+    λ live. ap is_there marks ∙ there-if-live connection.mark live in
+    commands-kept (connections_finished change ordinal)
+    (nat_lt (length (command_of_init change.state.controller) + count_before ordinal (connections_finished change) change.state.slots) change.state.controller.credit)
+    ∙ finish-silent change.state.shared (change.state.bonds connection.peer) (change.to_notify ordinal) connection
+    ∙ end-alike told peer change.state.shared change.state.bonds (change.to_notify ordinal) (without_commands connection) (is_live connection.mark) refl
     (λ live. sym peers ∙ known.peers (there live)) (λ live. known.buffers (there live))
 
 pub seen-at-end : (told : Option Buffers) (peer : Peer) (ordinal : Ordinal) (state : State) (event : Event) → IsKnown told peer ordinal (step state event)
-    → seen told peer ordinal (step state event) ≡ seen_change told peer ordinal (change_of state event)
+    → seen_of told peer ordinal (step state event) ≡ seen_change told peer ordinal (change_of state event)
 unfolding step seen_change seen_end
 seen-at-end told peer ordinal state event known =
     let change : Change = change_of state event in
     let same = part-at-end told peer ordinal state event known in
-    λ i. record { room = told_room change.state.room told; bond = change.state.bonds peer; owed = change.state.owed peer; part = same i }
+    λ i. record { shared = told_room change.state.shared told; bond = change.state.bonds peer; owed = change.state.owed peer; connection = same i }
 
--- Where nothing is raised and nothing waits, the end of an event changes nothing.
+-- Where nothing is notified and nothing waits, the end of an event changes nothing.
 
 none-of : {A : Type 0} (found : Option A) → is_some found ≡ false → found ≡ None
 none-of None is = refl
@@ -110,16 +110,16 @@ first-not : (one other last : Bool) → (not one && other && last) ≡ true → 
 first-not true other last is = cc is
 first-not false other last is = refl
 
-none-released : (pending : Indications) (attributes : List Attr) (row : Row) (standing : Standing) (backlog : ℕ) (may : Bool) → may_indicate pending backlog ≡ may → IsReleased pending
-    → (if may then first_of (from_due (is_indicated attributes row standing) pending.waiting) else None) ≡ None
+none-released : (pending : Indications) (attributes : List Attr) (row : Row) (standing : Standing) (backlog : ℕ) (may : Bool) → may_indicate pending backlog ≡ may → IsIndicated pending
+    → (if may then first_handle (from_due (is_indicated attributes row standing) pending.waiting) else None) ≡ None
 none-released pending attributes row standing backlog false is released = refl
 none-released pending attributes row standing backlog true is released =
-    ap (λ (waiting : List Handle). first_of (from_due (is_indicated attributes row standing) waiting)) (released (first-not (is_some pending.unconfirmed) (not pending.timed_out) (nat_lt backlog 8) is))
+    ap (λ (waiting : List Handle). first_handle (from_due (is_indicated attributes row standing) waiting)) (released (first-not (is_some pending.unconfirmed) (not pending.timed_out) (nat_lt backlog 8) is))
 
-same-pending : (pending : Indications) (attributes : List Attr) (row : Row) (standing : Standing) (backlog now : ℕ) (may : Bool) → may_indicate pending backlog ≡ may → IsReleased pending
+same-pending : (pending : Indications) (attributes : List Attr) (row : Row) (standing : Standing) (backlog now : ℕ) (may : Bool) → may_indicate pending backlog ≡ may → IsIndicated pending
     → (if may then record pending {
       waiting = rest_of (from_due (is_indicated attributes row standing) pending.waiting);
-      unconfirmed = option_map (unconfirmed_since now) (first_of (from_due (is_indicated attributes row standing) pending.waiting));
+      unconfirmed = option_map (unconfirmed_since now) (first_handle (from_due (is_indicated attributes row standing) pending.waiting));
     } else pending) ≡ pending
 same-pending pending attributes row standing backlog now false is released = refl
 same-pending pending attributes row standing backlog now true is released =
@@ -128,11 +128,11 @@ same-pending pending attributes row standing backlog now true is released =
     let unconfirmed = none-of pending.unconfirmed free in
     ap (λ (waiting : List Handle). record pending {
       waiting = rest_of (from_due (is_indicated attributes row standing) waiting);
-      unconfirmed = option_map (unconfirmed_since now) (first_of (from_due (is_indicated attributes row standing) waiting));
+      unconfirmed = option_map (unconfirmed_since now) (first_handle (from_due (is_indicated attributes row standing) waiting));
     }) none
     ∙ (λ i. record pending { waiting = sym none i; unconfirmed = sym unconfirmed i })
 
-quiet-heard : (attributes : List Attr) (values : Values) (hearer : Hearer) (now : ℕ) → hearer.live ≡ true → IsReleased hearer.pending
+quiet-heard : (attributes : List Attr) (values : Values) (hearer : Hearer) (now : ℕ) → hearer.live ≡ true → IsIndicated hearer.pending
     → heard_in_turn attributes values hearer now [] ≡ record { responses = []; pending = hearer.pending }
 quiet-heard attributes values hearer now live released =
     let none = none-released hearer.pending attributes hearer.row hearer.standing hearer.backlog (may_indicate hearer.pending hearer.backlog) refl released in
@@ -142,102 +142,102 @@ quiet-heard attributes values hearer now live released =
       pending = same i;
     })
 
-all-given-already : (room : Room) (part : Part) (live : Bool) → is_live part.mark ≡ live → IsAllGiven room part
-    → (if live then record part { given = packets_allowed (share_of room.slots room.told) (size_of room.told) part.pdus part.done } else part) ≡ part
-all-given-already room part false is all = refl
-all-given-already room part true is all = λ i. record part { given = sym (all is) i }
+all-given-already : (shared : SharedState) (connection : ConnectionState) (live : Bool) → is_live connection.mark ≡ live → IsAllGiven shared connection
+    → (if live then record connection { given = packets_allowed (quota_of shared.slots shared.buffers) (fragment_size_of shared.buffers) connection.pdus connection.done } else connection) ≡ connection
+all-given-already shared connection false is all = refl
+all-given-already shared connection true is all = λ i. record connection { given = sym (all is) i }
 
-quiet-live : (room : Room) (bond : Row) (part : Part) → is_live part.mark ≡ true → IsAllGiven room part → IsReleased part.pending
-    → after_giving room (after_hearing room bond [] part) ≡ part
+quiet-live : (shared : SharedState) (bond : Row) (connection : ConnectionState) → is_live connection.mark ≡ true → IsAllGiven shared connection → IsIndicated connection.pending
+    → after_giving shared (after_hearing shared bond [] connection) ≡ connection
 unfolding after_hearing
-quiet-live room bond part live all released =
-    ap (λ (heard : Heard). after_giving room (with_heard part heard)) (quiet-heard room.table.attributes room.table.values (hearer_of room bond part) room.time live released)
-    ∙ ap (λ pdus. after_giving room (record part { pdus = pdus })) (append-nil part.pdus)
-    ∙ all-given-already room part (is_live part.mark) refl all
+quiet-live shared bond connection live all released =
+    ap (λ (heard : Heard). after_giving shared (with_heard connection heard)) (quiet-heard shared.table.attributes shared.table.values (hearer_of shared bond connection) shared.time live released)
+    ∙ ap (λ pdus. after_giving shared (record connection { pdus = pdus })) (append-nil connection.pdus)
+    ∙ all-given-already shared connection (is_live connection.mark) refl all
 
-pub quiet : (room : Room) (bond : Row) (part : Part) (live : Bool) → is_live part.mark ≡ live → IsAllGiven room part → IsReleased part.pending
-    → finished room (λ (other : Peer). bond) [] part ≡ part
-quiet room bond part false is all released = only_serves_the_live room (λ (other : Peer). bond) [] part is
-quiet room bond part true is all released = quiet-live room bond part is all released
+pub quiet : (shared : SharedState) (bond : Row) (connection : ConnectionState) (live : Bool) → is_live connection.mark ≡ live → IsAllGiven shared connection → IsIndicated connection.pending
+    → finished shared (λ (other : Peer). bond) [] connection ≡ connection
+quiet shared bond connection false is all released = only_serves_the_live shared (λ (other : Peer). bond) [] connection is
+quiet shared bond connection true is all released = quiet-live shared bond connection is all released
 
 -- What happens to the connection itself.
 
-silent : Turn → Turn
-silent turn = record turn { part = without_commands turn.part }
+silent : Effect → Effect
+silent effect = record effect { connection = without_commands effect.connection }
 
-request-silent : (room : Room) (bond : Row) (owed : Bool) (part : Part) (pdu : Octets)
-    → silent (request_turn room bond owed (without_commands part) pdu) ≡ silent (request_turn room bond owed part pdu)
+request-silent : (shared : SharedState) (bond : Row) (owed : Bool) (connection : ConnectionState) (pdu : Octets)
+    → silent (request_effect shared bond owed (without_commands connection) pdu) ≡ silent (request_effect shared bond owed connection pdu)
 unfolding silent
-request-silent room bond owed part pdu =
-    let asked : Question = request_of pdu (mtu_of room part) in
-    elim (is_due asked && is_full room part) as (λ (full : Bool).
-    silent (if full then turn_to room bond owed (after_ending (without_commands part) remote_user_terminated) else served room bond owed (without_commands part) pdu asked)
-    ≡ silent (if full then turn_to room bond owed (after_ending part remote_user_terminated) else served room bond owed part pdu asked)) [ true ↦ refl | false ↦ refl ]
+request-silent shared bond owed connection pdu =
+    let asked : Question = request_of pdu (connection_mtu shared connection) in
+    elim (is_due asked && is_full shared connection) as (λ (full : Bool).
+    silent (if full then effect_on_connection shared bond owed (after_ending (without_commands connection) remote_user_terminated) else served shared bond owed (without_commands connection) pdu asked)
+    ≡ silent (if full then effect_on_connection shared bond owed (after_ending connection remote_user_terminated) else served shared bond owed connection pdu asked)) [ true ↦ refl | false ↦ refl ]
 
-channel-silent : (room : Room) (part : Part) (channel : ℕ) (answer : Option Octets)
-    → without_commands (after_channel room (without_commands part) channel answer) ≡ without_commands (after_channel room part channel answer)
-channel-silent room part channel None = refl
-channel-silent room part channel (Some answer) =
-    elim (is_full room part) as (λ (full : Bool).
-    without_commands (if full then after_ending (without_commands part) remote_user_terminated else with_pdus (without_commands part) ((channel, answer) ∷ []))
-    ≡ without_commands (if full then after_ending part remote_user_terminated else with_pdus part ((channel, answer) ∷ []))) [ true ↦ refl | false ↦ refl ]
+channel-silent : (shared : SharedState) (connection : ConnectionState) (channel : ℕ) (answer : Option Octets)
+    → without_commands (after_other_channel shared (without_commands connection) channel answer) ≡ without_commands (after_other_channel shared connection channel answer)
+channel-silent shared connection channel None = refl
+channel-silent shared connection channel (Some answer) =
+    elim (is_full shared connection) as (λ (full : Bool).
+    without_commands (if full then after_ending (without_commands connection) remote_user_terminated else with_pdus (without_commands connection) ((channel, answer) ∷ []))
+    ≡ without_commands (if full then after_ending connection remote_user_terminated else with_pdus connection ((channel, answer) ∷ []))) [ true ↦ refl | false ↦ refl ]
 
-link-silent : (part : Part) (step : Step) (lost : Bool)
-    → without_commands (if lost then after_ending (with_step (without_commands part) step) authentication_failure else with_step (without_commands part) step)
-    ≡ without_commands (if lost then after_ending (with_step part step) authentication_failure else with_step part step)
-link-silent part step true = refl
-link-silent part step false = refl
+link-silent : (connection : ConnectionState) (step : Step) (lost : Bool)
+    → without_commands (if lost then after_ending (with_step (without_commands connection) step) authentication_failure else with_step (without_commands connection) step)
+    ≡ without_commands (if lost then after_ending (with_step connection step) authentication_failure else with_step connection step)
+link-silent connection step true = refl
+link-silent connection step false = refl
 
-live-silent : (room : Room) (bond : Row) (owed : Bool) (part : Part) (own : Own)
-    → silent (live_turn room bond owed (without_commands part) own) ≡ silent (live_turn room bond owed part own)
-unfolding live_turn silent
-live-silent room bond owed part (Asks pdu) = request-silent room bond owed part pdu
-live-silent room bond owed part (Signals channel payload) =
-    let same = channel-silent room part channel (channel_answer channel payload) in λ i. turn_to room bond owed (same i)
-live-silent room bond owed part (Encrypted status enabled) =
-    let same = link-silent part (Encryption status enabled) (lost_encryption (key_of part) (key_of (with_step part (Encryption status enabled)))) in
-    λ i. record (link_turn room bond owed part (Encryption status enabled)) { part = same i }
-live-silent room bond owed part (Refreshed status) =
-    let same = link-silent part (Refresh status) (lost_encryption (key_of part) (key_of (with_step part (Refresh status)))) in
-    λ i. record (link_turn room bond owed part (Refresh status)) { part = same i }
-live-silent room bond owed part own = refl
+live-silent : (shared : SharedState) (bond : Row) (owed : Bool) (connection : ConnectionState) (own : Own)
+    → silent (live_effect shared bond owed (without_commands connection) own) ≡ silent (live_effect shared bond owed connection own)
+unfolding live_effect silent
+live-silent shared bond owed connection (Asks pdu) = request-silent shared bond owed connection pdu
+live-silent shared bond owed connection (Signals channel payload) =
+    let same = channel-silent shared connection channel (channel_answer channel payload) in λ i. effect_on_connection shared bond owed (same i)
+live-silent shared bond owed connection (Encrypted status enabled) =
+    let same = link-silent connection (Encryption status enabled) (lost_encryption (key_of connection) (key_of (with_step connection (Encryption status enabled)))) in
+    λ i. record (link_effect shared bond owed connection (Encryption status enabled)) { connection = same i }
+live-silent shared bond owed connection (Refreshed status) =
+    let same = link-silent connection (Refresh status) (lost_encryption (key_of connection) (key_of (with_step connection (Refresh status)))) in
+    λ i. record (link_effect shared bond owed connection (Refresh status)) { connection = same i }
+live-silent shared bond owed connection own = refl
 
-if-live-silent : (room : Room) (bond : Row) (owed : Bool) (part : Part) (own : Own) (live : Bool)
-    → silent (if live then live_turn room bond owed (without_commands part) own else turn_to room bond owed (without_commands part))
-    ≡ silent (if live then live_turn room bond owed part own else turn_to room bond owed part)
+if-live-silent : (shared : SharedState) (bond : Row) (owed : Bool) (connection : ConnectionState) (own : Own) (live : Bool)
+    → silent (if live then live_effect shared bond owed (without_commands connection) own else effect_on_connection shared bond owed (without_commands connection))
+    ≡ silent (if live then live_effect shared bond owed connection own else effect_on_connection shared bond owed connection)
 unfolding silent
-if-live-silent room bond owed part own true = live-silent room bond owed part own
-if-live-silent room bond owed part own false = refl
+if-live-silent shared bond owed connection own true = live-silent shared bond owed connection own
+if-live-silent shared bond owed connection own false = refl
 
-turn-silent : (room : Room) (bond : Row) (owed : Bool) (part : Part) (own : Own)
-    → silent (turn_of room bond owed (without_commands part) own) ≡ silent (turn_of room bond owed part own)
+turn-silent : (shared : SharedState) (bond : Row) (owed : Bool) (connection : ConnectionState) (own : Own)
+    → silent (effect_of shared bond owed (without_commands connection) own) ≡ silent (effect_of shared bond owed connection own)
 unfolding silent
-turn-silent room bond owed part (Connected handle peer) =
-    elim (is_there part.mark) as (λ (there : Bool). silent (turn_to room bond owed (if there then without_commands part else come handle peer))
-    ≡ silent (turn_to room bond owed (if there then part else come handle peer))) [ true ↦ refl | false ↦ refl ]
-turn-silent room bond owed part Gone = refl
-turn-silent room bond owed part own = if-live-silent room bond owed part own (is_live part.mark)
+turn-silent shared bond owed connection (Connected handle peer) =
+    elim (is_there connection.mark) as (λ (there : Bool). silent (effect_on_connection shared bond owed (if there then without_commands connection else fresh_connection handle peer))
+    ≡ silent (effect_on_connection shared bond owed (if there then connection else fresh_connection handle peer))) [ true ↦ refl | false ↦ refl ]
+turn-silent shared bond owed connection Gone = refl
+turn-silent shared bond owed connection own = if-live-silent shared bond owed connection own (is_live connection.mark)
 
 -- who does not serve comes or goes, and else stays
-idle_part : Part → Own → Part
-idle_part part (Connected handle peer) = if is_there part.mark then part else come handle peer
-idle_part part Gone = absent
-idle_part part own = part
+idle_part : ConnectionState → Own → ConnectionState
+idle_part connection (Connected handle peer) = if is_there connection.mark then connection else fresh_connection handle peer
+idle_part connection Gone = no_connection
+idle_part connection own = connection
 
-turn-idle : (room : Room) (bond : Row) (owed : Bool) (part : Part) (own : Own) → is_live part.mark ≡ false
-    → turn_of room bond owed part own ≡ turn_to room bond owed (idle_part part own)
+turn-idle : (shared : SharedState) (bond : Row) (owed : Bool) (connection : ConnectionState) (own : Own) → is_live connection.mark ≡ false
+    → effect_of shared bond owed connection own ≡ effect_on_connection shared bond owed (idle_part connection own)
 unfolding idle_part
-turn-idle room bond owed part (Connected handle peer) is = refl
-turn-idle room bond owed part Gone is = refl
-turn-idle room bond owed part own is = rw is refl
+turn-idle shared bond owed connection (Connected handle peer) is = refl
+turn-idle shared bond owed connection Gone is = refl
+turn-idle shared bond owed connection own is = rw is refl
 
 -- what a turn leaves to be seen, where it is the connection's own
-seen_turn : Room → Turn → Seen
-seen_turn room turn = seen_end (with_values room turn.values) turn.bond turn.owed turn.raised_here (without_commands turn.part)
+seen_turn : SharedState → Effect → Seen
+seen_turn shared effect = seen_end (with_values shared effect.values) effect.bond effect.owed effect.to_notify_here (without_commands effect.connection)
 
-seen-silent : (room : Room) (turn : Turn) → seen_turn room (silent turn) ≡ seen_turn room turn
+seen-silent : (shared : SharedState) (effect : Effect) → seen_turn shared (silent effect) ≡ seen_turn shared effect
 unfolding silent seen_turn
-seen-silent room turn = refl
+seen-silent shared effect = refl
 
 -- where its peer is another one, what is set is what is there
 unchanged-at : {A : Type 0} (peer : Peer) (old : Peer → A) (other : Peer) → at_peer peer (old peer) old other ≡ old other
@@ -250,48 +250,48 @@ unchanged-at peer old other =
 changed-at : {A : Type 0} (peer other : Peer) (new : A) (old : Peer → A) → other ≡ peer → at_peer other new old peer ≡ new
 changed-at peer other new old same = ap (λ (of : Peer). if same_peer peer of then new else old peer) same ∙ ap (λ test. if test then new else old peer) (same_as_itself peer)
 
-own-at : (told : Option Buffers) (peer : Peer) (ordinal : Ordinal) (state : State) (own : Own) (live : Bool) → is_live (state.parts ordinal).mark ≡ live → IsKnown told peer ordinal state
-    → let part : Part = state.parts ordinal in
-    let turn : Turn = turn_of state.room (state.bonds part.peer) (state.owed part.peer) part own in
-    seen_end (told_room (with_values state.room turn.values) told) (at_peer part.peer turn.bond state.bonds peer) (at_peer part.peer turn.owed state.owed peer) turn.raised_here (without_commands turn.part)
-    ≡ seen_turn (told_room state.room told) (turn_of (told_room state.room told) (state.bonds peer) (state.owed peer) part own)
+own-at : (told : Option Buffers) (peer : Peer) (ordinal : Ordinal) (state : State) (own : Own) (live : Bool) → is_live (state.connections ordinal).mark ≡ live → IsKnown told peer ordinal state
+    → let connection : ConnectionState = state.connections ordinal in
+    let effect : Effect = effect_of state.shared (state.bonds connection.peer) (state.owed connection.peer) connection own in
+    seen_end (told_room (with_values state.shared effect.values) told) (at_peer connection.peer effect.bond state.bonds peer) (at_peer connection.peer effect.owed state.owed peer) effect.to_notify_here (without_commands effect.connection)
+    ≡ seen_turn (told_room state.shared told) (effect_of (told_room state.shared told) (state.bonds peer) (state.owed peer) connection own)
 unfolding seen_turn
 own-at told peer ordinal state own true is known =
-    let part : Part = state.parts ordinal in
-    let there : is_there part.mark ≡ true = there-if-live part.mark is in
-    let turn : Turn = turn_of state.room (state.bonds part.peer) (state.owed part.peer) part own in
-    let same : turn ≡ turn_of (told_room state.room told) (state.bonds peer) (state.owed peer) part own =
-    (λ i. turn_of (told_room state.room (known.buffers there i)) (state.bonds (known.peers there i)) (state.owed (known.peers there i)) part own) in
-    let bonds = changed-at peer part.peer turn.bond state.bonds (known.peers there) in
-    let owed = changed-at peer part.peer turn.owed state.owed (known.peers there) in
-    (λ i. seen_end (told_room (with_values state.room turn.values) told) (bonds i) (owed i) turn.raised_here (without_commands turn.part))
-    ∙ ap (seen_turn (told_room state.room told)) same
+    let connection : ConnectionState = state.connections ordinal in
+    let there : is_there connection.mark ≡ true = there-if-live connection.mark is in
+    let effect : Effect = effect_of state.shared (state.bonds connection.peer) (state.owed connection.peer) connection own in
+    let same : effect ≡ effect_of (told_room state.shared told) (state.bonds peer) (state.owed peer) connection own =
+    (λ i. effect_of (told_room state.shared (known.buffers there i)) (state.bonds (known.peers there i)) (state.owed (known.peers there i)) connection own) in
+    let bonds = changed-at peer connection.peer effect.bond state.bonds (known.peers there) in
+    let owed = changed-at peer connection.peer effect.owed state.owed (known.peers there) in
+    (λ i. seen_end (told_room (with_values state.shared effect.values) told) (bonds i) (owed i) effect.to_notify_here (without_commands effect.connection))
+    ∙ ap (seen_turn (told_room state.shared told)) same
 own-at told peer ordinal state own false is known =
-    let part : Part = state.parts ordinal in
-    let turn : Turn = turn_of state.room (state.bonds part.peer) (state.owed part.peer) part own in
-    let new : Part = idle_part part own in
-    let bonds = unchanged-at part.peer state.bonds peer in
-    let owed = unchanged-at part.peer state.owed peer in
-    ap (λ (of : Turn). seen_end (told_room (with_values state.room of.values) told) (at_peer part.peer of.bond state.bonds peer) (at_peer part.peer of.owed state.owed peer) of.raised_here (without_commands of.part))
-    (turn-idle state.room (state.bonds part.peer) (state.owed part.peer) part own is)
-    ∙ (λ i. seen_end (told_room state.room told) (bonds i) (owed i) [] (without_commands new))
-    ∙ ap (seen_turn (told_room state.room told)) (sym (turn-idle (told_room state.room told) (state.bonds peer) (state.owed peer) part own is))
+    let connection : ConnectionState = state.connections ordinal in
+    let effect : Effect = effect_of state.shared (state.bonds connection.peer) (state.owed connection.peer) connection own in
+    let new : ConnectionState = idle_part connection own in
+    let bonds = unchanged-at connection.peer state.bonds peer in
+    let owed = unchanged-at connection.peer state.owed peer in
+    ap (λ (of : Effect). seen_end (told_room (with_values state.shared of.values) told) (at_peer connection.peer of.bond state.bonds peer) (at_peer connection.peer of.owed state.owed peer) of.to_notify_here (without_commands of.connection))
+    (turn-idle state.shared (state.bonds connection.peer) (state.owed connection.peer) connection own is)
+    ∙ (λ i. seen_end (told_room state.shared told) (bonds i) (owed i) [] (without_commands new))
+    ∙ ap (seen_turn (told_room state.shared told)) (sym (turn-idle (told_room state.shared told) (state.bonds peer) (state.owed peer) connection own is))
 
 pub own-next : Seen → Own → Seen
-own-next old own = seen_turn old.room (turn_of old.room old.bond old.owed old.part own)
+own-next old own = seen_turn old.shared (effect_of old.shared old.bond old.owed old.connection own)
 
 pub own-seen : (told : Option Buffers) (peer : Peer) (ordinal : Ordinal) (state : State) (own : Own) → IsKnown told peer ordinal state
-    → seen_change told peer ordinal (own_change state ordinal own) ≡ own-next (seen told peer ordinal state) own
+    → seen_change told peer ordinal (own_change state ordinal own) ≡ own-next (seen_of told peer ordinal state) own
 unfolding seen_change own-next
 own-seen told peer ordinal state own known =
-    let part : Part = state.parts ordinal in
-    let turn : Turn = turn_of state.room (state.bonds part.peer) (state.owed part.peer) part own in
-    let room : Room = told_room state.room told in
+    let connection : ConnectionState = state.connections ordinal in
+    let effect : Effect = effect_of state.shared (state.bonds connection.peer) (state.owed connection.peer) connection own in
+    let shared : SharedState = told_room state.shared told in
     let itself : (ordinal == ordinal) ≡ true = eq-eqb ordinal ordinal refl in
     ap (λ (same : Bool).
-    seen_end (told_room (with_values state.room turn.values) told) (at_peer part.peer turn.bond state.bonds peer) (at_peer part.peer turn.owed state.owed peer)
-    (if same then turn.raised_here else turn.raised) (without_commands (if same then turn.part else part))) itself
-    ∙ own-at told peer ordinal state own (is_live part.mark) refl known
-    ∙ sym (seen-silent room (turn_of room (state.bonds peer) (state.owed peer) part own))
-    ∙ ap (seen_turn room) (sym (turn-silent room (state.bonds peer) (state.owed peer) part own))
-    ∙ seen-silent room (turn_of room (state.bonds peer) (state.owed peer) (without_commands part) own)
+    seen_end (told_room (with_values state.shared effect.values) told) (at_peer connection.peer effect.bond state.bonds peer) (at_peer connection.peer effect.owed state.owed peer)
+    (if same then effect.to_notify_here else effect.to_notify) (without_commands (if same then effect.connection else connection))) itself
+    ∙ own-at told peer ordinal state own (is_live connection.mark) refl known
+    ∙ sym (seen-silent shared (effect_of shared (state.bonds peer) (state.owed peer) connection own))
+    ∙ ap (seen_turn shared) (sym (turn-silent shared (state.bonds peer) (state.owed peer) connection own))
+    ∙ seen-silent shared (effect_of shared (state.bonds peer) (state.owed peer) (without_commands connection) own)

@@ -7,8 +7,8 @@ pub mod Input
 pub mod ItemEvents
 pub mod Notice
 pub mod Packets
-pub mod Part
-pub mod Room
+pub mod ConnectionState
+pub mod SharedState
 pub mod Start
 pub mod State
-pub mod Turn
+pub mod Effect

@@ -8,15 +8,15 @@ use Rattle.att_pdu.specs.Grammar.{request_of, is_due}
 use Rattle.att_table.specs.Table.{with_value}
 use Rattle.att_writes.proofs.Lengths.{stored_both}
 use Rattle.att_writes.specs.SameBut.{SameBut}
-use Rattle.gatt_laws.proofs.TurnsAlike.{both_choices, either_choice, SameTurn, OwnTurn, OtherTurn, own_turn, other_turn}
+use Rattle.gatt_laws.proofs.EffectsAlike.{both_choices, either_choice, SameTurn, OwnTurn, OtherTurn, own_turn, other_turn}
 use Rattle.gatt_laws.specs.laws.Alike.{erased}
 use Rattle.gatt_laws.specs.laws.RowNotices.{is_replacement}
 use Rattle.gatt_laws.specs.laws.TwoWorlds.{finds_no_room, is_answer_due}
 use Rattle.gatt_laws.specs.machine.Event.{Ordinal, Own, Event, Connected, Gone, KeyAsked, Encrypted, Refreshed, Asks, Signals, Authorized, Ended, Of, Completed, Credit, Update, Tick, Replaced, Nothing}
-use Rattle.gatt_laws.specs.machine.Part.{Mark, Part, Absent, Live, Ending, is_live, is_there, row_of, mtu_of, standing_of, after_ending}
-use Rattle.gatt_laws.specs.machine.Room.{Room, Owed}
-use Rattle.gatt_laws.specs.machine.State.{State, Change, with_values, at_peer, own_change, with_completed, after_completed, change_of}
-use Rattle.gatt_laws.specs.machine.Turn.{Turn, turn_to, turn_of, live_turn, served, is_full, remote_user_terminated}
+use Rattle.gatt_laws.specs.machine.ConnectionState.{Mark, ConnectionState, Absent, Live, Ending, is_live, is_there, row_in_force, connection_mtu, standing_of, after_ending}
+use Rattle.gatt_laws.specs.machine.SharedState.{SharedState, ServiceChangedPending}
+use Rattle.gatt_laws.specs.machine.State.{State, Change, with_values, at_peer, own_change, with_packets_completed, after_packets_completed, change_of}
+use Rattle.gatt_laws.specs.machine.Effect.{Effect, effect_on_connection, effect_of, live_effect, served, is_full, remote_user_terminated}
 use Rattle.gatt_subs.specs.Indications.{after_tick}
 use Rattle.le_hci.specs.declared.peer.Peer.{Peer}
 use Rattle.le_security.proofs.Peers.{equal_peers}
@@ -27,42 +27,42 @@ use Rattle.gatt_promise.proofs.AloneAtEnd.{KnowsNone, readable-there}
 
 pub record SameChange (ordinal : Ordinal) (peer : Peer) (hidden : Handle → Bool) (one other : Change) : Type 0 where
   pub state : AlikeTo ordinal peer hidden one.state other.state
-  pub raised : one.raised ordinal ≡ other.raised ordinal
+  pub to_notify : one.to_notify ordinal ≡ other.to_notify ordinal
 
-abbrev pub moved : State → Values → Owed → (Ordinal → Part) → State
-moved state values owed parts = record state { room = with_values state.room values; owed = owed; parts = parts }
+abbrev pub moved : State → Values → ServiceChangedPending → (Ordinal → ConnectionState) → State
+moved state values owed parts = record state { shared = with_values state.shared values; owed = owed; connections = parts }
 
 -- a peer that is owed nothing comes to be owed nothing
-served-unowed : (room : Room) (bond : Row) (part : Part) (pdu : Octets) (ended live : Bool)
-    → (if live then (if ended then turn_to room bond false (after_ending part remote_user_terminated) else served room bond false part pdu (request_of pdu (mtu_of room part)))
-    else turn_to room bond false part).owed ≡ false
-served-unowed room bond part pdu true true = refl
-served-unowed room bond part pdu false true = refl
-served-unowed room bond part pdu ended false = refl
+served-unowed : (shared : SharedState) (bond : Row) (connection : ConnectionState) (pdu : Octets) (ended live : Bool)
+    → (if live then (if ended then effect_on_connection shared bond false (after_ending connection remote_user_terminated) else served shared bond false connection pdu (request_of pdu (connection_mtu shared connection)))
+    else effect_on_connection shared bond false connection).owed ≡ false
+served-unowed shared bond connection pdu true true = refl
+served-unowed shared bond connection pdu false true = refl
+served-unowed shared bond connection pdu ended false = refl
 
-live-unowed : (room : Room) (bond : Row) (part : Part) (own : Own) (live : Bool) → (live_turn room bond false part own).owed ≡ false
-    → (if live then live_turn room bond false part own else turn_to room bond false part).owed ≡ false
-live-unowed room bond part own true is = is
-live-unowed room bond part own false is = refl
+live-unowed : (shared : SharedState) (bond : Row) (connection : ConnectionState) (own : Own) (live : Bool) → (live_effect shared bond false connection own).owed ≡ false
+    → (if live then live_effect shared bond false connection own else effect_on_connection shared bond false connection).owed ≡ false
+live-unowed shared bond connection own true is = is
+live-unowed shared bond connection own false is = refl
 
-unowed : (room : Room) (bond : Row) (part : Part) (own : Own) → (turn_of room bond false part own).owed ≡ false
-unfolding live_turn
-unowed room bond part (Connected handle peer) = refl
-unowed room bond part Gone = refl
-unowed room bond part (Asks pdu) = served-unowed room bond part pdu (is_due (request_of pdu (mtu_of room part)) && is_full room part) (is_live part.mark)
-unowed room bond part (Signals channel payload) = live-unowed room bond part (Signals channel payload) (is_live part.mark) refl
-unowed room bond part (KeyAsked random_number diversifier) = live-unowed room bond part (KeyAsked random_number diversifier) (is_live part.mark) refl
-unowed room bond part (Encrypted status enabled) = live-unowed room bond part (Encrypted status enabled) (is_live part.mark) refl
-unowed room bond part (Refreshed status) = live-unowed room bond part (Refreshed status) (is_live part.mark) refl
-unowed room bond part (Authorized until) = live-unowed room bond part (Authorized until) (is_live part.mark) refl
-unowed room bond part Ended = live-unowed room bond part Ended (is_live part.mark) refl
+unowed : (shared : SharedState) (bond : Row) (connection : ConnectionState) (own : Own) → (effect_of shared bond false connection own).owed ≡ false
+unfolding live_effect
+unowed shared bond connection (Connected handle peer) = refl
+unowed shared bond connection Gone = refl
+unowed shared bond connection (Asks pdu) = served-unowed shared bond connection pdu (is_due (request_of pdu (connection_mtu shared connection)) && is_full shared connection) (is_live connection.mark)
+unowed shared bond connection (Signals channel payload) = live-unowed shared bond connection (Signals channel payload) (is_live connection.mark) refl
+unowed shared bond connection (KeyAsked random_number diversifier) = live-unowed shared bond connection (KeyAsked random_number diversifier) (is_live connection.mark) refl
+unowed shared bond connection (Encrypted status enabled) = live-unowed shared bond connection (Encrypted status enabled) (is_live connection.mark) refl
+unowed shared bond connection (Refreshed status) = live-unowed shared bond connection (Refreshed status) (is_live connection.mark) refl
+unowed shared bond connection (Authorized until) = live-unowed shared bond connection (Authorized until) (is_live connection.mark) refl
+unowed shared bond connection Ended = live-unowed shared bond connection Ended (is_live connection.mark) refl
 
-unowed-at : (room : Room) (bond : Row) (part : Part) (own : Own) (peer : Peer) (owing : Owed) (same : Bool) → same_peer peer part.peer ≡ same
-    → owing peer ≡ false → (if same then (turn_of room bond (owing part.peer) part own).owed else owing peer) ≡ false
-unowed-at room bond part own peer owing true is none =
-    let equal : peer ≡ part.peer = equal_peers peer part.peer is in
-    ap (λ (owed : Bool). (turn_of room bond owed part own).owed) (ap owing (sym equal) ∙ none) ∙ unowed room bond part own
-unowed-at room bond part own peer owing false is none = none
+unowed-at : (shared : SharedState) (bond : Row) (connection : ConnectionState) (own : Own) (peer : Peer) (owing : ServiceChangedPending) (same : Bool) → same_peer peer connection.peer ≡ same
+    → owing peer ≡ false → (if same then (effect_of shared bond (owing connection.peer) connection own).owed else owing peer) ≡ false
+unowed-at shared bond connection own peer owing true is none =
+    let equal : peer ≡ connection.peer = equal_peers peer connection.peer is in
+    ap (λ (owed : Bool). (effect_of shared bond owed connection own).owed) (ap owing (sym equal) ∙ none) ∙ unowed shared bond connection own
+unowed-at shared bond connection own peer owing false is none = none
 
 -- another peer than that of a connection
 other-peer : Peer → Peer
@@ -74,29 +74,29 @@ is-other peer =
     ap (λ (same : Bool). same && bytes_eq peer.address peer.address) (ne_eqb peer.kind (suc peer.kind) (λ is. absurd (omega (arith, is))))
 
 -- of a connection that is not there all is the same, whatever is owed
-away-live : (part : Part) → is_there part.mark ≡ false → is_live part.mark ≡ false
-away-live part away = of-mark part.mark away
+away-live : (connection : ConnectionState) → is_there connection.mark ≡ false → is_live connection.mark ≡ false
+away-live connection away = of-mark connection.mark away
   where
     of-mark : (mark : Mark) → is_there mark ≡ false → is_live mark ≡ false
     of-mark Absent is = refl
     of-mark Live is = cc is
     of-mark Ending is = refl
 
-record SameHere (one other : Turn) : Type 0 where
-  part : one.part ≡ other.part
-  raised_here : one.raised_here ≡ other.raised_here
+record SameHere (one other : Effect) : Type 0 where
+  connection : one.connection ≡ other.connection
+  to_notify_here : one.to_notify_here ≡ other.to_notify_here
 
-module _ (room there : Room) (bond : Row) (owed its : Bool) (part : Part) (away : is_there part.mark ≡ false) where
-  kept-here : (own : Own) → SameHere (if is_live part.mark then live_turn room bond owed part own else turn_to room bond owed part)
-      (if is_live part.mark then live_turn there bond its part own else turn_to there bond its part)
+module _ (shared there : SharedState) (bond : Row) (owed its : Bool) (connection : ConnectionState) (away : is_there connection.mark ≡ false) where
+  kept-here : (own : Own) → SameHere (if is_live connection.mark then live_effect shared bond owed connection own else effect_on_connection shared bond owed connection)
+      (if is_live connection.mark then live_effect there bond its connection own else effect_on_connection there bond its connection)
   kept-here own =
-      both_choices SameHere (is_live part.mark) (is_live part.mark) (live_turn room bond owed part own) (turn_to room bond owed part)
-      (live_turn there bond its part own) (turn_to there bond its part) refl
-      (λ is. absurd (cc (is, away-live part away))) (λ is. record { part = refl; raised_here = refl })
+      both_choices SameHere (is_live connection.mark) (is_live connection.mark) (live_effect shared bond owed connection own) (effect_on_connection shared bond owed connection)
+      (live_effect there bond its connection own) (effect_on_connection there bond its connection) refl
+      (λ is. absurd (cc (is, away-live connection away))) (λ is. record { connection = refl; to_notify_here = refl })
 
-  away-here : (own : Own) → SameHere (turn_of room bond owed part own) (turn_of there bond its part own)
-  away-here (Connected handle peer) = record { part = refl; raised_here = refl }
-  away-here Gone = record { part = refl; raised_here = refl }
+  away-here : (own : Own) → SameHere (effect_of shared bond owed connection own) (effect_of there bond its connection own)
+  away-here (Connected handle peer) = record { connection = refl; to_notify_here = refl }
+  away-here Gone = record { connection = refl; to_notify_here = refl }
   away-here (Asks pdu) = kept-here (Asks pdu)
   away-here (Signals channel payload) = kept-here (Signals channel payload)
   away-here (KeyAsked random_number diversifier) = kept-here (KeyAsked random_number diversifier)
@@ -105,119 +105,119 @@ module _ (room there : Room) (bond : Row) (owed its : Bool) (part : Part) (away 
   away-here (Authorized until) = kept-here (Authorized until)
   away-here Ended = kept-here Ended
 
-module _ (ordinal : Ordinal) (peer : Peer) (hidden : Handle → Bool) (state : State) (ys : Values) (owing : Owed) (others : Ordinal → Part)
-    (same : SameBut hidden state.room.table.values ys) (owes : state.owed peer ≡ false) (owes_too : owing peer ≡ false)
-    (own : state.parts ordinal ≡ others ordinal) (rest : (at : Ordinal) → erased (state.parts at) ≡ erased (others at)) where
+module _ (ordinal : Ordinal) (peer : Peer) (hidden : Handle → Bool) (state : State) (ys : Values) (owing : ServiceChangedPending) (others : Ordinal → ConnectionState)
+    (same : SameBut hidden state.shared.table.values ys) (owes : state.owed peer ≡ false) (owes_too : owing peer ≡ false)
+    (own : state.connections ordinal ≡ others ordinal) (rest : (at : Ordinal) → erased (state.connections at) ≡ erased (others at)) where
   abbrev far : State
   far = moved state ys owing others
 
-  abbrev turn_at : Ordinal → Own → Turn
-  turn_at at act = turn_of state.room (state.bonds (state.parts at).peer) (state.owed (state.parts at).peer) (state.parts at) act
+  abbrev turn_at : Ordinal → Own → Effect
+  turn_at at act = effect_of state.shared (state.bonds (state.connections at).peer) (state.owed (state.connections at).peer) (state.connections at) act
 
-  abbrev turn_far : Ordinal → Own → Turn
-  turn_far at act = turn_of (with_values state.room ys) (state.bonds (others at).peer) (owing (others at).peer) (others at) act
+  abbrev turn_far : Ordinal → Own → Effect
+  turn_far at act = effect_of (with_values state.shared ys) (state.bonds (others at).peer) (owing (others at).peer) (others at) act
 
   after-turns : (at : Ordinal) (act : Own) → SameTurn hidden (turn_at at act) (turn_far at act)
-      → (if ordinal == at then (turn_at at act).part else state.parts ordinal) ≡ (if ordinal == at then (turn_far at act).part else others ordinal)
-      → erased (turn_at at act).part ≡ erased (turn_far at act).part
-      → (if ordinal == at then (turn_at at act).raised_here else (turn_at at act).raised)
-      ≡ (if ordinal == at then (turn_far at act).raised_here else (turn_far at act).raised)
+      → (if ordinal == at then (turn_at at act).connection else state.connections ordinal) ≡ (if ordinal == at then (turn_far at act).connection else others ordinal)
+      → erased (turn_at at act).connection ≡ erased (turn_far at act).connection
+      → (if ordinal == at then (turn_at at act).to_notify_here else (turn_at at act).to_notify)
+      ≡ (if ordinal == at then (turn_far at act).to_notify_here else (turn_far at act).to_notify)
       → SameChange ordinal peer hidden (own_change state at act) (own_change far at act)
-  after-turns at act turns part erasure raised =
-      let peers : (state.parts at).peer ≡ (others at).peer = λ i. (rest at i).peer in
+  after-turns at act turns connection erasure raised =
+      let peers : (state.connections at).peer ≡ (others at).peer = λ i. (rest at i).peer in
       let bonds = turns.bond in
       record {
         state = record {
-          room = refl;
+          shared = refl;
           values = turns.values;
           bonds = λ i. at_peer (peers i) (bonds i) state.bonds;
-          owed = unowed-at state.room (state.bonds (state.parts at).peer) (state.parts at) act peer state.owed (same_peer peer (state.parts at).peer) refl owes;
-          owed_too = unowed-at (with_values state.room ys) (state.bonds (others at).peer) (others at) act peer owing (same_peer peer (others at).peer) refl owes_too;
-          own = part;
+          owed = unowed-at state.shared (state.bonds (state.connections at).peer) (state.connections at) act peer state.owed (same_peer peer (state.connections at).peer) refl owes;
+          owed_too = unowed-at (with_values state.shared ys) (state.bonds (others at).peer) (others at) act peer owing (same_peer peer (others at).peer) refl owes_too;
+          own = connection;
           others = λ one.
-              both_choices (λ (a b : Part). erased a ≡ erased b) (one == at) (one == at) (turn_at at act).part (state.parts one) (turn_far at act).part (others one) refl
+              both_choices (λ (a b : ConnectionState). erased a ≡ erased b) (one == at) (one == at) (turn_at at act).connection (state.connections one) (turn_far at act).connection (others one) refl
               (λ is. erasure) (λ is. rest one);
           slots = refl;
           next = refl;
           controller = refl;
         };
-        raised = raised;
+        to_notify = raised;
       }
 
   -- what happens to the connection itself
-  own-turns : (act : Own) → KnowsNone hidden state.room state.bonds (state.parts ordinal) → state.owed (state.parts ordinal).peer ≡ owing (others ordinal).peer
+  own-turns : (act : Own) → KnowsNone hidden state.shared state.bonds (state.connections ordinal) → state.owed (state.connections ordinal).peer ≡ owing (others ordinal).peer
       → OwnTurn hidden (turn_at ordinal act) (turn_far ordinal act)
   own-turns act hides owed =
-      let part : Part = state.parts ordinal in
-      let bond : Row = state.bonds part.peer in
-      subst (λ (t : Turn). OwnTurn hidden (turn_at ordinal act) t)
-      (λ i. turn_of (with_values state.room ys) (state.bonds (own i).peer) (owed i) (own i) act)
-      (own_turn hidden state.room ys same bond (state.owed part.peer) part act
+      let connection : ConnectionState = state.connections ordinal in
+      let bond : Row = state.bonds connection.peer in
+      subst (λ (t : Effect). OwnTurn hidden (turn_at ordinal act) t)
+      (λ i. effect_of (with_values state.shared ys) (state.bonds (own i).peer) (owed i) (own i) act)
+      (own_turn hidden state.shared ys same bond (state.owed connection.peer) connection act
       (λ live. record {
         attributes = refl;
-        readable = readable-there hidden state.room.table.attributes (row_of bond part) (standing_of state.room part) state.room.table.values ys same (hides live);
+        readable = readable-there hidden state.shared.table.attributes (row_in_force bond connection) (standing_of state.shared connection) state.shared.table.values ys same (hides live);
       }))
 
   -- what happens to any connection, as that of another peer
-  other-turns : (at : Ordinal) (act : Own) → finds_no_room state.room (state.parts at) act ≡ false
-      → finds_no_room (with_values state.room ys) (others at) act ≡ false
-      → OtherTurn (other-peer (state.parts at).peer) hidden (turn_at at act) (turn_far at act)
+  other-turns : (at : Ordinal) (act : Own) → finds_no_room state.shared (state.connections at) act ≡ false
+      → finds_no_room (with_values state.shared ys) (others at) act ≡ false
+      → OtherTurn (other-peer (state.connections at).peer) hidden (turn_at at act) (turn_far at act)
   other-turns at act spared spared_too =
-      let part : Part = state.parts at in
-      let bond : Row = state.bonds part.peer in
-      let parts : erased part ≡ erased (others at) = rest at in
-      let peer_there : Peer = other-peer part.peer in
-      subst (λ (t : Turn). OtherTurn peer_there hidden (turn_at at act) t)
-      (λ i. turn_of (with_values state.room ys) (state.bonds (parts i).peer) (owing (others at).peer) (others at) act)
-      (other_turn hidden state.room ys same peer_there bond (state.owed part.peer) (owing (others at).peer) part (others at) parts (is-other part.peer) act spared spared_too)
+      let connection : ConnectionState = state.connections at in
+      let bond : Row = state.bonds connection.peer in
+      let parts : erased connection ≡ erased (others at) = rest at in
+      let peer_there : Peer = other-peer connection.peer in
+      subst (λ (t : Effect). OtherTurn peer_there hidden (turn_at at act) t)
+      (λ i. effect_of (with_values state.shared ys) (state.bonds (parts i).peer) (owing (others at).peer) (others at) act)
+      (other_turn hidden state.shared ys same peer_there bond (state.owed connection.peer) (owing (others at).peer) connection (others at) parts (is-other connection.peer) act spared spared_too)
 
-  no-room-away : (room : Room) (part : Part) (act : Own) → is_there part.mark ≡ false → finds_no_room room part act ≡ false
-  no-room-away room part act away =
-      ap (λ (live : Bool). live && (is_answer_due room part act && is_full room part)) (away-live part away)
+  no-room-away : (shared : SharedState) (connection : ConnectionState) (act : Own) → is_there connection.mark ≡ false → finds_no_room shared connection act ≡ false
+  no-room-away shared connection act away =
+      ap (λ (live : Bool). live && (is_answer_due shared connection act && is_full shared connection)) (away-live connection away)
 
-  other-change : (at : Ordinal) (act : Own) → (ordinal == at) ≡ false → finds_no_room state.room (state.parts at) act ≡ false
-      → finds_no_room (with_values state.room ys) (others at) act ≡ false
+  other-change : (at : Ordinal) (act : Own) → (ordinal == at) ≡ false → finds_no_room state.shared (state.connections at) act ≡ false
+      → finds_no_room (with_values state.shared ys) (others at) act ≡ false
       → SameChange ordinal peer hidden (own_change state at act) (own_change far at act)
   other-change at act is spared spared_too =
       let turns = other-turns at act spared spared_too in
-      let raised = turns.turn.raised in
+      let raised = turns.turn.to_notify in
       after-turns at act turns.turn
-      (ap (λ (mine : Bool). if mine then (turn_at at act).part else state.parts ordinal) is ∙ own
-      ∙ sym (ap (λ (mine : Bool). if mine then (turn_far at act).part else others ordinal) is))
-      turns.part
-      (ap (λ (mine : Bool). if mine then (turn_at at act).raised_here else (turn_at at act).raised) is ∙ raised
-      ∙ sym (ap (λ (mine : Bool). if mine then (turn_far at act).raised_here else (turn_far at act).raised) is))
+      (ap (λ (mine : Bool). if mine then (turn_at at act).connection else state.connections ordinal) is ∙ own
+      ∙ sym (ap (λ (mine : Bool). if mine then (turn_far at act).connection else others ordinal) is))
+      turns.connection
+      (ap (λ (mine : Bool). if mine then (turn_at at act).to_notify_here else (turn_at at act).to_notify) is ∙ raised
+      ∙ sym (ap (λ (mine : Bool). if mine then (turn_far at act).to_notify_here else (turn_far at act).to_notify) is))
 
-  there-change : (act : Own) → KnowsNone hidden state.room state.bonds (state.parts ordinal) → (state.parts ordinal).peer ≡ peer
+  there-change : (act : Own) → KnowsNone hidden state.shared state.bonds (state.connections ordinal) → (state.connections ordinal).peer ≡ peer
       → SameChange ordinal peer hidden (own_change state ordinal act) (own_change far ordinal act)
   there-change act hides named =
-      let owed : state.owed (state.parts ordinal).peer ≡ owing (others ordinal).peer =
-      ap state.owed named ∙ owes ∙ sym owes_too ∙ ap owing (sym named ∙ ap (λ (part : Part). part.peer) own) in
+      let owed : state.owed (state.connections ordinal).peer ≡ owing (others ordinal).peer =
+      ap state.owed named ∙ owes ∙ sym owes_too ∙ ap owing (sym named ∙ ap (λ (connection : ConnectionState). connection.peer) own) in
       let turns = own-turns act hides owed in
-      let part = turns.part in
-      let here = turns.raised_here in
-      let raised = turns.turn.raised in
-      after-turns ordinal act turns.turn (λ i. if ordinal == ordinal then part i else own i) (λ i. erased (part i))
+      let connection = turns.connection in
+      let here = turns.to_notify_here in
+      let raised = turns.turn.to_notify in
+      after-turns ordinal act turns.turn (λ i. if ordinal == ordinal then connection i else own i) (λ i. erased (connection i))
       (λ i. if ordinal == ordinal then here i else raised i)
 
-  away-change : (act : Own) → is_there (state.parts ordinal).mark ≡ false
+  away-change : (act : Own) → is_there (state.connections ordinal).mark ≡ false
       → SameChange ordinal peer hidden (own_change state ordinal act) (own_change far ordinal act)
   away-change act away =
-      let away_too : is_there (others ordinal).mark ≡ false = sym (ap (λ (part : Part). is_there part.mark) own) ∙ away in
+      let away_too : is_there (others ordinal).mark ≡ false = sym (ap (λ (connection : ConnectionState). is_there connection.mark) own) ∙ away in
       let turns =
-      other-turns ordinal act (no-room-away state.room (state.parts ordinal) act away) (no-room-away (with_values state.room ys) (others ordinal) act away_too) in
+      other-turns ordinal act (no-room-away state.shared (state.connections ordinal) act away) (no-room-away (with_values state.shared ys) (others ordinal) act away_too) in
       let same_here : SameHere (turn_at ordinal act) (turn_far ordinal act) =
-      subst (λ (part : Part). SameHere (turn_at ordinal act) (turn_of (with_values state.room ys) (state.bonds part.peer) (owing (others ordinal).peer) part act)) own
-      (away-here state.room (with_values state.room ys) (state.bonds (state.parts ordinal).peer) (state.owed (state.parts ordinal).peer) (owing (others ordinal).peer)
-      (state.parts ordinal) away act) in
-      let part = same_here.part in
-      let here = same_here.raised_here in
-      let raised = turns.turn.raised in
-      after-turns ordinal act turns.turn (λ i. if ordinal == ordinal then part i else own i) (λ i. erased (part i))
+      subst (λ (connection : ConnectionState). SameHere (turn_at ordinal act) (effect_of (with_values state.shared ys) (state.bonds connection.peer) (owing (others ordinal).peer) connection act)) own
+      (away-here state.shared (with_values state.shared ys) (state.bonds (state.connections ordinal).peer) (state.owed (state.connections ordinal).peer) (owing (others ordinal).peer)
+      (state.connections ordinal) away act) in
+      let connection = same_here.connection in
+      let here = same_here.to_notify_here in
+      let raised = turns.turn.to_notify in
+      after-turns ordinal act turns.turn (λ i. if ordinal == ordinal then connection i else own i) (λ i. erased (connection i))
       (λ i. if ordinal == ordinal then here i else raised i)
 
-  of-change : (at : Ordinal) (act : Own) (mine there : Bool) → (ordinal == at) ≡ mine → is_there (state.parts ordinal).mark ≡ there
-      → KnowsNone hidden state.room state.bonds (state.parts ordinal) → (is_there (state.parts ordinal).mark ≡ true → (state.parts ordinal).peer ≡ peer)
+  of-change : (at : Ordinal) (act : Own) (mine there : Bool) → (ordinal == at) ≡ mine → is_there (state.connections ordinal).mark ≡ there
+      → KnowsNone hidden state.shared state.bonds (state.connections ordinal) → (is_there (state.connections ordinal).mark ≡ true → (state.connections ordinal).peer ≡ peer)
       → SparesOthers ordinal state (Of at act) → SparesOthers ordinal far (Of at act)
       → SameChange ordinal peer hidden (own_change state at act) (own_change far at act)
   of-change at act true true is there hides named spares spares_too =
@@ -230,7 +230,7 @@ module _ (ordinal : Ordinal) (peer : Peer) (hidden : Handle → Bool) (state : S
 
   none-changed : AlikeTo ordinal peer hidden state far
   none-changed = record {
-    room = refl;
+    shared = refl;
     values = same;
     bonds = refl;
     owed = owes;
@@ -242,41 +242,41 @@ module _ (ordinal : Ordinal) (peer : Peer) (hidden : Handle → Bool) (state : S
     controller = refl;
   }
 
-  completed-erased : (at : Ordinal) (entries : List (Ordinal × ℕ)) (part : Part) → erased (after_completed at entries part) ≡ erased part
-  completed-erased at [] part = refl
-  completed-erased at (entry ∷ entries) part =
-      completed-erased at entries (if entry.0 == at then with_completed part entry.1 else part)
-      ∙ either_choice (λ (p : Part). erased p ≡ erased part) (entry.0 == at) (with_completed part entry.1) part refl refl
+  completed-erased : (at : Ordinal) (entries : List (Ordinal × ℕ)) (connection : ConnectionState) → erased (after_packets_completed at entries connection) ≡ erased connection
+  completed-erased at [] connection = refl
+  completed-erased at (entry ∷ entries) connection =
+      completed-erased at entries (if entry.0 == at then with_packets_completed connection entry.1 else connection)
+      ∙ either_choice (λ (p : ConnectionState). erased p ≡ erased connection) (entry.0 == at) (with_packets_completed connection entry.1) connection refl refl
 
-  stored-too : (handle : Handle) (value : Octets) → SameBut hidden (with_value state.room.table.values handle value) (with_value ys handle value)
-  stored-too zero value = stored_both hidden state.room.table.values ys 1 value value (omega arith) same refl (λ shown. refl)
-  stored-too (suc before) value = stored_both hidden state.room.table.values ys (suc before) value value (omega arith) same refl (λ shown. refl)
+  stored-too : (handle : Handle) (value : Octets) → SameBut hidden (with_value state.shared.table.values handle value) (with_value ys handle value)
+  stored-too zero value = stored_both hidden state.shared.table.values ys 1 value value (omega arith) same refl (λ shown. refl)
+  stored-too (suc before) value = stored_both hidden state.shared.table.values ys (suc before) value value (omega arith) same refl (λ shown. refl)
 
-  pub change-same : (event : Event) → is_replacement event ≡ false → KnowsNone hidden state.room state.bonds (state.parts ordinal)
-      → (is_there (state.parts ordinal).mark ≡ true → (state.parts ordinal).peer ≡ peer)
+  pub change-same : (event : Event) → is_replacement event ≡ false → KnowsNone hidden state.shared state.bonds (state.connections ordinal)
+      → (is_there (state.connections ordinal).mark ≡ true → (state.connections ordinal).peer ≡ peer)
       → SparesOthers ordinal state event → SparesOthers ordinal far event
       → SameChange ordinal peer hidden (change_of state event) (change_of far event)
   unfolding change_of
   change-same (Of at act) kept hides named spares spares_too =
-      of-change at act (ordinal == at) (is_there (state.parts ordinal).mark) refl refl hides named spares spares_too
+      of-change at act (ordinal == at) (is_there (state.connections ordinal).mark) refl refl hides named spares spares_too
   change-same (Completed entries) kept hides named spares spares_too = record {
     state = record {
-      room = refl;
+      shared = refl;
       values = same;
       bonds = refl;
       owed = owes;
       owed_too = owes_too;
-      own = ap (after_completed ordinal entries) own;
-      others = λ at. completed-erased at entries (state.parts at) ∙ rest at ∙ sym (completed-erased at entries (others at));
+      own = ap (after_packets_completed ordinal entries) own;
+      others = λ at. completed-erased at entries (state.connections at) ∙ rest at ∙ sym (completed-erased at entries (others at));
       slots = refl;
       next = refl;
       controller = refl;
     };
-    raised = refl;
+    to_notify = refl;
   }
   change-same (Credit allowed opcode status (Some init)) kept hides named spares spares_too = record {
     state = record {
-      room = refl;
+      shared = refl;
       values = same;
       bonds = refl;
       owed = owes;
@@ -287,11 +287,11 @@ module _ (ordinal : Ordinal) (peer : Peer) (hidden : Handle → Bool) (state : S
       next = refl;
       controller = refl;
     };
-    raised = refl;
+    to_notify = refl;
   }
   change-same (Credit allowed opcode status None) kept hides named spares spares_too = record {
     state = record {
-      room = refl;
+      shared = refl;
       values = same;
       bonds = refl;
       owed = owes;
@@ -302,11 +302,11 @@ module _ (ordinal : Ordinal) (peer : Peer) (hidden : Handle → Bool) (state : S
       next = refl;
       controller = refl;
     };
-    raised = refl;
+    to_notify = refl;
   }
   change-same (Update handle value) kept hides named spares spares_too = record {
     state = record {
-      room = refl;
+      shared = refl;
       values = stored-too handle value;
       bonds = refl;
       owed = owes;
@@ -317,22 +317,22 @@ module _ (ordinal : Ordinal) (peer : Peer) (hidden : Handle → Bool) (state : S
       next = refl;
       controller = refl;
     };
-    raised = refl;
+    to_notify = refl;
   }
   change-same (Tick time) kept hides named spares spares_too = record {
     state = record {
-      room = refl;
+      shared = refl;
       values = same;
       bonds = refl;
       owed = owes;
       owed_too = owes_too;
-      own = ap (λ (p : Part). record p { pending = after_tick p.pending time }) own;
+      own = ap (λ (p : ConnectionState). record p { pending = after_tick p.pending time }) own;
       others = λ at. rest at;
       slots = refl;
       next = refl;
       controller = refl;
     };
-    raised = refl;
+    to_notify = refl;
   }
   change-same (Replaced table) kept hides named spares spares_too = cc kept
-  change-same Nothing kept hides named spares spares_too = record { state = none-changed; raised = refl }
+  change-same Nothing kept hides named spares spares_too = record { state = none-changed; to_notify = refl }

@@ -11,20 +11,20 @@ use Rattle.att_attributes.specs.declared.attr.Attr.{Attr}
 use Rattle.att_table.specs.ConfigRow.{bits_at}
 use Rattle.att_table.specs.Table.{Contents, value_at, with_value}
 use Rattle.att_writes.proofs.Untouched.{keeps_others}
-use Rattle.att_writes.specs.Applied.{Stored, stored_in, applied_to, stored_after as kept_or_new}
+use Rattle.att_writes.specs.Applied.{Stored, stored_in, applied_to, stored_after}
 use Rattle.att_writes.specs.Queue.{touched_by}
 use Rattle.att_writes.specs.SameBut.{is_touched}
-use Rattle.gatt_conn.specs.Answer.{Question, Writing, writing_asked, stored_after, handles_after}
+use Rattle.gatt_conn.specs.Answer.{Question, Writing, writing_asked, stored_after_writing, handles_after}
 use Rattle.gatt_laws.proofs.Ends.{end_keeps}
 use Rattle.gatt_laws.proofs.Headline.{writes_what_may_be_written}
 use Rattle.gatt_laws.proofs.Notices.{is_among, none-once, none-touched}
 use Rattle.gatt_laws.proofs.Stores.{other-value}
 use Rattle.gatt_laws.specs.laws.Headline.{Each, MayUse}
 use Rattle.gatt_laws.specs.machine.Event.{Ordinal, Own, Event, Connected, Gone, KeyAsked, Encrypted, Refreshed, Asks, Signals, Authorized, Ended, Of, Completed, Credit, Update, Tick, Replaced, Nothing}
-use Rattle.gatt_laws.specs.machine.Part.{Part, come, is_live, is_there, key_of, row_of, mtu_of, standing_of, connection_of, prepared_of, after_ending}
-use Rattle.gatt_laws.specs.machine.Room.{Room}
-use Rattle.gatt_laws.specs.machine.State.{State, with_completed, after_completed, change_of, step}
-use Rattle.gatt_laws.specs.machine.Turn.{Turn, turn_to, served, is_full, after_channel, channel_answer, with_step, lost_encryption, live_turn, turn_of, remote_user_terminated, authentication_failure}
+use Rattle.gatt_laws.specs.machine.ConnectionState.{ConnectionState, fresh_connection, is_live, is_there, key_of, row_in_force, connection_mtu, standing_of, bearer_of, prepared_of, after_ending}
+use Rattle.gatt_laws.specs.machine.SharedState.{SharedState}
+use Rattle.gatt_laws.specs.machine.State.{State, with_packets_completed, after_packets_completed, change_of, step}
+use Rattle.gatt_laws.specs.machine.Effect.{Effect, effect_on_connection, served, is_full, after_other_channel, channel_answer, with_step, lost_encryption, live_effect, effect_of, remote_user_terminated, authentication_failure}
 use Rattle.le_hci.specs.declared.peer.Peer.{Peer}
 use Rattle.le_security.proofs.Peers.{equal_peers}
 use Rattle.le_security.specs.Entry.{same_peer}
@@ -53,7 +53,7 @@ module _ (table : Contents) (row : Row) (standing : Standing) where
   same-if : (writing : Writing) (attribute : Handle) (result : Result Stored Refusal)
       → applied_to writing.access table row standing writing.entries ≡ result
       → is_touched writing.entries attribute ≡ false
-      → Same attribute (kept_or_new (stored_in table row) result)
+      → Same attribute (stored_after (stored_in table row) result)
   same-if writing attribute (Ok new) is none =
       let keeps = keeps_others writing.access table.attributes standing writing.entries (stored_in table row) new is in
       record { value = λ used. keeps.values attribute used none; bits = keeps.row attribute none }
@@ -62,7 +62,7 @@ module _ (table : Contents) (row : Row) (standing : Standing) where
   refused-same : (writing : Writing) (attribute : Handle) (result : Result Stored Refusal)
       → applied_to writing.access table row standing writing.entries ≡ result
       → is_among attribute (touched_by writing.entries result) ≡ false
-      → Same attribute (kept_or_new (stored_in table row) result)
+      → Same attribute (stored_after (stored_in table row) result)
   refused-same writing attribute (Ok new) is none =
       same-if writing attribute (Ok new) is (none-touched attribute writing.entries (none-once attribute _ none))
   refused-same writing attribute (Err refusal) is none = record { value = λ used. refl; bits = refl }
@@ -82,7 +82,7 @@ module _ (table : Contents) (row : Row) (standing : Standing) where
       → is_among attribute (touched_by writing.entries (applied_to writing.access table row standing writing.entries)) ≡ among
       → Each (MayUse writing.access table.attributes standing)
       (touched_by writing.entries (applied_to writing.access table row standing writing.entries))
-      → NotSame attribute (kept_or_new (stored_in table row) (applied_to writing.access table row standing writing.entries))
+      → NotSame attribute (stored_after (stored_in table row) (applied_to writing.access table row standing writing.entries))
       → IsRight attribute (Some writing)
   right-if writing attribute true true is among each differs = record {
     asked = writing;
@@ -97,7 +97,7 @@ module _ (table : Contents) (row : Row) (standing : Standing) where
 
   right : (writing : Option Writing) (attribute : Handle)
       → IfSome writing (λ of. Each (MayUse of.access table.attributes standing) (handles_after table row standing writing))
-      → NotSame attribute (stored_after table row standing writing)
+      → NotSame attribute (stored_after_writing table row standing writing)
       → IsRight attribute writing
   right None attribute each differs = absurd (differs (record { value = λ used. refl; bits = refl }))
   right (Some writing) attribute each differs =
@@ -106,156 +106,156 @@ module _ (table : Contents) (row : Row) (standing : Standing) where
 
 -- What happens to one connection.
 
-module _ (room : Room) (bond : Row) (owed : Bool) (part : Part) where
-  abbrev its_turn : Own → Turn
-  its_turn own = turn_of room bond owed part own
+module _ (shared : SharedState) (bond : Row) (owed : Bool) (connection : ConnectionState) where
+  abbrev its_turn : Own → Effect
+  its_turn own = effect_of shared bond owed connection own
 
   -- a PDU that is served may write
   record Writes (pdu : Octets) (attribute : Handle) : Type 0 where
-    serves : is_live part.mark ≡ true
-    right : IsRight room.table (row_of bond part) (standing_of room part) attribute (writing_asked (prepared_of part) (request_of pdu (mtu_of room part)))
+    serves : is_live connection.mark ≡ true
+    right : IsRight shared.table (row_in_force bond connection) (standing_of shared connection) attribute (writing_asked (prepared_of connection) (request_of pdu (connection_mtu shared connection)))
 
-  served-writes : (pdu : Octets) (attribute : Handle) → is_live part.mark ≡ true
-      → NotSame room.table (row_of bond part) (standing_of room part) attribute
-      (stored_after room.table (row_of bond part) (standing_of room part) (writing_asked (prepared_of part) (request_of pdu (mtu_of room part))))
+  served-writes : (pdu : Octets) (attribute : Handle) → is_live connection.mark ≡ true
+      → NotSame shared.table (row_in_force bond connection) (standing_of shared connection) attribute
+      (stored_after_writing shared.table (row_in_force bond connection) (standing_of shared connection) (writing_asked (prepared_of connection) (request_of pdu (connection_mtu shared connection))))
       → Writes pdu attribute
   served-writes pdu attribute live differs =
-      let asked : Question = request_of pdu (mtu_of room part) in
+      let asked : Question = request_of pdu (connection_mtu shared connection) in
       record {
         serves = live;
-        right = right room.table (row_of bond part) (standing_of room part) (writing_asked (prepared_of part) asked) attribute
-            (writes_what_may_be_written room.table (row_of bond part) (connection_of room part) asked) differs;
+        right = right shared.table (row_in_force bond connection) (standing_of shared connection) (writing_asked (prepared_of connection) asked) attribute
+            (writes_what_may_be_written shared.table (row_in_force bond connection) (bearer_of shared connection) asked) differs;
       }
 
   abbrev stored_then : Octets → Stored
-  stored_then pdu = stored_after room.table (row_of bond part) (standing_of room part) (writing_asked (prepared_of part) (request_of pdu (mtu_of room part)))
+  stored_then pdu = stored_after_writing shared.table (row_in_force bond connection) (standing_of shared connection) (writing_asked (prepared_of connection) (request_of pdu (connection_mtu shared connection)))
 
   -- the values, the row of the bond, and its own row
-  record TurnsByRight (own : Own) (attribute : Handle) (turn : Turn) : Type 0 where
-    by_value : 0 < attribute → (value_at turn.values attribute ≡ value_at room.table.values attribute → ⊥)
+  record TurnsByRight (own : Own) (attribute : Handle) (effect : Effect) : Type 0 where
+    by_value : 0 < attribute → (value_at effect.values attribute ≡ value_at shared.table.values attribute → ⊥)
         → (pdu : Octets) × (own ≡ Asks pdu) × Writes pdu attribute
-    by_bond : (bits_at turn.bond attribute ≡ bits_at bond attribute → ⊥)
-        → (is_some (key_of part) ≡ true) × (pdu : Octets) × (own ≡ Asks pdu) × Writes pdu attribute
+    by_bond : (bits_at effect.bond attribute ≡ bits_at bond attribute → ⊥)
+        → (is_some (key_of connection) ≡ true) × (pdu : Octets) × (own ≡ Asks pdu) × Writes pdu attribute
 
-  abbrev OwnByRight : Own → Handle → Turn → Type 0
-  OwnByRight own attribute turn = (bits_at turn.part.row attribute ≡ bits_at part.row attribute → ⊥)
-      → (is_some (key_of part) ≡ false) × (pdu : Octets) × (own ≡ Asks pdu) × Writes pdu attribute
+  abbrev OwnByRight : Own → Handle → Effect → Type 0
+  OwnByRight own attribute effect = (bits_at effect.connection.row attribute ≡ bits_at connection.row attribute → ⊥)
+      → (is_some (key_of connection) ≡ false) × (pdu : Octets) × (own ≡ Asks pdu) × Writes pdu attribute
 
   -- what leaves them
-  left : (own : Own) (attribute : Handle) (turn : Turn) → turn.values ≡ room.table.values → turn.bond ≡ bond → TurnsByRight own attribute turn
-  left own attribute turn values bonds = record {
+  left : (own : Own) (attribute : Handle) (effect : Effect) → effect.values ≡ shared.table.values → effect.bond ≡ bond → TurnsByRight own attribute effect
+  left own attribute effect values bonds = record {
     by_value = λ used differs. absurd (differs (ap (λ (of : Values). value_at of attribute) values));
     by_bond = λ differs. absurd (differs (ap (λ (of : Row). bits_at of attribute) bonds));
   }
 
-  left-own : (own : Own) (attribute : Handle) (turn : Turn) → turn.part.row ≡ part.row → OwnByRight own attribute turn
-  left-own own attribute turn rows = λ differs. absurd (differs (ap (λ (of : Row). bits_at of attribute) rows))
+  left-own : (own : Own) (attribute : Handle) (effect : Effect) → effect.connection.row ≡ connection.row → OwnByRight own attribute effect
+  left-own own attribute effect rows = λ differs. absurd (differs (ap (λ (of : Row). bits_at of attribute) rows))
 
-  bond-right : (pdu : Octets) (attribute : Handle) (keyed : Bool) → is_some (key_of part) ≡ keyed → is_live part.mark ≡ true
-      → (bits_at (if is_some (key_of part) then (stored_then pdu).row else bond) attribute ≡ bits_at bond attribute → ⊥)
-      → (is_some (key_of part) ≡ true) × Writes pdu attribute
+  bond-right : (pdu : Octets) (attribute : Handle) (keyed : Bool) → is_some (key_of connection) ≡ keyed → is_live connection.mark ≡ true
+      → (bits_at (if is_some (key_of connection) then (stored_then pdu).row else bond) attribute ≡ bits_at bond attribute → ⊥)
+      → (is_some (key_of connection) ≡ true) × Writes pdu attribute
   bond-right pdu attribute true is live differs = (
     is,
     served-writes pdu attribute live (λ same. differs (
         (λ i. bits_at (if is i then (stored_then pdu).row else bond) attribute)
         ∙ same.bits
-        ∙ (λ i. bits_at (if is i then bond else part.row) attribute))),
+        ∙ (λ i. bits_at (if is i then bond else connection.row) attribute))),
   )
   bond-right pdu attribute false is live differs = absurd (differs (λ i. bits_at (if is i then (stored_then pdu).row else bond) attribute))
 
-  own-right : (pdu : Octets) (attribute : Handle) (keyed : Bool) → is_some (key_of part) ≡ keyed → is_live part.mark ≡ true
-      → (bits_at (if is_some (key_of part) then part.row else (stored_then pdu).row) attribute ≡ bits_at part.row attribute → ⊥)
-      → (is_some (key_of part) ≡ false) × Writes pdu attribute
+  own-right : (pdu : Octets) (attribute : Handle) (keyed : Bool) → is_some (key_of connection) ≡ keyed → is_live connection.mark ≡ true
+      → (bits_at (if is_some (key_of connection) then connection.row else (stored_then pdu).row) attribute ≡ bits_at connection.row attribute → ⊥)
+      → (is_some (key_of connection) ≡ false) × Writes pdu attribute
   own-right pdu attribute false is live differs = (
     is,
     served-writes pdu attribute live (λ same. differs (
-        (λ i. bits_at (if is i then part.row else (stored_then pdu).row) attribute)
+        (λ i. bits_at (if is i then connection.row else (stored_then pdu).row) attribute)
         ∙ same.bits
-        ∙ (λ i. bits_at (if is i then bond else part.row) attribute))),
+        ∙ (λ i. bits_at (if is i then bond else connection.row) attribute))),
   )
-  own-right pdu attribute true is live differs = absurd (differs (λ i. bits_at (if is i then part.row else (stored_then pdu).row) attribute))
+  own-right pdu attribute true is live differs = absurd (differs (λ i. bits_at (if is i then connection.row else (stored_then pdu).row) attribute))
 
   -- a PDU of the Attribute Protocol
-  abbrev asked_turn : Octets → Bool → Bool → Turn
+  abbrev asked_turn : Octets → Bool → Bool → Effect
   asked_turn pdu live ended =
-      if live then (if ended then turn_to room bond owed (after_ending part remote_user_terminated) else served room bond owed part pdu (request_of pdu (mtu_of room part)))
-      else turn_to room bond owed part
+      if live then (if ended then effect_on_connection shared bond owed (after_ending connection remote_user_terminated) else served shared bond owed connection pdu (request_of pdu (connection_mtu shared connection)))
+      else effect_on_connection shared bond owed connection
 
-  asks-right : (pdu : Octets) (attribute : Handle) (live ended : Bool) → is_live part.mark ≡ live → TurnsByRight (Asks pdu) attribute (asked_turn pdu live ended)
+  asks-right : (pdu : Octets) (attribute : Handle) (live ended : Bool) → is_live connection.mark ≡ live → TurnsByRight (Asks pdu) attribute (asked_turn pdu live ended)
   asks-right pdu attribute true true is = left (Asks pdu) attribute (asked_turn pdu true true) refl refl
   asks-right pdu attribute true false is = record {
     by_value = λ used differs. (pdu, refl, served-writes pdu attribute is (λ same. differs (same.value used)));
-    by_bond = λ differs. let writes = bond-right pdu attribute (is_some (key_of part)) refl is differs in (writes.0, pdu, refl, writes.1);
+    by_bond = λ differs. let writes = bond-right pdu attribute (is_some (key_of connection)) refl is differs in (writes.0, pdu, refl, writes.1);
   }
   asks-right pdu attribute false ended is = left (Asks pdu) attribute (asked_turn pdu false ended) refl refl
 
-  asks-own : (pdu : Octets) (attribute : Handle) (live ended : Bool) → is_live part.mark ≡ live → OwnByRight (Asks pdu) attribute (asked_turn pdu live ended)
+  asks-own : (pdu : Octets) (attribute : Handle) (live ended : Bool) → is_live connection.mark ≡ live → OwnByRight (Asks pdu) attribute (asked_turn pdu live ended)
   asks-own pdu attribute true true is = left-own (Asks pdu) attribute (asked_turn pdu true true) refl
   asks-own pdu attribute true false is = λ differs.
-      let writes = own-right pdu attribute (is_some (key_of part)) refl is differs in (writes.0, pdu, refl, writes.1)
+      let writes = own-right pdu attribute (is_some (key_of connection)) refl is differs in (writes.0, pdu, refl, writes.1)
   asks-own pdu attribute false ended is = left-own (Asks pdu) attribute (asked_turn pdu false ended) refl
 
   -- and all else
-  live-left : (own : Own) (attribute : Handle) (live : Bool) → (live_turn room bond owed part own).values ≡ room.table.values
-      → (live_turn room bond owed part own).bond ≡ bond
-      → TurnsByRight own attribute (if live then live_turn room bond owed part own else turn_to room bond owed part)
-  live-left own attribute true values bonds = left own attribute (live_turn room bond owed part own) values bonds
-  live-left own attribute false values bonds = left own attribute (turn_to room bond owed part) refl refl
+  live-left : (own : Own) (attribute : Handle) (live : Bool) → (live_effect shared bond owed connection own).values ≡ shared.table.values
+      → (live_effect shared bond owed connection own).bond ≡ bond
+      → TurnsByRight own attribute (if live then live_effect shared bond owed connection own else effect_on_connection shared bond owed connection)
+  live-left own attribute true values bonds = left own attribute (live_effect shared bond owed connection own) values bonds
+  live-left own attribute false values bonds = left own attribute (effect_on_connection shared bond owed connection) refl refl
 
-  turn-right : (own : Own) (attribute : Handle) → TurnsByRight own attribute (turn_of room bond owed part own)
-  unfolding live_turn
-  turn-right (Connected handle peer) attribute = left (Connected handle peer) attribute (turn_of room bond owed part (Connected handle peer)) refl refl
-  turn-right Gone attribute = left Gone attribute (turn_of room bond owed part Gone) refl refl
+  turn-right : (own : Own) (attribute : Handle) → TurnsByRight own attribute (effect_of shared bond owed connection own)
+  unfolding live_effect
+  turn-right (Connected handle peer) attribute = left (Connected handle peer) attribute (effect_of shared bond owed connection (Connected handle peer)) refl refl
+  turn-right Gone attribute = left Gone attribute (effect_of shared bond owed connection Gone) refl refl
   turn-right (Asks pdu) attribute =
-      asks-right pdu attribute (is_live part.mark) (is_due (request_of pdu (mtu_of room part)) && is_full room part) refl
-  turn-right (Signals channel payload) attribute = live-left (Signals channel payload) attribute (is_live part.mark) refl refl
-  turn-right (KeyAsked random_number diversifier) attribute = live-left (KeyAsked random_number diversifier) attribute (is_live part.mark) refl refl
-  turn-right (Encrypted status enabled) attribute = live-left (Encrypted status enabled) attribute (is_live part.mark) refl refl
-  turn-right (Refreshed status) attribute = live-left (Refreshed status) attribute (is_live part.mark) refl refl
-  turn-right (Authorized until) attribute = live-left (Authorized until) attribute (is_live part.mark) refl refl
-  turn-right Ended attribute = live-left Ended attribute (is_live part.mark) refl refl
+      asks-right pdu attribute (is_live connection.mark) (is_due (request_of pdu (connection_mtu shared connection)) && is_full shared connection) refl
+  turn-right (Signals channel payload) attribute = live-left (Signals channel payload) attribute (is_live connection.mark) refl refl
+  turn-right (KeyAsked random_number diversifier) attribute = live-left (KeyAsked random_number diversifier) attribute (is_live connection.mark) refl refl
+  turn-right (Encrypted status enabled) attribute = live-left (Encrypted status enabled) attribute (is_live connection.mark) refl refl
+  turn-right (Refreshed status) attribute = live-left (Refreshed status) attribute (is_live connection.mark) refl refl
+  turn-right (Authorized until) attribute = live-left (Authorized until) attribute (is_live connection.mark) refl refl
+  turn-right Ended attribute = live-left Ended attribute (is_live connection.mark) refl refl
 
-  live-own : (own : Own) (attribute : Handle) (live : Bool) → (live_turn room bond owed part own).part.row ≡ part.row
-      → OwnByRight own attribute (if live then live_turn room bond owed part own else turn_to room bond owed part)
-  live-own own attribute true rows = left-own own attribute (live_turn room bond owed part own) rows
-  live-own own attribute false rows = left-own own attribute (turn_to room bond owed part) refl
+  live-own : (own : Own) (attribute : Handle) (live : Bool) → (live_effect shared bond owed connection own).connection.row ≡ connection.row
+      → OwnByRight own attribute (if live then live_effect shared bond owed connection own else effect_on_connection shared bond owed connection)
+  live-own own attribute true rows = left-own own attribute (live_effect shared bond owed connection own) rows
+  live-own own attribute false rows = left-own own attribute (effect_on_connection shared bond owed connection) refl
 
-  channel-row : (channel : ℕ) (answer : Option Octets) (full : Bool) → is_full room part ≡ full → (after_channel room part channel answer).row ≡ part.row
+  channel-row : (channel : ℕ) (answer : Option Octets) (full : Bool) → is_full shared connection ≡ full → (after_other_channel shared connection channel answer).row ≡ connection.row
   channel-row channel None full is = refl
   channel-row channel (Some answer) true is = rw is refl
   channel-row channel (Some answer) false is = rw is refl
 
-  link-row : (step : Step) (lost : Bool) → (if lost then after_ending (with_step part step) authentication_failure else with_step part step).row ≡ part.row
+  link-row : (step : Step) (lost : Bool) → (if lost then after_ending (with_step connection step) authentication_failure else with_step connection step).row ≡ connection.row
   link-row step true = refl
   link-row step false = refl
 
   abbrev OwnRowBy : Own → Handle → Type 0
   OwnRowBy (Connected handle peer) attribute = Unit
   OwnRowBy Gone attribute = Unit
-  OwnRowBy own attribute = OwnByRight own attribute (turn_of room bond owed part own)
+  OwnRowBy own attribute = OwnByRight own attribute (effect_of shared bond owed connection own)
 
   turn-own : (own : Own) (attribute : Handle) → OwnRowBy own attribute
-  unfolding live_turn
+  unfolding live_effect
   turn-own (Connected handle peer) attribute = tt
   turn-own Gone attribute = tt
-  turn-own (Asks pdu) attribute = asks-own pdu attribute (is_live part.mark) (is_due (request_of pdu (mtu_of room part)) && is_full room part) refl
+  turn-own (Asks pdu) attribute = asks-own pdu attribute (is_live connection.mark) (is_due (request_of pdu (connection_mtu shared connection)) && is_full shared connection) refl
   turn-own (Signals channel payload) attribute =
-      live-own (Signals channel payload) attribute (is_live part.mark) (channel-row channel (channel_answer channel payload) (is_full room part) refl)
-  turn-own (KeyAsked random_number diversifier) attribute = live-own (KeyAsked random_number diversifier) attribute (is_live part.mark) refl
+      live-own (Signals channel payload) attribute (is_live connection.mark) (channel-row channel (channel_answer channel payload) (is_full shared connection) refl)
+  turn-own (KeyAsked random_number diversifier) attribute = live-own (KeyAsked random_number diversifier) attribute (is_live connection.mark) refl
   turn-own (Encrypted status enabled) attribute =
-      live-own (Encrypted status enabled) attribute (is_live part.mark)
-      (link-row (Encryption status enabled) (lost_encryption (key_of part) (key_of (with_step part (Encryption status enabled)))))
+      live-own (Encrypted status enabled) attribute (is_live connection.mark)
+      (link-row (Encryption status enabled) (lost_encryption (key_of connection) (key_of (with_step connection (Encryption status enabled)))))
   turn-own (Refreshed status) attribute =
-      live-own (Refreshed status) attribute (is_live part.mark)
-      (link-row (Refresh status) (lost_encryption (key_of part) (key_of (with_step part (Refresh status)))))
-  turn-own (Authorized until) attribute = live-own (Authorized until) attribute (is_live part.mark) refl
-  turn-own Ended attribute = live-own Ended attribute (is_live part.mark) refl
+      live-own (Refreshed status) attribute (is_live connection.mark)
+      (link-row (Refresh status) (lost_encryption (key_of connection) (key_of (with_step connection (Refresh status)))))
+  turn-own (Authorized until) attribute = live-own (Authorized until) attribute (is_live connection.mark) refl
+  turn-own Ended attribute = live-own Ended attribute (is_live connection.mark) refl
 
 -- An event.
 
 module _ (state : State) (at : Ordinal) where
   may-write : (own : Own) (attribute : Handle) (pdu : Octets) → own ≡ Asks pdu
-      → Writes state.room (state.bonds (state.parts at).peer) (state.owed (state.parts at).peer) (state.parts at) pdu attribute
+      → Writes state.shared (state.bonds (state.connections at).peer) (state.owed (state.connections at).peer) (state.connections at) pdu attribute
       → MayWriteThere state at own attribute
   may-write own attribute pdu is writes = record {
     serves = writes.serves;
@@ -268,72 +268,72 @@ module _ (state : State) (at : Ordinal) where
   }
 
   turns : (own : Own) (attribute : Handle)
-      → TurnsByRight state.room (state.bonds (state.parts at).peer) (state.owed (state.parts at).peer) (state.parts at) own attribute
-      (turn_of state.room (state.bonds (state.parts at).peer) (state.owed (state.parts at).peer) (state.parts at) own)
-  turns own attribute = turn-right state.room (state.bonds (state.parts at).peer) (state.owed (state.parts at).peer) (state.parts at) own attribute
+      → TurnsByRight state.shared (state.bonds (state.connections at).peer) (state.owed (state.connections at).peer) (state.connections at) own attribute
+      (effect_of state.shared (state.bonds (state.connections at).peer) (state.owed (state.connections at).peer) (state.connections at) own)
+  turns own attribute = turn-right state.shared (state.bonds (state.connections at).peer) (state.owed (state.connections at).peer) (state.connections at) own attribute
 
   value-right : (own : Own) (attribute : Handle) → 0 < attribute
-      → (value_at (turn_of state.room (state.bonds (state.parts at).peer) (state.owed (state.parts at).peer) (state.parts at) own).values attribute
-      ≡ value_at state.room.table.values attribute → ⊥)
+      → (value_at (effect_of state.shared (state.bonds (state.connections at).peer) (state.owed (state.connections at).peer) (state.connections at) own).values attribute
+      ≡ value_at state.shared.table.values attribute → ⊥)
       → MayWriteThere state at own attribute
   value-right own attribute used differs =
       let writes = (turns own attribute).by_value used differs in may-write own attribute writes.0 writes.1 writes.2
 
-  bond-right-if : (own : Own) (peer : Peer) (attribute : Handle) (same : Bool) → same_peer peer (state.parts at).peer ≡ same
-      → (bits_at (if same then (turn_of state.room (state.bonds (state.parts at).peer) (state.owed (state.parts at).peer) (state.parts at) own).bond
+  bond-right-if : (own : Own) (peer : Peer) (attribute : Handle) (same : Bool) → same_peer peer (state.connections at).peer ≡ same
+      → (bits_at (if same then (effect_of state.shared (state.bonds (state.connections at).peer) (state.owed (state.connections at).peer) (state.connections at) own).bond
       else state.bonds peer) attribute ≡ bits_at (state.bonds peer) attribute → ⊥)
       → ConfiguresItsBond state at own peer attribute
   bond-right-if own peer attribute true is differs =
-      let equal : peer ≡ (state.parts at).peer = equal_peers peer (state.parts at).peer is in
+      let equal : peer ≡ (state.connections at).peer = equal_peers peer (state.connections at).peer is in
       let writes = (turns own attribute).by_bond (λ same. differs (same ∙ ap (λ (of : Peer). bits_at (state.bonds of) attribute) (sym equal))) in
       record { keyed = writes.0; of = is; may = may-write own attribute writes.1 writes.2 writes.3 }
   bond-right-if own peer attribute false is differs = absurd (differs refl)
 
   its-own : (own : Own) (attribute : Handle)
-      → (is_some (key_of (state.parts at)) ≡ false) × (pdu : Octets) × (own ≡ Asks pdu)
-      × Writes state.room (state.bonds (state.parts at).peer) (state.owed (state.parts at).peer) (state.parts at) pdu attribute
+      → (is_some (key_of (state.connections at)) ≡ false) × (pdu : Octets) × (own ≡ Asks pdu)
+      × Writes state.shared (state.bonds (state.connections at).peer) (state.owed (state.connections at).peer) (state.connections at) pdu attribute
       → ConfiguresItsOwn state at own attribute
   its-own own attribute writes = record { keyless = writes.0; may = may-write own attribute writes.1 writes.2 writes.3 }
 
   -- one that comes where none is, and one that goes, has nothing configured
-  row-then : (own : Own) → ((step state (Of at own)).parts at).row
-      ≡ (turn_of state.room (state.bonds (state.parts at).peer) (state.owed (state.parts at).peer) (state.parts at) own).part.row
+  row-then : (own : Own) → ((step state (Of at own)).connections at).row
+      ≡ (effect_of state.shared (state.bonds (state.connections at).peer) (state.owed (state.connections at).peer) (state.connections at) own).connection.row
   unfolding change_of
   row-then own =
-      end_keeps (λ (of : Part). of.row) (λ of pdus pending given reply reason. refl) state (Of at own) at
+      end_keeps (λ (of : ConnectionState). of.row) (λ of pdus pending given reply reason. refl) state (Of at own) at
       ∙ ap (λ (same : Bool). (if same
-      then (turn_of state.room (state.bonds (state.parts at).peer) (state.owed (state.parts at).peer) (state.parts at) own).part else state.parts at).row)
+      then (effect_of state.shared (state.bonds (state.connections at).peer) (state.owed (state.connections at).peer) (state.connections at) own).connection else state.connections at).row)
       (eq-eqb at at refl)
 
   come-anew : (handle : ℕ) (peer : Peer) (attribute : Handle) (there : Bool)
-      → (bits_at (if there then state.parts at else come handle peer).row attribute ≡ bits_at (state.parts at).row attribute → ⊥)
-      → bits_at (if there then state.parts at else come handle peer).row attribute ≡ 0
+      → (bits_at (if there then state.connections at else fresh_connection handle peer).row attribute ≡ bits_at (state.connections at).row attribute → ⊥)
+      → bits_at (if there then state.connections at else fresh_connection handle peer).row attribute ≡ 0
   come-anew handle peer attribute true differs = absurd (differs refl)
   come-anew handle peer attribute false differs = refl
 
   own-right-at : (own : Own) (attribute : Handle)
-      → (bits_at (turn_of state.room (state.bonds (state.parts at).peer) (state.owed (state.parts at).peer) (state.parts at) own).part.row attribute
-      ≡ bits_at (state.parts at).row attribute → ⊥)
+      → (bits_at (effect_of state.shared (state.bonds (state.connections at).peer) (state.owed (state.connections at).peer) (state.connections at) own).connection.row attribute
+      ≡ bits_at (state.connections at).row attribute → ⊥)
       → ConfiguresOwn state at own attribute
   own-right-at (Connected handle peer) attribute differs =
       ap (λ (row : Row). bits_at row attribute) (row-then (Connected handle peer))
-      ∙ come-anew handle peer attribute (is_there (state.parts at).mark) differs
+      ∙ come-anew handle peer attribute (is_there (state.connections at).mark) differs
   own-right-at Gone attribute differs = ap (λ (row : Row). bits_at row attribute) (row-then Gone)
-  own-right-at (Asks pdu) attribute differs = its-own (Asks pdu) attribute (turn-own state.room (state.bonds (state.parts at).peer) (state.owed (state.parts at).peer) (state.parts at) (Asks pdu) attribute differs)
-  own-right-at (Signals channel payload) attribute differs = its-own (Signals channel payload) attribute (turn-own state.room (state.bonds (state.parts at).peer) (state.owed (state.parts at).peer) (state.parts at) (Signals channel payload) attribute differs)
-  own-right-at (KeyAsked random_number diversifier) attribute differs = its-own (KeyAsked random_number diversifier) attribute (turn-own state.room (state.bonds (state.parts at).peer) (state.owed (state.parts at).peer) (state.parts at) (KeyAsked random_number diversifier) attribute differs)
-  own-right-at (Encrypted status enabled) attribute differs = its-own (Encrypted status enabled) attribute (turn-own state.room (state.bonds (state.parts at).peer) (state.owed (state.parts at).peer) (state.parts at) (Encrypted status enabled) attribute differs)
-  own-right-at (Refreshed status) attribute differs = its-own (Refreshed status) attribute (turn-own state.room (state.bonds (state.parts at).peer) (state.owed (state.parts at).peer) (state.parts at) (Refreshed status) attribute differs)
-  own-right-at (Authorized until) attribute differs = its-own (Authorized until) attribute (turn-own state.room (state.bonds (state.parts at).peer) (state.owed (state.parts at).peer) (state.parts at) (Authorized until) attribute differs)
-  own-right-at Ended attribute differs = its-own Ended attribute (turn-own state.room (state.bonds (state.parts at).peer) (state.owed (state.parts at).peer) (state.parts at) Ended attribute differs)
+  own-right-at (Asks pdu) attribute differs = its-own (Asks pdu) attribute (turn-own state.shared (state.bonds (state.connections at).peer) (state.owed (state.connections at).peer) (state.connections at) (Asks pdu) attribute differs)
+  own-right-at (Signals channel payload) attribute differs = its-own (Signals channel payload) attribute (turn-own state.shared (state.bonds (state.connections at).peer) (state.owed (state.connections at).peer) (state.connections at) (Signals channel payload) attribute differs)
+  own-right-at (KeyAsked random_number diversifier) attribute differs = its-own (KeyAsked random_number diversifier) attribute (turn-own state.shared (state.bonds (state.connections at).peer) (state.owed (state.connections at).peer) (state.connections at) (KeyAsked random_number diversifier) attribute differs)
+  own-right-at (Encrypted status enabled) attribute differs = its-own (Encrypted status enabled) attribute (turn-own state.shared (state.bonds (state.connections at).peer) (state.owed (state.connections at).peer) (state.connections at) (Encrypted status enabled) attribute differs)
+  own-right-at (Refreshed status) attribute differs = its-own (Refreshed status) attribute (turn-own state.shared (state.bonds (state.connections at).peer) (state.owed (state.connections at).peer) (state.connections at) (Refreshed status) attribute differs)
+  own-right-at (Authorized until) attribute differs = its-own (Authorized until) attribute (turn-own state.shared (state.bonds (state.connections at).peer) (state.owed (state.connections at).peer) (state.connections at) (Authorized until) attribute differs)
+  own-right-at Ended attribute differs = its-own Ended attribute (turn-own state.shared (state.bonds (state.connections at).peer) (state.owed (state.connections at).peer) (state.connections at) Ended attribute differs)
 
   own-right-if : (own : Own) (ordinal : Ordinal) (attribute : Handle) (same : Bool) → (ordinal == at) ≡ same
-      → (bits_at (if same then (turn_of state.room (state.bonds (state.parts at).peer) (state.owed (state.parts at).peer) (state.parts at) own).part
-      else state.parts ordinal).row attribute ≡ bits_at (state.parts ordinal).row attribute → ⊥)
+      → (bits_at (if same then (effect_of state.shared (state.bonds (state.connections at).peer) (state.owed (state.connections at).peer) (state.connections at) own).connection
+      else state.connections ordinal).row attribute ≡ bits_at (state.connections ordinal).row attribute → ⊥)
       → (ordinal ≡ at) × ConfiguresOwn state at own attribute
   own-right-if own ordinal attribute true is differs =
       let equal : ordinal ≡ at = eqb-true ordinal at is in
-      (equal, own-right-at own attribute (λ same. differs (same ∙ ap (λ (of : Ordinal). bits_at (state.parts of).row attribute) (sym equal))))
+      (equal, own-right-at own attribute (λ same. differs (same ∙ ap (λ (of : Ordinal). bits_at (state.connections of).row attribute) (sym equal))))
   own-right-if own ordinal attribute false is differs = absurd (differs refl)
 
 used-there : (attributes : List Attr) (handle : Handle) (attr : Attr) → attribute_at attributes handle ≡ Some attr → 0 < handle
@@ -352,8 +352,8 @@ changes_values_by_right state (Completed entries) attribute used possible differ
 changes_values_by_right state (Credit allowed opcode status (Some init)) attribute used possible differs = differs refl
 changes_values_by_right state (Credit allowed opcode status None) attribute used possible differs = differs refl
 changes_values_by_right state (Update handle value) attribute used possible differs =
-    updated-right state.room.table.values handle attribute value (handle == attribute) refl
-    (used-there state.room.table.attributes handle possible.attr possible.there) used differs
+    updated-right state.shared.table.values handle attribute value (handle == attribute) refl
+    (used-there state.shared.table.attributes handle possible.attr possible.there) used differs
 changes_values_by_right state (Tick time) attribute used possible differs = differs refl
 changes_values_by_right state (Replaced table) attribute used possible differs = tt
 changes_values_by_right state Nothing attribute used possible differs = differs refl
@@ -361,7 +361,7 @@ changes_values_by_right state Nothing attribute used possible differs = differs 
 pub changes_bonds_by_right : ChangesBondsByRight
 unfolding step change_of
 changes_bonds_by_right state (Of ordinal own) peer attribute differs =
-    bond-right-if state ordinal own peer attribute (same_peer peer (state.parts ordinal).peer) refl differs
+    bond-right-if state ordinal own peer attribute (same_peer peer (state.connections ordinal).peer) refl differs
 changes_bonds_by_right state (Completed entries) peer attribute differs = differs refl
 changes_bonds_by_right state (Credit allowed opcode status (Some init)) peer attribute differs = differs refl
 changes_bonds_by_right state (Credit allowed opcode status None) peer attribute differs = differs refl
@@ -370,19 +370,19 @@ changes_bonds_by_right state (Tick time) peer attribute differs = differs refl
 changes_bonds_by_right state (Replaced table) peer attribute differs = tt
 changes_bonds_by_right state Nothing peer attribute differs = differs refl
 
-completed-row : (ordinal : Ordinal) (entries : List (Ordinal × ℕ)) (part : Part) → (after_completed ordinal entries part).row ≡ part.row
-completed-row ordinal [] part = refl
-completed-row ordinal (entry ∷ entries) part =
-    completed-row ordinal entries (if entry.0 == ordinal then with_completed part entry.1 else part)
-    ∙ elim (entry.0 == ordinal) as (λ (own : Bool). (if own then with_completed part entry.1 else part).row ≡ part.row) [ true ↦ refl | false ↦ refl ]
+completed-row : (ordinal : Ordinal) (entries : List (Ordinal × ℕ)) (connection : ConnectionState) → (after_packets_completed ordinal entries connection).row ≡ connection.row
+completed-row ordinal [] connection = refl
+completed-row ordinal (entry ∷ entries) connection =
+    completed-row ordinal entries (if entry.0 == ordinal then with_packets_completed connection entry.1 else connection)
+    ∙ elim (entry.0 == ordinal) as (λ (own : Bool). (if own then with_packets_completed connection entry.1 else connection).row ≡ connection.row) [ true ↦ refl | false ↦ refl ]
 
 change-own : (state : State) (event : Event) (ordinal : Ordinal) (attribute : Handle)
-    → (bits_at ((change_of state event).state.parts ordinal).row attribute ≡ bits_at (state.parts ordinal).row attribute → ⊥)
+    → (bits_at ((change_of state event).state.connections ordinal).row attribute ≡ bits_at (state.connections ordinal).row attribute → ⊥)
     → ChangesAnOwnRow state event ordinal attribute
 unfolding change_of
 change-own state (Of at own) ordinal attribute differs = own-right-if state at own ordinal attribute (ordinal == at) refl differs
 change-own state (Completed entries) ordinal attribute differs =
-    differs (ap (λ (row : Row). bits_at row attribute) (completed-row ordinal entries (state.parts ordinal)))
+    differs (ap (λ (row : Row). bits_at row attribute) (completed-row ordinal entries (state.connections ordinal)))
 change-own state (Credit allowed opcode status (Some init)) ordinal attribute differs = differs refl
 change-own state (Credit allowed opcode status None) ordinal attribute differs = differs refl
 change-own state (Update handle value) ordinal attribute differs = differs refl
@@ -393,4 +393,4 @@ change-own state Nothing ordinal attribute differs = differs refl
 pub changes_own_rows_by_right : ChangesOwnRowsByRight
 changes_own_rows_by_right state event ordinal attribute differs =
     change-own state event ordinal attribute
-    (λ same. differs (ap (λ (row : Row). bits_at row attribute) (end_keeps (λ (of : Part). of.row) (λ of pdus pending given reply reason. refl) state event ordinal) ∙ same))
+    (λ same. differs (ap (λ (row : Row). bits_at row attribute) (end_keeps (λ (of : ConnectionState). of.row) (λ of pdus pending given reply reason. refl) state event ordinal) ∙ same))

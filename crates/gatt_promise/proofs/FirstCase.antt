@@ -9,7 +9,7 @@ use Rattle.att_numbers.specs.declared.error_code.TheConstants.{PREPARE_QUEUE_FUL
 use Rattle.att_numbers.specs.declared.opcode.TheConstants.{FIND_INFORMATION_REQUEST, FIND_BY_TYPE_VALUE_REQUEST, READ_BY_TYPE_REQUEST, READ_REQUEST, READ_BLOB_REQUEST, READ_MULTIPLE_REQUEST, READ_BY_GROUP_TYPE_REQUEST, WRITE_REQUEST, PREPARE_WRITE_REQUEST, EXECUTE_WRITE_REQUEST}
 use Rattle.att_pdu.specs.Request.{ExchangeMtuRequest, FindInformationRequest, FindByTypeValueRequest, ReadByTypeRequest, ReadRequest, ReadBlobRequest, ReadMultipleRequest, ReadByGroupTypeRequest, WriteRequest, PrepareWriteRequest, ExecuteWriteRequest, ConfirmationPdu, WriteCommandPdu}
 use Rattle.att_pdu.specs.Response.{Response, WriteResponse, ExecuteWriteResponse}
-use Rattle.att_pdu.specs.Uuid.{number_of}
+use Rattle.att_pdu.specs.Uuid.{uuid_number}
 use Rattle.att_pdu.specs.declared.grammar.PduFault.TheVariants.{Ignored, Invalid, Unsupported}
 use Rattle.att_pdu.specs.declared.request.ExecuteFlags.TheVariants as flags
 use Rattle.att_policy.specs.Policy.{first_broken_of}
@@ -22,7 +22,7 @@ use Rattle.att_attributes.specs.Attributes.{attributes_in, guard_at}
 use Rattle.att_attributes.specs.Group.{is_service_type}
 use Rattle.att_attributes.specs.OfType.{handles_of_type}
 use Rattle.att_attributes.specs.declared.attr.Attr.{Attr}
-use Rattle.att_reads.specs.Access.{refusal_of, value_for}
+use Rattle.att_reads.specs.Access.{read_refusal, value_for}
 use Rattle.att_reads.specs.Answer.{information_of, is_match, information_answer, found_answer, values_answer, value_answer, part_answer, multiple_answer, groups_answer}
 use Rattle.att_reads.specs.List.{candidate_of}
 use Rattle.att_reads.specs.Listing.{Candidate, first_refusal}
@@ -30,10 +30,10 @@ use Rattle.att_reads.specs.Refusals.{range_refusal, group_type_refusal, not_foun
 use Rattle.att_reads.specs.declared.list.Listing.TheVariants.{Values, Groups}
 use Rattle.att_table.specs.Table.{Contents}
 use Rattle.att_writes.specs.Applied.{Stored, applied_to, stored_in, stored_after}
-use Rattle.att_writes.specs.Entry.{Entry, whole}
-use Rattle.att_writes.specs.Queue.{touched_by, has_room, prepare_fault, queue_after, unless_broken as unless_forbidden}
+use Rattle.att_writes.specs.Entry.{Entry, whole_value}
+use Rattle.att_writes.specs.Queue.{touched_by, has_queue_room, prepare_fault, queue_after, broken_or_full}
 use Rattle.gatt_conn.specs.Answer.{entry_at, prepare_response, written_response}
-use Rattle.gatt_conn.specs.Connection.{Connection}
+use Rattle.gatt_conn.specs.Connection.{Bearer}
 use Rattle.gatt_laws.specs.laws.View.{are_none}
 use Rattle.octets.specs.Number.{Octets}
 use Rattle.gatt_promise.specs.FirstCase.{first_there, case_if, broken_at, bad_entries, error_in, RefusesByTheFirstCase, RefusedChangesNothing, IgnoredChangesNothing}
@@ -101,7 +101,7 @@ value-refused : (table : Contents) (row : Row) (standing : Standing) (mtu : ℕ)
     ≡ option_map (error READ_REQUEST) (option_or (option_or (broken_at Read table.attributes standing handle) None) None)
 unfolding value_answer
 value-refused table row standing mtu handle =
-    behind READ_REQUEST (refusal_of table.attributes standing handle ∷ []) _ refl
+    behind READ_REQUEST (read_refusal table.attributes standing handle ∷ []) _ refl
     ∙ ap (option_map (error READ_REQUEST))
     (ap (λ (refusal : Option Refusal). option_or refusal None) (same-refusal table.attributes standing handle)
     ∙ sym (or-none (option_or (broken_at Read table.attributes standing handle) None)))
@@ -113,7 +113,7 @@ part-refused : (table : Contents) (row : Row) (standing : Standing) (mtu : ℕ) 
 unfolding part_answer
 part-refused table row standing mtu handle offset =
     let last : Option Refusal = option_or (offset_refusal handle offset (value_for table row handle)) None in
-    behind READ_BLOB_REQUEST (refusal_of table.attributes standing handle ∷ offset_refusal handle offset (value_for table row handle) ∷ []) _ refl
+    behind READ_BLOB_REQUEST (read_refusal table.attributes standing handle ∷ offset_refusal handle offset (value_for table row handle) ∷ []) _ refl
     ∙ ap (option_map (error READ_BLOB_REQUEST))
     (ap (λ (refusal : Option Refusal). option_or refusal last) (same-refusal table.attributes standing handle)
     ∙ sym (or-of-or (broken_at Read table.attributes standing handle) last))
@@ -123,7 +123,7 @@ multiple-refused : (table : Contents) (row : Row) (standing : Standing) (mtu : �
     ≡ option_map (error READ_MULTIPLE_REQUEST) (option_or (first_there (map (broken_at Read table.attributes standing) handles)) None)
 unfolding multiple_answer
 multiple-refused table row standing mtu handles =
-    behind READ_MULTIPLE_REQUEST (map (refusal_of table.attributes standing) handles) _ refl
+    behind READ_MULTIPLE_REQUEST (map (read_refusal table.attributes standing) handles) _ refl
     ∙ ap (option_map (error READ_MULTIPLE_REQUEST))
     (all-refusals table.attributes standing handles ∙ sym (or-none (first_there (map (broken_at Read table.attributes standing) handles))))
 
@@ -135,13 +135,13 @@ write-refused table row standing entries request granted none =
     writing-case Write table row standing entries request granted none
     ∙ ap (option_map (error request)) (sym (or-none (first_there (bad_entries Write table.attributes standing (stored_in table row) entries))))
 
-prepare-refused : (attributes : List Attr) (conn : Connection) (entry : Entry)
+prepare-refused : (attributes : List Attr) (conn : Bearer) (entry : Entry)
     → error_in (Some (prepare_response entry (prepare_fault attributes conn.standing conn.queue entry)))
     ≡ option_map (error PREPARE_WRITE_REQUEST)
     (option_or (option_or (broken_at Write attributes conn.standing entry.handle)
-    (option_or (case_if (not (has_room conn.queue entry.part)) entry.handle PREPARE_QUEUE_FULL) None)) None)
+    (option_or (case_if (not (has_queue_room conn.queue entry.part)) entry.handle PREPARE_QUEUE_FULL) None)) None)
 prepare-refused attributes conn entry =
-    prepared-case entry (first_broken_of Write (guard_at attributes entry.handle) conn.standing) (has_room conn.queue entry.part)
+    prepared-case entry (first_broken_of Write (guard_at attributes entry.handle) conn.standing) (has_queue_room conn.queue entry.part)
     ∙ ap (option_map (error PREPARE_WRITE_REQUEST)) (sym (or-none _))
 
 pub refuses_by_the_first_case : RefusesByTheFirstCase
@@ -150,14 +150,14 @@ refuses_by_the_first_case table row conn (Ok (ExchangeMtuRequest client_rx_mtu))
 refuses_by_the_first_case table row conn (Ok (FindInformationRequest first last)) = information-refused table conn.mtu first last
 refuses_by_the_first_case table row conn (Ok (FindByTypeValueRequest first last kind value)) =
     found-refused table row conn.standing conn.mtu first last (of_16_bits kind) value
-refuses_by_the_first_case table row conn (Ok (ReadByTypeRequest first last kind)) = values-refused table row conn.standing conn.mtu first last (number_of kind)
+refuses_by_the_first_case table row conn (Ok (ReadByTypeRequest first last kind)) = values-refused table row conn.standing conn.mtu first last (uuid_number kind)
 refuses_by_the_first_case table row conn (Ok (ReadRequest handle)) = value-refused table row conn.standing conn.mtu handle
 refuses_by_the_first_case table row conn (Ok (ReadBlobRequest handle offset)) = part-refused table row conn.standing conn.mtu handle offset
 refuses_by_the_first_case table row conn (Ok (ReadMultipleRequest handles)) = multiple-refused table row conn.standing conn.mtu handles
-refuses_by_the_first_case table row conn (Ok (ReadByGroupTypeRequest first last kind)) = groups-refused table row conn.standing conn.mtu first last (number_of kind)
+refuses_by_the_first_case table row conn (Ok (ReadByGroupTypeRequest first last kind)) = groups-refused table row conn.standing conn.mtu first last (uuid_number kind)
 refuses_by_the_first_case table row conn (Ok (WriteRequest handle value)) =
-    write-refused table row conn.standing (whole handle value ∷ []) WRITE_REQUEST WriteResponse refl
-refuses_by_the_first_case table row conn (Ok (PrepareWriteRequest handle offset part)) = prepare-refused table.attributes conn (entry_at handle offset part)
+    write-refused table row conn.standing (whole_value handle value ∷ []) WRITE_REQUEST WriteResponse refl
+refuses_by_the_first_case table row conn (Ok (PrepareWriteRequest handle offset connection)) = prepare-refused table.attributes conn (entry_at handle offset connection)
 refuses_by_the_first_case table row conn (Ok (ExecuteWriteRequest flags.Cancel)) = refl
 refuses_by_the_first_case table row conn (Ok (ExecuteWriteRequest flags.Write)) =
     write-refused table row conn.standing conn.queue EXECUTE_WRITE_REQUEST ExecuteWriteResponse refl
@@ -193,10 +193,10 @@ written-nothing access table row standing entries refusal is =
     stays-where (stored_in table row) (applied_to access table row standing entries) refusal
     (entries-case access table.attributes standing (stored_in table row) entries ∙ sym (or-none _) ∙ is)
 
-prepared-nothing : (conn : Connection) (entry : Entry) (refusal : Refusal) (broken : Option (Rule × Code)) (fits : Bool)
+prepared-nothing : (conn : Bearer) (entry : Entry) (refusal : Refusal) (broken : Option (Rule × Code)) (fits : Bool)
     → option_or (option_or (option_map {U = Refusal} (λ (of : Rule × Code). record { handle = entry.handle; code = of.1 }) broken)
     (option_or (case_if (not fits) entry.handle PREPARE_QUEUE_FULL) None)) None ≡ Some refusal
-    → record conn { queue = queue_after conn.queue entry (unless_forbidden broken fits) } ≡ conn
+    → record conn { queue = queue_after conn.queue entry (broken_or_full broken fits) } ≡ conn
 prepared-nothing conn entry refusal (Some broken) fits is = refl
 prepared-nothing conn entry refusal None true is = cc is
 prepared-nothing conn entry refusal None false is = refl
@@ -212,17 +212,17 @@ refused_changes_nothing table row conn (Ok (ReadMultipleRequest handles)) refusa
 refused_changes_nothing table row conn (Ok (ReadByGroupTypeRequest first last kind)) refusal is = record { stored = refl; written = refl; kept = refl }
 refused_changes_nothing table row conn (Ok (WriteRequest handle value)) refusal is =
     record {
-      stored = written-nothing Write table row conn.standing (whole handle value ∷ []) refusal is;
-      written = heard-of-nothing Write table row conn.standing (whole handle value ∷ []) refusal is;
+      stored = written-nothing Write table row conn.standing (whole_value handle value ∷ []) refusal is;
+      written = heard-of-nothing Write table row conn.standing (whole_value handle value ∷ []) refusal is;
       kept = refl;
     }
-refused_changes_nothing table row conn (Ok (PrepareWriteRequest handle offset part)) refusal is =
-    let entry : Entry = entry_at handle offset part in
+refused_changes_nothing table row conn (Ok (PrepareWriteRequest handle offset connection)) refusal is =
+    let entry : Entry = entry_at handle offset connection in
     record {
       stored = refl;
       written = refl;
       kept =
-          prepared-nothing conn entry refusal (first_broken_of Write (guard_at table.attributes handle) conn.standing) (has_room conn.queue part) is;
+          prepared-nothing conn entry refusal (first_broken_of Write (guard_at table.attributes handle) conn.standing) (has_queue_room conn.queue connection) is;
     }
 refused_changes_nothing table row conn (Ok (ExecuteWriteRequest flags.Cancel)) refusal is = cc is
 refused_changes_nothing table row conn (Ok (ExecuteWriteRequest flags.Write)) refusal is =
@@ -234,8 +234,8 @@ refused_changes_nothing table row conn (Ok (ExecuteWriteRequest flags.Write)) re
 refused_changes_nothing table row conn (Ok ConfirmationPdu) refusal is = cc is
 refused_changes_nothing table row conn (Ok (WriteCommandPdu handle value)) refusal is =
     record {
-      stored = written-nothing Command table row conn.standing (whole handle value ∷ []) refusal is;
-      written = heard-of-nothing Command table row conn.standing (whole handle value ∷ []) refusal is;
+      stored = written-nothing Command table row conn.standing (whole_value handle value ∷ []) refusal is;
+      written = heard-of-nothing Command table row conn.standing (whole_value handle value ∷ []) refusal is;
       kept = refl;
     }
 refused_changes_nothing table row conn (Err fault) refusal is = record { stored = refl; written = refl; kept = refl }

@@ -14,16 +14,16 @@ use Rattle.att_policy.specs.declared.policy.Rule.{Rule}
 use Rattle.att_policy.specs.declared.standing.Standing.{Standing}
 use Rattle.att_attributes.specs.Attributes.{guard_at, is_configuration_at, configuration_bits_at}
 use Rattle.att_attributes.specs.declared.attr.Attr.{Attr}
-use Rattle.att_reads.specs.Access.{refusal_of}
+use Rattle.att_reads.specs.Access.{read_refusal}
 use Rattle.att_reads.specs.List.{candidate_of}
 use Rattle.att_reads.specs.Listing.{first_refusal}
 use Rattle.att_reads.specs.Refusals.{unless_refused, not_found}
 use Rattle.att_reads.specs.declared.list.Listing.{Listing}
 use Rattle.att_table.specs.Table.{Contents, value_at}
-use Rattle.att_writes.specs.Applied.{Stored, after_entry, after_entries, applied_to, stored_in, unless_refused as unless_entry}
+use Rattle.att_writes.specs.Applied.{Stored, after_entry, after_entries, applied_to, stored_in, unless_entry_refused}
 use Rattle.att_writes.specs.Entry.{Entry}
-use Rattle.att_writes.specs.Fault.{configuration_fault, fault_of, form_fault, has_bits_within, room_of, unless_broken, value_fault}
-use Rattle.att_writes.specs.Queue.{unless_broken as unless_forbidden}
+use Rattle.att_writes.specs.Fault.{configuration_fault, entry_fault, form_fault, has_bits_within, room_for, unless_broken, value_fault}
+use Rattle.att_writes.specs.Queue.{broken_or_full}
 use Rattle.gatt_conn.specs.Answer.{prepare_response, written_response}
 use Rattle.gatt_laws.specs.laws.View.{are_none}
 use Rattle.gatt_promise.specs.FirstCase.{first_there, case_if, broken_at, bad_entry, bad_entries, error_in}
@@ -54,7 +54,7 @@ same-broken : (handle : Handle) (broken : Option (Rule × Code))
 same-broken handle None = refl
 same-broken handle (Some broken) = refl
 
-pub same-refusal : (attributes : List Attr) (standing : Standing) (handle : Handle) → refusal_of attributes standing handle ≡ broken_at Read attributes standing handle
+pub same-refusal : (attributes : List Attr) (standing : Standing) (handle : Handle) → read_refusal attributes standing handle ≡ broken_at Read attributes standing handle
 same-refusal attributes standing handle = same-broken handle (first_broken_of Read (guard_at attributes handle) standing)
 
 pub same-group : (first : Handle) (service : Bool)
@@ -78,7 +78,7 @@ first-of-list listing table row standing mtu (handle ∷ handles) =
     same-refusal table.attributes standing handle ∙ sym (or-none (broken_at Read table.attributes standing handle))
 
 pub all-refusals : (attributes : List Attr) (standing : Standing) (handles : List Handle)
-    → first_there (map (refusal_of attributes standing) handles) ≡ first_there (map (broken_at Read attributes standing) handles)
+    → first_there (map (read_refusal attributes standing) handles) ≡ first_there (map (broken_at Read attributes standing) handles)
 all-refusals attributes standing [] = refl
 all-refusals attributes standing (handle ∷ handles) =
     λ i. option_or (same-refusal attributes standing handle i) (all-refusals attributes standing handles i)
@@ -113,7 +113,7 @@ value-case handle false false = refl
 form-case : (attributes : List Attr) (size : ℕ) (entry : Entry) (configuration : Bool)
     → option_or (case_if (if configuration then not (entry.offset == 0) else nat_lt size entry.offset) entry.handle INVALID_OFFSET)
     (option_or (case_if (if configuration then not (length entry.part == 2)
-    else nat_lt (room_of attributes entry.handle size) (entry.offset + length entry.part)) entry.handle INVALID_ATTRIBUTE_VALUE_LENGTH)
+    else nat_lt (room_for attributes entry.handle size) (entry.offset + length entry.part)) entry.handle INVALID_ATTRIBUTE_VALUE_LENGTH)
     (option_or (case_if (configuration && not (has_bits_within (configuration_bits_at attributes entry.handle) entry.part)) entry.handle OUT_OF_RANGE) None))
     ≡ named entry.handle (if configuration then configuration_fault attributes entry else value_fault attributes size entry)
 form-case attributes size entry true =
@@ -121,7 +121,7 @@ form-case attributes size entry true =
     let bad : Bool = not (length entry.part == 2) in
     configuration-case entry.handle (not (entry.offset == 0)) bad fits
 form-case attributes size entry false =
-    value-case entry.handle (nat_lt size entry.offset) (nat_lt (room_of attributes entry.handle size) (entry.offset + length entry.part))
+    value-case entry.handle (nat_lt size entry.offset) (nat_lt (room_for attributes entry.handle size) (entry.offset + length entry.part))
 
 -- the policy goes before it
 policy-case : (handle : Handle) (broken : Option (Rule × Code)) (form : Option Code) (cases : Option Refusal) → cases ≡ named handle form
@@ -132,7 +132,7 @@ policy-case handle (Some broken) form cases is = refl
 
 entry-case : (access : Access) (attributes : List Attr) (standing : Standing) (stored : Stored) (entry : Entry)
     → bad_entry access attributes standing stored.values entry
-    ≡ named entry.handle (fault_of access attributes standing (length (value_at stored.values entry.handle)) entry)
+    ≡ named entry.handle (entry_fault access attributes standing (length (value_at stored.values entry.handle)) entry)
 entry-case access attributes standing stored entry =
     let size : ℕ = length (value_at stored.values entry.handle) in
     policy-case entry.handle (first_broken_of access (guard_at attributes entry.handle) standing) (form_fault attributes size entry) _
@@ -144,7 +144,7 @@ refusal-in (Ok stored) = None
 refusal-in (Err refusal) = Some refusal
 
 next-case : (entry : Entry) (fault : Option Code) (rest : Result Stored Refusal) (cases : Option Refusal) → refusal-in rest ≡ cases
-    → refusal-in (unless_entry entry fault rest) ≡ option_or (named entry.handle fault) cases
+    → refusal-in (unless_entry_refused entry fault rest) ≡ option_or (named entry.handle fault) cases
 unfolding named refusal-in
 next-case entry None rest cases is = is
 next-case entry (Some code) rest cases is = refl
@@ -154,7 +154,7 @@ pub entries-case : (access : Access) (attributes : List Attr) (standing : Standi
 unfolding after_entries refusal-in
 entries-case access attributes standing stored [] = refl
 entries-case access attributes standing stored (entry ∷ entries) =
-    next-case entry (fault_of access attributes standing (length (value_at stored.values entry.handle)) entry) _ _
+    next-case entry (entry_fault access attributes standing (length (value_at stored.values entry.handle)) entry) _ _
     (entries-case access attributes standing (after_entry attributes stored entry) entries)
     ∙ ap (λ (case : Option Refusal). option_or case (first_there (bad_entries access attributes standing (after_entry attributes stored entry) entries)))
     (sym (entry-case access attributes standing stored entry))
@@ -175,7 +175,7 @@ writing-case access table row standing entries request granted none =
 
 -- what is prepared
 pub prepared-case : (entry : Entry) (broken : Option (Rule × Code)) (fits : Bool)
-    → error_in (Some (prepare_response entry (unless_forbidden broken fits)))
+    → error_in (Some (prepare_response entry (broken_or_full broken fits)))
     ≡ option_map (error PREPARE_WRITE_REQUEST)
     (option_or (option_map {U = Refusal} (λ (of : Rule × Code). record { handle = entry.handle; code = of.1 }) broken)
     (option_or (case_if (not fits) entry.handle PREPARE_QUEUE_FULL) None))

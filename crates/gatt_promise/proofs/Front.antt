@@ -6,18 +6,18 @@ use Rattle.gatt_laws.proofs.Given.{is_given_the_front}
 use Rattle.gatt_laws.proofs.Placed.{is_always_placed}
 use Rattle.gatt_laws.proofs.Runs.{is_where_events_lead}
 use Rattle.gatt_laws.proofs.Settled.{is_always_settled}
-use Rattle.gatt_laws.specs.laws.Given.{packets_given_by_now, packets_at, packets_in}
+use Rattle.gatt_laws.specs.laws.Given.{packets_given_by_now, packets_at, packets_given_in_order}
 use Rattle.gatt_laws.specs.laws.Placed.{IsPlaced}
 use Rattle.gatt_laws.specs.laws.Runs.{after_events, events_in, events_of}
 use Rattle.gatt_laws.specs.laws.Settled.{has_slot, IsSettled}
 use Rattle.gatt_laws.specs.machine.Controller.{command_of_init, count_before}
 use Rattle.gatt_laws.specs.machine.Event.{Ordinal, Event}
-use Rattle.gatt_laws.specs.machine.Input.{Item, Course, after_item, after_items, at_start}
+use Rattle.gatt_laws.specs.machine.Input.{Item, Run, after_item, after_items, run_at_start}
 use Rattle.gatt_laws.specs.machine.ItemEvents.{event_at}
-use Rattle.gatt_laws.specs.machine.Part.{Part, is_there}
-use Rattle.gatt_laws.specs.machine.Room.{size_of}
+use Rattle.gatt_laws.specs.machine.ConnectionState.{ConnectionState, is_there}
+use Rattle.gatt_laws.specs.machine.SharedState.{fragment_size_of}
 use Rattle.gatt_laws.specs.machine.Start.{Start, state_at}
-use Rattle.gatt_laws.specs.machine.State.{State, Change, change_of, parts_finished, step}
+use Rattle.gatt_laws.specs.machine.State.{State, Change, change_of, connections_finished, step}
 use Rattle.le_acl.specs.Fragment.{Fragment}
 use Rattle.le_acl.specs.Outgoing.{acl_octets}
 use Rattle.le_acl.specs.Packets.{Pdu, packets_of}
@@ -27,7 +27,7 @@ use Rattle.gatt_promise.specs.Front.{front_after, front_in, IsAlwaysGivenTheFron
 
 -- Events behind others.
 
-events-append : (old : Course) (items more : List Item) → events_in old (items ++ more) ≡ events_in old items ++ events_in (after_items old items) more
+events-append : (old : Run) (items more : List Item) → events_in old (items ++ more) ≡ events_in old items ++ events_in (after_items old items) more
 events-append old [] more = refl
 events-append old (item ∷ items) more =
     ap (λ (events : List Event). option_to_list (event_at old.intake item) ++ events) (events-append (after_item old item) items more)
@@ -38,12 +38,12 @@ after-append state [] more = refl
 after-append state (event ∷ events) more = after-append (step state event) events more
 
 packets-append : (ordinal : Ordinal) (state : State) (events more : List Event)
-    → packets_in ordinal state (events ++ more) ≡ packets_in ordinal state events ++ packets_in ordinal (after_events state events) more
+    → packets_given_in_order ordinal state (events ++ more) ≡ packets_given_in_order ordinal state events ++ packets_given_in_order ordinal (after_events state events) more
 packets-append ordinal state [] more = refl
 packets-append ordinal state (event ∷ events) more =
     ap (λ (packets : List Octets). packets_at ordinal state event ++ packets) (packets-append ordinal (step state event) events more)
-    ∙ sym (append_assoc (packets_at ordinal state event) (packets_in ordinal (step state event) events)
-    (packets_in ordinal (after_events (step state event) events) more))
+    ∙ sym (append_assoc (packets_at ordinal state event) (packets_given_in_order ordinal (step state event) events)
+    (packets_given_in_order ordinal (after_events (step state event) events) more))
 
 front-append : (ordinal : Ordinal) (front : List Octets) (state : State) (events more : List Event)
     → front_in ordinal front state (events ++ more) ≡ front_in ordinal (front_in ordinal front state events) (after_events state events) more
@@ -61,41 +61,41 @@ drop-none : {A : Type 0} (n : ℕ) → drop {A = A} n [] ≡ []
 drop-none zero = refl
 drop-none (suc n) = refl
 
-none-given : (state : State) (event : Event) (ordinal : Ordinal) → ((step state event).parts ordinal).pdus ≡ [] → packets_at ordinal state event ≡ []
+none-given : (state : State) (event : Event) (ordinal : Ordinal) → ((step state event).connections ordinal).pdus ≡ [] → packets_at ordinal state event ≡ []
 unfolding step
 none-given state event ordinal none =
     let change : Change = change_of state event in
-    let old : Part = state.parts ordinal in
-    let new : Part = parts_finished change ordinal in
+    let old : ConnectionState = state.connections ordinal in
+    let new : ConnectionState = connections_finished change ordinal in
     let empty : new.pdus ≡ [] =
-    sym (sent_queue new (nat_lt (length (command_of_init change.state.controller) + count_before ordinal (parts_finished change) change.state.slots) change.state.controller.credit))
+    sym (sent_queue new (nat_lt (length (command_of_init change.state.controller) + count_before ordinal (connections_finished change) change.state.slots) change.state.controller.credit))
     ∙ none in
-    ap (λ (pdus : List Pdu). map (acl_octets new.handle) (drop old.given (take new.given (packets_of (size_of change.state.room.told) pdus)))) empty
+    ap (λ (pdus : List Pdu). map (acl_octets new.handle) (drop old.given (take new.given (packets_of (fragment_size_of change.state.shared.buffers) pdus)))) empty
     ∙ ap (λ (fragments : List Fragment). map (acl_octets new.handle) (drop old.given fragments)) (take-none new.given)
     ∙ ap (map (acl_octets new.handle)) (drop-none old.given)
 
-no-slot : (state : State) (ordinal : Ordinal) (has : Bool) → has_slot ordinal state.slots ≡ has → IsPlaced state → is_there (state.parts ordinal).mark ≡ false → has ≡ false
+no-slot : (state : State) (ordinal : Ordinal) (has : Bool) → has_slot ordinal state.slots ≡ has → IsPlaced state → is_there (state.connections ordinal).mark ≡ false → has ≡ false
 no-slot state ordinal true is placed away = absurd (cc (placed.there ordinal is, away))
 no-slot state ordinal false is placed away = refl
 
-no-queue : (state : State) (ordinal : Ordinal) → IsSettled state → IsPlaced state → is_there (state.parts ordinal).mark ≡ false → (state.parts ordinal).pdus ≡ []
+no-queue : (state : State) (ordinal : Ordinal) → IsSettled state → IsPlaced state → is_there (state.connections ordinal).mark ≡ false → (state.connections ordinal).pdus ≡ []
 no-queue state ordinal settled placed away =
-    ap (λ (part : Part). part.pdus)
+    ap (λ (connection : ConnectionState). connection.pdus)
     (settled.gone ordinal (no-slot state ordinal (has_slot ordinal state.slots) refl placed away))
 
 -- An item more.
 
 module _ (start : Start) (ordinal : Ordinal) where
   abbrev IsFront : List Event → Type 0
-  IsFront events = packets_in ordinal (state_at start) events ≡ front_in ordinal [] (state_at start) events
+  IsFront events = packets_given_in_order ordinal (state_at start) events ≡ front_in ordinal [] (state_at start) events
 
   -- what an input leads to
   record IsReached (events : List Event) : Type 0 where
     settled : IsSettled (after_events (state_at start) events)
     placed : IsPlaced (after_events (state_at start) events)
-    given : is_there ((after_events (state_at start) events).parts ordinal).mark ≡ true
-        → packets_in ordinal (state_at start) events
-        ≡ packets_given_by_now (after_events (state_at start) events).room.told ((after_events (state_at start) events).parts ordinal)
+    given : is_there ((after_events (state_at start) events).connections ordinal).mark ≡ true
+        → packets_given_in_order ordinal (state_at start) events
+        ≡ packets_given_by_now (after_events (state_at start) events).shared.buffers ((after_events (state_at start) events).connections ordinal)
 
   reached : (input : List Item) → IsReached (events_of start input)
   reached input =
@@ -103,35 +103,35 @@ module _ (start : Start) (ordinal : Ordinal) where
       record {
         settled = subst IsSettled leads (is_always_settled start input);
         placed = subst IsPlaced leads (is_always_placed start input);
-        given = subst (λ (state : State). is_there (state.parts ordinal).mark ≡ true
-            → packets_in ordinal (state_at start) (events_of start input) ≡ packets_given_by_now state.room.told (state.parts ordinal)) leads
+        given = subst (λ (state : State). is_there (state.connections ordinal).mark ≡ true
+            → packets_given_in_order ordinal (state_at start) (events_of start input) ≡ packets_given_by_now state.shared.buffers (state.connections ordinal)) leads
             (is_given_the_front start ordinal input);
       }
 
   next-if : (events : List Event) (event : Event) (there : Bool) → IsFront events → IsReached (events ++ event ∷ [])
-      → is_there ((step (after_events (state_at start) events) event).parts ordinal).mark ≡ there
-      → packets_in ordinal (state_at start) (events ++ event ∷ [])
-      ≡ (if there then packets_given_by_now (step (after_events (state_at start) events) event).room.told
-      ((step (after_events (state_at start) events) event).parts ordinal)
+      → is_there ((step (after_events (state_at start) events) event).connections ordinal).mark ≡ there
+      → packets_given_in_order ordinal (state_at start) (events ++ event ∷ [])
+      ≡ (if there then packets_given_by_now (step (after_events (state_at start) events) event).shared.buffers
+      ((step (after_events (state_at start) events) event).connections ordinal)
       else front_in ordinal [] (state_at start) events)
   next-if events event true front reaches is =
       let new : after_events (state_at start) (events ++ event ∷ []) ≡ step (after_events (state_at start) events) event =
       after-append (state_at start) events (event ∷ []) in
-      subst (λ (state : State). is_there (state.parts ordinal).mark ≡ true
-      → packets_in ordinal (state_at start) (events ++ event ∷ []) ≡ packets_given_by_now state.room.told (state.parts ordinal)) new reaches.given is
+      subst (λ (state : State). is_there (state.connections ordinal).mark ≡ true
+      → packets_given_in_order ordinal (state_at start) (events ++ event ∷ []) ≡ packets_given_by_now state.shared.buffers (state.connections ordinal)) new reaches.given is
   next-if events event false front reaches is =
       let before : State = after_events (state_at start) events in
       let new : after_events (state_at start) (events ++ event ∷ []) ≡ step before event = after-append (state_at start) events (event ∷ []) in
       let none : packets_at ordinal before event ≡ [] =
       none-given before event ordinal (no-queue (step before event) ordinal (subst IsSettled new reaches.settled) (subst IsPlaced new reaches.placed) is) in
       packets-append ordinal (state_at start) events (event ∷ [])
-      ∙ ap (λ (packets : List Octets). packets_in ordinal (state_at start) events ++ (packets ++ [])) none
-      ∙ append-nil (packets_in ordinal (state_at start) events)
+      ∙ ap (λ (packets : List Octets). packets_given_in_order ordinal (state_at start) events ++ (packets ++ [])) none
+      ∙ append-nil (packets_given_in_order ordinal (state_at start) events)
       ∙ front
 
   next-event : (events : List Event) (event : Event) → IsFront events → IsReached (events ++ event ∷ []) → IsFront (events ++ event ∷ [])
   next-event events event front reaches =
-      next-if events event (is_there ((step (after_events (state_at start) events) event).parts ordinal).mark) front reaches refl
+      next-if events event (is_there ((step (after_events (state_at start) events) event).connections ordinal).mark) front reaches refl
       ∙ sym (front-append ordinal [] (state_at start) events (event ∷ []))
 
   next-events : (events : List Event) (event : Option Event) → IsFront events → IsReached (events ++ option_to_list event) → IsFront (events ++ option_to_list event)
@@ -141,10 +141,10 @@ module _ (start : Start) (ordinal : Ordinal) where
   next-item : (done : List Item) (item : Item) → IsFront (events_of start done) → IsFront (events_of start (done ++ item ∷ []))
   unfolding events_of
   next-item done item front =
-      let event : Option Event = event_at (after_items (at_start start) done).intake item in
+      let event : Option Event = event_at (after_items (run_at_start start) done).intake item in
       let all : events_of start (done ++ item ∷ []) ≡ events_of start done ++ option_to_list event =
-      events-append (at_start start) done (item ∷ [])
-      ∙ ap (λ (events : List Event). events_in (at_start start) done ++ events) (append-nil (option_to_list event)) in
+      events-append (run_at_start start) done (item ∷ [])
+      ∙ ap (λ (events : List Event). events_in (run_at_start start) done ++ events) (append-nil (option_to_list event)) in
       subst IsFront (sym all) (next-events (events_of start done) event front (subst IsReached all (reached (done ++ item ∷ []))))
 
   all-items : (done more : List Item) → IsFront (events_of start done) → IsFront (events_of start (done ++ more))

@@ -10,12 +10,12 @@ use Rattle.att_pdu.specs.Response.{Response}
 use Rattle.att_policy.specs.declared.standing.Standing.{Standing}
 use Rattle.att_attributes.specs.declared.attr.Attr.{Attr}
 use Rattle.gatt_laws.specs.laws.Headline.{Each}
-use Rattle.gatt_laws.specs.machine.Heard.{Heard, heard_raised, hearer_after, heard_in_turn}
+use Rattle.gatt_laws.specs.machine.Heard.{Heard, heard_when_notifying, hearer_after, heard_in_turn}
 use Rattle.gatt_subs.proofs.Heard.{both, releases_only_what_is_heard}
 use Rattle.gatt_subs.specs.Hearing.{may_hear_at, is_indicated, wants_indications}
-use Rattle.gatt_subs.specs.Indications.{Indications, first_of, from_due, hears, is_notified, is_waiting, may_indicate, released_handle, rest_of, unconfirmed_since, with_handle}
+use Rattle.gatt_subs.specs.Indications.{Indications, first_handle, from_due, hears, is_notified, is_waiting, may_indicate, indicated_handle, rest_of, unconfirmed_since, with_handle}
 use Rattle.gatt_subs.specs.declared.pending.Unconfirmed.{Unconfirmed}
-use Rattle.gatt_subs.specs.Told.{Hearer, notification_of, indication_of, pending_after_raise}
+use Rattle.gatt_subs.specs.Told.{Hearer, notification_of, indication_of, pending_after_notify}
 use Rattle.gatt_promise.specs.Gained.{picked}
 
 pub if-some : {A : Type 0} (P Q : A → Type 0) (found : Option A) → ((one : A) → P one → Q one) → IfSome found P → IfSome found Q
@@ -32,20 +32,20 @@ either false other waits is = is
 
 -- one that is indicated is one that waits
 indicated-next : (is_due : Handle → Bool) (next : Handle) (rest : List Handle) (due : Bool)
-    → IfSome (first_of (from_due is_due rest)) (λ handle. is_waiting rest handle ≡ true)
-    → IfSome (first_of (if due then next ∷ rest else from_due is_due rest)) (λ handle. is_waiting (next ∷ rest) handle ≡ true)
+    → IfSome (first_handle (from_due is_due rest)) (λ handle. is_waiting rest handle ≡ true)
+    → IfSome (first_handle (if due then next ∷ rest else from_due is_due rest)) (λ handle. is_waiting (next ∷ rest) handle ≡ true)
 indicated-next is_due next rest true later = ap (λ (same : Bool). same || is_waiting rest next) (eq-eqb next next refl)
 indicated-next is_due next rest false later =
-    if-some (λ handle. is_waiting rest handle ≡ true) (λ handle. is_waiting (next ∷ rest) handle ≡ true) (first_of (from_due is_due rest))
+    if-some (λ handle. is_waiting rest handle ≡ true) (λ handle. is_waiting (next ∷ rest) handle ≡ true) (first_handle (from_due is_due rest))
     (λ handle waits. ap (λ (others : Bool). (next == handle) || others) waits ∙ or-true (next == handle)) later
 
 indicated-waits : (is_due : Handle → Bool) (waiting : List Handle)
-    → IfSome (first_of (from_due is_due waiting)) (λ handle. is_waiting waiting handle ≡ true)
+    → IfSome (first_handle (from_due is_due waiting)) (λ handle. is_waiting waiting handle ≡ true)
 indicated-waits is_due [] = tt
 indicated-waits is_due (next ∷ rest) = indicated-next is_due next rest (is_due next) (indicated-waits is_due rest)
 
 released-waits : (attributes : List Attr) (hearer : Hearer) (may : Bool)
-    → IfSome (if may then first_of (from_due (is_indicated attributes hearer.row hearer.standing) hearer.pending.waiting) else None)
+    → IfSome (if may then first_handle (from_due (is_indicated attributes hearer.row hearer.standing) hearer.pending.waiting) else None)
     (λ handle. is_waiting hearer.pending.waiting handle ≡ true)
 released-waits attributes hearer true = indicated-waits (is_indicated attributes hearer.row hearer.standing) hearer.pending.waiting
 released-waits attributes hearer false = tt
@@ -66,66 +66,66 @@ pub record Hears (attributes : List Attr) (values : Values) (hearer : Hearer) (r
   pub single : IfSome indicated (λ handle. hearer.pending.unconfirmed ≡ None)
 
 released-may : (attributes : List Attr) (hearer : Hearer) (found : Option Handle)
-    → released_handle hearer.pending attributes hearer.row hearer.standing hearer.backlog ≡ found
+    → indicated_handle hearer.pending attributes hearer.row hearer.standing hearer.backlog ≡ found
     → Each (MayHear attributes hearer.row hearer.standing) (option_to_list found)
 released-may attributes hearer None is = tt
 released-may attributes hearer (Some handle) is =
     ((releases_only_what_is_heard hearer.pending attributes hearer.row hearer.standing hearer.backlog handle is).may, tt)
 
 released-asked : (attributes : List Attr) (hearer : Hearer) (found : Option Handle)
-    → released_handle hearer.pending attributes hearer.row hearer.standing hearer.backlog ≡ found
+    → indicated_handle hearer.pending attributes hearer.row hearer.standing hearer.backlog ≡ found
     → Each (λ handle. wants_indications hearer.row handle ≡ true) (option_to_list found)
 released-asked attributes hearer None is = tt
 released-asked attributes hearer (Some handle) is =
     ((releases_only_what_is_heard hearer.pending attributes hearer.row hearer.standing hearer.backlog handle is).wanted, tt)
 
 -- only where none is unconfirmed, and nobody is late
-none-unconfirmed : (unconfirmed : Option Unconfirmed) (in_time room : Bool) → (not (is_some unconfirmed) && in_time && room) ≡ true → unconfirmed ≡ None
-none-unconfirmed None in_time room is = refl
-none-unconfirmed (Some one) in_time room is = cc is
+none-unconfirmed : (unconfirmed : Option Unconfirmed) (in_time shared : Bool) → (not (is_some unconfirmed) && in_time && shared) ≡ true → unconfirmed ≡ None
+none-unconfirmed None in_time shared is = refl
+none-unconfirmed (Some one) in_time shared is = cc is
 
 any-handle : (found : Option Handle) (P : Type 0) → P → IfSome found (λ handle. P)
 any-handle None P is = tt
 any-handle (Some handle) P is = is
 
 released-single : (attributes : List Attr) (hearer : Hearer) (may : Bool) → may_indicate hearer.pending hearer.backlog ≡ may
-    → IfSome (if may then first_of (from_due (is_indicated attributes hearer.row hearer.standing) hearer.pending.waiting) else None)
+    → IfSome (if may then first_handle (from_due (is_indicated attributes hearer.row hearer.standing) hearer.pending.waiting) else None)
     (λ handle. hearer.pending.unconfirmed ≡ None)
 released-single attributes hearer true is =
-    any-handle (first_of (from_due (is_indicated attributes hearer.row hearer.standing) hearer.pending.waiting)) (hearer.pending.unconfirmed ≡ None)
+    any-handle (first_handle (from_due (is_indicated attributes hearer.row hearer.standing) hearer.pending.waiting)) (hearer.pending.unconfirmed ≡ None)
     (none-unconfirmed hearer.pending.unconfirmed (not hearer.pending.timed_out) (nat_lt hearer.backlog 8) is)
 released-single attributes hearer false is = tt
 
-late-silent : (unconfirmed late room : Bool) → late ≡ true → (unconfirmed && not late && room) ≡ false
-late-silent true late room is = rw is refl
-late-silent false late room is = refl
+late-silent : (unconfirmed late shared : Bool) → late ≡ true → (unconfirmed && not late && shared) ≡ false
+late-silent true late shared is = rw is refl
+late-silent false late shared is = refl
 
 released-late : (attributes : List Attr) (values : Values) (hearer : Hearer) (may : Bool) → may_indicate hearer.pending hearer.backlog ≡ may
     → hearer.pending.timed_out ≡ true
     → option_to_list (option_map (λ handle. indication_of values handle hearer.mtu)
-    (if may then first_of (from_due (is_indicated attributes hearer.row hearer.standing) hearer.pending.waiting) else None)) ≡ []
+    (if may then first_handle (from_due (is_indicated attributes hearer.row hearer.standing) hearer.pending.waiting) else None)) ≡ []
 released-late attributes values hearer true is late =
     cc (is, late-silent (not (is_some hearer.pending.unconfirmed)) hearer.pending.timed_out (nat_lt hearer.backlog 8) late)
 released-late attributes values hearer false is late = refl
 
 hears-at-end : (attributes : List Attr) (values : Values) (hearer : Hearer) (live : Bool)
     → Hears attributes values hearer [] (option_to_list (if live then option_map (λ handle. indication_of values handle hearer.mtu)
-    (released_handle hearer.pending attributes hearer.row hearer.standing hearer.backlog) else None))
+    (indicated_handle hearer.pending attributes hearer.row hearer.standing hearer.backlog) else None))
 hears-at-end attributes values hearer true = record {
   picks = [];
-  indicated = released_handle hearer.pending attributes hearer.row hearer.standing hearer.backlog;
+  indicated = indicated_handle hearer.pending attributes hearer.row hearer.standing hearer.backlog;
   is = refl;
   due = released-waits attributes hearer (may_indicate hearer.pending hearer.backlog);
-  may = released-may attributes hearer (released_handle hearer.pending attributes hearer.row hearer.standing hearer.backlog) refl;
+  may = released-may attributes hearer (indicated_handle hearer.pending attributes hearer.row hearer.standing hearer.backlog) refl;
   notified = tt;
-  asked = released-asked attributes hearer (released_handle hearer.pending attributes hearer.row hearer.standing hearer.backlog) refl;
+  asked = released-asked attributes hearer (indicated_handle hearer.pending attributes hearer.row hearer.standing hearer.backlog) refl;
   in_time = released-late attributes values hearer (may_indicate hearer.pending hearer.backlog) refl;
   single = released-single attributes hearer (may_indicate hearer.pending hearer.backlog) refl;
 }
 hears-at-end attributes values hearer false =
     record { picks = []; indicated = None; is = refl; due = tt; may = tt; notified = tt; asked = tt; in_time = λ late. refl; single = tt }
 
--- what waits once a value is raised waited before, or is that value
+-- what waits once a value is notified waited before, or is that value
 raised-waits-if : (waiting : List Handle) (handle other : Handle) (waits : Bool)
     → is_waiting (if waits then waiting else waiting ++ handle ∷ []) other ≡ true → ((handle == other) || is_waiting waiting other) ≡ true
 raised-waits-if waiting handle other true is = ap (λ (waits : Bool). (handle == other) || waits) is ∙ or-true (handle == other)
@@ -146,11 +146,11 @@ raised-waits attributes hearer handle other true false is = ap (λ (waits : Bool
 raised-waits attributes hearer handle other false indicates is = ap (λ (waits : Bool). (handle == other) || waits) is ∙ or-true (handle == other)
 
 due-before : (attributes : List Attr) (hearer : Hearer) (handle : Handle) (handles : List Handle) (other : Handle)
-    → (is_waiting handles other || is_waiting (pending_after_raise attributes hearer handle).waiting other) ≡ true
+    → (is_waiting handles other || is_waiting (pending_after_notify attributes hearer handle).waiting other) ≡ true
     → (is_waiting (handle ∷ handles) other || is_waiting hearer.pending.waiting other) ≡ true
 due-before attributes hearer handle handles other is =
     joined (handle == other) (is_waiting handles other) (is_waiting hearer.pending.waiting other)
-    (is_waiting (pending_after_raise attributes hearer handle).waiting other)
+    (is_waiting (pending_after_notify attributes hearer handle).waiting other)
     (raised-waits attributes hearer handle other hearer.live
     (hears hearer.pending attributes hearer.row hearer.standing handle && wants_indications hearer.row handle)) is
   where
@@ -160,10 +160,10 @@ due-before attributes hearer handle handles other is =
     joined false false before true waits is = waits refl
     joined false false before false waits is = cc is
 
--- a value that is raised leaves what is unconfirmed, and whether one is late
+-- a value that is notified leaves what is unconfirmed, and whether one is late
 raised-keeps : {A : Type 0} (fact : Indications → A) (attributes : List Attr) (hearer : Hearer) (handle : Handle)
     → ((pending : Indications) (waiting : List Handle) → fact (record pending { waiting = waiting }) ≡ fact pending)
-    → fact (pending_after_raise attributes hearer handle) ≡ fact hearer.pending
+    → fact (pending_after_notify attributes hearer handle) ≡ fact hearer.pending
 raised-keeps fact attributes hearer handle keeps =
     elim hearer.live as (λ (live : Bool).
     fact (if live then (if hears hearer.pending attributes hearer.row hearer.standing handle && wants_indications hearer.row handle
@@ -203,7 +203,7 @@ is-due attributes hearer handle is =
 
 hears-next : (attributes : List Attr) (values : Values) (hearer : Hearer) (handle : Handle) (handles : List Handle) (later : List Response) (tells : Bool)
     → (hearer.live && is_notified hearer.pending attributes hearer.row hearer.standing handle hearer.backlog) ≡ tells
-    → Hears attributes values (hearer_after hearer (heard_raised attributes values hearer handle)) handles later
+    → Hears attributes values (hearer_after hearer (heard_when_notifying attributes values hearer handle)) handles later
     → Hears attributes values hearer (handle ∷ handles) (option_to_list (if tells then Some (notification_of values handle hearer.mtu) else None) ++ later)
 hears-next attributes values hearer handle handles later true is rest =
     let due = is-due attributes hearer handle is in
@@ -238,7 +238,7 @@ pub hears-in-turn : (attributes : List Attr) (values : Values) (hearer : Hearer)
     → Hears attributes values hearer handles (heard_in_turn attributes values hearer now handles).responses
 hears-in-turn attributes values hearer now [] = hears-at-end attributes values hearer hearer.live
 hears-in-turn attributes values hearer now (handle ∷ handles) =
-    let first : Heard = heard_raised attributes values hearer handle in
+    let first : Heard = heard_when_notifying attributes values hearer handle in
     hears-next attributes values hearer handle handles (heard_in_turn attributes values (hearer_after hearer first) now handles).responses
     (hearer.live && is_notified hearer.pending attributes hearer.row hearer.standing handle hearer.backlog) refl
     (hears-in-turn attributes values (hearer_after hearer first) now handles)
@@ -261,7 +261,7 @@ pub record Leaves (hearer : Hearer) (raised : List Handle) (pending : Indication
 
 leaves-at-end : (attributes : List Attr) (hearer : Hearer) (now : ℕ) (live may : Bool)
     → Leaves hearer [] (if live then (if may then (let due = from_due (is_indicated attributes hearer.row hearer.standing) hearer.pending.waiting in
-    record hearer.pending { waiting = rest_of due; unconfirmed = option_map (unconfirmed_since now) (first_of due) }) else hearer.pending) else hearer.pending)
+    record hearer.pending { waiting = rest_of due; unconfirmed = option_map (unconfirmed_since now) (first_handle due) }) else hearer.pending) else hearer.pending)
 leaves-at-end attributes hearer now true true = record {
   waits = λ handle. rest-waits (is_indicated attributes hearer.row hearer.standing) handle hearer.pending.waiting;
   late = refl;
@@ -273,7 +273,7 @@ pub leaves-in-turn : (attributes : List Attr) (values : Values) (hearer : Hearer
     → Leaves hearer handles (heard_in_turn attributes values hearer now handles).pending
 leaves-in-turn attributes values hearer now [] = leaves-at-end attributes hearer now hearer.live (may_indicate hearer.pending hearer.backlog)
 leaves-in-turn attributes values hearer now (handle ∷ handles) =
-    let rest = leaves-in-turn attributes values (hearer_after hearer (heard_raised attributes values hearer handle)) now handles in
+    let rest = leaves-in-turn attributes values (hearer_after hearer (heard_when_notifying attributes values hearer handle)) now handles in
     record {
       waits = λ other is. due-before attributes hearer handle handles other (rest.waits other is);
       late = rest.late ∙ raised-keeps (λ (pending : Indications). pending.timed_out) attributes hearer handle (λ pending waiting. refl);

@@ -1,10 +1,10 @@
 -- The promise is kept.
 use Rattle.gatt_conn.proofs.Dues.{answered_where_due}
-use Rattle.gatt_laws.proofs.Courses.{continues, has_gone_by_events, keeps_what_is_gone}
+use Rattle.gatt_laws.proofs.Inputs.{continues, has_gone_by_events, keeps_what_is_gone}
 use Rattle.gatt_laws.proofs.Given.{brings_what_it_gives, is_given_the_front}
 use Rattle.gatt_laws.proofs.Headline.{refusals_change_nothing, sends_what_may_be_read, writes_what_may_be_written}
 use Rattle.gatt_laws.proofs.MayBeHeard.{tells_what_may_be_heard}
-use Rattle.gatt_laws.proofs.NextParts.{gives_nothing_to_the_absent}
+use Rattle.gatt_laws.proofs.NextConnections.{gives_nothing_to_the_absent}
 use Rattle.gatt_laws.proofs.NothingCrosses.{crosses_nowhere, leaves_connections_the_same, nothing_crosses}
 use Rattle.gatt_laws.proofs.OwnQueues.{leaves_others_prepared}
 use Rattle.gatt_laws.proofs.OwnWrites.{executes_its_own}
@@ -18,7 +18,7 @@ use Rattle.gatt_laws.proofs.ValuesOfTheTable.{always_has_a_table}
 use Rattle.gatt_laws.proofs.Queued.{always_has_bounded_queues}
 use Rattle.gatt_laws.proofs.Refusals.{refuses_by_the_first_broken_rule, refuses_the_first_entry, refuses_the_first_handle, refuses_the_first_listed}
 use Rattle.gatt_laws.proofs.Runs.{is_where_events_lead}
-use Rattle.gatt_laws.proofs.SameCourse.{same_view_same_packets}
+use Rattle.gatt_laws.proofs.SameRun.{same_view_same_packets}
 use Rattle.gatt_laws.proofs.Silence.{gives_all_that_it_may, only_serves_the_live, only_the_live_act}
 use Rattle.gatt_laws.proofs.Telling.{tells_the_application}
 use Rattle.gatt_promise.proofs.Alone.{gives_the_same_to_one, keeps_alike_to_one, nothing_crosses_to_one_in_courses}

@@ -7,11 +7,11 @@ use Rattle.att_writes.specs.SameBut.{SameBut}
 use Rattle.gatt_laws.specs.laws.Alike.{MayNotKnow, erased}
 use Rattle.gatt_laws.specs.laws.RowNotices.{is_replacement}
 use Rattle.gatt_laws.specs.laws.Runs.{events_of}
-use Rattle.gatt_laws.specs.laws.Given.{packets_at, packets_in, packets_to}
+use Rattle.gatt_laws.specs.laws.Given.{packets_at, packets_given_in_order, packets_to}
 use Rattle.gatt_laws.specs.laws.TwoWorlds.{finds_no_room}
 use Rattle.gatt_laws.specs.machine.Event.{Ordinal, Event, Of}
 use Rattle.gatt_laws.specs.machine.Input.{Item}
-use Rattle.gatt_laws.specs.machine.Part.{is_live, is_there, row_of, standing_of}
+use Rattle.gatt_laws.specs.machine.ConnectionState.{is_live, is_there, row_in_force, standing_of}
 use Rattle.gatt_laws.specs.machine.Start.{Start, state_at}
 use Rattle.gatt_laws.specs.machine.State.{State, step, with_values}
 use Rattle.le_hci.specs.declared.peer.Peer.{Peer}
@@ -19,13 +19,13 @@ use Rattle.le_hci.specs.declared.peer.Peer.{Peer}
 -- in both states the connection is the same, and so are all that connections share but hidden octets, whatever is configured, and
 -- of all other connections all but what they are sent, are still to be told, and have read; and the peer is owed nothing
 pub record AlikeTo (ordinal : Ordinal) (peer : Peer) (hidden : Handle → Bool) (one other : State) : Type 0 where
-  pub room : with_values one.room other.room.table.values ≡ other.room
-  pub values : SameBut hidden one.room.table.values other.room.table.values
+  pub shared : with_values one.shared other.shared.table.values ≡ other.shared
+  pub values : SameBut hidden one.shared.table.values other.shared.table.values
   pub bonds : one.bonds ≡ other.bonds
   pub owed : one.owed peer ≡ false
   pub owed_too : other.owed peer ≡ false
-  pub own : one.parts ordinal ≡ other.parts ordinal
-  pub others : (at : Ordinal) → erased (one.parts at) ≡ erased (other.parts at)
+  pub own : one.connections ordinal ≡ other.connections ordinal
+  pub others : (at : Ordinal) → erased (one.connections at) ≡ erased (other.connections at)
   pub slots : one.slots ≡ other.slots
   pub next : one.next ≡ other.next
   pub controller : one.controller ≡ other.controller
@@ -33,19 +33,19 @@ pub record AlikeTo (ordinal : Ordinal) (peer : Peer) (hidden : Handle → Bool) 
 -- what is hidden the connection may neither read nor hear of, while it serves
 abbrev pub HidesFromOne : Ordinal → (Handle → Bool) → State → Type 0
 HidesFromOne ordinal hidden state =
-    let part = state.parts ordinal in
-    is_live part.mark ≡ true → (handle : Handle) → hidden handle ≡ true →
-    MayNotKnow state.room.table.attributes (row_of (state.bonds part.peer) part) (standing_of state.room part) handle
+    let connection = state.connections ordinal in
+    is_live connection.mark ≡ true → (handle : Handle) → hidden handle ≡ true →
+    MayNotKnow state.shared.table.attributes (row_in_force (state.bonds connection.peer) connection) (standing_of state.shared connection) handle
 
 -- no other connection is ended for want of room
 abbrev pub SparesOthers : Ordinal → State → Event → Type 0
-SparesOthers ordinal state (Of at own) = (ordinal == at) ≡ false → finds_no_room state.room (state.parts at) own ≡ false
+SparesOthers ordinal state (Of at own) = (ordinal == at) ≡ false → finds_no_room state.shared (state.connections at) own ≡ false
 SparesOthers ordinal state event = Unit
 
 -- what happens in both is the same, and no replacement; and the connection is one of this peer, while it is there
 pub record AgreesFor (ordinal : Ordinal) (peer : Peer) (hidden : Handle → Bool) (one other : State) (event : Event) : Type 0 where
   pub kept : is_replacement event ≡ false
-  pub of : is_there (one.parts ordinal).mark ≡ true → (one.parts ordinal).peer ≡ peer
+  pub of : is_there (one.connections ordinal).mark ≡ true → (one.connections ordinal).peer ≡ peer
   pub hides : HidesFromOne ordinal hidden one
   pub hides_then : HidesFromOne ordinal hidden (step one event)
   pub spares : SparesOthers ordinal one event
@@ -71,11 +71,11 @@ AgreeFor ordinal peer hidden one other (event ∷ events) =
 abbrev pub NothingCrossesToOne : Type 0
 NothingCrossesToOne = (ordinal : Ordinal) (peer : Peer) (hidden : Handle → Bool) (one other : State) (events : List Event) →
     AlikeTo ordinal peer hidden one other → AgreeFor ordinal peer hidden one other events →
-    packets_in ordinal one events ≡ packets_in ordinal other events
+    packets_given_in_order ordinal one events ≡ packets_given_in_order ordinal other events
 
--- and so do courses, from starts that are alike to it, by inputs that mean the same
-abbrev pub NothingCrossesToOneInCourses : Type 0
-NothingCrossesToOneInCourses = (ordinal : Ordinal) (peer : Peer) (hidden : Handle → Bool) (one other : Start) (input another : List Item) →
+-- and so do runs, from starts that are alike to it, by inputs that mean the same
+abbrev pub NothingCrossesToOneInRuns : Type 0
+NothingCrossesToOneInRuns = (ordinal : Ordinal) (peer : Peer) (hidden : Handle → Bool) (one other : Start) (input another : List Item) →
     AlikeTo ordinal peer hidden (state_at one) (state_at other) → events_of one input ≡ events_of other another →
     AgreeFor ordinal peer hidden (state_at one) (state_at other) (events_of one input) →
     packets_to ordinal one input ≡ packets_to ordinal other another

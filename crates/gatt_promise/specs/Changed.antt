@@ -10,7 +10,7 @@ use Rattle.gatt_conn.specs.Answer.{Writing, writing_asked}
 use Rattle.gatt_laws.specs.laws.Headline.{MayUse}
 use Rattle.gatt_laws.specs.laws.Possible.{Possible}
 use Rattle.gatt_laws.specs.machine.Event.{Ordinal, Own, Event, Connected, Gone, Asks, Of, Update, Replaced}
-use Rattle.gatt_laws.specs.machine.Part.{is_live, key_of, mtu_of, prepared_of, standing_of}
+use Rattle.gatt_laws.specs.machine.ConnectionState.{is_live, key_of, connection_mtu, prepared_of, standing_of}
 use Rattle.gatt_laws.specs.machine.State.{State, step}
 use Rattle.le_hci.specs.declared.peer.Peer.{Peer}
 use Rattle.le_security.specs.Entry.{same_peer}
@@ -18,13 +18,13 @@ use Rattle.octets.specs.Number.{Octets}
 
 -- a connection that serves asks to write the attribute at a handle, and may write it in the way in which it asks to
 pub record MayWriteThere (state : State) (ordinal : Ordinal) (own : Own) (attribute : Handle) : Type 0 where
-  pub serves : is_live (state.parts ordinal).mark ≡ true
+  pub serves : is_live (state.connections ordinal).mark ≡ true
   pub pdu : Octets
   pub asks : own ≡ Asks pdu
   pub writing : Writing
-  pub asked : writing_asked (prepared_of (state.parts ordinal)) (request_of pdu (mtu_of state.room (state.parts ordinal))) ≡ Some writing
+  pub asked : writing_asked (prepared_of (state.connections ordinal)) (request_of pdu (connection_mtu state.shared (state.connections ordinal))) ≡ Some writing
   pub there : is_touched writing.entries attribute ≡ true
-  pub may : MayUse writing.access state.room.table.attributes (standing_of state.room (state.parts ordinal)) attribute
+  pub may : MayUse writing.access state.shared.table.attributes (standing_of state.shared (state.connections ordinal)) attribute
 
 -- by whom the value of an attribute may be changed
 abbrev pub ChangesAValue : State → Event → Handle → Type 0
@@ -36,22 +36,22 @@ ChangesAValue state event attribute = ⊥
 -- a value that differs after an event that may come
 abbrev pub ChangesValuesByRight : Type 0
 ChangesValuesByRight = (state : State) (event : Event) (attribute : Handle) → 0 < attribute → Possible (λ table. Unit) state event
-    → (value_at (step state event).room.table.values attribute ≡ value_at state.room.table.values attribute → ⊥)
+    → (value_at (step state event).shared.table.values attribute ≡ value_at state.shared.table.values attribute → ⊥)
     → ChangesAValue state event attribute
 
 -- a connection that configures an attribute: without a key in its own row, and with one in that of its peer's bond
 pub record ConfiguresItsOwn (state : State) (ordinal : Ordinal) (own : Own) (attribute : Handle) : Type 0 where
-  pub keyless : is_some (key_of (state.parts ordinal)) ≡ false
+  pub keyless : is_some (key_of (state.connections ordinal)) ≡ false
   pub may : MayWriteThere state ordinal own attribute
 
 pub record ConfiguresItsBond (state : State) (ordinal : Ordinal) (own : Own) (peer : Peer) (attribute : Handle) : Type 0 where
-  pub keyed : is_some (key_of (state.parts ordinal)) ≡ true
-  pub of : same_peer peer (state.parts ordinal).peer ≡ true
+  pub keyed : is_some (key_of (state.connections ordinal)) ≡ true
+  pub of : same_peer peer (state.connections ordinal).peer ≡ true
   pub may : MayWriteThere state ordinal own attribute
 
 -- one that comes begins with nothing configured, and one that goes leaves nothing
 abbrev pub HasNothing : State → Ordinal → Own → Handle → Type 0
-HasNothing state ordinal own attribute = bits_at ((step state (Of ordinal own)).parts ordinal).row attribute ≡ 0
+HasNothing state ordinal own attribute = bits_at ((step state (Of ordinal own)).connections ordinal).row attribute ≡ 0
 
 abbrev pub ConfiguresOwn : State → Ordinal → Own → Handle → Type 0
 ConfiguresOwn state ordinal (Connected handle peer) attribute = HasNothing state ordinal (Connected handle peer) attribute
@@ -65,7 +65,7 @@ ChangesAnOwnRow state event ordinal attribute = ⊥
 
 abbrev pub ChangesOwnRowsByRight : Type 0
 ChangesOwnRowsByRight = (state : State) (event : Event) (ordinal : Ordinal) (attribute : Handle)
-    → (bits_at ((step state event).parts ordinal).row attribute ≡ bits_at (state.parts ordinal).row attribute → ⊥)
+    → (bits_at ((step state event).connections ordinal).row attribute ≡ bits_at (state.connections ordinal).row attribute → ⊥)
     → ChangesAnOwnRow state event ordinal attribute
 
 abbrev pub ChangesABond : State → Event → Peer → Handle → Type 0

@@ -10,7 +10,7 @@ use Rattle.att_numbers.specs.declared.opcode.TheConstants.{EXCHANGE_MTU_REQUEST,
 use Rattle.att_pdu.specs.Grammar.{is_due}
 use Rattle.att_pdu.specs.Request.{ExchangeMtuRequest, FindInformationRequest, FindByTypeValueRequest, ReadByTypeRequest, ReadRequest, ReadBlobRequest, ReadMultipleRequest, ReadByGroupTypeRequest, WriteRequest, PrepareWriteRequest, ExecuteWriteRequest, ConfirmationPdu, WriteCommandPdu}
 use Rattle.att_pdu.specs.Response.{Response, ErrorResponse}
-use Rattle.att_pdu.specs.Uuid.{number_of}
+use Rattle.att_pdu.specs.Uuid.{uuid_number}
 use Rattle.att_pdu.specs.declared.grammar.PduFault.TheVariants.{Ignored, Invalid, Unsupported}
 use Rattle.att_policy.specs.Policy.{first_broken_of}
 use Rattle.att_policy.specs.Refusal.{Refusal}
@@ -27,9 +27,9 @@ use Rattle.att_table.specs.Table.{Contents, value_at}
 use Rattle.att_writes.specs.Applied.{Stored, after_entry, stored_in}
 use Rattle.att_writes.specs.Entry.{Entry}
 use Rattle.att_writes.specs.Fault.{has_bits_within}
-use Rattle.att_writes.specs.Queue.{has_room}
+use Rattle.att_writes.specs.Queue.{has_queue_room}
 use Rattle.gatt_conn.specs.Answer.{Question, Writing, answer_to, writing_asked, stored_by, handles_by, conn_after}
-use Rattle.gatt_conn.specs.Connection.{Connection}
+use Rattle.gatt_conn.specs.Connection.{Bearer}
 use Rattle.gatt_conn.specs.Transcript.{asks_execution}
 use Rattle.gatt_laws.specs.laws.View.{are_none}
 
@@ -66,7 +66,7 @@ bad_range question =
 
 -- only services are read by group
 abbrev pub bad_group : Question → Option Refusal
-bad_group (Ok (ReadByGroupTypeRequest first last type)) = case_if (not (is_service_type (number_of type))) first UNSUPPORTED_GROUP_TYPE
+bad_group (Ok (ReadByGroupTypeRequest first last type)) = case_if (not (is_service_type (uuid_number type))) first UNSUPPORTED_GROUP_TYPE
 bad_group question = None
 
 -- what is found in the range: attributes, those of a type, or those that have a value which the client may read and is equal
@@ -74,8 +74,8 @@ abbrev pub found_in_range : Contents → Row → Standing → Question → List 
 found_in_range table row standing (Ok (FindInformationRequest first last)) = map (λ (attr : Attr). attr.handle) (attributes_in table.attributes first last)
 found_in_range table row standing (Ok (FindByTypeValueRequest first last type value)) =
     filter (is_match table row standing value) (handles_of_type table.attributes (of_16_bits type) first last)
-found_in_range table row standing (Ok (ReadByTypeRequest first last type)) = handles_of_type table.attributes (number_of type) first last
-found_in_range table row standing (Ok (ReadByGroupTypeRequest first last type)) = handles_of_type table.attributes (number_of type) first last
+found_in_range table row standing (Ok (ReadByTypeRequest first last type)) = handles_of_type table.attributes (uuid_number type) first last
+found_in_range table row standing (Ok (ReadByGroupTypeRequest first last type)) = handles_of_type table.attributes (uuid_number type) first last
 found_in_range table row standing question = []
 
 abbrev pub nothing_found : Contents → Row → Standing → Question → Option Refusal
@@ -92,8 +92,8 @@ abbrev pub handles_read : Contents → Question → List Handle
 handles_read table (Ok (ReadRequest handle)) = handle ∷ []
 handles_read table (Ok (ReadBlobRequest handle offset)) = handle ∷ []
 handles_read table (Ok (ReadMultipleRequest handles)) = handles
-handles_read table (Ok (ReadByTypeRequest first last type)) = take 1 (handles_of_type table.attributes (number_of type) first last)
-handles_read table (Ok (ReadByGroupTypeRequest first last type)) = take 1 (handles_of_type table.attributes (number_of type) first last)
+handles_read table (Ok (ReadByTypeRequest first last type)) = take 1 (handles_of_type table.attributes (uuid_number type) first last)
+handles_read table (Ok (ReadByGroupTypeRequest first last type)) = take 1 (handles_of_type table.attributes (uuid_number type) first last)
 handles_read table question = []
 
 abbrev pub unreadable : Contents → Standing → Question → Option Refusal
@@ -105,9 +105,9 @@ bad_offset table row (Ok (ReadBlobRequest handle offset)) = case_if (nat_lt (len
 bad_offset table row question = None
 
 -- a write that is to be prepared: the policy, and then the room
-abbrev pub unprepared : Contents → Connection → Question → Option Refusal
-unprepared table conn (Ok (PrepareWriteRequest handle offset part)) =
-    first_there (broken_at Write table.attributes conn.standing handle ∷ case_if (not (has_room conn.queue part)) handle PREPARE_QUEUE_FULL ∷ [])
+abbrev pub unprepared : Contents → Bearer → Question → Option Refusal
+unprepared table conn (Ok (PrepareWriteRequest handle offset connection)) =
+    first_there (broken_at Write table.attributes conn.standing handle ∷ case_if (not (has_queue_room conn.queue connection)) handle PREPARE_QUEUE_FULL ∷ [])
 unprepared table conn question = None
 
 -- a write against the values that stand: from behind the end, past the largest length, or bits that are none. A configuration
@@ -141,13 +141,13 @@ bad_entries access attributes standing stored (entry ∷ entries) =
     bad_entry access attributes standing stored.values entry
     ∷ bad_entries access attributes standing (after_entry attributes stored entry) entries
 
-abbrev pub unwritten : Contents → Row → Connection → Question → Option Refusal
+abbrev pub unwritten : Contents → Row → Bearer → Question → Option Refusal
 unwritten table row conn question =
     option_and_then (λ (writing : Writing). first_there (bad_entries writing.access table.attributes conn.standing (stored_in table row) writing.entries))
     (writing_asked conn.queue question)
 
 -- the first case: of what is asked at a table and a row, by a connection
-abbrev pub first_case : Contents → Row → Connection → Question → Option Refusal
+abbrev pub first_case : Contents → Row → Bearer → Question → Option Refusal
 first_case table row conn question = first_there (
     case_if (is_unknown question) 0 REQUEST_NOT_SUPPORTED
     ∷ case_if (is_malformed question) 0 INVALID_PDU
@@ -161,23 +161,23 @@ first_case table row conn question = first_there (
     ∷ [])
 
 -- the opcode that a refusal names: Core 5.0, Vol 3 Part F, 3.4.8. Of what is ignored none is named
-abbrev pub opcode_of : Question → Opcode
-opcode_of (Ok (ExchangeMtuRequest client_rx_mtu)) = EXCHANGE_MTU_REQUEST
-opcode_of (Ok (FindInformationRequest first last)) = FIND_INFORMATION_REQUEST
-opcode_of (Ok (FindByTypeValueRequest first last type value)) = FIND_BY_TYPE_VALUE_REQUEST
-opcode_of (Ok (ReadByTypeRequest first last type)) = READ_BY_TYPE_REQUEST
-opcode_of (Ok (ReadRequest handle)) = READ_REQUEST
-opcode_of (Ok (ReadBlobRequest handle offset)) = READ_BLOB_REQUEST
-opcode_of (Ok (ReadMultipleRequest handles)) = READ_MULTIPLE_REQUEST
-opcode_of (Ok (ReadByGroupTypeRequest first last type)) = READ_BY_GROUP_TYPE_REQUEST
-opcode_of (Ok (WriteRequest handle value)) = WRITE_REQUEST
-opcode_of (Ok (PrepareWriteRequest handle offset part)) = PREPARE_WRITE_REQUEST
-opcode_of (Ok (ExecuteWriteRequest flags)) = EXECUTE_WRITE_REQUEST
-opcode_of (Ok ConfirmationPdu) = HANDLE_VALUE_CONFIRMATION
-opcode_of (Ok (WriteCommandPdu handle value)) = WRITE_COMMAND
-opcode_of (Err Ignored) = 0
-opcode_of (Err (Invalid opcode)) = opcode
-opcode_of (Err (Unsupported opcode)) = opcode
+abbrev pub request_opcode : Question → Opcode
+request_opcode (Ok (ExchangeMtuRequest client_rx_mtu)) = EXCHANGE_MTU_REQUEST
+request_opcode (Ok (FindInformationRequest first last)) = FIND_INFORMATION_REQUEST
+request_opcode (Ok (FindByTypeValueRequest first last type value)) = FIND_BY_TYPE_VALUE_REQUEST
+request_opcode (Ok (ReadByTypeRequest first last type)) = READ_BY_TYPE_REQUEST
+request_opcode (Ok (ReadRequest handle)) = READ_REQUEST
+request_opcode (Ok (ReadBlobRequest handle offset)) = READ_BLOB_REQUEST
+request_opcode (Ok (ReadMultipleRequest handles)) = READ_MULTIPLE_REQUEST
+request_opcode (Ok (ReadByGroupTypeRequest first last type)) = READ_BY_GROUP_TYPE_REQUEST
+request_opcode (Ok (WriteRequest handle value)) = WRITE_REQUEST
+request_opcode (Ok (PrepareWriteRequest handle offset connection)) = PREPARE_WRITE_REQUEST
+request_opcode (Ok (ExecuteWriteRequest flags)) = EXECUTE_WRITE_REQUEST
+request_opcode (Ok ConfirmationPdu) = HANDLE_VALUE_CONFIRMATION
+request_opcode (Ok (WriteCommandPdu handle value)) = WRITE_COMMAND
+request_opcode (Err Ignored) = 0
+request_opcode (Err (Invalid opcode)) = opcode
+request_opcode (Err (Unsupported opcode)) = opcode
 
 -- an answer, where it refuses
 abbrev pub error_in : Option Response → Option Response
@@ -185,33 +185,33 @@ error_in (Some (ErrorResponse request handle code)) = Some (ErrorResponse reques
 error_in answer = None
 
 abbrev pub refused_by : Question → Refusal → Response
-refused_by question refusal = ErrorResponse (opcode_of question) refusal.handle refusal.code
+refused_by question refusal = ErrorResponse (request_opcode question) refusal.handle refusal.code
 
 -- an answer is an Error Response exactly where one is due and a case applies, and by the first
-abbrev pub IsByTheFirstCase : Contents → Row → Connection → Question → Option Response → Type 0
+abbrev pub IsByTheFirstCase : Contents → Row → Bearer → Question → Option Response → Type 0
 IsByTheFirstCase table row conn question answer =
     error_in answer ≡ (if is_due question then option_map (refused_by question) (first_case table row conn question) else None)
 
 abbrev pub RefusesByTheFirstCase : Type 0
-RefusesByTheFirstCase = (table : Contents) (row : Row) (conn : Connection) (question : Question) →
+RefusesByTheFirstCase = (table : Contents) (row : Row) (conn : Bearer) (question : Question) →
     IsByTheFirstCase table row conn question (answer_to table row conn question)
 
 -- and there is an answer exactly where one is due: not to a command, to a confirmation and to what is ignored
 abbrev pub AnswersWhereDue : Type 0
-AnswersWhereDue = (table : Contents) (row : Row) (conn : Connection) (question : Question) →
+AnswersWhereDue = (table : Contents) (row : Row) (conn : Bearer) (question : Question) →
     is_some (answer_to table row conn question) ≡ is_due question
 
 -- no value is changed, no configuration, no ATT_MTU and nothing that is prepared, but that an execution leaves nothing prepared;
 -- and so nobody hears of a write
-pub record ChangesNothing (table : Contents) (row : Row) (conn : Connection) (question : Question) : Type 0 where
+pub record ChangesNothing (table : Contents) (row : Row) (conn : Bearer) (question : Question) : Type 0 where
   pub stored : stored_by table row conn question ≡ stored_in table row
   pub written : handles_by table row conn question ≡ []
   pub kept : conn_after table.attributes conn question ≡ (if asks_execution question then record conn { queue = [] } else conn)
 
 -- what is refused changes nothing, a command too; and what is ignored, which is no case, changes nothing either
 abbrev pub RefusedChangesNothing : Type 0
-RefusedChangesNothing = (table : Contents) (row : Row) (conn : Connection) (question : Question) (refusal : Refusal) →
+RefusedChangesNothing = (table : Contents) (row : Row) (conn : Bearer) (question : Question) (refusal : Refusal) →
     first_case table row conn question ≡ Some refusal → ChangesNothing table row conn question
 
 abbrev pub IgnoredChangesNothing : Type 0
-IgnoredChangesNothing = (table : Contents) (row : Row) (conn : Connection) → ChangesNothing table row conn (Err Ignored)
+IgnoredChangesNothing = (table : Contents) (row : Row) (conn : Bearer) → ChangesNothing table row conn (Err Ignored)

@@ -4,7 +4,7 @@ use Rattle.gatt_laws.specs.laws.Given.{packets_given_by_now, packets_to}
 use Rattle.gatt_laws.specs.laws.Runs.{events_of}
 use Rattle.gatt_laws.specs.machine.Event.{Ordinal, Event}
 use Rattle.gatt_laws.specs.machine.Input.{Item}
-use Rattle.gatt_laws.specs.machine.Part.{is_there}
+use Rattle.gatt_laws.specs.machine.ConnectionState.{is_there}
 use Rattle.gatt_laws.specs.machine.Start.{Start, state_at}
 use Rattle.gatt_laws.specs.machine.State.{State, step}
 use Rattle.octets.specs.Number.{Octets}
@@ -12,7 +12,7 @@ use Rattle.octets.specs.Number.{Octets}
 -- of its queue as it stood last while the connection was there, the packets that count as given
 abbrev pub front_after : Ordinal → List Octets → State → List Octets
 front_after ordinal front state =
-    if is_there (state.parts ordinal).mark then packets_given_by_now state.room.told (state.parts ordinal) else front
+    if is_there (state.connections ordinal).mark then packets_given_by_now state.shared.buffers (state.connections ordinal) else front
 
 abbrev pub front_in : Ordinal → List Octets → State → List Event → List Octets
 front_in ordinal front state [] = front

@@ -1,12 +1,12 @@
 -- What the host promises. A start (a table, keys, rows and a configuration) and an input (octets, packets, calls and tables) lead to a
--- course: a state, and all packets that go out on the way. gatt_laws defines it, in specs/machine; a connection is a Part there, and
--- what all connections share is the Room. Of each call of the host its contract says what it takes in, and that what goes out are the
--- packets of the course. These records say what holds of each course, for every start and every input, however connections
+-- run: a state, and all packets that go out on the way. gatt_laws defines it, in specs/machine; a connection is a Part there, and
+-- what all connections share is the SharedState. Of each call of the host its contract says what it takes in, and that what goes out are the
+-- packets of the run. These records say what holds of each run, for every start and every input, however connections
 -- interleave: that the order of octets alone decides it, what each connection is sent and what it may change, what it may not learn,
 -- and what the application is told. Each field is proved.
 use Rattle.gatt_laws.specs.laws.Given.{BringsWhatItGives, IsGivenTheFront}
 use Rattle.gatt_laws.specs.laws.Headline.{RefusalsChangeNothing, SendsWhatMayBeRead, WritesWhatMayBeWritten}
-use Rattle.gatt_laws.specs.laws.Laws.{ContinuesItsCourse, KeepsWhatIsGone, LeavesLessThanAPacket, TakesTheDivision}
+use Rattle.gatt_laws.specs.laws.Laws.{ContinuesItsRun, KeepsWhatIsSent, LeavesLessThanAPacket, TakesTheDivision}
 use Rattle.gatt_laws.specs.laws.MayBeHeard.{TellsWhatMayBeHeard}
 use Rattle.gatt_laws.specs.laws.NothingCrosses.{LeavesConnectionsTheSame, NothingCrosses}
 use Rattle.gatt_laws.specs.laws.OwnQueues.{LeavesOthersPrepared}
@@ -15,13 +15,13 @@ use Rattle.gatt_laws.specs.laws.Preparing.{PreparesByItself, PreparesTheSame}
 use Rattle.gatt_laws.specs.laws.Queued.{AlwaysHasBoundedQueues}
 use Rattle.gatt_laws.specs.laws.Refusals.{RefusesByTheFirstBrokenRule, RefusesTheFirstEntry, RefusesTheFirstHandle, RefusesTheFirstListed}
 use Rattle.gatt_laws.specs.laws.RowsOfTheTable.{AlwaysHasRowsOfItsTable}
-use Rattle.gatt_laws.specs.laws.Runs.{HasGoneByEvents, IsWhereEventsLead}
+use Rattle.gatt_laws.specs.laws.Runs.{HasSentByEvents, IsAfterItsEvents}
 use Rattle.gatt_laws.specs.laws.SameView.{DoesTheSameToWhoSeesTheSame, LeavesWhoSeesNothing, SameViewSamePackets}
 use Rattle.gatt_laws.specs.laws.Silence.{GivesAllThatItMay, OnlyServesTheLive, OnlyTheLiveAct}
 use Rattle.gatt_laws.specs.laws.Telling.{TellsTheApplication}
 use Rattle.gatt_laws.specs.laws.TwoWorlds.{GivesNothingToTheAbsent, GivesTheSame, KeepsAlike}
 use Rattle.gatt_laws.specs.laws.ValuesOfTheTable.{AlwaysHasATable}
-use Rattle.gatt_promise.specs.Alone.{GivesTheSameToOne, KeepsAlikeToOne, NothingCrossesToOneInCourses}
+use Rattle.gatt_promise.specs.Alone.{GivesTheSameToOne, KeepsAlikeToOne, NothingCrossesToOneInRuns}
 use Rattle.gatt_promise.specs.Changed.{ChangesBondsByRight, ChangesOwnRowsByRight, ChangesValuesByRight}
 use Rattle.gatt_promise.specs.Crossing.{NothingCrossesOfAny}
 use Rattle.gatt_promise.specs.FirstCase.{AnswersWhereDue, IgnoredChangesNothing, RefusedChangesNothing, RefusesByTheFirstCase}
@@ -34,7 +34,7 @@ use Rattle.gatt_promise.specs.Waiting.{WaitsOnlyBehindABacklog}
 -- Each connection is sent the front of the answers of the written policy, and changes what it may change.
 pub record KeepsThePolicy : Type 0 where
   -- at an event the queue of a connection gains the answer to its own PDU, by what held before the event, unless 16 PDUs wait; and
-  -- behind it at most notifications of values that the event raised for it and one indication, of a value that was raised or waited,
+  -- behind it at most notifications of values that the event notified to it and one indication, of a value that was notified or waited,
   -- while none is unconfirmed: with the octets that stand when the event ends, as many as fit its ATT_MTU, where the connection may
   -- hear of them then, in the way that its row asks for, and nothing once it did not confirm in time. That a value is told at all is
   -- what heard_in_turn of specs/machine/Heard.antt says
@@ -64,7 +64,7 @@ pub record KeepsThePolicy : Type 0 where
   pub links : EncryptsByTheController
   pub time : TellsTheTimeAlone
   -- the packets that were given to a connection, also to one that has gone since, are the front of what was queued for it; of one that
-  -- is there, as many of its packets as its part counts as given; one that serves is given all that the controller may have of it, no more than a share beyond
+  -- is there, as many of its packets as its state counts as given; one that serves is given all that the controller may have of it, no more than a quota beyond
   -- what is completed, with at most 16 PDUs that wait; and to one that is ending or not there nothing is queued and nothing given
   pub gives : IsAlwaysGivenTheFront
   pub gives_by_now : IsGivenTheFront
@@ -115,7 +115,7 @@ pub record KeepsConnectionsApart : Type 0 where
   -- that differ in values which it may not know throughout, give it the same packets, where no table is replaced, its peer is not owed
   -- an indication of one, and no other connection is ended for want of room; event by event, from states that differ in what others
   -- were sent, have read and wait for too
-  pub crosses_to_one : NothingCrossesToOneInCourses
+  pub crosses_to_one : NothingCrossesToOneInRuns
   pub keeps_alike_to_one : KeepsAlikeToOne
   pub gives_the_same_to_one : GivesTheSameToOne
   -- connections with equal views, which are what happens to them, to the time and to the table, and what others write of values and of
@@ -131,15 +131,15 @@ pub record KeepsConnectionsApart : Type 0 where
 -- What an input leads to does not depend on how it is cut.
 pub record RunsInOrder : Type 0 where
   -- an item more is taken in after all before it, and what has gone out has gone out
-  pub continues : ContinuesItsCourse
-  pub keeps : KeepsWhatIsGone
+  pub continues : ContinuesItsRun
+  pub keeps : KeepsWhatIsSent
   -- octets mean what the packets mean that they divide into, and less than a packet is unfinished
   pub divides : TakesTheDivision
   pub unfinished : LeavesLessThanAPacket
   -- a state is that to which the events of the input lead
-  pub events : IsWhereEventsLead
+  pub events : IsAfterItsEvents
   -- and what has gone out is what they bring: each commands, and then the packets that it gives to each connection that has a slot
-  pub goes : HasGoneByEvents
+  pub goes : HasSentByEvents
   pub brings : BringsWhatItGives
   -- in each state a table stands, where each that is handed in is one; with rows of it, where those of the start are of its table
   pub table : AlwaysHasATable

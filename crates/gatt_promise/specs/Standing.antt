@@ -3,16 +3,16 @@
 use Rattle.std.specs.Prelude.{◌≡◌, false}
 use Rattle.gatt_laws.specs.laws.RowNotices.{is_replacement}
 use Rattle.gatt_laws.specs.machine.Event.{Ordinal, Own, Event, Connected, Gone, Encrypted, Refreshed, Authorized, Of, Tick}
-use Rattle.gatt_laws.specs.machine.Part.{key_of}
+use Rattle.gatt_laws.specs.machine.ConnectionState.{key_of}
 use Rattle.gatt_laws.specs.machine.State.{State, step}
 
 -- the attributes of the table, with their guards, change only where it is replaced, and the keys of peers never
 abbrev pub KeepsTheGuards : Type 0
 KeepsTheGuards = (state : State) (event : Event) → is_replacement event ≡ false
-    → (step state event).room.table.attributes ≡ state.room.table.attributes
+    → (step state event).shared.table.attributes ≡ state.shared.table.attributes
 
 abbrev pub KeepsTheKeys : Type 0
-KeepsTheKeys = (state : State) (event : Event) → (step state event).room.keys ≡ state.room.keys
+KeepsTheKeys = (state : State) (event : Event) → (step state event).shared.keys ≡ state.shared.keys
 
 -- the time is told by the application
 abbrev pub IsTick : Event → Type 0
@@ -20,7 +20,7 @@ IsTick (Tick time) = Unit
 IsTick event = ⊥
 
 abbrev pub TellsTheTimeAlone : Type 0
-TellsTheTimeAlone = (state : State) (event : Event) → ((step state event).room.time ≡ state.room.time → ⊥) → IsTick event
+TellsTheTimeAlone = (state : State) (event : Event) → ((step state event).shared.time ≡ state.shared.time → ⊥) → IsTick event
 
 -- a connection is authorized by the application, and begins and ends without it
 abbrev pub Authorizes : Own → Type 0
@@ -35,7 +35,7 @@ AuthorizesOne ordinal event = ⊥
 
 abbrev pub AuthorizesByTheApplication : Type 0
 AuthorizesByTheApplication = (state : State) (event : Event) (ordinal : Ordinal)
-    → (((step state event).parts ordinal).until ≡ (state.parts ordinal).until → ⊥) → AuthorizesOne ordinal event
+    → (((step state event).connections ordinal).until ≡ (state.connections ordinal).until → ⊥) → AuthorizesOne ordinal event
 
 -- the key of its link changes by what the controller tells of that link
 abbrev pub Encrypts : Own → Type 0
@@ -51,4 +51,4 @@ EncryptsOne ordinal event = ⊥
 
 abbrev pub EncryptsByTheController : Type 0
 EncryptsByTheController = (state : State) (event : Event) (ordinal : Ordinal)
-    → (key_of ((step state event).parts ordinal) ≡ key_of (state.parts ordinal) → ⊥) → EncryptsOne ordinal event
+    → (key_of ((step state event).connections ordinal) ≡ key_of (state.connections ordinal) → ⊥) → EncryptsOne ordinal event

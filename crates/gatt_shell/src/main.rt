@@ -5,7 +5,7 @@
 
 ghost use Rattle.std.specs.Prelude.{◌≡◌, Ok, Err, IfErr, true, false};
 ghost use Rattle.gatt_files.specs.Check.{IsCheckFault};
-ghost use Rattle.gatt_files.specs.Fault.{status_of};
+ghost use Rattle.gatt_files.specs.Fault.{exit_status_of};
 
 use arrayvec::ArrayVec;
 use device_host::{HostWords, Stop};
@@ -41,7 +41,7 @@ fn tell_at(rt: &impl Eprint, fault: &ShellFault, place: &[u8]) {
 /// The status of a command that has ended, of which a fault is told.
 fn exit_status(rt: &impl Eprint, ran: Result<(), ShellFault>) -> u8
     ensures done { ran ≡ Ok tt → result ≡ 0 }
-    ensures fault { (fault : ShellFault) → ran ≡ Err fault → result ≡ status_of fault }
+    ensures fault { (fault : ShellFault) → ran ≡ Err fault → result ≡ exit_status_of fault }
 {
     match ran {
         Ok(()) => 0,
@@ -73,7 +73,8 @@ fn refusal_status(rt: &(impl Print + Eprint), refusal: &Refusal) -> u8
 /// flush.
 fn outcome_of(ran: Result<(), ShellFault>, is_flushed: bool) -> Result<(), ShellFault>
     ensures fault { (fault : ShellFault) → ran ≡ Err fault → result ≡ Err fault }
-    ensures unwritten { ran ≡ Ok tt → is_flushed ≡ false → result ≡ Err ShellFault.Unwritten }
+    ensures unwritten { ran ≡ Ok tt → is_flushed ≡ false → result
+        ≡ Err ShellFault.Unwritten }
     ensures done { ran ≡ Ok tt → is_flushed ≡ true → result ≡ Ok tt }
 {
     ran?;

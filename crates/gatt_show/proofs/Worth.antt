@@ -11,12 +11,12 @@ use Rattle.att_policy.specs.declared.standing.KeyFacts.{KeyFacts}
 use Rattle.le_security.specs.declared.entry.Entry.{Entry}
 use Rattle.le_security.specs.declared.key_fault.KeyFault.{KeyFault}
 use Rattle.le_security.specs.declared.key_fault.KeyFault.TheVariants.{Missing, BadAddress, BadHex, BadSize, Twice, TooMany, Shape, NotZero}
-use Rattle.le_security.specs.EntryFile.{Written, diversifier_of, entry_after, entry_keys, entry_of, is_zero, size_of, written_at}
+use Rattle.le_security.specs.EntryFile.{WrittenEntry, diversifier_of, entry_after, entry_keys, entry_written, is_zero, key_size_in, written_at}
 use Rattle.le_security.specs.Address.{address_of, address_type_of}
 use Rattle.le_security.specs.Keys.{has_answer}
 use Rattle.hex.specs.Hex.{decode_sized}
-use Rattle.le_security.specs.KeyFile.{key_step, root_keys}
-use Rattle.gatt_show.specs.Holders.{FactsAreTheServers, all_facts, facts_at, facts_before, size_in, written_size}
+use Rattle.le_security.specs.KeyFile.{key_step, key_file_keys}
+use Rattle.gatt_show.specs.Holders.{FactsAreTheServers, all_facts, facts_at, facts_before, key_size_shown, written_size}
 
 -- a step that gives something, and what it gave
 then-ok : {A B E : Type 0} (first : Result A E) (next : A → Result B E) (last : B) → (first >>= next) ≡ Ok last
@@ -33,7 +33,7 @@ ok-or other (Ok value) = value
 ok-or other (Err fault) = other
 
 -- what an entry writes, by what it has at its keys
-abbrev written-by : Result (Option ℕ) KeyFault → Option Octets → Option Octets → Option Octets → Option Octets → Option ℤ → Option Bool → Bool → Result Written KeyFault
+abbrev written-by : Result (Option ℕ) KeyFault → Option Octets → Option Octets → Option Octets → Option Octets → Option ℤ → Option Bool → Bool → Result WrittenEntry KeyFault
 written-by ediv address kind random_number ltk size authenticated secure = do
   ediv ← ediv
   address ← require address Missing
@@ -54,12 +54,12 @@ written-by ediv address kind random_number ltk size authenticated secure = do
     secure = secure;
   })
 
-record WritesWorth (size : Option ℤ) (authenticated : Option Bool) (secure : Bool) (written : Written) : Type 0 where
+record WritesWorth (size : Option ℤ) (authenticated : Option Bool) (secure : Bool) (written : WrittenEntry) : Type 0 where
   its_size : size ≡ Some written.size
   its_protection : is_true authenticated ≡ written.authenticated
   its_kind : secure ≡ written.secure
 
-writes-worth : (ediv : Result (Option ℕ) KeyFault) (address kind random_number ltk : Option Octets) (size : Option ℤ) (authenticated : Option Bool) (secure : Bool) (written : Written)
+writes-worth : (ediv : Result (Option ℕ) KeyFault) (address kind random_number ltk : Option Octets) (size : Option ℤ) (authenticated : Option Bool) (secure : Bool) (written : WrittenEntry)
     → written-by ediv address kind random_number ltk size authenticated secure ≡ Ok written → WritesWorth size authenticated secure written
 writes-worth (Err fault) address kind random_number ltk size authenticated secure written is = absurd (cc is)
 writes-worth (Ok ediv) None kind random_number ltk size authenticated secure written is = absurd (cc is)
@@ -70,13 +70,13 @@ writes-worth (Ok (Some diversifier)) (Some address) (Some kind) (Some random_num
 writes-worth (Ok (Some diversifier)) (Some address) (Some kind) (Some random_number) (Some ltk) None authenticated secure written is = absurd (cc is)
 writes-worth (Ok (Some diversifier)) (Some address) (Some kind) (Some random_number) (Some ltk) (Some size) None secure written is = absurd (cc is)
 writes-worth (Ok (Some diversifier)) (Some address) (Some kind) (Some random_number) (Some ltk) (Some size) (Some authenticated) secure written is = record {
-  its_size = ap (λ (result : Result Written KeyFault). Some (ok-or written result).size) is;
-  its_protection = ap (λ (result : Result Written KeyFault). (ok-or written result).authenticated) is;
-  its_kind = ap (λ (result : Result Written KeyFault). (ok-or written result).secure) is;
+  its_size = ap (λ (result : Result WrittenEntry KeyFault). Some (ok-or written result).size) is;
+  its_protection = ap (λ (result : Result WrittenEntry KeyFault). (ok-or written result).authenticated) is;
+  its_kind = ap (λ (result : Result WrittenEntry KeyFault). (ok-or written result).secure) is;
 }
 
 -- what the entry then is, by what that spells
-abbrev entry-by : Option Octets → Option ℕ → Option Octets → Option Octets → Option ℕ → (Octets → Bool) → Written → Result Entry KeyFault
+abbrev entry-by : Option Octets → Option ℕ → Option Octets → Option Octets → Option ℕ → (Octets → Bool) → WrittenEntry → Result Entry KeyFault
 entry-by address kind random_number ltk size is_free written = do
   address ← require address BadAddress
   kind ← require kind BadAddress
@@ -94,10 +94,10 @@ entry-by address kind random_number ltk size is_free written = do
     };
   })
 
-abbrev worth : Option ℕ → Written → KeyFacts
-worth size written = record { size = size_in size; authenticated = written.authenticated; secure = written.secure }
+abbrev worth : Option ℕ → WrittenEntry → KeyFacts
+worth size written = record { size = key_size_shown size; authenticated = written.authenticated; secure = written.secure }
 
-is-worth : (address : Option Octets) (kind : Option ℕ) (random_number ltk : Option Octets) (size : Option ℕ) (is_free : Octets → Bool) (written : Written) (entry : Entry)
+is-worth : (address : Option Octets) (kind : Option ℕ) (random_number ltk : Option Octets) (size : Option ℕ) (is_free : Octets → Bool) (written : WrittenEntry) (entry : Entry)
     → entry-by address kind random_number ltk size is_free written ≡ Ok entry → worth size written ≡ entry.key.facts
 is-worth None kind random_number ltk size is_free written entry is = absurd (cc is)
 is-worth (Some address) None random_number ltk size is_free written entry is = absurd (cc is)
@@ -121,14 +121,14 @@ entry-worth entries value entry is =
     let table = then-ok (require (as_table value) Shape) _ entry room.2 in
     let shaped = then-ok (unless (is_shaped entry_keys table.0) Shape) _ entry table.2 in
     let written = then-ok (written_at table.0) _ entry shaped.2 in
-    let entered = then-ok (entry_of written.0) _ entry written.2 in
+    let entered = then-ok (entry_written written.0) _ entry written.2 in
     let once = then-ok (unless (not (has_answer entries entered.0)) Twice) _ entry entered.2 in
     let writes =
     writes-worth (diversifier_of (integer_at (codes "ediv") table.0)) (text_at (codes "address") table.0) (text_at (codes "kind") table.0) (text_at (codes "rand") table.0)
     (text_at (codes "ltk") table.0) (integer_at (codes "size") table.0) (boolean_at (codes "authenticated") table.0) (flag_at (codes "secure") table.0) written.0 written.1 in
-    let its : worth (size_of written.0.size) written.0 ≡ entered.0.key.facts =
+    let its : worth (key_size_in written.0.size) written.0 ≡ entered.0.key.facts =
     is-worth (address_of written.0.address) (address_type_of written.0.kind) (result_ok (decode_sized written.0.random_number 8))
-    (result_ok (decode_sized written.0.ltk 16)) (size_of written.0.size)
+    (result_ok (decode_sized written.0.ltk 16)) (key_size_in written.0.size)
     (λ (random_number : Octets). not written.0.secure || is_zero random_number written.0.diversifier) written.0 entered.0 entered.1 in
     let same : entered.0.key.facts ≡ entry.key.facts = ap (λ (result : Result Entry KeyFault). (ok-or entry result).key.facts) once.2 in
     record {
@@ -137,9 +137,9 @@ entry-worth entries value entry is =
       facts = facts_are table.0 written.0 writes ∙ its ∙ same;
     }
   where
-    facts_are : (table : Members) (written : Written)
+    facts_are : (table : Members) (written : WrittenEntry)
         → WritesWorth (integer_at (codes "size") table) (boolean_at (codes "authenticated") table) (flag_at (codes "secure") table) written
-        → facts_at table ≡ worth (size_of written.size) written
+        → facts_at table ≡ worth (key_size_in written.size) written
     facts_are table written writes =
         λ i. record { size = written_size (writes.its_size i); authenticated = writes.its_protection i; secure = writes.its_kind i }
 
@@ -163,5 +163,5 @@ all-worth (item value rest) entries keys is =
 
 pub facts_are_the_servers : FactsAreTheServers
 facts_are_the_servers members keys is =
-    let shaped = then-ok (unless (is_shaped root_keys members) Shape) _ keys is in
+    let shaped = then-ok (unless (is_shaped key_file_keys members) Shape) _ keys is in
     all-worth (items_at (codes "key") members) [] keys shaped.2

@@ -16,8 +16,8 @@ use Rattle.gatt_show.specs.declared.access.Way.{Way}
 use Rattle.gatt_show.specs.declared.access.Way.TheVariants.{Reading, Writing, Commanding, Hearing}
 
 -- the standing of a connection whose link has such a key, or none, and that is authorized or not
-abbrev pub standing_of : Option KeyFacts → Bool → Standing
-standing_of key is_authorized = record { key = key; key_known = is_some key; until = if is_authorized then 1 else 0; now = 0 }
+abbrev pub standing_with_key : Option KeyFacts → Bool → Standing
+standing_with_key key is_authorized = record { key = key; key_known = is_some key; until = if is_authorized then 1 else 0; now = 0 }
 
 -- whether a connection may use an attribute in a way: a client hears of a value for which it has configured all bits
 abbrev pub permits : Way → Guard → Standing → Bool
@@ -27,9 +27,9 @@ permits Commanding guard standing = is_none (first_broken_of Command (Some guard
 permits Hearing guard standing = may_hear_of guard 3 standing
 
 -- what anybody may read is not told: declarations
-abbrev pub is_told : Role → Bool
-is_told Declaration = false
-is_told _ = true
+abbrev pub is_role_told : Role → Bool
+is_role_told Declaration = false
+is_role_told _ = true
 
 -- the handle of an attribute that may be used, with the need that may be left
 abbrev pub left_need : Bool → Octets
@@ -38,9 +38,9 @@ left_need false = codes "(authorized)"
 
 abbrev pub handle_text : Way → Option KeyFacts → Attr → Octets
 handle_text way key attr =
-    if is_told attr.role
-    then (if permits way attr.guard (standing_of key true)
-    then 32 ∷ decimal attr.handle ++ left_need (permits way attr.guard (standing_of key false))
+    if is_role_told attr.role
+    then (if permits way attr.guard (standing_with_key key true)
+    then 32 ∷ decimal attr.handle ++ left_need (permits way attr.guard (standing_with_key key false))
     else [])
     else []
 

@@ -7,7 +7,7 @@ use Rattle.toml_tables.specs.Reading.{text_at, integer_at, flag_at, items_at}
 use Rattle.att_policy.specs.declared.standing.KeyFacts.{KeyFacts}
 use Rattle.att_table.specs.Table.{Contents}
 use Rattle.le_security.specs.declared.entry.Entry.{Entry}
-use Rattle.le_security.specs.EntryFile.{size_of}
+use Rattle.le_security.specs.EntryFile.{key_size_in}
 use Rattle.le_security.specs.KeyFile.{keys_of}
 use Rattle.gatt_show.specs.Access.{holder_lines}
 use Rattle.gatt_show.specs.Rights.{size_words}
@@ -17,13 +17,13 @@ abbrev pub written_text : Option Octets → Octets
 written_text None = []
 written_text (Some text) = text
 
-abbrev pub size_in : Option ℕ → ℕ
-size_in None = 0
-size_in (Some size) = size
+abbrev pub key_size_shown : Option ℕ → ℕ
+key_size_shown None = 0
+key_size_shown (Some size) = size
 
 abbrev pub written_size : Option ℤ → ℕ
 written_size None = 0
-written_size (Some size) = size_in (size_of size)
+written_size (Some size) = key_size_shown (key_size_in size)
 
 unfoldable pub facts_at : Members → KeyFacts
 facts_at members = record {

@@ -105,5 +105,5 @@ descriptor_names =
     ∷ []
 
 -- the name of a type of 16 bits, if it is a common one
-unfoldable pub name_of : ℕ → Option Octets
-name_of number = name_in (service_names ++ descriptor_names ++ characteristic_names) number
+unfoldable pub type_name : ℕ → Option Octets
+type_name number = name_in (service_names ++ descriptor_names ++ characteristic_names) number

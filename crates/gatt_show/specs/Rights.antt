@@ -15,8 +15,8 @@ abbrev pub word : Properties → Properties → Octets → Octets
 word properties property text = if has_property properties property then text else []
 
 -- the properties that need what reading needs: a value is notified and indicated to whom may read it
-abbrev pub is_heard : Properties → Bool
-is_heard properties = has_property properties READ || has_property properties NOTIFY || has_property properties INDICATE
+abbrev pub needs_reading : Properties → Bool
+needs_reading properties = has_property properties READ || has_property properties NOTIFY || has_property properties INDICATE
 
 abbrev pub heard_words : Properties → Octets
 heard_words properties =
@@ -51,19 +51,19 @@ need_words need =
     else (if need.authorized then codes " if authorized" else [])
 
 -- each with what it needs, and once for all where that is the same
-abbrev pub heard_text : Guard → Octets
-heard_text guard = heard_words guard.properties ++ need_words guard.read
+abbrev pub reading_text : Guard → Octets
+reading_text guard = heard_words guard.properties ++ need_words guard.read
 
-abbrev pub written_text : Guard → Octets
-written_text guard = written_words guard.properties ++ need_words guard.write
+abbrev pub writing_text : Guard → Octets
+writing_text guard = written_words guard.properties ++ need_words guard.write
 
 abbrev pub both_texts : Guard → Octets
 both_texts guard =
-    if bytes_eq (need_words guard.read) (need_words guard.write) then heard_words guard.properties ++ written_text guard
-    else heard_text guard ++ codes ";" ++ written_text guard
+    if bytes_eq (need_words guard.read) (need_words guard.write) then heard_words guard.properties ++ writing_text guard
+    else reading_text guard ++ codes ";" ++ writing_text guard
 
 unfoldable pub rights_text : Guard → Octets
 rights_text guard =
-    if is_heard guard.properties
-    then (if is_written guard.properties then both_texts guard else heard_text guard)
-    else (if is_written guard.properties then written_text guard else codes " nothing")
+    if needs_reading guard.properties
+    then (if is_written guard.properties then both_texts guard else reading_text guard)
+    else (if is_written guard.properties then writing_text guard else codes " nothing")

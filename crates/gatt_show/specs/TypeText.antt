@@ -2,7 +2,7 @@
 use Rattle.std.specs.Prelude.{[], ◌∷◌, ◌++◌, ◌==◌, if◌then◌else◌, map, slice_index, length, take, drop, Option, Some, None}
 use Rattle.hex.specs.Hex.{encode_lower}
 use Rattle.octets.specs.Number.{Octets, from_two}
-use Rattle.gatt_show.specs.Names.{name_of}
+use Rattle.gatt_show.specs.Names.{type_name}
 
 -- a name behind a number, if there is one
 abbrev pub named : Option Octets → Octets
@@ -28,5 +28,5 @@ abbrev pub long_text : Octets → Octets
 long_text octets = if length octets == 16 then uuid_text octets else []
 
 unfoldable pub type_text : Octets → Octets
-type_text (low ∷ high ∷ []) = encode_lower (high ∷ low ∷ []) ++ named (name_of (from_two low high))
+type_text (low ∷ high ∷ []) = encode_lower (high ∷ low ∷ []) ++ named (type_name (from_two low high))
 type_text octets = long_text octets

@@ -2,7 +2,7 @@
 
 ghost use Rattle.std.specs.Prelude.{◌≡◌, ◌++◌, IfOk, OnOk};
 ghost use Rattle.std.specs.List.{flat_map};
-ghost use Rattle.gatt_show.specs.Access.{handle_text, handles_or_dash, holder_lines, is_told, left_need, permits, standing_of, way_line, way_word};
+ghost use Rattle.gatt_show.specs.Access.{handle_text, handles_or_dash, holder_lines, is_role_told, left_need, permits, standing_with_key, way_line, way_word};
 
 use crate::cells::add_number;
 use crate::line::all_attributes;
@@ -146,7 +146,7 @@ fn add_left_need(text: &mut Vec<u8>, is_met: bool) -> Result<(), AllocError>
 
 /// The standing of a connection whose link has such a key, or none.
 fn standing_of(key: Option<KeyFacts>, is_authorized: bool) -> Standing
-    ensures { result ≡ standing_of key is_authorized }
+    ensures { result ≡ standing_with_key key is_authorized }
 {
     Standing {
         key,

@@ -4,7 +4,7 @@
 ghost use Rattle.std.specs.Prelude.{◌≡◌, ◌==◌};
 ghost use Rattle.std.specs.List.{find};
 ghost use Rattle.std.specs.Option.{option_copied, option_map};
-ghost use Rattle.gatt_show.specs.Names.{name_in, name_of, names_view};
+ghost use Rattle.gatt_show.specs.Names.{name_in, type_name, names_view};
 
 /// A number that the Bluetooth SIG has assigned, and the name of what it stands for.
 #[derive(Clone, Copy)]
@@ -17,9 +17,9 @@ pub struct Assigned {
 
 /// The name of the type of a service, a characteristic or a descriptor of 16 bits, if it is a common
 /// one.
-#[tactic(auto, unfolding(crate::specs::Names::name_of, crate::specs::Names::service_names, crate::specs::Names::characteristic_names, crate::specs::Names::descriptor_names))]
+#[tactic(auto, unfolding(crate::specs::Names::type_name, crate::specs::Names::service_names, crate::specs::Names::characteristic_names, crate::specs::Names::descriptor_names))]
 pub fn name_of(number: u16) -> Option<&'static str>
-    ensures { option_map (λ name. name.now) result ≡ name_of number }
+    ensures { option_map (λ name. name.now) result ≡ type_name number }
 {
     name_in(&NAMES, number)
 }

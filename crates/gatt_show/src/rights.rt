@@ -1,7 +1,7 @@
 //! What may be done with an attribute, and what it needs, in words.
 
 ghost use Rattle.std.specs.Prelude.{◌≡◌, ◌++◌, if◌then◌else◌, [], IfOk, OnOk};
-ghost use Rattle.gatt_show.specs.Rights.{asked_size_words, both_texts, heard_text, heard_words, is_heard, is_written, key_words, need_words, rights_text, size_words, word, written_text, written_words};
+ghost use Rattle.gatt_show.specs.Rights.{asked_size_words, both_texts, reading_text, heard_words, needs_reading, is_written, key_words, need_words, rights_text, size_words, word, writing_text, written_words};
 
 use crate::cells::add_number;
 use att_policy::{Guard, Need, Properties};
@@ -38,7 +38,7 @@ fn add_both(alloc: Global, text: &mut Vec<u8>, guard: &Guard) -> Result<(), Allo
 
 /// Whether some properties need what reading needs.
 fn is_heard(properties: Properties) -> bool
-    ensures { result ≡ is_heard properties }
+    ensures { result ≡ needs_reading properties }
 {
     properties.contains(Properties::READ)
         || properties.contains(Properties::NOTIFY)
@@ -55,7 +55,7 @@ fn is_written(properties: Properties) -> bool
 
 /// Adds the properties that need what reading needs, and what that is.
 fn add_heard(text: &mut Vec<u8>, guard: &Guard) -> Result<(), AllocError>
-    ensures ok { OnOk result (text.new.items ≡ text.old.items ++ heard_text guard.now) }
+    ensures ok { OnOk result (text.new.items ≡ text.old.items ++ reading_text guard.now) }
 {
     add_heard_words(text, guard.properties)?;
     add_need(text, &guard.read)
@@ -63,7 +63,7 @@ fn add_heard(text: &mut Vec<u8>, guard: &Guard) -> Result<(), AllocError>
 
 /// Adds the properties that need what writing needs, and what that is.
 fn add_written(text: &mut Vec<u8>, guard: &Guard) -> Result<(), AllocError>
-    ensures ok { OnOk result (text.new.items ≡ text.old.items ++ written_text guard.now) }
+    ensures ok { OnOk result (text.new.items ≡ text.old.items ++ writing_text guard.now) }
 {
     add_written_words(text, guard.properties)?;
     add_need(text, &guard.write)

@@ -9,13 +9,13 @@ use Rattle.gatt_conn.specs.Answer.{is_confirmation}
 use Rattle.std.specs.Bool.{OnFalse, OnTrue}
 use Rattle.std.proofs.lemmas.Bool.{OnFalse_at, OnTrue_at}
 use Rattle.gatt_slots.proofs.Covering.{read_at}
-use Rattle.gatt_slots.specs.Commands.{has_command, without_packet}
-use Rattle.gatt_slots.specs.Kept.{Kept}
-use Rattle.gatt_slots.specs.Places.{is_some_handle, may_listen, waits, GoesOn}
-use Rattle.gatt_slots.specs.Request.{is_full, kept_served, pending_after}
-use Rattle.gatt_laws.specs.machine.Turn.{remote_user_terminated}
-use Rattle.gatt_slots.specs.Turn.{after_ending}
-use Rattle.gatt_slots.specs.Slots.{Held, at_place, kept_at, slots_at}
+use Rattle.gatt_slots.specs.Commands.{has_command, slot_without_packet}
+use Rattle.gatt_slots.specs.SlotState.{SlotState}
+use Rattle.gatt_slots.specs.Places.{is_some_handle, may_listen, waits, WaitsForNothingNew}
+use Rattle.gatt_slots.specs.Request.{overflows, slot_after_request, pending_after}
+use Rattle.gatt_laws.specs.machine.Effect.{remote_user_terminated}
+use Rattle.gatt_slots.specs.SlotEffects.{slot_after_ending}
+use Rattle.gatt_slots.specs.Slots.{SlotStates, at_place, slot_state_at, slots_at}
 use Rattle.gatt_subs.specs.Indications.{Indications}
 use Rattle.gatt_subs.specs.Rows.{Subscriptions, row_of}
 use Rattle.octets.specs.Number.{Octets}
@@ -26,15 +26,15 @@ set_at_place {A = A} xs place change x within is =
     ap (λ (it : A). set xs place (change it)) is
     ∙ sym (ap (λ (found : Option A). option_map_or (λ (it : A). set xs place (change it)) found xs) (slice_get-get_or xs place x within))
 
-module _ (slots self : Held) (view : slots ≡ self) (place : ℕ) (slot : Option Kept) (within : place < length slots) (is : slot ≡ get_or slots place slot) where
-  pub there_at : slot ≡ kept_at self place
-  there_at = sym (read_at slots place slot within is) ∙ ap (λ (it : Held). kept_at it place) view
+module _ (slots self : SlotStates) (view : slots ≡ self) (place : ℕ) (slot : Option SlotState) (within : place < length slots) (is : slot ≡ get_or slots place slot) where
+  pub there_at : slot ≡ slot_state_at self place
+  there_at = sym (read_at slots place slot within is) ∙ ap (λ (it : SlotStates). slot_state_at it place) view
 
-  pub changed_at : (change : Kept → Kept) (changed : Option Kept) → changed ≡ option_map change slot → set slots place changed ≡ slots_at place change self
+  pub changed_at : (change : SlotState → SlotState) (changed : Option SlotState) → changed ≡ option_map change slot → set slots place changed ≡ slots_at place change self
   changed_at change changed changes =
-      ap (λ (it : Option Kept). set slots place it) changes
-      ∙ set_at_place slots place (λ (it : Option Kept). option_map change it) slot within is
-      ∙ ap (λ (it : Held). slots_at place change it) view
+      ap (λ (it : Option SlotState). set slots place it) changes
+      ∙ set_at_place slots place (λ (it : Option SlotState). option_map change it) slot within is
+      ∙ ap (λ (it : SlotStates). slots_at place change it) view
 
 -- a connection that is served goes on: nothing waits that did not wait
 confirmed-waits : (pdu : Octets) (pending : Indications) → (pending_after pdu pending).waiting ≡ pending.waiting
@@ -43,42 +43,42 @@ confirmed-waits pdu pending = elim (is_confirmation pdu) as (λ (is : Bool). (le
   | false ↦ refl
 ]
 
-served-waits : (table : Contents) (now : ℕ) (bond : Option Row) (pdu : Octets) (kept : Kept)
-    → is_some_handle (kept_served table now bond pdu kept).pending.waiting ≡ true → is_some_handle kept.pending.waiting ≡ true
-served-waits table now bond pdu kept is = by (is_full pdu kept) _ (confirmed-waits pdu kept.pending) is
+served-waits : (table : Contents) (now : ℕ) (bond : Option Row) (pdu : Octets) (slot_state : SlotState)
+    → is_some_handle (slot_after_request table now bond pdu slot_state).pending.waiting ≡ true → is_some_handle slot_state.pending.waiting ≡ true
+served-waits table now bond pdu slot_state is = by (overflows pdu slot_state) _ (confirmed-waits pdu slot_state.pending) is
   where
-    by : (full : Bool) (other : Kept) → other.pending.waiting ≡ kept.pending.waiting
-        → is_some_handle (let served : Kept = if full then after_ending remote_user_terminated kept else other in served).pending.waiting ≡ true
-        → is_some_handle kept.pending.waiting ≡ true
+    by : (full : Bool) (other : SlotState) → other.pending.waiting ≡ slot_state.pending.waiting
+        → is_some_handle (let served : SlotState = if full then slot_after_ending remote_user_terminated slot_state else other in served).pending.waiting ≡ true
+        → is_some_handle slot_state.pending.waiting ≡ true
     by true other same is = cc is
     by false other same is = ap is_some_handle (sym same) ∙ is
 
-served-command : (table : Contents) (now : ℕ) (bond : Option Row) (pdu : Octets) (kept : Kept) → is_full pdu kept ≡ false
-    → has_command (Some (kept_served table now bond pdu kept)) ≡ has_command (Some kept)
-served-command table now bond pdu kept not = by (is_full pdu kept) _ refl not
+served-command : (table : Contents) (now : ℕ) (bond : Option Row) (pdu : Octets) (slot_state : SlotState) → overflows pdu slot_state ≡ false
+    → has_command (Some (slot_after_request table now bond pdu slot_state)) ≡ has_command (Some slot_state)
+served-command table now bond pdu slot_state not = by (overflows pdu slot_state) _ refl not
   where
-    by : (full : Bool) (other : Kept) → has_command (Some other) ≡ has_command (Some kept) → full ≡ false
-        → has_command (let served : Kept = if full then after_ending remote_user_terminated kept else other in Some served) ≡ has_command (Some kept)
+    by : (full : Bool) (other : SlotState) → has_command (Some other) ≡ has_command (Some slot_state) → full ≡ false
+        → has_command (let served : SlotState = if full then slot_after_ending remote_user_terminated slot_state else other in Some served) ≡ has_command (Some slot_state)
     by true other same not = cc not
     by false other same not = same
 
-pub served_goes_on : (table : Contents) (now : ℕ) (rows : Subscriptions) (pdu : Octets) (slot : Option Kept) (ended : Bool)
-    → IfSome slot (λ kept. ended ≡ is_full pdu kept) → ended ≡ false → GoesOn slot (option_map (λ kept. kept_served table now (row_of rows kept.peer) pdu kept) slot)
+pub served_goes_on : (table : Contents) (now : ℕ) (rows : Subscriptions) (pdu : Octets) (slot : Option SlotState) (ended : Bool)
+    → IfSome slot (λ slot_state. ended ≡ overflows pdu slot_state) → ended ≡ false → WaitsForNothingNew slot (option_map (λ slot_state. slot_after_request table now (row_of rows slot_state.peer) pdu slot_state) slot)
 served_goes_on table now rows pdu None ended says not = record { command = λ is. is; waiting = λ is. is; free = λ is. is }
-served_goes_on table now rows pdu (Some kept) ended says not = record {
-  command = λ is. sym (served-command table now (row_of rows kept.peer) pdu kept (sym says ∙ not)) ∙ is;
-  waiting = served-waits table now (row_of rows kept.peer) pdu kept;
+served_goes_on table now rows pdu (Some slot_state) ended says not = record {
+  command = λ is. sym (served-command table now (row_of rows slot_state.peer) pdu slot_state (sym says ∙ not)) ∙ is;
+  waiting = served-waits table now (row_of rows slot_state.peer) pdu slot_state;
   free = λ is. is;
 }
 
 -- and so does one of which a packet is given
-pub given_goes_on : (slot given : Option Kept) (gave : Bool) → OnTrue gave (given ≡ option_map without_packet slot) → OnFalse gave (given ≡ slot)
-    → GoesOn slot given
-given_goes_on slot given true after stays = subst (λ (it : Option Kept). GoesOn slot it) (sym (OnTrue_at refl after)) (goes slot)
+pub given_goes_on : (slot given : Option SlotState) (gave : Bool) → OnTrue gave (given ≡ option_map slot_without_packet slot) → OnFalse gave (given ≡ slot)
+    → WaitsForNothingNew slot given
+given_goes_on slot given true after stays = subst (λ (it : Option SlotState). WaitsForNothingNew slot it) (sym (OnTrue_at refl after)) (goes slot)
   where
-    goes : (slot : Option Kept) → GoesOn slot (option_map without_packet slot)
+    goes : (slot : Option SlotState) → WaitsForNothingNew slot (option_map slot_without_packet slot)
     goes None = record { command = λ is. is; waiting = λ is. is; free = λ is. is }
-    goes (Some kept) = record { command = λ is. is; waiting = λ is. is; free = λ is. is }
+    goes (Some slot_state) = record { command = λ is. is; waiting = λ is. is; free = λ is. is }
 given_goes_on slot given false after stays =
     let same : given ≡ slot = OnFalse_at refl stays in
     record {
@@ -87,11 +87,11 @@ given_goes_on slot given false after stays =
       free = λ some. ap (λ it. is_none it) (sym same) ∙ some;
     }
 
-pub given_listens : (slot given : Option Kept) (gave : Bool) → OnTrue gave (given ≡ option_map without_packet slot) → OnFalse gave (given ≡ slot)
+pub given_listens : (slot given : Option SlotState) (gave : Bool) → OnTrue gave (given ≡ option_map slot_without_packet slot) → OnFalse gave (given ≡ slot)
     → may_listen given ≡ true → may_listen slot ≡ true
 given_listens slot given true after stays is = sym (same slot) ∙ ap may_listen (sym (OnTrue_at refl after)) ∙ is
   where
-    same : (slot : Option Kept) → may_listen (option_map without_packet slot) ≡ may_listen slot
+    same : (slot : Option SlotState) → may_listen (option_map slot_without_packet slot) ≡ may_listen slot
     same None = refl
-    same (Some kept) = refl
+    same (Some slot_state) = refl
 given_listens slot given false after stays is = ap may_listen (sym (OnFalse_at refl stays)) ∙ is

@@ -8,7 +8,7 @@ use Rattle.att_pdu.specs.Form.{form_of}
 use Rattle.att_pdu.specs.Grammar.{fault_of, is_due, request_of}
 use Rattle.att_pdu.specs.Request.{ConfirmationPdu}
 use Rattle.gatt_conn.specs.Answer.{is_confirmation}
-use Rattle.gatt_slots.specs.Kept.{Kept}
+use Rattle.gatt_slots.specs.SlotState.{SlotState}
 use Rattle.gatt_slots.specs.Request.{confirmed_of}
 use Rattle.gatt_subs.specs.Indications.{confirmed_handle}
 use Rattle.octets.specs.Number.{Octets}
@@ -27,11 +27,11 @@ not-due (opcode ∷ []) mtu is =
 not-due (opcode ∷ octet ∷ octets) mtu is = cc is
 
 -- a PDU to which an answer is due confirms nothing
-pub confirms_nothing : (pdu : Octets) (mtu : ℕ) (more : Bool) → (is_due (request_of pdu mtu) && more) ≡ true → (slot : Option Kept)
-    → IfSome slot (λ kept. None ≡ confirmed_of pdu kept)
+pub confirms_nothing : (pdu : Octets) (mtu : ℕ) (more : Bool) → (is_due (request_of pdu mtu) && more) ≡ true → (slot : Option SlotState)
+    → IfSome slot (λ slot_state. None ≡ confirmed_of pdu slot_state)
 confirms_nothing pdu mtu more due None = tt
-confirms_nothing pdu mtu more due (Some kept) =
-    elim (is_confirmation pdu) as (λ (is : Bool). is_confirmation pdu ≡ is → None ≡ (if is then confirmed_handle kept.pending else None)) [
+confirms_nothing pdu mtu more due (Some slot_state) =
+    elim (is_confirmation pdu) as (λ (is : Bool). is_confirmation pdu ≡ is → None ≡ (if is then confirmed_handle slot_state.pending else None)) [
       | true ↦ λ is. absurd (cc (due, ap (λ (due : Bool). due && more) (not-due pdu mtu is)))
       | false ↦ λ not. refl
     ] refl

@@ -15,10 +15,10 @@ use Rattle.gatt_slots.proofs.Found.{clash, first_at, kept-is, none_at, past, wit
 use Rattle.att_numbers.specs.Types.{Handle}
 use Rattle.att_table.specs.Table.{Contents}
 use Rattle.gatt_slots.specs.Commands.{gives, has_command}
-use Rattle.gatt_slots.specs.Hearing.{ear_of, told_in_turn, told_of, with_told}
-use Rattle.gatt_slots.specs.Kept.{Kept}
-use Rattle.gatt_slots.specs.Places.{is_due, may_listen, waits, Covers, GoesOn, IsMarked}
-use Rattle.gatt_slots.specs.Slots.{Held, all_heard, handles_for, heard_by, heard_from, is_own, kept_at}
+use Rattle.gatt_slots.specs.Hearing.{hearer_facts_of, delivery_in_turn, delivery_of, with_delivery}
+use Rattle.gatt_slots.specs.SlotState.{SlotState}
+use Rattle.gatt_slots.specs.Places.{is_slot_due, may_listen, waits, Covers, WaitsForNothingNew, IsMarked}
+use Rattle.gatt_slots.specs.Slots.{SlotStates, all_heard, handles_for, slot_heard, heard_from, is_own_place, slot_state_at}
 use Rattle.gatt_subs.specs.Rows.{Subscriptions, row_of}
 use Rattle.gatt_slots.specs.declared.marks.Marks.{Marks}
 use Rattle.gatt_slots.specs.declared.places.Due.{Due}
@@ -26,20 +26,20 @@ use Rattle.gatt_slots.specs.declared.places.Places.{Places}
 use Rattle.gatt_slots.specs.declared.places.Due.TheVariants.{Command, Packet, Value}
 use Rattle.gatt_laws.specs.declared.TheConstants.{MAX_SLOTS}
 
-pub none-due : (due : Due) → is_due due None ≡ false
+pub none-due : (due : Due) → is_slot_due due None ≡ false
 none-due Command = refl
 none-due Packet = refl
 none-due Value = refl
 
 -- what is due is due at a slot that is there
-pub there : (due : Due) (slots : Held) (place : ℕ) → is_due due (kept_at slots place) ≡ true → place < length slots
-there due slots place is = within (is_due due) (none-due due) slots place is
+pub there : (due : Due) (slots : SlotStates) (place : ℕ) → is_slot_due due (slot_state_at slots place) ≡ true → place < length slots
+there due slots place is = within (is_slot_due due) (none-due due) slots place is
 
-pub at-same : (slots : Held) (place : ℕ) (slot : Option Kept) → place < length slots → kept_at (set slots place slot) place ≡ slot
+pub at-same : (slots : SlotStates) (place : ℕ) (slot : Option SlotState) → place < length slots → slot_state_at (set slots place slot) place ≡ slot
 at-same slots place slot within =
     kept-is (set slots place slot) place (omega (arith, length-set slots place slot)) ∙ get_or-set_same slots place slot None within
 
-pub at-other : (slots : Held) (place other : ℕ) (slot : Option Kept) → other ≢ place → kept_at (set slots place slot) other ≡ kept_at slots other
+pub at-other : (slots : SlotStates) (place other : ℕ) (slot : Option SlotState) → other ≢ place → slot_state_at (set slots place slot) other ≡ slot_state_at slots other
 at-other slots place other slot apart = ⊎_elim
     (λ within.
     kept-is (set slots place slot) other (omega (arith, within, length-set slots place slot))
@@ -49,45 +49,45 @@ at-other slots place other slot apart = ⊎_elim
     (cases_lt other (length slots))
 
 -- all places cover all that is due
-pub all_covered : (due : Due) (slots : Held) → length slots ≤ MAX_SLOTS → Covers due 255 slots
+pub all_covered : (due : Due) (slots : SlotStates) → length slots ≤ MAX_SLOTS → Covers due 255 slots
 all_covered due slots few = λ place is. bit_at_ones 8 place (omega (arith, there due slots place is))
 
 -- a slot is changed whose place comes into the set
-pub covered_with : (due : Due) (old new : ℕ) (slots : Held) (place : ℕ) (slot : Option Kept) → Covers due old slots → bit_at new place ≡ 1
+pub covered_with : (due : Due) (old new : ℕ) (slots : SlotStates) (place : ℕ) (slot : Option SlotState) → Covers due old slots → bit_at new place ≡ 1
     → ((other : ℕ) → other ≢ place → bit_at new other ≡ bit_at old other) → Covers due new (set slots place slot)
 covered_with due old new slots place slot covers added others = λ other is. ⊎_elim
     (λ same. ap (bit_at new) same ∙ added)
-    (λ apart. others other apart ∙ covers other (ap (is_due due) (sym (at-other slots place other slot apart)) ∙ is))
+    (λ apart. others other apart ∙ covers other (ap (is_slot_due due) (sym (at-other slots place other slot apart)) ∙ is))
     (cases_eq other place)
 
 -- nothing comes to be due at a slot that is changed
-pub covered_still : (due : Due) (places : ℕ) (slots : Held) (place : ℕ) (slot : Option Kept) → Covers due places slots
-    → (is_due due slot ≡ true → is_due due (kept_at slots place) ≡ true) → Covers due places (set slots place slot)
+pub covered_still : (due : Due) (places : ℕ) (slots : SlotStates) (place : ℕ) (slot : Option SlotState) → Covers due places slots
+    → (is_slot_due due slot ≡ true → is_slot_due due (slot_state_at slots place) ≡ true) → Covers due places (set slots place slot)
 covered_still due places slots place slot covers still = λ other is. ⊎_elim
     (λ same. ap (bit_at places) same ∙ covers place (still
-    (ap (is_due due) (sym (at-same slots place slot (omega (arith, there due (set slots place slot) other is, same, length-set slots place slot)))
-    ∙ ap (λ at. kept_at (set slots place slot) at) (sym same)) ∙ is)))
-    (λ apart. covers other (ap (is_due due) (sym (at-other slots place other slot apart)) ∙ is))
+    (ap (is_slot_due due) (sym (at-same slots place slot (omega (arith, there due (set slots place slot) other is, same, length-set slots place slot)))
+    ∙ ap (λ at. slot_state_at (set slots place slot) at) (sym same)) ∙ is)))
+    (λ apart. covers other (ap (is_slot_due due) (sym (at-other slots place other slot apart)) ∙ is))
     (cases_eq other place)
 
 -- a place leaves it at which nothing is due
-pub covered_without : (due : Due) (old new : ℕ) (slots : Held) (place : ℕ) → length slots ≤ MAX_SLOTS → Covers due old slots → is_due due (kept_at slots place) ≡ false
+pub covered_without : (due : Due) (old new : ℕ) (slots : SlotStates) (place : ℕ) → length slots ≤ MAX_SLOTS → Covers due old slots → is_slot_due due (slot_state_at slots place) ≡ false
     → ((other : ℕ) → other < MAX_SLOTS → other ≢ place → bit_at new other ≡ bit_at old other) → Covers due new slots
 covered_without due old new slots place few covers idle others = λ other is. ⊎_elim
-    (λ same. clash is (ap (λ at. is_due due (kept_at slots at)) same ∙ idle))
+    (λ same. clash is (ap (λ at. is_slot_due due (slot_state_at slots at)) same ∙ idle))
     (λ apart. others other (omega (arith, there due slots other is)) apart ∙ covers other is)
     (cases_eq other place)
 
 -- the first place at which something is due
-pub none_due : (due : Due) (slots : Held) → ((place : ℕ) → is_due due (kept_at slots place) ≡ false) → position (is_due due) slots ≡ None
-none_due due slots none = none_at (is_due due) (none-due due) slots none
+pub none_due : (due : Due) (slots : SlotStates) → ((place : ℕ) → is_slot_due due (slot_state_at slots place) ≡ false) → position (is_slot_due due) slots ≡ None
+none_due due slots none = none_at (is_slot_due due) (none-due due) slots none
 
-pub first_due : (due : Due) (slots : Held) (place : ℕ) → is_due due (kept_at slots place) ≡ true
-    → ((other : ℕ) → other < place → is_due due (kept_at slots other) ≡ false) → position (is_due due) slots ≡ Some place
-first_due due slots place is before = first_at (is_due due) (none-due due) slots place is before
+pub first_due : (due : Due) (slots : SlotStates) (place : ℕ) → is_slot_due due (slot_state_at slots place) ≡ true
+    → ((other : ℕ) → other < place → is_slot_due due (slot_state_at slots other) ≡ false) → position (is_slot_due due) slots ≡ Some place
+first_due due slots place is before = first_at (is_slot_due due) (none-due due) slots place is before
 
 -- what no slot is, none is after a change of one that was not, or is not then
-module _ (test : Option Kept → Bool) (slot : Option Kept) where
+module _ (test : Option SlotState → Bool) (slot : Option SlotState) where
   no-first : (first : Bool) (rest : Bool) → (first || rest) ≡ false → (first ≡ false) × (rest ≡ false)
   no-first true rest none = cc none
   no-first false rest none = (refl, none)
@@ -95,13 +95,13 @@ module _ (test : Option Kept → Bool) (slot : Option Kept) where
   neither : (first : Bool) (rest : Bool) → first ≡ false → rest ≡ false → (first || rest) ≡ false
   neither first rest not none = λ i. not i || none i
 
-  not-so : (old : Option Kept) → test old ≡ false → (test slot ≡ true → test old ≡ true) → test slot ≡ false
+  not-so : (old : Option SlotState) → test old ≡ false → (test slot ≡ true → test old ≡ true) → test slot ≡ false
   not-so old not keeps = elim (test slot) as (λ (it : Bool). (it ≡ true → test old ≡ true) → it ≡ false) [
     | true ↦ λ keeps. clash (keeps refl) not
     | false ↦ λ keeps. refl
   ] keeps
 
-  pub none_with : (slots : Held) (place : ℕ) → list_any test slots ≡ false → (test slot ≡ true → test (kept_at slots place) ≡ true)
+  pub none_with : (slots : SlotStates) (place : ℕ) → list_any test slots ≡ false → (test slot ≡ true → test (slot_state_at slots place) ≡ true)
       → list_any test (set slots place slot) ≡ false
   none_with [] place none keeps = refl
   none_with (first ∷ slots) zero none keeps =
@@ -112,7 +112,7 @@ module _ (test : Option Kept → Bool) (slot : Option Kept) where
       neither (test first) (list_any test (set slots place slot)) parts.0 (none_with slots place parts.1 keeps)
 
 -- where nothing waits at any place, nothing waits
-pub none_waits : (slots : Held) (waiting : Bool) → ((place : ℕ) → place < length slots → waits (kept_at slots place) ≡ true → waiting ≡ true) → waiting ≡ false
+pub none_waits : (slots : SlotStates) (waiting : Bool) → ((place : ℕ) → place < length slots → waits (slot_state_at slots place) ≡ true → waiting ≡ true) → waiting ≡ false
     → list_any waits slots ≡ false
 none_waits [] waiting so none = refl
 none_waits (slot ∷ slots) waiting so none =
@@ -123,17 +123,17 @@ none_waits (slot ∷ slots) waiting so none =
     idle false is = refl
 
 -- what waited at the places before it, and waits at one that is changed
-pub waits_more : (slots : Held) (place : ℕ) (slot : Option Kept) (old new : Bool) → ((other : ℕ) → other < place → waits (kept_at slots other) ≡ true → old ≡ true)
-    → (old ≡ true → new ≡ true) → (waits (kept_at (set slots place slot) place) ≡ true → new ≡ true)
-    → (other : ℕ) → other < place + 1 → waits (kept_at (set slots place slot) other) ≡ true → new ≡ true
+pub waits_more : (slots : SlotStates) (place : ℕ) (slot : Option SlotState) (old new : Bool) → ((other : ℕ) → other < place → waits (slot_state_at slots other) ≡ true → old ≡ true)
+    → (old ≡ true → new ≡ true) → (waits (slot_state_at (set slots place slot) place) ≡ true → new ≡ true)
+    → (other : ℕ) → other < place + 1 → waits (slot_state_at (set slots place slot) other) ≡ true → new ≡ true
 waits_more slots place slot old new before still here other within is = ⊎_elim
-    (λ same. here (ap (λ at. waits (kept_at (set slots place slot) at)) (sym same) ∙ is))
+    (λ same. here (ap (λ at. waits (slot_state_at (set slots place slot) at)) (sym same) ∙ is))
     (λ apart. still (before other (⊎_elim (λ less. less) (λ most. absurd (apart (omega (arith, within, most)))) (cases_lt other place))
     (ap waits (sym (at-other slots place other slot apart)) ∙ is)))
     (cases_eq other place)
 
 -- the marks after a change of one slot
-module _ (slots : Held) (place : ℕ) (slot : Option Kept) (old new : Marks) (marked : IsMarked slots old)
+module _ (slots : SlotStates) (place : ℕ) (slot : Option SlotState) (old new : Marks) (marked : IsMarked slots old)
     (packets : bit_at new.packets.bits place ≡ 1) (other_packets : (other : ℕ) → other ≢ place → bit_at new.packets.bits other ≡ bit_at old.packets.bits other) where
   pub marked_with : bit_at new.commands.bits place ≡ 1 → ((other : ℕ) → other ≢ place → bit_at new.commands.bits other ≡ bit_at old.commands.bits other)
       → bit_at new.listening.bits place ≡ 1 → ((other : ℕ) → other ≢ place → bit_at new.listening.bits other ≡ bit_at old.listening.bits other)
@@ -148,7 +148,7 @@ module _ (slots : Held) (place : ℕ) (slot : Option Kept) (old new : Marks) (ma
     free = free;
   }
 
-  pub marked_on : new.commands ≡ old.commands → new.waiting ≡ old.waiting → new.free ≡ old.free → GoesOn (kept_at slots place) slot
+  pub marked_on : new.commands ≡ old.commands → new.waiting ≡ old.waiting → new.free ≡ old.free → WaitsForNothingNew (slot_state_at slots place) slot
       → Covers Value new.listening.bits (set slots place slot) → IsMarked (set slots place slot) new
   marked_on commands waiting free goes listening = record {
     few = omega (arith, marked.few, length-set slots place slot);
@@ -161,9 +161,9 @@ module _ (slots : Held) (place : ℕ) (slot : Option Kept) (old new : Marks) (ma
   }
 
 -- none may be given at it any more
-pub marked_off : (slots : Held) (place : ℕ) (slot : Option Kept) (old new : Marks) → place < length slots → IsMarked slots old → gives slot ≡ false
+pub marked_off : (slots : SlotStates) (place : ℕ) (slot : Option SlotState) (old new : Marks) → place < length slots → IsMarked slots old → gives slot ≡ false
     → ((other : ℕ) → other < MAX_SLOTS → other ≢ place → bit_at new.packets.bits other ≡ bit_at old.packets.bits other)
-    → new.commands ≡ old.commands → new.waiting ≡ old.waiting → new.free ≡ old.free → GoesOn (kept_at slots place) slot
+    → new.commands ≡ old.commands → new.waiting ≡ old.waiting → new.free ≡ old.free → WaitsForNothingNew (slot_state_at slots place) slot
     → Covers Value new.listening.bits (set slots place slot) → IsMarked (set slots place slot) new
 marked_off slots place slot old new within marked idle others commands waiting free goes listening =
     let few : length (set slots place slot) ≤ MAX_SLOTS = omega (arith, marked.few, length-set slots place slot) in
@@ -179,7 +179,7 @@ marked_off slots place slot old new within marked idle others commands waiting f
       free = λ none. none_with (λ it. is_none it) slot slots place (marked.free (sym free ∙ none)) goes.free;
     }
 
-pub all_marked : (slots : Held) → length slots ≤ MAX_SLOTS
+pub all_marked : (slots : SlotStates) → length slots ≤ MAX_SLOTS
     → IsMarked slots (record { commands = record { bits = 255 }; packets = record { bits = 255 }; listening = record { bits = 255 }; waiting = true; free = true })
 all_marked slots few = record {
   few = few;
@@ -191,14 +191,14 @@ all_marked slots few = record {
 }
 
 -- an empty set covers nothing, and so nothing is due
-pub none_covered : (due : Due) (places : ℕ) (slots : Held) → Covers due places slots → places ≡ 0 → position (is_due due) slots ≡ None
-none_covered due places slots covers empty = none_due due slots (λ place. idle place (is_due due (kept_at slots place)) refl)
+pub none_covered : (due : Due) (places : ℕ) (slots : SlotStates) → Covers due places slots → places ≡ 0 → position (is_slot_due due) slots ≡ None
+none_covered due places slots covers empty = none_due due slots (λ place. idle place (is_slot_due due (slot_state_at slots place)) refl)
   where
-    idle : (place : ℕ) (so : Bool) → is_due due (kept_at slots place) ≡ so → is_due due (kept_at slots place) ≡ false
+    idle : (place : ℕ) (so : Bool) → is_slot_due due (slot_state_at slots place) ≡ so → is_slot_due due (slot_state_at slots place) ≡ false
     idle place false is = is
     idle place true is = bit (sym (covers place is) ∙ ap (λ (it : ℕ). bit_at it place) empty ∙ bit_at-zero place)
       where
-        bit : ◌≡◌ {A = ℕ} 1 0 → is_due due (kept_at slots place) ≡ false
+        bit : ◌≡◌ {A = ℕ} 1 0 → is_slot_due due (slot_state_at slots place) ≡ false
         bit e = absurd (omega (arith, e))
 
 -- where no place but one is in a set, each that is in it is that one
@@ -213,19 +213,19 @@ only_own bits others own place none same few within = ⊎_elim
     (λ apart. outside others place none (same place few apart ∙ within))
     (cases_eq place own)
 
-pub none_own : (bits : ℕ) (own : Option ℕ) → bits ≡ 0 → (place : ℕ) → bit_at bits place ≡ 1 → is_own own place ≡ true
+pub none_own : (bits : ℕ) (own : Option ℕ) → bits ≡ 0 → (place : ℕ) → bit_at bits place ≡ 1 → is_own_place own place ≡ true
 none_own bits own none place within = outside bits place none within
 
 -- nothing is due at a place that is not in the set
-pub idle_outside : (due : Due) (places : ℕ) (slots : Held) (place : ℕ) → Covers due places slots → bit_at places place ≡ 0 → is_due due (kept_at slots place) ≡ false
-idle_outside due places slots place covers outside = by (is_due due (kept_at slots place)) refl
+pub idle_outside : (due : Due) (places : ℕ) (slots : SlotStates) (place : ℕ) → Covers due places slots → bit_at places place ≡ 0 → is_slot_due due (slot_state_at slots place) ≡ false
+idle_outside due places slots place covers outside = by (is_slot_due due (slot_state_at slots place)) refl
   where
-    by : (so : Bool) → is_due due (kept_at slots place) ≡ so → is_due due (kept_at slots place) ≡ false
+    by : (so : Bool) → is_slot_due due (slot_state_at slots place) ≡ so → is_slot_due due (slot_state_at slots place) ≡ false
     by false is = is
     by true is = absurd (omega (arith, covers place is, outside))
 
 -- where no place is in the set, nothing is due at any slot
-none-any : (due : Due) (slots : Held) → ((place : ℕ) → is_due due (kept_at slots place) ≡ false) → list_any (is_due due) slots ≡ false
+none-any : (due : Due) (slots : SlotStates) → ((place : ℕ) → is_slot_due due (slot_state_at slots place) ≡ false) → list_any (is_slot_due due) slots ≡ false
 none-any due [] idle = refl
 none-any due (slot ∷ slots) idle = λ i. idle zero i || none-any due slots (λ place. idle (suc place)) i
 
@@ -233,78 +233,78 @@ turned : (is : Bool) → not is ≡ false → is ≡ true
 turned true e = refl
 turned false e = cc e
 
-pub none_marked : (due : Due) (places : ℕ) (slots : Held) (empty : Bool) → Covers due places slots → OnTrue empty (places ≡ 0)
-    → OnFalse (not empty) (list_any (is_due due) slots ≡ false)
+pub none_marked : (due : Due) (places : ℕ) (slots : SlotStates) (empty : Bool) → Covers due places slots → OnTrue empty (places ≡ 0)
+    → OnFalse (not empty) (list_any (is_slot_due due) slots ≡ false)
 none_marked due places slots empty covers is = OnFalse_from _ _ (λ lacks. none-any due slots (λ place.
     idle_outside due places slots place covers (ap (λ (it : ℕ). bit_at it place) (OnTrue_at (turned empty lacks) is) ∙ bit_at-zero place)))
 
 -- what is read at a place
-pub read_at : (slots : Held) (place : ℕ) (slot : Option Kept) → place < length slots → slot ≡ get_or slots place slot → kept_at slots place ≡ slot
+pub read_at : (slots : SlotStates) (place : ℕ) (slot : Option SlotState) → place < length slots → slot ≡ get_or slots place slot → slot_state_at slots place ≡ slot
 read_at slots place slot within is =
-    ap (λ (found : Option (Option Kept)). option_map_or (λ (it : Option Kept). it) found None) (slice_get-get_or slots place slot within) ∙ sym is
+    ap (λ (found : Option (Option SlotState)). option_map_or (λ (it : Option SlotState). it) found None) (slice_get-get_or slots place slot within) ∙ sym is
 
 -- what hears at each place
-module _ (hear : ℕ → Option Kept → Option Kept) (nobody : (place : ℕ) → hear place None ≡ None) where
-  pub heard-at : (start : ℕ) (slots : Held) (place : ℕ) → kept_at (heard_from start hear slots) place ≡ hear (start + place) (kept_at slots place)
+module _ (hear : ℕ → Option SlotState → Option SlotState) (nobody : (place : ℕ) → hear place None ≡ None) where
+  pub heard-at : (start : ℕ) (slots : SlotStates) (place : ℕ) → slot_state_at (heard_from start hear slots) place ≡ hear (start + place) (slot_state_at slots place)
   heard-at start [] place = sym (nobody (start + place))
   heard-at start (slot ∷ slots) zero = ap (λ (at : ℕ). hear at slot) (omega arith)
   heard-at start (slot ∷ slots) (suc place) =
-      heard-at (start + 1) slots place ∙ ap (λ (at : ℕ). hear at (kept_at slots place)) (omega arith)
+      heard-at (start + 1) slots place ∙ ap (λ (at : ℕ). hear at (slot_state_at slots place)) (omega arith)
 
 -- no command comes of what is heard
-heard-command : (table : Contents) (now : ℕ) (rows : Subscriptions) (handles : List Handle) (slot : Option Kept)
-    → has_command (heard_by table now rows handles slot) ≡ has_command slot
+heard-command : (table : Contents) (now : ℕ) (rows : Subscriptions) (handles : List Handle) (slot : Option SlotState)
+    → has_command (slot_heard table now rows handles slot) ≡ has_command slot
 heard-command table now rows handles None = refl
-heard-command table now rows handles (Some kept) =
-    elim kept.live as (λ (live : Bool). (let heard : Kept = if live then with_told kept (told_in_turn table (ear_of now (row_of rows kept.peer) kept) now handles (told_of kept)) else kept in has_command (Some heard)) ≡ has_command (Some kept)) [
+heard-command table now rows handles (Some slot_state) =
+    elim slot_state.live as (λ (live : Bool). (let heard : SlotState = if live then with_delivery slot_state (delivery_in_turn table (hearer_facts_of now (row_of rows slot_state.peer) slot_state) now handles (delivery_of slot_state)) else slot_state in has_command (Some heard)) ≡ has_command (Some slot_state)) [
       | true ↦ refl
       | false ↦ refl
     ]
 
-pub commands_heard : (table : Contents) (now : ℕ) (rows : Subscriptions) (own : Option ℕ) (here handles : List Handle) (places : ℕ) (slots heard : Held)
+pub commands_heard : (table : Contents) (now : ℕ) (rows : Subscriptions) (own : Option ℕ) (here handles : List Handle) (places : ℕ) (slots heard : SlotStates)
     → heard ≡ all_heard table now rows own here handles slots → Covers Command places slots → Covers Command places heard
 commands_heard table now rows own here handles places slots heard is covers = λ place due.
-    let hear : ℕ → Option Kept → Option Kept = λ at slot. heard_by table now rows (handles_for own here handles at) slot in
+    let hear : ℕ → Option SlotState → Option SlotState = λ at slot. slot_heard table now rows (handles_for own here handles at) slot in
     covers place
-    (sym (heard-command table now rows (handles_for own here handles place) (kept_at slots place))
-    ∙ ap has_command (sym (heard-at hear (λ at. refl) 0 slots place ∙ ap (λ (at : ℕ). hear at (kept_at slots place)) (first place))) ∙ ap (λ (it : Held). has_command (kept_at it place)) (sym is) ∙ due)
+    (sym (heard-command table now rows (handles_for own here handles place) (slot_state_at slots place))
+    ∙ ap has_command (sym (heard-at hear (λ at. refl) 0 slots place ∙ ap (λ (at : ℕ). hear at (slot_state_at slots place)) (first place))) ∙ ap (λ (it : SlotStates). has_command (slot_state_at it place)) (sym is) ∙ due)
   where
     first : (place : ℕ) → 0 + place ≡ place
     first place = omega arith
 
 -- nor does a connection come to listen by what it hears
-heard-listens : (table : Contents) (now : ℕ) (rows : Subscriptions) (handles : List Handle) (slot : Option Kept)
-    → may_listen (heard_by table now rows handles slot) ≡ may_listen slot
+heard-listens : (table : Contents) (now : ℕ) (rows : Subscriptions) (handles : List Handle) (slot : Option SlotState)
+    → may_listen (slot_heard table now rows handles slot) ≡ may_listen slot
 heard-listens table now rows handles None = refl
-heard-listens table now rows handles (Some kept) =
-    elim kept.live as (λ (live : Bool). (let heard : Kept = if live then with_told kept (told_in_turn table (ear_of now (row_of rows kept.peer) kept) now handles (told_of kept)) else kept in may_listen (Some heard)) ≡ may_listen (Some kept)) [
+heard-listens table now rows handles (Some slot_state) =
+    elim slot_state.live as (λ (live : Bool). (let heard : SlotState = if live then with_delivery slot_state (delivery_in_turn table (hearer_facts_of now (row_of rows slot_state.peer) slot_state) now handles (delivery_of slot_state)) else slot_state in may_listen (Some heard)) ≡ may_listen (Some slot_state)) [
       | true ↦ refl
       | false ↦ refl
     ]
 
-pub listening_heard : (table : Contents) (now : ℕ) (rows : Subscriptions) (own : Option ℕ) (here handles : List Handle) (places : ℕ) (slots heard : Held)
+pub listening_heard : (table : Contents) (now : ℕ) (rows : Subscriptions) (own : Option ℕ) (here handles : List Handle) (places : ℕ) (slots heard : SlotStates)
     → heard ≡ all_heard table now rows own here handles slots → Covers Value places slots → Covers Value places heard
 listening_heard table now rows own here handles places slots heard is covers = λ place listens.
-    let hear : ℕ → Option Kept → Option Kept = λ at slot. heard_by table now rows (handles_for own here handles at) slot in
+    let hear : ℕ → Option SlotState → Option SlotState = λ at slot. slot_heard table now rows (handles_for own here handles at) slot in
     covers place
-    (sym (heard-listens table now rows (handles_for own here handles place) (kept_at slots place))
-    ∙ ap may_listen (sym (heard-at hear (λ at. refl) 0 slots place ∙ ap (λ (at : ℕ). hear at (kept_at slots place)) (first place))) ∙ ap (λ (it : Held). may_listen (kept_at it place)) (sym is) ∙ listens)
+    (sym (heard-listens table now rows (handles_for own here handles place) (slot_state_at slots place))
+    ∙ ap may_listen (sym (heard-at hear (λ at. refl) 0 slots place ∙ ap (λ (at : ℕ). hear at (slot_state_at slots place)) (first place))) ∙ ap (λ (it : SlotStates). may_listen (slot_state_at it place)) (sym is) ∙ listens)
   where
     first : (place : ℕ) → 0 + place ≡ place
     first place = omega arith
 
 -- nor does a slot come to be free
-heard-free : (hear : ℕ → Option Kept → Option Kept) → ((place : ℕ) (slot : Option Kept) → is_none (hear place slot) ≡ is_none slot)
-    → (start : ℕ) (slots : Held) → list_any (λ it. is_none it) (heard_from start hear slots) ≡ list_any (λ it. is_none it) slots
+heard-free : (hear : ℕ → Option SlotState → Option SlotState) → ((place : ℕ) (slot : Option SlotState) → is_none (hear place slot) ≡ is_none slot)
+    → (start : ℕ) (slots : SlotStates) → list_any (λ it. is_none it) (heard_from start hear slots) ≡ list_any (λ it. is_none it) slots
 heard-free hear stays start [] = refl
 heard-free hear stays start (slot ∷ slots) = λ i. stays start slot i || heard-free hear stays (start + 1) slots i
 
-pub free_heard : (table : Contents) (now : ℕ) (rows : Subscriptions) (own : Option ℕ) (here handles : List Handle) (slots heard : Held)
+pub free_heard : (table : Contents) (now : ℕ) (rows : Subscriptions) (own : Option ℕ) (here handles : List Handle) (slots heard : SlotStates)
     → heard ≡ all_heard table now rows own here handles slots → list_any (λ it. is_none it) slots ≡ false → list_any (λ it. is_none it) heard ≡ false
 free_heard table now rows own here handles slots heard is none =
-    ap (λ (it : Held). list_any (λ slot. is_none slot) it) is
-    ∙ heard-free (λ at slot. heard_by table now rows (handles_for own here handles at) slot) stays 0 slots ∙ none
+    ap (λ (it : SlotStates). list_any (λ slot. is_none slot) it) is
+    ∙ heard-free (λ at slot. slot_heard table now rows (handles_for own here handles at) slot) stays 0 slots ∙ none
   where
-    stays : (place : ℕ) (slot : Option Kept) → is_none (heard_by table now rows (handles_for own here handles place) slot) ≡ is_none slot
+    stays : (place : ℕ) (slot : Option SlotState) → is_none (slot_heard table now rows (handles_for own here handles place) slot) ≡ is_none slot
     stays place None = refl
-    stays place (Some kept) = refl
+    stays place (Some slot_state) = refl

@@ -8,13 +8,13 @@ use Rattle.std.proofs.lemmas.Iterator.Adapters.{position_from-zero}
 use Rattle.std.proofs.lemmas.List.Quantifiers.{position-Some}
 use Rattle.std.proofs.lemmas.Option.{slice_get-get_or}
 use Rattle.std.proofs.Math.Logic.{⊎_elim}
-use Rattle.gatt_slots.specs.Kept.{Kept}
-use Rattle.gatt_slots.specs.Slots.{Held, is_serving, is_holding, kept_at, place_serving, place_holding, place_free, IsThere}
+use Rattle.gatt_slots.specs.SlotState.{SlotState}
+use Rattle.gatt_slots.specs.Slots.{SlotStates, is_serving, is_holding, slot_state_at, place_serving, place_holding, place_free, IsThere}
 
 -- what is read at a place is what stands there
-pub kept-is : (slots : Held) (place : ℕ) → place < length slots → kept_at slots place ≡ get_or slots place None
+pub kept-is : (slots : SlotStates) (place : ℕ) → place < length slots → slot_state_at slots place ≡ get_or slots place None
 kept-is slots place within =
-    ap (λ (found : Option (Option Kept)). option_map_or (λ (slot : Option Kept). slot) found None) (slice_get-get_or slots place None within)
+    ap (λ (found : Option (Option SlotState)). option_map_or (λ (slot : Option SlotState). slot) found None) (slice_get-get_or slots place None within)
 
 pub clash : {X : Type 0} {test : Bool} → test ≡ true → test ≡ false → X
 clash is not = absurd (no (sym is ∙ not))
@@ -23,7 +23,7 @@ clash is not = absurd (no (sym is ∙ not))
     no e = cc e
 
 -- what a slot keeps beyond the last: nothing
-pub past : (slots : Held) (place : ℕ) → length slots ≤ place → kept_at slots place ≡ None
+pub past : (slots : SlotStates) (place : ℕ) → length slots ≤ place → slot_state_at slots place ≡ None
 past [] place beyond = refl
 past (slot ∷ slots) zero beyond = absurd (omega arith)
 past (slot ∷ slots) (suc place) beyond = past slots place (omega arith)
@@ -44,13 +44,13 @@ some-passes test d n (x ∷ xs) (suc place) within is none =
     no e = cc e
 
 -- the first slot that passes a test, which a free one does not
-module _ (test : Option Kept → Bool) (free : test None ≡ false) where
-  pub within : (slots : Held) (place : ℕ) → test (kept_at slots place) ≡ true → place < length slots
+module _ (test : Option SlotState → Bool) (free : test None ≡ false) where
+  pub within : (slots : SlotStates) (place : ℕ) → test (slot_state_at slots place) ≡ true → place < length slots
   within slots place is = ⊎_elim (λ less. less)
       (λ beyond. clash is (ap test (past slots place (omega (arith, beyond))) ∙ free))
       (cases_lt place (length slots))
 
-  pub none_at : (slots : Held) → ((place : ℕ) → test (kept_at slots place) ≡ false) → position test slots ≡ None
+  pub none_at : (slots : SlotStates) → ((place : ℕ) → test (slot_state_at slots place) ≡ false) → position test slots ≡ None
   none_at slots none =
       elim (position test slots) as (λ (found : Option ℕ). position test slots ≡ found → found ≡ None) [
         | None ↦ λ is. refl
@@ -59,8 +59,8 @@ module _ (test : Option Kept → Bool) (free : test None ≡ false) where
             clash at.1 (ap test (sym (kept-is slots place at.0)) ∙ none place)
       ] refl
 
-  pub first_at : (slots : Held) (place : ℕ) → test (kept_at slots place) ≡ true
-      → ((other : ℕ) → other < place → test (kept_at slots other) ≡ false) → position test slots ≡ Some place
+  pub first_at : (slots : SlotStates) (place : ℕ) → test (slot_state_at slots place) ≡ true
+      → ((other : ℕ) → other < place → test (slot_state_at slots other) ≡ false) → position test slots ≡ Some place
   first_at slots place is before =
       let there = within slots place is in
       elim (position test slots) as (λ (found : Option ℕ). position test slots ≡ found → found ≡ Some place) [
@@ -68,32 +68,32 @@ module _ (test : Option Kept → Bool) (free : test None ≡ false) where
             (sym (position_from-zero test slots) ∙ none))
         | Some other ↦ λ at.
             let found = position-Some test slots other None at in
-            let passes : test (kept_at slots other) ≡ true = ap test (kept-is slots other found.0) ∙ found.1 in
+            let passes : test (slot_state_at slots other) ≡ true = ap test (kept-is slots other found.0) ∙ found.1 in
             ap Some (⊎_elim (λ less. clash passes (before other less))
             (λ least. ⊎_elim (λ more. clash (ap test (sym (kept-is slots place there)) ∙ is) (found.2 place more))
             (λ most. omega (arith, least, most)) (cases_lt place other)) (cases_lt other place))
       ] refl
 
-serves-some : (handle : ℕ) (slot : Option Kept) → is_serving handle slot ≡ true → IsSome slot
+serves-some : (handle : ℕ) (slot : Option SlotState) → is_serving handle slot ≡ true → IsSome slot
 serves-some handle None is = cc is
-serves-some handle (Some kept) is = refl
+serves-some handle (Some slot_state) is = refl
 
-holds-some : (handle : ℕ) (slot : Option Kept) → is_holding handle slot ≡ true → IsSome slot
+holds-some : (handle : ℕ) (slot : Option SlotState) → is_holding handle slot ≡ true → IsSome slot
 holds-some handle None is = cc is
-holds-some handle (Some kept) is = refl
+holds-some handle (Some slot_state) is = refl
 
-pub serving_there : (slots : Held) (handle : ℕ) (found : Option ℕ) → found ≡ place_serving slots handle → IfSome found (IsThere slots)
+pub serving_there : (slots : SlotStates) (handle : ℕ) (found : Option ℕ) → found ≡ place_serving slots handle → IfSome found (IsThere slots)
 serving_there slots handle None is = tt
 serving_there slots handle (Some place) is =
     let at = position-Some (is_serving handle) slots place None (sym is) in
-    record { within = at.0; kept = subst (λ (slot : Option Kept). IsSome slot) (sym (kept-is slots place at.0)) (serves-some handle (get_or slots place None) at.1) }
+    record { within = at.0; kept = subst (λ (slot : Option SlotState). IsSome slot) (sym (kept-is slots place at.0)) (serves-some handle (get_or slots place None) at.1) }
 
-pub holding_there : (slots : Held) (handle : ℕ) (found : Option ℕ) → found ≡ place_holding slots handle → IfSome found (IsThere slots)
+pub holding_there : (slots : SlotStates) (handle : ℕ) (found : Option ℕ) → found ≡ place_holding slots handle → IfSome found (IsThere slots)
 holding_there slots handle None is = tt
 holding_there slots handle (Some place) is =
     let at = position-Some (is_holding handle) slots place None (sym is) in
-    record { within = at.0; kept = subst (λ (slot : Option Kept). IsSome slot) (sym (kept-is slots place at.0)) (holds-some handle (get_or slots place None) at.1) }
+    record { within = at.0; kept = subst (λ (slot : Option SlotState). IsSome slot) (sym (kept-is slots place at.0)) (holds-some handle (get_or slots place None) at.1) }
 
-pub free_within : (slots : Held) (found : Option ℕ) → found ≡ place_free slots → IfSome found (λ place. place < length slots)
+pub free_within : (slots : SlotStates) (found : Option ℕ) → found ≡ place_free slots → IfSome found (λ place. place < length slots)
 free_within slots None is = tt
 free_within slots (Some place) is = (position-Some is_none slots place None (sym is)).0

@@ -3,7 +3,7 @@ pub mod Bonds
 pub mod Confirming
 mod Served
 pub mod EachSlot
-pub mod parts
+pub mod states
 pub mod Found
 pub mod Covering
 pub mod AtPlace

@@ -14,98 +14,98 @@ use Rattle.att_numbers.specs.Types.{Handle, Row}
 use Rattle.att_attributes.specs.declared.attr.Attr.{Attr}
 use Rattle.att_table.specs.ConfigRow.{kept_row}
 use Rattle.att_table.specs.Table.{Contents}
-use Rattle.gatt_laws.specs.machine.Turn.{authentication_failure, channel_answer, lost_encryption, remote_user_terminated}
+use Rattle.gatt_laws.specs.machine.Effect.{authentication_failure, channel_answer, lost_encryption, remote_user_terminated}
 use Rattle.gatt_slots.proofs.Covering.{at-other, at-same, heard-at, read_at}
 use Rattle.gatt_slots.proofs.Found.{first_at, kept-is, none_at, past, some-passes}
-use Rattle.gatt_slots.specs.Commands.{without_command, without_packet}
+use Rattle.gatt_slots.specs.Commands.{slot_without_command, slot_without_packet}
 use Rattle.gatt_slots.specs.Handles.{noted_of, AreNoted}
-use Rattle.gatt_slots.specs.Hearing.{ear_of, told_in_turn, told_of, with_told}
-use Rattle.gatt_slots.specs.Kept.{Kept, backlog_of}
-use Rattle.gatt_slots.specs.Request.{is_full, kept_served}
-use Rattle.gatt_slots.specs.Slots.{Held, all_heard, handles_for, heard_by, is_holding, is_serving, kept_at, place_holding, place_serving}
-use Rattle.gatt_slots.specs.Turn.{after_ending, after_link_step, after_signal, after_table, with_answer}
+use Rattle.gatt_slots.specs.Hearing.{hearer_facts_of, delivery_in_turn, delivery_of, with_delivery}
+use Rattle.gatt_slots.specs.SlotState.{SlotState, slot_backlog}
+use Rattle.gatt_slots.specs.Request.{overflows, slot_after_request}
+use Rattle.gatt_slots.specs.Slots.{SlotStates, all_heard, handles_for, slot_heard, is_holding, is_serving, slot_state_at, place_holding, place_serving}
+use Rattle.gatt_slots.specs.SlotEffects.{slot_after_ending, after_link_step, slot_after_other_channel, after_table, with_channel_answer}
 use Rattle.gatt_subs.specs.Rows.{Subscriptions, row_of}
 use Rattle.le_security.specs.Link.{Step, after_step}
 use Rattle.octets.specs.Number.{Octets}
 
 -- a handle is noted of the connection that has it
-holds-noted : (handle : ℕ) → handle < 65536 → (slot : Option Kept) → is_holding handle slot ≡ (noted_of slot == handle)
+holds-noted : (handle : ℕ) → handle < 65536 → (slot : Option SlotState) → is_holding handle slot ≡ (noted_of slot == handle)
 holds-noted handle below None = ⊎_elim (λ same. absurd (omega (arith, same.1, below))) (λ apart. sym apart.0) (eqb_tells 65536 handle)
-holds-noted handle below (Some kept) = refl
+holds-noted handle below (Some slot_state) = refl
 
-module _ (slots : Held) (noted : List ℕ) (are : AreNoted slots noted) where
+module _ (slots : SlotStates) (noted : List ℕ) (are : AreNoted slots noted) where
   -- a slot is changed whose connection keeps its handle
-  pub noted_still : (place : ℕ) (slot : Option Kept) → place < length slots → noted_of slot ≡ noted_of (kept_at slots place) → AreNoted (set slots place slot) noted
+  pub noted_still : (place : ℕ) (slot : Option SlotState) → place < length slots → noted_of slot ≡ noted_of (slot_state_at slots place) → AreNoted (set slots place slot) noted
   noted_still place slot within same = λ other there. ⊎_elim
       (λ is. ap (λ at. get_or noted at 65536) is ∙ are place within ∙ sym same
-      ∙ ap noted_of (sym (at-same slots place slot within)) ∙ ap (λ at. noted_of (kept_at (set slots place slot) at)) (sym is))
+      ∙ ap noted_of (sym (at-same slots place slot within)) ∙ ap (λ at. noted_of (slot_state_at (set slots place slot) at)) (sym is))
       (λ apart. are other (omega (arith, there, length-set slots place slot)) ∙ ap noted_of (sym (at-other slots place other slot apart)))
       (cases_eq other place)
 
   -- another is noted of a slot
-  pub noted_with : (place : ℕ) (slot : Option Kept) (handle : ℕ) → place < length slots → place < length noted → handle ≡ noted_of slot
+  pub noted_with : (place : ℕ) (slot : Option SlotState) (handle : ℕ) → place < length slots → place < length noted → handle ≡ noted_of slot
       → AreNoted (set slots place slot) (set noted place handle)
-  noted_with place slot handle within room is = λ other there. ⊎_elim
-      (λ same. ap (λ at. get_or (set noted place handle) at 65536) same ∙ get_or-set_same noted place handle 65536 room ∙ is
-      ∙ ap noted_of (sym (at-same slots place slot within)) ∙ ap (λ at. noted_of (kept_at (set slots place slot) at)) (sym same))
+  noted_with place slot handle within shared is = λ other there. ⊎_elim
+      (λ same. ap (λ at. get_or (set noted place handle) at 65536) same ∙ get_or-set_same noted place handle 65536 shared ∙ is
+      ∙ ap noted_of (sym (at-same slots place slot within)) ∙ ap (λ at. noted_of (slot_state_at (set slots place slot) at)) (sym same))
       (λ apart. get_or-set_other noted place other handle 65536 apart ∙ are other (omega (arith, there, length-set slots place slot))
       ∙ ap noted_of (sym (at-other slots place other slot apart)))
       (cases_eq other place)
 
 -- the event of a connection leaves it its handle
-pub mapped_noted : (change : Kept → Kept) → ((kept : Kept) → (change kept).handle ≡ kept.handle) → (slot : Option Kept)
+pub mapped_noted : (change : SlotState → SlotState) → ((slot_state : SlotState) → (change slot_state).handle ≡ slot_state.handle) → (slot : Option SlotState)
     → noted_of (option_map change slot) ≡ noted_of slot
 mapped_noted change keeps None = refl
-mapped_noted change keeps (Some kept) = keeps kept
+mapped_noted change keeps (Some slot_state) = keeps slot_state
 
-pub changed_noted : (slots : Held) (noted : List ℕ) (place : ℕ) (old new : Option Kept) (change : Kept → Kept) → place < length slots → old ≡ get_or slots place old
-    → ((kept : Kept) → (change kept).handle ≡ kept.handle) → new ≡ option_map change old → AreNoted slots noted → AreNoted (set slots place new) noted
+pub changed_noted : (slots : SlotStates) (noted : List ℕ) (place : ℕ) (old new : Option SlotState) (change : SlotState → SlotState) → place < length slots → old ≡ get_or slots place old
+    → ((slot_state : SlotState) → (change slot_state).handle ≡ slot_state.handle) → new ≡ option_map change old → AreNoted slots noted → AreNoted (set slots place new) noted
 changed_noted slots noted place old new change within is keeps changes are =
     noted_still slots noted are place new within
     (ap noted_of changes ∙ mapped_noted change keeps old ∙ ap noted_of (sym (read_at slots place old within is)))
 
 -- what becomes of a served one, of one whose link is encrypted, and of one that is signalled to
-ended-or : (full : Bool) (reason : ℕ) (kept other : Kept) → other.handle ≡ kept.handle → (let after : Kept = if full then after_ending reason kept else other in after).handle ≡ kept.handle
-ended-or true reason kept other same = refl
-ended-or false reason kept other same = same
+ended-or : (full : Bool) (reason : ℕ) (slot_state other : SlotState) → other.handle ≡ slot_state.handle → (let after : SlotState = if full then slot_after_ending reason slot_state else other in after).handle ≡ slot_state.handle
+ended-or true reason slot_state other same = refl
+ended-or false reason slot_state other same = same
 
-pub served_handle : (table : Contents) (now : ℕ) (bond : Option Row) (pdu : Octets) (kept : Kept) → (kept_served table now bond pdu kept).handle ≡ kept.handle
-served_handle table now bond pdu kept = ended-or (is_full pdu kept) remote_user_terminated kept _ refl
+pub served_handle : (table : Contents) (now : ℕ) (bond : Option Row) (pdu : Octets) (slot_state : SlotState) → (slot_after_request table now bond pdu slot_state).handle ≡ slot_state.handle
+served_handle table now bond pdu slot_state = ended-or (overflows pdu slot_state) remote_user_terminated slot_state _ refl
 
-pub stepped_handle : (step : Step) (kept : Kept) → (after_link_step step kept).handle ≡ kept.handle
-stepped_handle step kept =
-    let link = after_step kept.link step in
-    let new : Kept = record kept { link = link } in
-    ended-or (lost_encryption kept.link.key link.key) authentication_failure new new refl
+pub stepped_handle : (step : Step) (slot_state : SlotState) → (after_link_step step slot_state).handle ≡ slot_state.handle
+stepped_handle step slot_state =
+    let link = after_step slot_state.link step in
+    let new : SlotState = record slot_state { link = link } in
+    ended-or (lost_encryption slot_state.link.key link.key) authentication_failure new new refl
 
-answered-handle : (channel : ℕ) (answer : Option Octets) (kept : Kept) → (with_answer channel answer kept).handle ≡ kept.handle
-answered-handle channel None kept = refl
-answered-handle channel (Some answer) kept = ended-or (backlog_of kept == 16) remote_user_terminated kept _ refl
+answered-handle : (channel : ℕ) (answer : Option Octets) (slot_state : SlotState) → (with_channel_answer channel answer slot_state).handle ≡ slot_state.handle
+answered-handle channel None slot_state = refl
+answered-handle channel (Some answer) slot_state = ended-or (slot_backlog slot_state == 16) remote_user_terminated slot_state _ refl
 
-pub signalled_handle : (channel : ℕ) (payload : Octets) (kept : Kept) → (after_signal channel payload kept).handle ≡ kept.handle
-signalled_handle channel payload kept = answered-handle channel (channel_answer channel payload) kept
+pub signalled_handle : (channel : ℕ) (payload : Octets) (slot_state : SlotState) → (slot_after_other_channel channel payload slot_state).handle ≡ slot_state.handle
+signalled_handle channel payload slot_state = answered-handle channel (channel_answer channel payload) slot_state
 
-pub commanded_handle : (kept : Kept) → (without_command kept).handle ≡ kept.handle
-commanded_handle kept = elim (is_some kept.reason) as (λ (is : Bool). (let after : Kept = if is then record kept { reason = None } else record kept { reply = None } in after).handle ≡ kept.handle) [
+pub commanded_handle : (slot_state : SlotState) → (slot_without_command slot_state).handle ≡ slot_state.handle
+commanded_handle slot_state = elim (is_some slot_state.reason) as (λ (is : Bool). (let after : SlotState = if is then record slot_state { reason = None } else record slot_state { reply = None } in after).handle ≡ slot_state.handle) [
   | true ↦ refl
   | false ↦ refl
 ]
 
-table-handle : (live : Bool) (kept other : Kept) → other.handle ≡ kept.handle → (let after : Kept = if live then other else kept in after).handle ≡ kept.handle
-table-handle true kept other same = same
-table-handle false kept other same = refl
+table-handle : (live : Bool) (slot_state other : SlotState) → other.handle ≡ slot_state.handle → (let after : SlotState = if live then other else slot_state in after).handle ≡ slot_state.handle
+table-handle true slot_state other same = same
+table-handle false slot_state other same = refl
 
-pub replaced_handle : (old new : List Attr) (kept : Kept) → (after_table old new kept).handle ≡ kept.handle
-replaced_handle old new kept = table-handle kept.live (record kept { row = kept_row old new kept.row }) _ refl
+pub replaced_handle : (old new : List Attr) (slot_state : SlotState) → (after_table old new slot_state).handle ≡ slot_state.handle
+replaced_handle old new slot_state = table-handle slot_state.live (record slot_state { row = kept_row old new slot_state.row }) _ refl
 
 -- and of one of which a packet may be given
-pub given_noted : (slot given : Option Kept) (gave : Bool) → OnTrue gave (given ≡ option_map without_packet slot) → OnFalse gave (given ≡ slot)
+pub given_noted : (slot given : Option SlotState) (gave : Bool) → OnTrue gave (given ≡ option_map slot_without_packet slot) → OnFalse gave (given ≡ slot)
     → noted_of given ≡ noted_of slot
-given_noted slot given true after stays = ap noted_of (OnTrue_at refl after) ∙ mapped_noted without_packet (λ kept. refl) slot
+given_noted slot given true after stays = ap noted_of (OnTrue_at refl after) ∙ mapped_noted slot_without_packet (λ slot_state. refl) slot
 given_noted slot given false after stays = ap noted_of (OnFalse_at refl stays)
 
 -- the first ones alone
-first-kept : (slots : Held) (count place : ℕ) → place < length (take count slots) → (kept_at (take count slots) place ≡ kept_at slots place) × (place < length slots)
+first-kept : (slots : SlotStates) (count place : ℕ) → place < length (take count slots) → (slot_state_at (take count slots) place ≡ slot_state_at slots place) × (place < length slots)
 first-kept [] zero place there = absurd (omega (arith, there))
 first-kept [] (suc count) place there = absurd (omega (arith, there))
 first-kept (slot ∷ slots) zero place there = absurd (omega (arith, there))
@@ -114,57 +114,57 @@ first-kept (slot ∷ slots) (suc count) (suc place) there =
     let rest = first-kept slots count place (omega (arith, there)) in
     (rest.0, omega (arith, rest.1))
 
-pub first_noted : (slots : Held) (noted : List ℕ) (count : ℕ) → AreNoted slots noted → AreNoted (take count slots) noted
+pub first_noted : (slots : SlotStates) (noted : List ℕ) (count : ℕ) → AreNoted slots noted → AreNoted (take count slots) noted
 first_noted slots noted count are = λ place there.
     let first = first-kept slots count place there in
     are place first.1 ∙ ap noted_of (sym first.0)
 
 -- each is changed
-map-kept : (f : Option Kept → Option Kept) (slots : Held) (place : ℕ) → place < length (map f slots)
-    → (kept_at (map f slots) place ≡ f (kept_at slots place)) × (place < length slots)
+map-kept : (f : Option SlotState → Option SlotState) (slots : SlotStates) (place : ℕ) → place < length (map f slots)
+    → (slot_state_at (map f slots) place ≡ f (slot_state_at slots place)) × (place < length slots)
 map-kept f [] place there = absurd (omega (arith, there))
 map-kept f (slot ∷ slots) zero there = (refl, omega arith)
 map-kept f (slot ∷ slots) (suc place) there =
     let rest = map-kept f slots place (omega (arith, there)) in
     (rest.0, omega (arith, rest.1))
 
-pub each_noted : (slots others : Held) (noted : List ℕ) (change : Kept → Kept) → ((kept : Kept) → (change kept).handle ≡ kept.handle)
-    → others ≡ map (λ (slot : Option Kept). option_map change slot) slots → AreNoted slots noted → AreNoted others noted
+pub each_noted : (slots others : SlotStates) (noted : List ℕ) (change : SlotState → SlotState) → ((slot_state : SlotState) → (change slot_state).handle ≡ slot_state.handle)
+    → others ≡ map (λ (slot : Option SlotState). option_map change slot) slots → AreNoted slots noted → AreNoted others noted
 each_noted slots others noted change keeps is are =
-    subst (λ (it : Held). AreNoted it noted) (sym is) (λ place there.
-    let at = map-kept (λ (slot : Option Kept). option_map change slot) slots place there in
-    are place at.1 ∙ sym (mapped_noted change keeps (kept_at slots place)) ∙ ap noted_of (sym at.0))
+    subst (λ (it : SlotStates). AreNoted it noted) (sym is) (λ place there.
+    let at = map-kept (λ (slot : Option SlotState). option_map change slot) slots place there in
+    are place at.1 ∙ sym (mapped_noted change keeps (slot_state_at slots place)) ∙ ap noted_of (sym at.0))
 
 -- what is written over all of them is there
-pub written_over : (len : ℕ) (old new : Held) → length new ≡ length old → length old ≡ len → take len (new ++ drop (length new) old) ≡ new
+pub written_over : (len : ℕ) (old new : SlotStates) → length new ≡ length old → length old ≡ len → take len (new ++ drop (length new) old) ≡ new
 written_over len old new same is =
-    ap (λ (rest : Held). take len (new ++ rest)) (drop_all (length new) old (omega (arith, same)))
+    ap (λ (rest : SlotStates). take len (new ++ rest)) (drop_all (length new) old (omega (arith, same)))
     ∙ take-append-le len new [] (omega (arith, same, is)) ∙ take_all len new (omega (arith, same, is))
 
-heard-handle : (table : Contents) (now : ℕ) (rows : Subscriptions) (handles : List Handle) (slot : Option Kept)
-    → noted_of (heard_by table now rows handles slot) ≡ noted_of slot
+heard-handle : (table : Contents) (now : ℕ) (rows : Subscriptions) (handles : List Handle) (slot : Option SlotState)
+    → noted_of (slot_heard table now rows handles slot) ≡ noted_of slot
 heard-handle table now rows handles None = refl
-heard-handle table now rows handles (Some kept) = table-handle kept.live kept (with_told kept (told_in_turn table (ear_of now (row_of rows kept.peer) kept) now handles (told_of kept))) refl
+heard-handle table now rows handles (Some slot_state) = table-handle slot_state.live slot_state (with_delivery slot_state (delivery_in_turn table (hearer_facts_of now (row_of rows slot_state.peer) slot_state) now handles (delivery_of slot_state))) refl
 
-pub heard_noted : (table : Contents) (now : ℕ) (rows : Subscriptions) (own : Option ℕ) (here handles : List Handle) (slots heard : Held) (noted : List ℕ)
+pub heard_noted : (table : Contents) (now : ℕ) (rows : Subscriptions) (own : Option ℕ) (here handles : List Handle) (slots heard : SlotStates) (noted : List ℕ)
     → heard ≡ all_heard table now rows own here handles slots → length heard ≡ length slots → AreNoted slots noted → AreNoted heard noted
 heard_noted table now rows own here handles slots heard noted is count are = λ place there.
-    let hear : ℕ → Option Kept → Option Kept = λ at slot. heard_by table now rows (handles_for own here handles at) slot in
+    let hear : ℕ → Option SlotState → Option SlotState = λ at slot. slot_heard table now rows (handles_for own here handles at) slot in
     are place (omega (arith, there, count))
-    ∙ sym (heard-handle table now rows (handles_for own here handles place) (kept_at slots place))
-    ∙ ap noted_of (sym (heard-at hear (λ at. refl) 0 slots place ∙ ap (λ (at : ℕ). hear at (kept_at slots place)) (first place)))
-    ∙ ap (λ (it : Held). noted_of (kept_at it place)) (sym is)
+    ∙ sym (heard-handle table now rows (handles_for own here handles place) (slot_state_at slots place))
+    ∙ ap noted_of (sym (heard-at hear (λ at. refl) 0 slots place ∙ ap (λ (at : ℕ). hear at (slot_state_at slots place)) (first place)))
+    ∙ ap (λ (it : SlotStates). noted_of (slot_state_at it place)) (sym is)
   where
     first : (place : ℕ) → 0 + place ≡ place
     first place = omega arith
 
 -- what is found by a handle
-module _ (slots : Held) (noted : List ℕ) (are : AreNoted slots noted) (handle : ℕ) (below : handle < 65536) where
-  is-noted : (place : ℕ) → place < length slots → is_holding handle (kept_at slots place) ≡ (get_or noted place 65536 == handle)
-  is-noted place there = holds-noted handle below (kept_at slots place) ∙ ap (λ (it : ℕ). it == handle) (sym (are place there))
+module _ (slots : SlotStates) (noted : List ℕ) (are : AreNoted slots noted) (handle : ℕ) (below : handle < 65536) where
+  is-noted : (place : ℕ) → place < length slots → is_holding handle (slot_state_at slots place) ≡ (get_or noted place 65536 == handle)
+  is-noted place there = holds-noted handle below (slot_state_at slots place) ∙ ap (λ (it : ℕ). it == handle) (sym (are place there))
 
   -- nothing holds it of which it is not noted
-  unheld : (place : ℕ) → (place < length slots → (get_or noted place 65536 == handle) ≡ false) → is_holding handle (kept_at slots place) ≡ false
+  unheld : (place : ℕ) → (place < length slots → (get_or noted place 65536 == handle) ≡ false) → is_holding handle (slot_state_at slots place) ≡ false
   unheld place not = ⊎_elim
       (λ there. is-noted place there ∙ not there)
       (λ beyond. ap (is_holding handle) (past slots place (omega (arith, beyond))))
@@ -195,19 +195,19 @@ module _ (slots : Held) (noted : List ℕ) (are : AreNoted slots noted) (handle 
           above = ⊎_elim (λ same. absurd (omega (arith, same.1, below))) (λ apart. apart.0) (eqb_tells 65536 handle)
 
 -- a connection that is found and serves is the first that does
-live-holds : (handle : ℕ) (slot : Option Kept) → is_holding handle slot ≡ false → is_serving handle slot ≡ false
+live-holds : (handle : ℕ) (slot : Option SlotState) → is_holding handle slot ≡ false → is_serving handle slot ≡ false
 live-holds handle None not = refl
-live-holds handle (Some kept) not = and_right kept.live (kept.handle == handle) not
+live-holds handle (Some slot_state) not = and_right slot_state.live (slot_state.handle == handle) not
 
-serves-live : (handle : ℕ) (slot : Option Kept) → is_holding handle slot ≡ true → option_map_or (λ (kept : Kept). kept.live) slot false ≡ true → is_serving handle slot ≡ true
+serves-live : (handle : ℕ) (slot : Option SlotState) → is_holding handle slot ≡ true → option_map_or (λ (slot_state : SlotState). slot_state.live) slot false ≡ true → is_serving handle slot ≡ true
 serves-live handle None holds live = holds
-serves-live handle (Some kept) holds live = λ i. live i && holds i
+serves-live handle (Some slot_state) holds live = λ i. live i && holds i
 
-pub found_serving : (slots : Held) (handle place : ℕ) → Some place ≡ place_holding slots handle → option_map_or (λ (kept : Kept). kept.live) (kept_at slots place) false ≡ true
+pub found_serving : (slots : SlotStates) (handle place : ℕ) → Some place ≡ place_holding slots handle → option_map_or (λ (slot_state : SlotState). slot_state.live) (slot_state_at slots place) false ≡ true
     → Some place ≡ place_serving slots handle
 found_serving slots handle place is live =
     let found = position-Some (is_holding handle) slots place None (sym is) in
-    let held : (other : ℕ) → other < place → is_serving handle (kept_at slots other) ≡ false = λ other less.
-    live-holds handle (kept_at slots other) (ap (is_holding handle) (kept-is slots other (omega (arith, less, found.0))) ∙ found.2 other less) in
+    let held : (other : ℕ) → other < place → is_serving handle (slot_state_at slots other) ≡ false = λ other less.
+    live-holds handle (slot_state_at slots other) (ap (is_holding handle) (kept-is slots other (omega (arith, less, found.0))) ∙ found.2 other less) in
     sym (first_at (is_serving handle) refl slots place
-    (serves-live handle (kept_at slots place) (ap (is_holding handle) (kept-is slots place found.0) ∙ found.1) live) held)
+    (serves-live handle (slot_state_at slots place) (ap (is_holding handle) (kept-is slots place found.0) ∙ found.1) live) held)

@@ -11,29 +11,29 @@ use Rattle.att_policy.specs.Policy.{configuration_bits_of, first_unmet_rule_of, 
 use Rattle.std.specs.Prelude.{is_none, is_some}
 use Rattle.std.specs.Int.Bits.{and_zero_l}
 use Rattle.std.proofs.lemmas.Bool.{and_right}
-use Rattle.gatt_slots.specs.Hearing.{Ear, Told, after_hearing, ear_of, row_by_key, row_in_force, told_of, told_raised, told_released, with_heard, with_told}
+use Rattle.gatt_slots.specs.Hearing.{HearerFacts, Delivery, slot_after_hearing, hearer_facts_of, row_by_key, slot_row_in_force, delivery_of, delivery_when_notifying, delivery_when_indicating, delivery_with_heard, with_delivery}
 use Rattle.gatt_subs.specs.Hearing.{may_hear_at, wants_indications}
 use Rattle.gatt_subs.specs.Indications.{with_handle}
 use Rattle.gatt_subs.specs.Told.{notification_of}
 use Rattle.std.specs.List.{list_any}
 use Rattle.std.specs.Option.{option_map_or, option_to_list}
-use Rattle.gatt_slots.specs.Kept.{Kept}
+use Rattle.gatt_slots.specs.SlotState.{SlotState}
 use Rattle.gatt_slots.specs.Places.{is_some_handle, may_listen, waits}
-use Rattle.gatt_slots.specs.Slots.{Held, all_heard, handles_for, heard_by, heard_from, is_own, raised_by}
+use Rattle.gatt_slots.specs.Slots.{SlotStates, all_heard, handles_for, slot_heard, heard_from, is_own_place, slot_notified}
 use Rattle.gatt_subs.specs.Rows.{Subscriptions, row_of}
 use Rattle.gatt_subs.specs.declared.pending.Unconfirmed.{Unconfirmed}
 use Rattle.gatt_subs.specs.Indications.{Indications}
 use Rattle.le_acl.specs.Outgoing.{Outgoing}
 
-abbrev told_with : List Handle → Option Unconfirmed → Bool → Outgoing → Told
+abbrev told_with : List Handle → Option Unconfirmed → Bool → Outgoing → Delivery
 told_with waiting unconfirmed timed_out outgoing = record { pending = record { waiting = waiting; unconfirmed = unconfirmed; timed_out = timed_out }; outgoing = outgoing }
 
 either : {X : Type 0} (test : Bool) (x : X) → (if test then x else x) ≡ x
 either true x = refl
 either false x = refl
 
-none_released : (table : Contents) (ear : Ear) (now : ℕ) (unconfirmed : Option Unconfirmed) (timed_out : Bool) (outgoing : Outgoing)
-    → told_released table ear now (told_with [] unconfirmed timed_out outgoing) ≡ told_with [] unconfirmed timed_out outgoing
+none_released : (table : Contents) (ear : HearerFacts) (now : ℕ) (unconfirmed : Option Unconfirmed) (timed_out : Bool) (outgoing : Outgoing)
+    → delivery_when_indicating table ear now (told_with [] unconfirmed timed_out outgoing) ≡ told_with [] unconfirmed timed_out outgoing
 none_released table ear now (Some sent) timed_out outgoing = refl
 none_released table ear now None true outgoing = refl
 none_released table ear now None false outgoing =
@@ -42,34 +42,34 @@ none_released table ear now None false outgoing =
     let pending : Indications = record { waiting = []; unconfirmed = None; timed_out = false } in
     rw (either few nothing, either few pending) refl
 
-pub idle_released : (table : Contents) (ear : Ear) (now : ℕ) (told : Told) → told.pending.waiting ≡ [] → told_released table ear now told ≡ told
+pub idle_released : (table : Contents) (ear : HearerFacts) (now : ℕ) (told : Delivery) → told.pending.waiting ≡ [] → delivery_when_indicating table ear now told ≡ told
 idle_released table ear now told none =
     let unconfirmed : Option Unconfirmed = told.pending.unconfirmed in
     let timed_out : Bool = told.pending.timed_out in
-    ap (λ (waiting : List Handle). told_released table ear now (told_with waiting unconfirmed timed_out told.outgoing)) none
+    ap (λ (waiting : List Handle). delivery_when_indicating table ear now (told_with waiting unconfirmed timed_out told.outgoing)) none
     ∙ none_released table ear now unconfirmed timed_out told.outgoing
     ∙ sym (ap (λ (waiting : List Handle). told_with waiting unconfirmed timed_out told.outgoing) none)
 
-pub nothing_heard : (table : Contents) (now : ℕ) (bond : Option Row) (kept : Kept) → kept.pending.waiting ≡ [] → after_hearing table now bond [] kept ≡ kept
-nothing_heard table now bond kept none =
-    let ear : Ear = ear_of now bond kept in
-    elim kept.live as (λ live. (if live then with_told kept (told_released table ear now (told_of kept)) else kept) ≡ kept) [
-      | true ↦ ap (with_told kept) (idle_released table ear now (told_of kept) none)
+pub nothing_heard : (table : Contents) (now : ℕ) (bond : Option Row) (slot_state : SlotState) → slot_state.pending.waiting ≡ [] → slot_after_hearing table now bond [] slot_state ≡ slot_state
+nothing_heard table now bond slot_state none =
+    let ear : HearerFacts = hearer_facts_of now bond slot_state in
+    elim slot_state.live as (λ live. (if live then with_delivery slot_state (delivery_when_indicating table ear now (delivery_of slot_state)) else slot_state) ≡ slot_state) [
+      | true ↦ ap (with_delivery slot_state) (idle_released table ear now (delivery_of slot_state) none)
       | false ↦ refl
     ]
 
--- what a value that was raised leaves, by whether it is heard
-abbrev raised-if : Contents → Ear → Handle → Told → Bool → Told
-raised-if table ear handle told heard = with_heard told (record {
+-- what a value that was notified leaves, by whether it is heard
+abbrev raised-if : Contents → HearerFacts → Handle → Delivery → Bool → Delivery
+raised-if table ear handle told heard = delivery_with_heard told (record {
   responses = option_to_list (if heard && not (wants_indications ear.row handle) && nat_lt (length told.outgoing.queue) 8
       then Some (notification_of table.values handle ear.mtu) else None);
   pending = if heard && wants_indications ear.row handle
       then record told.pending { waiting = with_handle told.pending.waiting handle } else told.pending;
 })
 
--- nor does one that may not hear of the value that is raised
-unheard-raised : (table : Contents) (ear : Ear) (handle : Handle) (told : Told) → may_hear_at table.attributes ear.row ear.standing handle ≡ false
-    → told_raised table ear handle told ≡ told
+-- nor does one that may not hear of the value that is notified
+unheard-raised : (table : Contents) (ear : HearerFacts) (handle : Handle) (told : Delivery) → may_hear_at table.attributes ear.row ear.standing handle ≡ false
+    → delivery_when_notifying table ear handle told ≡ told
 unheard-raised table ear handle told silent = ap (raised-if table ear handle told) (unheard (not told.pending.timed_out) _ silent)
   where
     unheard : (on may : Bool) → may ≡ false → (on && may) ≡ false
@@ -77,12 +77,12 @@ unheard-raised table ear handle told silent = ap (raised-if table ear handle tol
     unheard false may none = refl
 
 pub nothing_raised : (table : Contents) (now : ℕ) (rows : Subscriptions) (handle : Handle) → ((row : Row) (standing : Standing) → may_hear_at table.attributes row standing handle ≡ false)
-    → (slot : Option Kept) → raised_by table now rows handle slot ≡ slot
+    → (slot : Option SlotState) → slot_notified table now rows handle slot ≡ slot
 nothing_raised table now rows handle silent None = refl
-nothing_raised table now rows handle silent (Some kept) =
-    let ear : Ear = ear_of now (row_of rows kept.peer) kept in
-    elim kept.live as (λ live. Some (if live then with_told kept (told_raised table ear handle (told_of kept)) else kept) ≡ Some kept) [
-      | true ↦ ap (λ (told : Told). Some (with_told kept told)) (unheard-raised table ear handle (told_of kept) (silent ear.row ear.standing))
+nothing_raised table now rows handle silent (Some slot_state) =
+    let ear : HearerFacts = hearer_facts_of now (row_of rows slot_state.peer) slot_state in
+    elim slot_state.live as (λ live. Some (if live then with_delivery slot_state (delivery_when_notifying table ear handle (delivery_of slot_state)) else slot_state) ≡ Some slot_state) [
+      | true ↦ ap (λ (told : Delivery). Some (with_delivery slot_state told)) (unheard-raised table ear handle (delivery_of slot_state) (silent ear.row ear.standing))
       | false ↦ refl
     ]
 
@@ -91,27 +91,27 @@ none-waits : (waiting : List Handle) → is_some_handle waiting ≡ false → wa
 none-waits [] none = refl
 none-waits (handle ∷ handles) none = cc none
 
-quiet-slot : (table : Contents) (now : ℕ) (rows : Subscriptions) (slot : Option Kept) → waits slot ≡ false → heard_by table now rows [] slot ≡ slot
+quiet-slot : (table : Contents) (now : ℕ) (rows : Subscriptions) (slot : Option SlotState) → waits slot ≡ false → slot_heard table now rows [] slot ≡ slot
 quiet-slot table now rows None none = refl
-quiet-slot table now rows (Some kept) none =
-    ap (λ (it : Kept). Some it) (nothing_heard table now (row_of rows kept.peer) kept (none-waits kept.pending.waiting none))
+quiet-slot table now rows (Some slot_state) none =
+    ap (λ (it : SlotState). Some it) (nothing_heard table now (row_of rows slot_state.peer) slot_state (none-waits slot_state.pending.waiting none))
 
 both-none : (first rest : Bool) → (first || rest) ≡ false → (first ≡ false) × (rest ≡ false)
 both-none true rest none = cc none
 both-none false rest none = (refl, none)
 
-all-quiet : (hear : ℕ → Option Kept → Option Kept) → ((place : ℕ) (slot : Option Kept) → waits slot ≡ false → hear place slot ≡ slot)
-    → (start : ℕ) (slots : Held) → list_any waits slots ≡ false → heard_from start hear slots ≡ slots
+all-quiet : (hear : ℕ → Option SlotState → Option SlotState) → ((place : ℕ) (slot : Option SlotState) → waits slot ≡ false → hear place slot ≡ slot)
+    → (start : ℕ) (slots : SlotStates) → list_any waits slots ≡ false → heard_from start hear slots ≡ slots
 all-quiet hear quiet start [] none = refl
 all-quiet hear quiet start (slot ∷ slots) none =
     let parts = both-none (waits slot) (list_any waits slots) none in
     λ i. quiet start slot parts.0 i ∷ all-quiet hear quiet (start + 1) slots parts.1 i
 
-pub nothing_heard_by_all : (table : Contents) (now : ℕ) (rows : Subscriptions) (own : Option ℕ) (slots : Held) → list_any waits slots ≡ false
+pub nothing_heard_by_all : (table : Contents) (now : ℕ) (rows : Subscriptions) (own : Option ℕ) (slots : SlotStates) → list_any waits slots ≡ false
     → slots ≡ all_heard table now rows own [] [] slots
 nothing_heard_by_all table now rows own slots none =
-    sym (all-quiet (λ place slot. heard_by table now rows (handles_for own [] [] place) slot)
-    (λ place slot idle. ap (λ (handles : List Handle). heard_by table now rows handles slot) (either (is_own own place) [])
+    sym (all-quiet (λ place slot. slot_heard table now rows (handles_for own [] [] place) slot)
+    (λ place slot idle. ap (λ (handles : List Handle). slot_heard table now rows handles slot) (either (is_own_place own place) [])
     ∙ quiet-slot table now rows slot idle)
     0 slots none)
 
@@ -132,24 +132,24 @@ unasked attributes standing handle =
       | Some attr ↦ and_right (is_value attr.role) (may_hear_of attr.guard 0 standing) (unasked-of attr.guard standing)
     ]
 
-none-in-force : (bond : Option Row) (kept : Kept) → (is_some kept.link.key || not (length kept.row == 0)) ≡ false → row_in_force bond kept ≡ []
-none-in-force bond kept none =
-    let parts = both-none (is_some kept.link.key) (not (length kept.row == 0)) none in
-    ap (λ (has : Bool). row_by_key has bond kept.row) parts.0 ∙ none_there kept.row (turned (length kept.row == 0) parts.1)
+none-in-force : (bond : Option Row) (slot_state : SlotState) → (is_some slot_state.link.key || not (length slot_state.row == 0)) ≡ false → slot_row_in_force bond slot_state ≡ []
+none-in-force bond slot_state none =
+    let parts = both-none (is_some slot_state.link.key) (not (length slot_state.row == 0)) none in
+    ap (λ (has : Bool). row_by_key has bond slot_state.row) parts.0 ∙ none_there slot_state.row (turned (length slot_state.row == 0) parts.1)
   where
     turned : (is : Bool) → not is ≡ false → is ≡ true
     turned true e = refl
     turned false e = cc e
 
-pub unlistening : (table : Contents) (now : ℕ) (rows : Subscriptions) (handle : Handle) (slot : Option Kept) → may_listen slot ≡ false
-    → raised_by table now rows handle slot ≡ slot
+pub unlistening : (table : Contents) (now : ℕ) (rows : Subscriptions) (handle : Handle) (slot : Option SlotState) → may_listen slot ≡ false
+    → slot_notified table now rows handle slot ≡ slot
 unlistening table now rows handle None deaf = refl
-unlistening table now rows handle (Some kept) deaf =
-    let ear : Ear = ear_of now (row_of rows kept.peer) kept in
-    elim kept.live as (λ (live : Bool). (live && (is_some kept.link.key || not (length kept.row == 0))) ≡ false
-    → Some (if live then with_told kept (told_raised table ear handle (told_of kept)) else kept) ≡ Some kept) [
-      | true ↦ λ none. ap (λ (told : Told). Some (with_told kept told)) (unheard-raised table ear handle (told_of kept)
-          (ap (λ (row : Row). may_hear_at table.attributes row ear.standing handle) (none-in-force (row_of rows kept.peer) kept none)
+unlistening table now rows handle (Some slot_state) deaf =
+    let ear : HearerFacts = hearer_facts_of now (row_of rows slot_state.peer) slot_state in
+    elim slot_state.live as (λ (live : Bool). (live && (is_some slot_state.link.key || not (length slot_state.row == 0))) ≡ false
+    → Some (if live then with_delivery slot_state (delivery_when_notifying table ear handle (delivery_of slot_state)) else slot_state) ≡ Some slot_state) [
+      | true ↦ λ none. ap (λ (told : Delivery). Some (with_delivery slot_state told)) (unheard-raised table ear handle (delivery_of slot_state)
+          (ap (λ (row : Row). may_hear_at table.attributes row ear.standing handle) (none-in-force (row_of rows slot_state.peer) slot_state none)
           ∙ unasked table.attributes ear.standing handle))
       | false ↦ λ none. refl
     ] deaf

@@ -7,16 +7,16 @@ use Rattle.att_pdu.specs.Grammar.{request_of}
 use Rattle.att_table.specs.ConfigRow.{IsRowOf}
 use Rattle.att_table.specs.Table.{Contents}
 use Rattle.gatt_conn.specs.Answer.{Question, answer_to, conn_after, stored_by, is_confirmation}
-use Rattle.gatt_conn.specs.Connection.{Connection}
-use Rattle.gatt_laws.specs.machine.Turn.{remote_user_terminated}
-use Rattle.gatt_laws.specs.machine.Part.{KeyReply}
+use Rattle.gatt_conn.specs.Connection.{Bearer}
+use Rattle.gatt_laws.specs.machine.Effect.{remote_user_terminated}
+use Rattle.gatt_laws.specs.machine.ConnectionState.{KeyReply}
 use Rattle.gatt_slots.specs.declared.slot.Use.{Use}
 use Rattle.gatt_slots.specs.declared.slot.Use.TheVariants.{Free, Live, Ending}
-use Rattle.gatt_slots.specs.Hearing.{row_by_key, row_in_force}
-use Rattle.gatt_slots.specs.Kept.{Kept, connection_of}
-use Rattle.gatt_slots.specs.Request.{with_answer, is_full, stored_of, bond_after, bond_served, confirms_changes, kept_served, own_row_after, pending_after, with_owed_after}
-use Rattle.gatt_slots.specs.Turn.{after_ending}
-use Rattle.gatt_slots.specs.Use.{kept_fields, kept_where}
+use Rattle.gatt_slots.specs.Hearing.{row_by_key, slot_row_in_force}
+use Rattle.gatt_slots.specs.SlotState.{SlotState, slot_bearer}
+use Rattle.gatt_slots.specs.Request.{with_response, overflows, stored_of, bond_after, bond_served, confirms_changes, slot_after_request, slot_row_after, pending_after, with_owed_after}
+use Rattle.gatt_slots.specs.SlotEffects.{slot_after_ending}
+use Rattle.gatt_slots.specs.Use.{slot_state_from, slot_state_where}
 use Rattle.gatt_slots.proofs.Bonds.{changes-as, changes-twice}
 use Rattle.gatt_subs.specs.declared.bond.Bond.{Bond}
 use Rattle.gatt_subs.specs.Indications.{Indications, after_confirmation, is_told}
@@ -28,54 +28,54 @@ use Rattle.le_security.specs.Link.{Linking}
 use Rattle.octets.specs.Number.{Octets}
 
 module _ (table : Contents) (now : ℕ) (changer : Option Handle) (pdu : Octets) (old mid new : Subscriptions) where
-  in-turn : (kept : Kept) → is_full pdu kept ≡ false
-      → ChangesBond (bond_after (is_some kept.link.key) (stored_of table now (row_of old kept.peer) pdu kept).row) kept.peer old mid
-      → ChangesBond (with_owed_after (confirms_changes changer pdu kept)) kept.peer mid new
-      → ChangesBond (bond_served table now changer (row_of old kept.peer) pdu kept) kept.peer old new
-  in-turn kept spare first second =
-      let confirmed = with_owed_after (confirms_changes changer pdu kept) in
-      let stored = bond_after (is_some kept.link.key) (stored_of table now (row_of old kept.peer) pdu kept).row in
-      changes-as (λ (bond : Bond). confirmed (stored bond)) (bond_served table now changer (row_of old kept.peer) pdu kept) kept.peer old new
+  in-turn : (slot_state : SlotState) → overflows pdu slot_state ≡ false
+      → ChangesBond (bond_after (is_some slot_state.link.key) (stored_of table now (row_of old slot_state.peer) pdu slot_state).row) slot_state.peer old mid
+      → ChangesBond (with_owed_after (confirms_changes changer pdu slot_state)) slot_state.peer mid new
+      → ChangesBond (bond_served table now changer (row_of old slot_state.peer) pdu slot_state) slot_state.peer old new
+  in-turn slot_state spare first second =
+      let confirmed = with_owed_after (confirms_changes changer pdu slot_state) in
+      let stored = bond_after (is_some slot_state.link.key) (stored_of table now (row_of old slot_state.peer) pdu slot_state).row in
+      changes-as (λ (bond : Bond). confirmed (stored bond)) (bond_served table now changer (row_of old slot_state.peer) pdu slot_state) slot_state.peer old new
       (λ bond. sym (ap (λ (test : Bool). if test then bond else confirmed (stored bond)) spare))
-      (changes-twice stored confirmed kept.peer old mid new first second)
+      (changes-twice stored confirmed slot_state.peer old mid new first second)
 
   -- whether a slot serves or is ending makes no difference
-  module _ (handle : ℕ) (peer : Peer) (key_known : Bool) (until : ℕ) (row : Row) (link : Linking) (conn : Connection) (pending : Indications)
+  module _ (handle : ℕ) (peer : Peer) (key_known : Bool) (until : ℕ) (row : Row) (link : Linking) (conn : Bearer) (pending : Indications)
       (sender : Sending) (reply : Option KeyReply) (reason : Option ℕ) where
-    abbrev kept_as : Bool → Kept
-    kept_as live = kept_fields live handle peer key_known until row link conn pending sender reply reason
+    abbrev kept_as : Bool → SlotState
+    kept_as live = slot_state_from live handle peer key_known until row link conn pending sender reply reason
 
-    stands-so : (used : Use) → is_full pdu (kept_as true) ≡ false
+    stands-so : (used : Use) → overflows pdu (kept_as true) ≡ false
         → ChangesBond (bond_after (is_some link.key) (stored_of table now (row_of old peer) pdu (kept_as true)).row) peer old mid
         → ChangesBond (with_owed_after (confirms_changes changer pdu (kept_as true))) peer mid new
-        → IfSome (kept_where used handle peer key_known until row link conn pending sender reply reason)
-        (λ kept. ChangesBond (bond_served table now changer (row_of old kept.peer) pdu kept) kept.peer old new)
+        → IfSome (slot_state_where used handle peer key_known until row link conn pending sender reply reason)
+        (λ slot_state. ChangesBond (bond_served table now changer (row_of old slot_state.peer) pdu slot_state) slot_state.peer old new)
     stands-so Free spare first second = tt
     stands-so Live spare first second = in-turn (kept_as true) spare first second
     stands-so Ending spare first second = in-turn (kept_as false) spare first second
 
     -- as the calls have it
-    pub bond_of_served : (used : Use) (has_key knows : Bool) (stood : Connection) (told : Bool) → is_full pdu (kept_as true) ≡ false
-        → has_key ≡ is_some link.key → stood ≡ connection_of now (kept_as true) → told ≡ is_confirmation pdu
+    pub bond_of_served : (used : Use) (has_key knows : Bool) (stood : Bearer) (told : Bool) → overflows pdu (kept_as true) ≡ false
+        → has_key ≡ is_some link.key → stood ≡ slot_bearer now (kept_as true) → told ≡ is_confirmation pdu
         → knows ≡ (is_some link.key && option_map_or (is_told pending) changer false)
         → ChangesBond (bond_after has_key (stored_by table (row_by_key has_key (row_of old peer) row) stood (request_of pdu stood.mtu)).row) peer old mid
         → ChangesBond (with_owed_after (told && knows)) peer mid new
-        → IfSome (kept_where used handle peer key_known until row link conn pending sender reply reason)
-        (λ kept. ChangesBond (bond_served table now changer (row_of old kept.peer) pdu kept) kept.peer old new)
+        → IfSome (slot_state_where used handle peer key_known until row link conn pending sender reply reason)
+        (λ slot_state. ChangesBond (bond_served table now changer (row_of old slot_state.peer) pdu slot_state) slot_state.peer old new)
     bond_of_served used has_key knows stood told spare key stands tells knows-is first second =
         stands-so used spare
         (subst (λ (has : Bool). ChangesBond (bond_after has (stored_by table (row_by_key has (row_of old peer) row)
-        (connection_of now (kept_as true)) (request_of pdu conn.mtu)).row) peer old mid) key
-        (subst (λ (by : Connection). ChangesBond (bond_after has_key (stored_by table (row_by_key has_key (row_of old peer) row)
+        (slot_bearer now (kept_as true)) (request_of pdu conn.mtu)).row) peer old mid) key
+        (subst (λ (by : Bearer). ChangesBond (bond_after has_key (stored_by table (row_by_key has_key (row_of old peer) row)
         by (request_of pdu by.mtu)).row) peer old mid) stands first))
         (subst (λ (it : Bool). ChangesBond (with_owed_after (it && (is_some link.key && option_map_or (is_told pending) changer false))) peer mid new) tells
         (subst (λ (it : Bool). ChangesBond (with_owed_after (told && it)) peer mid new) knows-is second))
 
     -- a slot that is not free has a row in force
     pub row_of_table : (used : Use) (has_key : Bool) → has_key ≡ is_some link.key
-        → IsSome (kept_where used handle peer key_known until row link conn pending sender reply reason)
-        → IfSome (kept_where used handle peer key_known until row link conn pending sender reply reason)
-        (λ kept. IsRowOf table.attributes (row_in_force (row_of old kept.peer) kept))
+        → IsSome (slot_state_where used handle peer key_known until row link conn pending sender reply reason)
+        → IfSome (slot_state_where used handle peer key_known until row link conn pending sender reply reason)
+        (λ slot_state. IsRowOf table.attributes (slot_row_in_force (row_of old slot_state.peer) slot_state))
         → IsRowOf table.attributes (row_by_key has_key (row_of old peer) row)
     row_of_table Free has_key key there of = cc there
     row_of_table Live has_key key there of =
@@ -84,29 +84,29 @@ module _ (table : Contents) (now : ℕ) (changer : Option Handle) (pdu : Octets)
         subst (λ (has : Bool). IsRowOf table.attributes (row_by_key has (row_of old peer) row)) (sym key) of
 
     -- what the fields of a slot keep is what serving leaves
-    pub kept_after_serving : (used : Use) (has_key told : Bool) (stood : Connection) (row-then : Row) (conn-then : Connection) (pending-then : Indications) (sender-then : Sending)
-        → is_full pdu (kept_as true) ≡ false → has_key ≡ is_some link.key → stood ≡ connection_of now (kept_as true) → told ≡ is_confirmation pdu
-        → row-then ≡ own_row_after has_key (row_of old peer) row (stored_by table (row_by_key has_key (row_of old peer) row) stood (request_of pdu stood.mtu)).row
+    pub kept_after_serving : (used : Use) (has_key told : Bool) (stood : Bearer) (row-then : Row) (conn-then : Bearer) (pending-then : Indications) (sender-then : Sending)
+        → overflows pdu (kept_as true) ≡ false → has_key ≡ is_some link.key → stood ≡ slot_bearer now (kept_as true) → told ≡ is_confirmation pdu
+        → row-then ≡ slot_row_after has_key (row_of old peer) row (stored_by table (row_by_key has_key (row_of old peer) row) stood (request_of pdu stood.mtu)).row
         → conn-then ≡ conn_after table.attributes stood (request_of pdu stood.mtu)
         → pending-then ≡ (if told then after_confirmation pending else pending)
-        → sender-then.outgoing ≡ with_answer sender.outgoing (answer_to table (row_by_key has_key (row_of old peer) row) stood (request_of pdu stood.mtu))
-        → kept_where used handle peer key_known until row-then link conn-then pending-then sender-then reply reason
-        ≡ option_map (λ kept. kept_served table now (row_of old kept.peer) pdu kept) (kept_where used handle peer key_known until row link conn pending sender reply reason)
+        → sender-then.outgoing ≡ with_response sender.outgoing (answer_to table (row_by_key has_key (row_of old peer) row) stood (request_of pdu stood.mtu))
+        → slot_state_where used handle peer key_known until row-then link conn-then pending-then sender-then reply reason
+        ≡ option_map (λ slot_state. slot_after_request table now (row_of old slot_state.peer) pdu slot_state) (slot_state_where used handle peer key_known until row link conn pending sender reply reason)
     kept_after_serving used has_key told stood row-then conn-then pending-then sender-then spare key stands tells row-is conn-is pending-is sender-is =
-        elim used as (λ used. kept_where used handle peer key_known until row-then link conn-then pending-then sender-then reply reason
-        ≡ option_map (λ kept. kept_served table now (row_of old kept.peer) pdu kept) (kept_where used handle peer key_known until row link conn pending sender reply reason)) [
+        elim used as (λ used. slot_state_where used handle peer key_known until row-then link conn-then pending-then sender-then reply reason
+        ≡ option_map (λ slot_state. slot_after_request table now (row_of old slot_state.peer) pdu slot_state) (slot_state_where used handle peer key_known until row link conn pending sender reply reason)) [
           | Free ↦ refl
-          | Live ↦ ap (λ (kept : Kept). Some kept) (serves true ∙ not-full true)
-          | Ending ↦ ap (λ (kept : Kept). Some kept) (serves false ∙ not-full false)
+          | Live ↦ ap (λ (slot_state : SlotState). Some slot_state) (serves true ∙ not-full true)
+          | Ending ↦ ap (λ (slot_state : SlotState). Some slot_state) (serves false ∙ not-full false)
         ]
       where
         force : Bool → Row
         force has = row_by_key has (row_of old peer) row
 
-        asks : Connection → Question
+        asks : Bearer → Question
         asks by = request_of pdu by.mtu
 
-        final : Bool → Row → Connection → Indications → Outgoing → Kept
+        final : Bool → Row → Bearer → Indications → Outgoing → SlotState
         final live row' conn' pending' outgoing' = record {
           live = live;
           handle = handle;
@@ -125,12 +125,12 @@ module _ (table : Contents) (now : ℕ) (changer : Option Handle) (pdu : Octets)
           reason = reason;
         }
 
-        stood' : Connection
-        stood' = connection_of now (kept_as true)
+        stood' : Bearer
+        stood' = slot_bearer now (kept_as true)
 
-        row-path : row-then ≡ own_row_after (is_some link.key) (row_of old peer) row (stored_by table (force (is_some link.key)) stood' (asks stood')).row
+        row-path : row-then ≡ slot_row_after (is_some link.key) (row_of old peer) row (stored_by table (force (is_some link.key)) stood' (asks stood')).row
         row-path =
-            row-is ∙ (λ i. own_row_after (key i) (row_of old peer) row (stored_by table (force (key i)) (stands i) (asks (stands i))).row)
+            row-is ∙ (λ i. slot_row_after (key i) (row_of old peer) row (stored_by table (force (key i)) (stands i) (asks (stands i))).row)
 
         conn-path : conn-then ≡ conn_after table.attributes stood' (asks stood')
         conn-path = conn-is ∙ (λ i. conn_after table.attributes (stands i) (asks (stands i)))
@@ -138,20 +138,20 @@ module _ (table : Contents) (now : ℕ) (changer : Option Handle) (pdu : Octets)
         pending-path : pending-then ≡ pending_after pdu pending
         pending-path = pending-is ∙ (λ i. if tells i then after_confirmation pending else pending)
 
-        sender-path : sender-then.outgoing ≡ with_answer sender.outgoing (answer_to table (force (is_some link.key)) stood' (asks stood'))
-        sender-path = sender-is ∙ (λ i. with_answer sender.outgoing (answer_to table (force (key i)) (stands i) (asks (stands i))))
+        sender-path : sender-then.outgoing ≡ with_response sender.outgoing (answer_to table (force (is_some link.key)) stood' (asks stood'))
+        sender-path = sender-is ∙ (λ i. with_response sender.outgoing (answer_to table (force (key i)) (stands i) (asks (stands i))))
 
-        serves : (live : Bool) → kept_fields live handle peer key_known until row-then link conn-then pending-then sender-then reply reason
-            ≡ final live (own_row_after (is_some link.key) (row_of old peer) row (stored_by table (force (is_some link.key)) stood' (asks stood')).row)
+        serves : (live : Bool) → slot_state_from live handle peer key_known until row-then link conn-then pending-then sender-then reply reason
+            ≡ final live (slot_row_after (is_some link.key) (row_of old peer) row (stored_by table (force (is_some link.key)) stood' (asks stood')).row)
             (conn_after table.attributes stood' (asks stood')) (pending_after pdu pending)
-            (with_answer sender.outgoing (answer_to table (force (is_some link.key)) stood' (asks stood')))
+            (with_response sender.outgoing (answer_to table (force (is_some link.key)) stood' (asks stood')))
         serves live = λ i. final live (row-path i) (conn-path i) (pending-path i) (sender-path i)
 
-        not-full : (live : Bool) → final live (own_row_after (is_some link.key) (row_of old peer) row (stored_by table (force (is_some link.key)) stood' (asks stood')).row)
+        not-full : (live : Bool) → final live (slot_row_after (is_some link.key) (row_of old peer) row (stored_by table (force (is_some link.key)) stood' (asks stood')).row)
             (conn_after table.attributes stood' (asks stood')) (pending_after pdu pending)
-            (with_answer sender.outgoing (answer_to table (force (is_some link.key)) stood' (asks stood')))
-            ≡ kept_served table now (row_of old peer) pdu (kept_as live)
-        not-full live = sym (ap (λ (test : Bool). if test then after_ending remote_user_terminated (kept_as live) else
-            final live (own_row_after (is_some link.key) (row_of old peer) row (stored_by table (force (is_some link.key)) stood' (asks stood')).row)
+            (with_response sender.outgoing (answer_to table (force (is_some link.key)) stood' (asks stood')))
+            ≡ slot_after_request table now (row_of old peer) pdu (kept_as live)
+        not-full live = sym (ap (λ (test : Bool). if test then slot_after_ending remote_user_terminated (kept_as live) else
+            final live (slot_row_after (is_some link.key) (row_of old peer) row (stored_by table (force (is_some link.key)) stood' (asks stood')).row)
             (conn_after table.attributes stood' (asks stood')) (pending_after pdu pending)
-            (with_answer sender.outgoing (answer_to table (force (is_some link.key)) stood' (asks stood')))) spare)
+            (with_response sender.outgoing (answer_to table (force (is_some link.key)) stood' (asks stood')))) spare)

@@ -2,29 +2,29 @@
 use Rattle.std.specs.Prelude.{Bool, false, is_some, if◌then◌else◌, Option, Some, None}
 use Rattle.std.specs.Option.{option_map, option_map_or}
 use Rattle.gatt_laws.specs.machine.Controller.{disconnect_or, reply_due}
-use Rattle.gatt_slots.specs.Kept.{Kept}
+use Rattle.gatt_slots.specs.SlotState.{SlotState}
 use Rattle.le_acl.specs.Outgoing.{acl_octets, after_next, may_give, next_of}
 use Rattle.le_hci.specs.Command.{Commanded}
 use Rattle.octets.specs.Number.{Octets}
 
 -- a Disconnect, else the reply to the request for its key
-abbrev pub command_due : Option Kept → Option Commanded
+abbrev pub command_due : Option SlotState → Option Commanded
 command_due None = None
-command_due (Some kept) = disconnect_or kept.handle kept.reason (reply_due kept.handle kept.reply)
+command_due (Some slot_state) = disconnect_or slot_state.handle slot_state.reason (reply_due slot_state.handle slot_state.reply)
 
-abbrev pub has_command : Option Kept → Bool
+abbrev pub has_command : Option SlotState → Bool
 has_command slot = is_some (command_due slot)
 
 -- once it is sent
-abbrev pub without_command : Kept → Kept
-without_command kept = if is_some kept.reason then record kept { reason = None } else record kept { reply = None }
+abbrev pub slot_without_command : SlotState → SlotState
+slot_without_command slot_state = if is_some slot_state.reason then record slot_state { reason = None } else record slot_state { reply = None }
 
 -- a packet is given
-abbrev pub gives : Option Kept → Bool
-gives slot = option_map_or (λ (kept : Kept). may_give kept.outgoing) slot false
+abbrev pub gives : Option SlotState → Bool
+gives slot = option_map_or (λ (slot_state : SlotState). may_give slot_state.outgoing) slot false
 
-abbrev pub packet_of : Kept → Option Octets
-packet_of kept = option_map (acl_octets kept.handle) (next_of kept.outgoing.queue)
+abbrev pub slot_packet : SlotState → Option Octets
+slot_packet slot_state = option_map (acl_octets slot_state.handle) (next_of slot_state.outgoing.queue)
 
-abbrev pub without_packet : Kept → Kept
-without_packet kept = record kept { outgoing = after_next kept.outgoing }
+abbrev pub slot_without_packet : SlotState → SlotState
+slot_without_packet slot_state = record slot_state { outgoing = after_next slot_state.outgoing }

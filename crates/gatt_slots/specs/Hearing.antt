@@ -3,38 +3,38 @@ use Rattle.std.specs.Prelude.{ℕ, Bool, true, is_some, if◌then◌else◌, unw
 use Rattle.att_numbers.specs.Types.{Handle, Mtu, Row}
 use Rattle.att_policy.specs.declared.standing.Standing.{Standing}
 use Rattle.att_table.specs.Table.{Contents}
-use Rattle.gatt_laws.specs.machine.Heard.{Heard, att_pdu, heard_raised, heard_released}
-use Rattle.gatt_slots.specs.Kept.{Kept, standing_of}
+use Rattle.gatt_laws.specs.machine.Heard.{Heard, att_pdu, heard_when_notifying, heard_when_indicating}
+use Rattle.gatt_slots.specs.SlotState.{SlotState, slot_standing}
 use Rattle.gatt_subs.specs.Indications.{Indications}
 use Rattle.gatt_subs.specs.Told.{Hearer}
 use Rattle.le_acl.specs.Outgoing.{Outgoing, with_pdu}
 use Rattle.le_acl.specs.Packets.{Pdu}
 
 -- PDUs are queued one behind the other
-abbrev pub with_pdus : Outgoing → List Pdu → Outgoing
-with_pdus outgoing [] = outgoing
-with_pdus outgoing (pdu ∷ pdus) = with_pdus (with_pdu outgoing pdu) pdus
+abbrev pub with_pdus_queued : Outgoing → List Pdu → Outgoing
+with_pdus_queued outgoing [] = outgoing
+with_pdus_queued outgoing (pdu ∷ pdus) = with_pdus_queued (with_pdu outgoing pdu) pdus
 
 -- the row in force: where the link has a key that of the peer's bond, if it has one, else the connection's own
 abbrev pub row_by_key : Bool → Option Row → Row → Row
 row_by_key has_key bond own = if has_key then unwrap_or bond own else own
 
-abbrev pub row_in_force : Option Row → Kept → Row
-row_in_force bond kept = row_by_key (is_some kept.link.key) bond kept.row
+abbrev pub slot_row_in_force : Option Row → SlotState → Row
+slot_row_in_force bond slot_state = row_by_key (is_some slot_state.link.key) bond slot_state.row
 
 -- by what a connection hears: what it has configured, what the policy sees of it, and its ATT_MTU
-pub record Ear : Type 0 where
+pub record HearerFacts : Type 0 where
   pub row : Row
   pub standing : Standing
   pub mtu : Mtu
 
 -- what it is told changes its indications, and what goes out
-pub record Told : Type 0 where
+pub record Delivery : Type 0 where
   pub pending : Indications
   pub outgoing : Outgoing
 
-abbrev pub hearer_of : Ear → Told → Hearer
-hearer_of ear told = record {
+abbrev pub slot_hearer : HearerFacts → Delivery → Hearer
+slot_hearer ear told = record {
   live = true;
   standing = ear.standing;
   row = ear.row;
@@ -43,35 +43,35 @@ hearer_of ear told = record {
   pending = told.pending;
 }
 
-abbrev pub with_heard : Told → Heard → Told
-with_heard told heard = record { pending = heard.pending; outgoing = with_pdus told.outgoing (map att_pdu heard.responses) }
+abbrev pub delivery_with_heard : Delivery → Heard → Delivery
+delivery_with_heard told heard = record { pending = heard.pending; outgoing = with_pdus_queued told.outgoing (map att_pdu heard.responses) }
 
-abbrev pub told_raised : Contents → Ear → Handle → Told → Told
-told_raised table ear handle told = with_heard told (heard_raised table.attributes table.values (hearer_of ear told) handle)
+abbrev pub delivery_when_notifying : Contents → HearerFacts → Handle → Delivery → Delivery
+delivery_when_notifying table ear handle told = delivery_with_heard told (heard_when_notifying table.attributes table.values (slot_hearer ear told) handle)
 
-abbrev pub told_released : Contents → Ear → ℕ → Told → Told
-told_released table ear now told = with_heard told (heard_released table.attributes table.values (hearer_of ear told) now)
+abbrev pub delivery_when_indicating : Contents → HearerFacts → ℕ → Delivery → Delivery
+delivery_when_indicating table ear now told = delivery_with_heard told (heard_when_indicating table.attributes table.values (slot_hearer ear told) now)
 
--- values are raised in their order, and then what is due is released
-abbrev pub told_in_turn : Contents → Ear → ℕ → List Handle → Told → Told
-told_in_turn table ear now [] told = told_released table ear now told
-told_in_turn table ear now (handle ∷ handles) told = told_in_turn table ear now handles (told_raised table ear handle told)
+-- values are notified in their order, and then what is due is indicated
+abbrev pub delivery_in_turn : Contents → HearerFacts → ℕ → List Handle → Delivery → Delivery
+delivery_in_turn table ear now [] told = delivery_when_indicating table ear now told
+delivery_in_turn table ear now (handle ∷ handles) told = delivery_in_turn table ear now handles (delivery_when_notifying table ear handle told)
 
 -- what a slot keeps then: of a connection that is ending the same as before
-abbrev pub ear_of : ℕ → Option Row → Kept → Ear
-ear_of now bond kept = record { row = row_in_force bond kept; standing = standing_of now kept; mtu = kept.mtu }
+abbrev pub hearer_facts_of : ℕ → Option Row → SlotState → HearerFacts
+hearer_facts_of now bond slot_state = record { row = slot_row_in_force bond slot_state; standing = slot_standing now slot_state; mtu = slot_state.mtu }
 
-abbrev pub told_of : Kept → Told
-told_of kept = record { pending = kept.pending; outgoing = kept.outgoing }
+abbrev pub delivery_of : SlotState → Delivery
+delivery_of slot_state = record { pending = slot_state.pending; outgoing = slot_state.outgoing }
 
-abbrev pub with_told : Kept → Told → Kept
-with_told kept told = record kept { pending = told.pending; outgoing = told.outgoing }
+abbrev pub with_delivery : SlotState → Delivery → SlotState
+with_delivery slot_state told = record slot_state { pending = told.pending; outgoing = told.outgoing }
 
-abbrev pub after_hearing : Contents → ℕ → Option Row → List Handle → Kept → Kept
-after_hearing table now bond handles kept =
-    if kept.live then with_told kept (told_in_turn table (ear_of now bond kept) now handles (told_of kept)) else kept
+abbrev pub slot_after_hearing : Contents → ℕ → Option Row → List Handle → SlotState → SlotState
+slot_after_hearing table now bond handles slot_state =
+    if slot_state.live then with_delivery slot_state (delivery_in_turn table (hearer_facts_of now bond slot_state) now handles (delivery_of slot_state)) else slot_state
 
--- and where one value is raised for it, before what is due is released
-abbrev pub after_raising : Contents → ℕ → Option Row → Handle → Kept → Kept
-after_raising table now bond handle kept =
-    if kept.live then with_told kept (told_raised table (ear_of now bond kept) handle (told_of kept)) else kept
+-- and where one value is notified to it, before what is due is indicated
+abbrev pub slot_after_notifying : Contents → ℕ → Option Row → Handle → SlotState → SlotState
+slot_after_notifying table now bond handle slot_state =
+    if slot_state.live then with_delivery slot_state (delivery_when_notifying table (hearer_facts_of now bond slot_state) handle (delivery_of slot_state)) else slot_state

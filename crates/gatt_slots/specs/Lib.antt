@@ -1,8 +1,8 @@
-pub mod Kept
+pub mod SlotState
 pub mod Use
 pub mod Commands
 pub mod Hearing
-pub mod Turn
+pub mod SlotEffects
 pub mod Request
 pub mod Slots
 pub mod Places

@@ -8,20 +8,20 @@ use Rattle.gatt_slots.specs.declared.marks.Marks.{Marks}
 use Rattle.gatt_slots.specs.declared.telling.Heard.{Heard}
 use Rattle.gatt_slots.specs.declared.places.Due.{Due}
 use Rattle.gatt_slots.specs.declared.places.Due.TheVariants.{Command, Packet, Value}
-use Rattle.gatt_slots.specs.Kept.{Kept}
-use Rattle.gatt_slots.specs.Slots.{Held, kept_at}
+use Rattle.gatt_slots.specs.SlotState.{SlotState}
+use Rattle.gatt_slots.specs.Slots.{SlotStates, slot_state_at}
 use Rattle.gatt_laws.specs.declared.TheConstants.{MAX_SLOTS}
 
 -- the connection of a slot may hear of values: its link has a key, so that the row of its peer's bond is in force, or it
 -- has configured something itself
-abbrev pub may_listen : Option Kept → Bool
-may_listen slot = option_map_or (λ (kept : Kept). kept.live && (is_some kept.link.key || not (length kept.row == 0))) slot false
+abbrev pub may_listen : Option SlotState → Bool
+may_listen slot = option_map_or (λ (slot_state : SlotState). slot_state.live && (is_some slot_state.link.key || not (length slot_state.row == 0))) slot false
 
 -- a command is due for the connection of a slot, a packet of it may be given, or it may hear of a value that is written
-abbrev pub is_due : Due → Option Kept → Bool
-is_due Command slot = has_command slot
-is_due Packet slot = gives slot
-is_due Value slot = may_listen slot
+abbrev pub is_slot_due : Due → Option SlotState → Bool
+is_slot_due Command slot = has_command slot
+is_slot_due Packet slot = gives slot
+is_slot_due Value slot = may_listen slot
 
 -- the first place of a set
 pub record IsFirstPlace (set place : ℕ) : Type 0 where
@@ -30,19 +30,19 @@ pub record IsFirstPlace (set place : ℕ) : Type 0 where
   pub before : (other : ℕ) → other < place → bit_at set other ≡ 0
 
 -- the set has each place at which something is due
-abbrev pub Covers : Due → ℕ → Held → Type 0
-Covers due set slots = (place : ℕ) → is_due due (kept_at slots place) ≡ true → bit_at set place ≡ 1
+abbrev pub Covers : Due → ℕ → SlotStates → Type 0
+Covers due set slots = (place : ℕ) → is_slot_due due (slot_state_at slots place) ≡ true → bit_at set place ≡ 1
 
 -- a value waits to be indicated to the connection of a slot
 abbrev pub is_some_handle : List ℕ → Bool
 is_some_handle [] = false
 is_some_handle (handle ∷ handles) = true
 
-abbrev pub waits : Option Kept → Bool
-waits slot = option_map_or (λ (kept : Kept). is_some_handle kept.pending.waiting) slot false
+abbrev pub waits : Option SlotState → Bool
+waits slot = option_map_or (λ (slot_state : SlotState). is_some_handle slot_state.pending.waiting) slot false
 
 -- nothing is due or heard, waits or is free but where it is marked
-pub record IsMarked (slots : Held) (marks : Marks) : Type 0 where
+pub record IsMarked (slots : SlotStates) (marks : Marks) : Type 0 where
   pub few : length slots ≤ MAX_SLOTS
   pub commands : Covers Command marks.commands.bits slots
   pub packets : Covers Packet marks.packets.bits slots
@@ -51,12 +51,12 @@ pub record IsMarked (slots : Held) (marks : Marks) : Type 0 where
   pub free : marks.free ≡ false → list_any (λ slot. is_none slot) slots ≡ false
 
 -- the same of what connections hear: packets, and values that wait
-pub record CoversHeard (slots : Held) (heard : Heard) : Type 0 where
+pub record CoversHeard (slots : SlotStates) (heard : Heard) : Type 0 where
   pub packets : Covers Packet heard.packets.bits slots
   pub waiting : heard.waiting ≡ false → list_any waits slots ≡ false
 
 -- a connection goes on: its slot is not freed, no command is due that was not, and nothing waits that did not wait
-pub record GoesOn (old new : Option Kept) : Type 0 where
+pub record WaitsForNothingNew (old new : Option SlotState) : Type 0 where
   pub command : has_command new ≡ true → has_command old ≡ true
   pub waiting : waits new ≡ true → waits old ≡ true
   pub free : is_none new ≡ true → is_none old ≡ true

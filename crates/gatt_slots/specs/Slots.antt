@@ -5,9 +5,9 @@ use Rattle.std.specs.Option.{option_map, option_map_or}
 use Rattle.att_numbers.specs.Types.{Handle, Row}
 use Rattle.att_attributes.specs.declared.attr.Attr.{Attr}
 use Rattle.att_table.specs.Table.{Contents}
-use Rattle.gatt_slots.specs.Hearing.{after_hearing, after_raising, row_in_force}
-use Rattle.gatt_slots.specs.Kept.{Kept}
-use Rattle.gatt_slots.specs.Turn.{after_completed, after_table, after_time}
+use Rattle.gatt_slots.specs.Hearing.{slot_after_hearing, slot_after_notifying, slot_row_in_force}
+use Rattle.gatt_slots.specs.SlotState.{SlotState}
+use Rattle.gatt_slots.specs.SlotEffects.{slot_after_packets_completed, after_table, after_time}
 use Rattle.gatt_subs.specs.Deadline.{deadline_of}
 use Rattle.gatt_subs.specs.Indications.{times_out}
 use Rattle.gatt_subs.specs.Rows.{Subscriptions, row_of}
@@ -18,114 +18,114 @@ abbrev pub Place : Type 0
 Place = ℕ
 
 -- what each slot keeps
-abbrev pub Held : Type 0
-Held = List (Option Kept)
+abbrev pub SlotStates : Type 0
+SlotStates = List (Option SlotState)
 
 -- the slot of a connection by its handle: of one that serves, and of one that may be ending
-abbrev pub is_serving : ℕ → Option Kept → Bool
-is_serving handle slot = option_map_or (λ (kept : Kept). kept.live && (kept.handle == handle)) slot false
+abbrev pub is_serving : ℕ → Option SlotState → Bool
+is_serving handle slot = option_map_or (λ (slot_state : SlotState). slot_state.live && (slot_state.handle == handle)) slot false
 
-abbrev pub is_holding : ℕ → Option Kept → Bool
-is_holding handle slot = option_map_or (λ (kept : Kept). kept.handle == handle) slot false
+abbrev pub is_holding : ℕ → Option SlotState → Bool
+is_holding handle slot = option_map_or (λ (slot_state : SlotState). slot_state.handle == handle) slot false
 
-abbrev pub place_serving : Held → ℕ → Option ℕ
+abbrev pub place_serving : SlotStates → ℕ → Option ℕ
 place_serving slots handle = position (is_serving handle) slots
 
-abbrev pub place_holding : Held → ℕ → Option ℕ
+abbrev pub place_holding : SlotStates → ℕ → Option ℕ
 place_holding slots handle = position (is_holding handle) slots
 
-abbrev pub place_free : Held → Option ℕ
+abbrev pub place_free : SlotStates → Option ℕ
 place_free slots = position is_none slots
 
 -- what the slot at a place keeps; a slot that is found is there, and is not free
-abbrev pub kept_at : Held → ℕ → Option Kept
-kept_at slots place = option_map_or (λ (slot : Option Kept). slot) (slice_get slots place) None
+abbrev pub slot_state_at : SlotStates → ℕ → Option SlotState
+slot_state_at slots place = option_map_or (λ (slot : Option SlotState). slot) (slice_get slots place) None
 
 -- something happens at a place, and to the connection of its slot
 abbrev pub at_place : {A : Type 0} → ℕ → (A → A) → List A → List A
 at_place place change xs = option_map_or (λ x. set xs place (change x)) (slice_get xs place) xs
 
-abbrev pub slots_at : ℕ → (Kept → Kept) → Held → Held
+abbrev pub slots_at : ℕ → (SlotState → SlotState) → SlotStates → SlotStates
 slots_at place change slots = at_place place (option_map change) slots
 
 -- the row in force of the connection of a slot: none where there is no connection
-abbrev pub row_there : Held → Subscriptions → ℕ → Row
-row_there slots rows place =
-    option_map_or (λ (kept : Kept). row_in_force (row_of rows kept.peer) kept) (kept_at slots place) []
+abbrev pub slot_row_at : SlotStates → Subscriptions → ℕ → Row
+slot_row_at slots rows place =
+    option_map_or (λ (slot_state : SlotState). slot_row_in_force (row_of rows slot_state.peer) slot_state) (slot_state_at slots place) []
 
-pub record IsThere (slots : Held) (place : ℕ) : Type 0 where
+pub record IsThere (slots : SlotStates) (place : ℕ) : Type 0 where
   pub within : place < length slots
-  pub kept : IsSome (kept_at slots place)
+  pub kept : IsSome (slot_state_at slots place)
 
 -- all hear at the end of an event: the one of the connection that it happened to of some values, and the others of others
-abbrev pub is_own : Option ℕ → ℕ → Bool
-is_own own place = option_map_or (λ (at : ℕ). at == place) own false
+abbrev pub is_own_place : Option ℕ → ℕ → Bool
+is_own_place own place = option_map_or (λ (at : ℕ). at == place) own false
 
 abbrev pub handles_for : Option ℕ → List Handle → List Handle → ℕ → List Handle
-handles_for own here handles place = if is_own own place then here else handles
+handles_for own here handles place = if is_own_place own place then here else handles
 
-abbrev pub heard_by : Contents → ℕ → Subscriptions → List Handle → Option Kept → Option Kept
-heard_by table now rows handles slot = option_map (λ (kept : Kept). after_hearing table now (row_of rows kept.peer) handles kept) slot
+abbrev pub slot_heard : Contents → ℕ → Subscriptions → List Handle → Option SlotState → Option SlotState
+slot_heard table now rows handles slot = option_map (λ (slot_state : SlotState). slot_after_hearing table now (row_of rows slot_state.peer) handles slot_state) slot
 
-abbrev pub heard_from : ℕ → (ℕ → Option Kept → Option Kept) → Held → Held
+abbrev pub heard_from : ℕ → (ℕ → Option SlotState → Option SlotState) → SlotStates → SlotStates
 heard_from place hear [] = []
 heard_from place hear (slot ∷ slots) = hear place slot ∷ heard_from (place + 1) hear slots
 
-abbrev pub all_heard : Contents → ℕ → Subscriptions → Option ℕ → List Handle → List Handle → Held → Held
+abbrev pub all_heard : Contents → ℕ → Subscriptions → Option ℕ → List Handle → List Handle → SlotStates → SlotStates
 all_heard table now rows own here handles slots =
-    heard_from 0 (λ place slot. heard_by table now rows (handles_for own here handles place) slot) slots
+    heard_from 0 (λ place slot. slot_heard table now rows (handles_for own here handles place) slot) slots
 
--- value by value: one is raised for the connection that it happened to, or for the others
-abbrev pub raised_by : Contents → ℕ → Subscriptions → Handle → Option Kept → Option Kept
-raised_by table now rows handle slot = option_map (λ (kept : Kept). after_raising table now (row_of rows kept.peer) handle kept) slot
+-- value by value: one is notified to the connection that it happened to, or for the others
+abbrev pub slot_notified : Contents → ℕ → Subscriptions → Handle → Option SlotState → Option SlotState
+slot_notified table now rows handle slot = option_map (λ (slot_state : SlotState). slot_after_notifying table now (row_of rows slot_state.peer) handle slot_state) slot
 
 abbrev pub is_among : Option ℕ → Bool → ℕ → Bool
-is_among own others place = if others then not (is_own own place) else is_own own place
+is_among own others place = if others then not (is_own_place own place) else is_own_place own place
 
-abbrev pub raised_at : Contents → ℕ → Subscriptions → Option ℕ → Bool → Handle → ℕ → Option Kept → Option Kept
-raised_at table now rows own others handle place slot = if is_among own others place then raised_by table now rows handle slot else slot
+abbrev pub slot_notified_at : Contents → ℕ → Subscriptions → Option ℕ → Bool → Handle → ℕ → Option SlotState → Option SlotState
+slot_notified_at table now rows own others handle place slot = if is_among own others place then slot_notified table now rows handle slot else slot
 
-abbrev pub all_raised : Contents → ℕ → Subscriptions → Option ℕ → Bool → Handle → Held → Held
-all_raised table now rows own others handle slots = heard_from 0 (λ place slot. raised_at table now rows own others handle place slot) slots
+abbrev pub all_notified : Contents → ℕ → Subscriptions → Option ℕ → Bool → Handle → SlotStates → SlotStates
+all_notified table now rows own others handle slots = heard_from 0 (λ place slot. slot_notified_at table now rows own others handle place slot) slots
 
-abbrev pub all_raised_in_turn : Contents → ℕ → Subscriptions → Option ℕ → Bool → List Handle → Held → Held
-all_raised_in_turn table now rows own others [] slots = slots
-all_raised_in_turn table now rows own others (handle ∷ handles) slots =
-    all_raised_in_turn table now rows own others handles (all_raised table now rows own others handle slots)
+abbrev pub all_notified_in_turn : Contents → ℕ → Subscriptions → Option ℕ → Bool → List Handle → SlotStates → SlotStates
+all_notified_in_turn table now rows own others [] slots = slots
+all_notified_in_turn table now rows own others (handle ∷ handles) slots =
+    all_notified_in_turn table now rows own others handles (all_notified table now rows own others handle slots)
 
 -- the handles of the connections that are timed out at a moment, in the order of their slots
-abbrev pub late_handle : ℕ → Kept → List ℕ
-late_handle now kept = if times_out kept.pending now then kept.handle ∷ [] else []
+abbrev pub late_handle : ℕ → SlotState → List ℕ
+late_handle now slot_state = if times_out slot_state.pending now then slot_state.handle ∷ [] else []
 
-abbrev pub late_handles : ℕ → Held → List ℕ
-late_handles now slots = flat_map (λ (slot : Option Kept). option_map_or (late_handle now) slot []) slots
+abbrev pub late_handles : ℕ → SlotStates → List ℕ
+late_handles now slots = flat_map (λ (slot : Option SlotState). option_map_or (late_handle now) slot []) slots
 
 -- when the first indication of a connection is late
-abbrev pub kept_deadline : Option Kept → Option ℕ
-kept_deadline None = None
-kept_deadline (Some kept) = deadline_of kept.pending
+abbrev pub slot_state_deadline : Option SlotState → Option ℕ
+slot_state_deadline None = None
+slot_state_deadline (Some slot_state) = deadline_of slot_state.pending
 
-abbrev pub slots_deadline : Held → Option ℕ
-slots_deadline slots = reduce min (filter_map kept_deadline slots)
+abbrev pub slots_deadline : SlotStates → Option ℕ
+slots_deadline slots = reduce min (filter_map slot_state_deadline slots)
 
 -- time has gone by for all, and the table is replaced for all
-abbrev pub all_after_time : ℕ → Held → Held
-all_after_time now slots = map (λ (slot : Option Kept). option_map (after_time now) slot) slots
+abbrev pub all_after_time : ℕ → SlotStates → SlotStates
+all_after_time now slots = map (λ (slot : Option SlotState). option_map (after_time now) slot) slots
 
-abbrev pub all_after_table : List Attr → List Attr → Held → Held
-all_after_table old new slots = map (λ (slot : Option Kept). option_map (after_table old new) slot) slots
+abbrev pub all_after_table : List Attr → List Attr → SlotStates → SlotStates
+all_after_table old new slots = map (λ (slot : Option SlotState). option_map (after_table old new) slot) slots
 
 -- packets are completed, entry by entry: one of an unknown handle counts for nothing
-abbrev pub after_entry : CompletedPackets → Held → Held
-after_entry entry slots =
-    option_map_or (λ (place : ℕ). option_map_or (λ slot. set slots place (option_map (after_completed entry.packets) slot)) (slice_get slots place) slots)
+abbrev pub slots_after_entry : CompletedPackets → SlotStates → SlotStates
+slots_after_entry entry slots =
+    option_map_or (λ (place : ℕ). option_map_or (λ slot. set slots place (option_map (slot_after_packets_completed entry.packets) slot)) (slice_get slots place) slots)
     (place_holding slots entry.handle) slots
 
-abbrev pub after_entries : List CompletedPackets → Held → Held
-after_entries [] slots = slots
-after_entries (entry ∷ entries) slots = after_entries entries (after_entry entry slots)
+abbrev pub slots_after_entries : List CompletedPackets → SlotStates → SlotStates
+slots_after_entries [] slots = slots
+slots_after_entries (entry ∷ entries) slots = slots_after_entries entries (slots_after_entry entry slots)
 
 -- or place by place
-abbrev pub after_completions : List (Place × ℕ) → Held → Held
+abbrev pub after_completions : List (Place × ℕ) → SlotStates → SlotStates
 after_completions [] slots = slots
-after_completions (entry ∷ entries) slots = after_completions entries (slots_at entry.0 (after_completed entry.1) slots)
+after_completions (entry ∷ entries) slots = after_completions entries (slots_at entry.0 (slot_after_packets_completed entry.1) slots)

@@ -1,18 +1,18 @@
 -- What the fields of a slot keep: nothing where it is free, whatever they still hold.
 use Rattle.std.specs.Prelude.{ℕ, Bool, true, false, Option, Some, None}
 use Rattle.att_numbers.specs.Types.{Row}
-use Rattle.gatt_conn.specs.Connection.{Connection}
-use Rattle.gatt_laws.specs.machine.Part.{KeyReply}
+use Rattle.gatt_conn.specs.Connection.{Bearer}
+use Rattle.gatt_laws.specs.machine.ConnectionState.{KeyReply}
 use Rattle.gatt_slots.specs.declared.slot.Use.{Use}
 use Rattle.gatt_slots.specs.declared.slot.Use.TheVariants.{Free, Live, Ending}
-use Rattle.gatt_slots.specs.Kept.{Kept}
+use Rattle.gatt_slots.specs.SlotState.{SlotState}
 use Rattle.gatt_subs.specs.Indications.{Indications}
 use Rattle.le_acl.specs.Sending.{Sending}
 use Rattle.le_hci.specs.declared.peer.Peer.{Peer}
 use Rattle.le_security.specs.Link.{Linking}
 
-abbrev pub kept_fields : Bool → ℕ → Peer → Bool → ℕ → Row → Linking → Connection → Indications → Sending → Option KeyReply → Option ℕ → Kept
-kept_fields live handle peer key_known until row link conn pending sender reply reason = record {
+abbrev pub slot_state_from : Bool → ℕ → Peer → Bool → ℕ → Row → Linking → Bearer → Indications → Sending → Option KeyReply → Option ℕ → SlotState
+slot_state_from live handle peer key_known until row link conn pending sender reply reason = record {
   live = live;
   handle = handle;
   peer = peer;
@@ -30,9 +30,9 @@ kept_fields live handle peer key_known until row link conn pending sender reply 
   reason = reason;
 }
 
-abbrev pub kept_where : Use → ℕ → Peer → Bool → ℕ → Row → Linking → Connection → Indications → Sending → Option KeyReply → Option ℕ → Option Kept
-kept_where Free handle peer key_known until row link conn pending sender reply reason = None
-kept_where Live handle peer key_known until row link conn pending sender reply reason =
-    Some (kept_fields true handle peer key_known until row link conn pending sender reply reason)
-kept_where Ending handle peer key_known until row link conn pending sender reply reason =
-    Some (kept_fields false handle peer key_known until row link conn pending sender reply reason)
+abbrev pub slot_state_where : Use → ℕ → Peer → Bool → ℕ → Row → Linking → Bearer → Indications → Sending → Option KeyReply → Option ℕ → Option SlotState
+slot_state_where Free handle peer key_known until row link conn pending sender reply reason = None
+slot_state_where Live handle peer key_known until row link conn pending sender reply reason =
+    Some (slot_state_from true handle peer key_known until row link conn pending sender reply reason)
+slot_state_where Ending handle peer key_known until row link conn pending sender reply reason =
+    Some (slot_state_from false handle peer key_known until row link conn pending sender reply reason)

@@ -2,7 +2,7 @@
 
 ghost use Rattle.std.specs.Prelude.{◌≡◌};
 ghost use Rattle.std.specs.Option.{option_map};
-ghost use Rattle.gatt_slots.specs.Connections.{kept_connection, FindsNext};
+ghost use Rattle.gatt_slots.specs.Connections.{connection_shown, FindsNext};
 
 use crate::slot::{Slot, Use};
 use att_policy::KeyFacts;
@@ -27,7 +27,7 @@ pub struct Connection {
 impl Slot {
     /// Its connection, if it has one.
     fn connection(&self) -> Option<Connection>
-        ensures { result ≡ option_map kept_connection self.now }
+        ensures { result ≡ option_map connection_shown self.now }
     {
         if self.used == Use::Free {
             return None;

@@ -5,7 +5,7 @@ ghost use Rattle.std.specs.Option.{option_map_or, option_to_list};
 ghost use Rattle.le_hci.specs.Event.{completed_packets_of};
 ghost use Rattle.gatt_slots.specs.Handles.{AreNoted};
 ghost use Rattle.gatt_slots.specs.Places.{IsMarked};
-ghost use Rattle.gatt_slots.specs.Slots.{after_entries, after_entry, all_after_table, all_after_time, is_serving, kept_deadline, late_handles, place_free, place_serving, slots_deadline, IsThere};
+ghost use Rattle.gatt_slots.specs.Slots.{slots_after_entries, slots_after_entry, all_after_table, all_after_time, is_serving, slot_state_deadline, late_handles, place_free, place_serving, slots_deadline, IsThere};
 
 use crate::handles::Handles;
 use crate::marks::Marks;
@@ -44,7 +44,7 @@ impl Slot {
 
     /// Whether it has a connection that is not ending.
     pub(crate) fn is_live(&self) -> bool
-        ensures { result ≡ option_map_or (λ kept. kept.live) self.now false }
+        ensures { result ≡ option_map_or (λ slot_state. slot_state.live) self.now false }
     {
         self.used == Use::Live
     }
@@ -53,7 +53,7 @@ impl Slot {
 impl Slot {
     /// When the indication of its connection that is not confirmed is late, in milliseconds.
     fn deadline(&self) -> Option<u64>
-        ensures { result ≡ kept_deadline self.now }
+        ensures { result ≡ slot_state_deadline self.now }
     {
         if self.used == Use::Free {
             return None;
@@ -112,7 +112,8 @@ pub(crate) fn complete_all(
 )
     requires marked { IsMarked slots.old marks.old }
     requires noted { AreNoted slots.old handles.now.noted }
-    ensures after { slots.new ≡ after_entries (map completed_packets_of entries.now) slots.old }
+    ensures after { slots.new
+        ≡ slots_after_entries (map completed_packets_of entries.now) slots.old }
     ensures marked { IsMarked slots.new marks.new }
     ensures noted { AreNoted slots.new handles.now.noted }
 {
@@ -130,13 +131,13 @@ fn complete_entry(
 )
     requires marked { IsMarked slots.old marks.old }
     requires noted { AreNoted slots.old handles.now.noted }
-    ensures after { slots.new ≡ after_entry entry.now slots.old }
+    ensures after { slots.new ≡ slots_after_entry entry.now slots.old }
     ensures marked { IsMarked slots.new marks.new }
     ensures noted { AreNoted slots.new handles.now.noted }
 {
     if let Some(place) = handles.find(slots, entry.handle) {
         let slot = &mut slots[place];
-        slot.complete(entry.packets);
+        slot.packets_completed(entry.packets);
         let giving = slot.gives();
         marks.go_on(place, giving);
     }

@@ -5,8 +5,8 @@ ghost use Rattle.std.specs.Bool.{OnTrue, OnFalse};
 ghost use Rattle.std.specs.List.{list_any, position};
 ghost use Rattle.std.specs.Option.{option_and_then, option_map};
 ghost use Rattle.le_hci.specs.Command.{command_of};
-ghost use Rattle.gatt_slots.specs.Commands.{command_due, gives, has_command, packet_of, without_command, without_packet};
-ghost use Rattle.gatt_slots.specs.Slots.{kept_at, slots_at};
+ghost use Rattle.gatt_slots.specs.Commands.{command_due, gives, has_command, slot_packet, slot_without_command, slot_without_packet};
+ghost use Rattle.gatt_slots.specs.Slots.{slot_state_at, slots_at};
 ghost use Rattle.le_h4.specs.declared.packet_buf.TheConstants.{MAX_PACKET_OUT};
 
 use crate::places::{Due, first_due};
@@ -42,7 +42,7 @@ impl Slot {
 
     /// Takes in that the command that was due is sent.
     pub fn command_sent(&mut self)
-        ensures { self.new ≡ option_map without_command self.old }
+        ensures { self.new ≡ option_map slot_without_command self.old }
     {
         if self.reason.is_some() {
             self.reason = None;
@@ -71,8 +71,8 @@ impl Slot {
     #[inline(always)]
     pub fn next_packet(&mut self, out: &mut PacketBuf) -> bool
         ensures gives { result ≡ gives self.old }
-        ensures packet { OnTrue result (option_and_then packet_of self.old ≡ Some out.new) }
-        ensures after { OnTrue result (self.new ≡ option_map without_packet self.old) }
+        ensures packet { OnTrue result (option_and_then slot_packet self.old ≡ Some out.new) }
+        ensures after { OnTrue result (self.new ≡ option_map slot_without_packet self.old) }
         ensures unchanged { OnFalse result (self.new ≡ self.old) }
         ensures out_unchanged { OnFalse result (out.new ≡ out.old) }
     {
@@ -86,9 +86,10 @@ impl Slot {
         requires room { MAX_PACKET_OUT ≤ length out.old }
         ensures gives { is_some result ≡ gives self.old }
         ensures packet { IfSome result
-            (λ count. option_and_then packet_of self.old ≡ Some (take count out.new)) }
+            (λ count. option_and_then slot_packet self.old ≡ Some (take count out.new)) }
         ensures within { IfSome result (λ count. count ≤ length out.old) }
-        ensures after { OnTrue (is_some result) (self.new ≡ option_map without_packet self.old) }
+        ensures after { OnTrue (is_some result)
+            (self.new ≡ option_map slot_without_packet self.old) }
         ensures unchanged { OnFalse (is_some result) (self.new ≡ self.old) }
         ensures out_unchanged { OnFalse (is_some result) (out.new ≡ out.old) }
     {
@@ -164,7 +165,7 @@ impl Slots {
     /// request for its key.
     pub fn command(&self, place: usize) -> Option<Command<'static>>
         requires { place < length self.now }
-        ensures { option_map command_of result ≡ command_due (kept_at self.now place) }
+        ensures { option_map command_of result ≡ command_due (slot_state_at self.now place) }
     {
         self.slots[place].command()
     }
@@ -172,7 +173,7 @@ impl Slots {
     /// Takes in that the command that was due for the connection of a slot is sent.
     pub fn command_sent(&mut self, place: usize)
         requires { place < length self.old }
-        ensures { self.new ≡ slots_at place without_command self.old }
+        ensures { self.new ≡ slots_at place slot_without_command self.old }
     {
         self.slots[place].command_sent();
         self.marks.change(place);
@@ -183,10 +184,10 @@ impl Slots {
     #[inline(always)]
     pub fn next_packet(&mut self, place: usize, out: &mut PacketBuf) -> bool
         requires { place < length self.old }
-        ensures gives { result ≡ gives (kept_at self.old place) }
+        ensures gives { result ≡ gives (slot_state_at self.old place) }
         ensures packet { OnTrue result
-            (option_and_then packet_of (kept_at self.old place) ≡ Some out.new) }
-        ensures after { OnTrue result (self.new ≡ slots_at place without_packet self.old) }
+            (option_and_then slot_packet (slot_state_at self.old place) ≡ Some out.new) }
+        ensures after { OnTrue result (self.new ≡ slots_at place slot_without_packet self.old) }
         ensures unchanged { OnFalse result (self.new ≡ self.old) }
         ensures out_unchanged { OnFalse result (out.new ≡ out.old) }
     {
@@ -203,12 +204,13 @@ impl Slots {
     pub fn next_into(&mut self, place: usize, out: &mut [u8]) -> Option<usize>
         requires place { place < length self.old }
         requires room { MAX_PACKET_OUT ≤ length out.old }
-        ensures gives { is_some result ≡ gives (kept_at self.old place) }
+        ensures gives { is_some result ≡ gives (slot_state_at self.old place) }
         ensures packet { IfSome result (λ count.
-            option_and_then packet_of (kept_at self.old place) ≡ Some (take count out.new)) }
+            option_and_then slot_packet (slot_state_at self.old place)
+            ≡ Some (take count out.new)) }
         ensures within { IfSome result (λ count. count ≤ length out.old) }
         ensures after { OnTrue (is_some result)
-            (self.new ≡ slots_at place without_packet self.old) }
+            (self.new ≡ slots_at place slot_without_packet self.old) }
         ensures unchanged { OnFalse (is_some result) (self.new ≡ self.old) }
         ensures out_unchanged { OnFalse (is_some result) (out.new ≡ out.old) }
     {

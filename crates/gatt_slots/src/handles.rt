@@ -25,7 +25,7 @@ impl Handles {
     };
 
     /// Notes that a connection has come to a slot.
-    pub(crate) fn came(&mut self, place: usize, handle: u16)
+    pub(crate) fn note_connected(&mut self, place: usize, handle: u16)
         requires { place < MAX_SLOTS }
         ensures { self.new.noted ≡ set self.old.noted place handle }
     {
@@ -33,7 +33,7 @@ impl Handles {
     }
 
     /// Notes that a slot is free.
-    pub(crate) fn went(&mut self, place: usize)
+    pub(crate) fn note_disconnected(&mut self, place: usize)
         requires { place < MAX_SLOTS }
         ensures { self.new.noted ≡ set self.old.noted place FREE }
     {

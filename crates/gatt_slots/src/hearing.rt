@@ -4,11 +4,11 @@ ghost use Rattle.std.specs.Prelude.{◌≡◌, ◌-◌, ◌≤◌, ◌<◌, true
 ghost use Rattle.std.specs.Bool.{OnTrue, OnFalse};
 ghost use Rattle.std.specs.Option.{option_map_or};
 ghost use Rattle.gatt_slots.specs.Commands.{gives};
-ghost use Rattle.gatt_slots.specs.Kept.{standing_with};
+ghost use Rattle.gatt_slots.specs.SlotState.{standing_with};
 ghost use Rattle.att_table.specs.ConfigRow.{bits_at};
-ghost use Rattle.gatt_slots.specs.Hearing.{row_by_key, row_in_force, told_raised, told_released};
+ghost use Rattle.gatt_slots.specs.Hearing.{row_by_key, slot_row_in_force, delivery_when_notifying, delivery_when_indicating};
 ghost use Rattle.gatt_slots.specs.Places.{waits};
-ghost use Rattle.gatt_slots.specs.Slots.{heard_by, raised_by};
+ghost use Rattle.gatt_slots.specs.Slots.{slot_heard, slot_notified};
 ghost use Rattle.gatt_subs.specs.Rows.{owes, row_of};
 ghost use Rattle.le_acl.specs.Outgoing.{with_pdu};
 ghost use Rattle.octets.specs.Number.{two_octets};
@@ -27,7 +27,7 @@ use le_security::Link;
 
 /// Tells of a value that was written: whether it is notified.
 #[inline(always)]
-fn raise(
+fn notify(
     raised: &Raised<'_>,
     row: &ConfigRow,
     standing: &Standing,
@@ -38,7 +38,8 @@ fn raise(
     requires least { MIN_MTU ≤ mtu }
     requires most { mtu ≤ MAX_MTU }
     ensures told { record { pending = pending.new; outgoing = sender.new.outgoing }
-        ≡ told_raised raised.now.table (record { row = row.now; standing = standing.entry.now; mtu = mtu }) raised.now.handle
+        ≡ delivery_when_notifying raised.now.table
+        (record { row = row.now; standing = standing.entry.now; mtu = mtu }) raised.now.handle
         (record { pending = pending.old; outgoing = sender.old.outgoing }) }
     ensures unnotified { OnFalse result (sender.new.outgoing ≡ sender.old.outgoing) }
 {
@@ -57,7 +58,7 @@ fn raise(
 
 /// Sends the indication that is due, if one is.
 #[inline(always)]
-fn release(
+fn indicate(
     table: &Table,
     row: &ConfigRow,
     standing: &Standing,
@@ -69,7 +70,8 @@ fn release(
     requires least { MIN_MTU ≤ mtu }
     requires most { mtu ≤ MAX_MTU }
     ensures { record { pending = pending.new; outgoing = sender.new.outgoing }
-        ≡ told_released table.now (record { row = row.now; standing = standing.entry.now; mtu = mtu }) now
+        ≡ delivery_when_indicating table.now
+        (record { row = row.now; standing = standing.entry.now; mtu = mtu }) now
         (record { pending = pending.old; outgoing = sender.old.outgoing }) }
 {
     if let Some(handle) = pending.release(table, row, standing, sender.backlog(), now) {
@@ -114,7 +116,8 @@ impl Slot {
     /// Which bits the row in force has at a handle: none where no connection has the slot.
     pub(crate) fn bits(&self, rows: &Rows, handle: u16) -> u8
         ensures { result ≡ bits_at (option_map_or
-            (λ kept. row_in_force (row_of rows.now kept.peer) kept) self.now []) handle }
+            (λ slot_state. slot_row_in_force (row_of rows.now slot_state.peer) slot_state) self.now
+            []) handle }
     {
         if self.used == Use::Free {
             return 0;
@@ -125,15 +128,15 @@ impl Slot {
     /// Tells the connection of a value that was written: whether it is notified. Where it is indicated
     /// the value waits.
     #[inline(always)]
-    pub(crate) fn raise(&mut self, raised: &Raised<'_>, rows: &Rows, now: u64) -> bool
+    pub(crate) fn notify(&mut self, raised: &Raised<'_>, rows: &Rows, now: u64) -> bool
         ensures raised { self.new
-            ≡ raised_by raised.now.table now rows.now raised.now.handle self.old }
+            ≡ slot_notified raised.now.table now rows.now raised.now.handle self.old }
         ensures unnotified { OnFalse result (gives self.new ≡ gives self.old) }
     {
         if self.used != Use::Live {
             return false;
         }
-        raise(
+        notify(
             raised,
             row_in_force(&self.link, &self.peer, &self.row, rows),
             &standing(&self.link, self.key_known, self.until, now),
@@ -145,8 +148,8 @@ impl Slot {
 
     /// Sends the connection the indication that is due, if one is. `false` where nothing waits.
     #[tactic(auto, using(crate::proofs::Quiet::nothing_heard))]
-    pub(crate) fn release(&mut self, table: &Table, rows: &Rows, now: u64) -> bool
-        ensures heard { self.new ≡ heard_by table.now now rows.now [] self.old }
+    pub(crate) fn indicate(&mut self, table: &Table, rows: &Rows, now: u64) -> bool
+        ensures heard { self.new ≡ slot_heard table.now now rows.now [] self.old }
         ensures unchanged { OnFalse result (self.new ≡ self.old) }
         ensures idle { OnFalse result (waits self.new ≡ false) }
     {
@@ -156,7 +159,7 @@ impl Slot {
         if !self.pending.waits() {
             return false;
         }
-        release(
+        indicate(
             table,
             row_in_force(&self.link, &self.peer, &self.row, rows),
             &standing(&self.link, self.key_known, self.until, now),
@@ -185,7 +188,7 @@ impl Slot {
 
     /// Whether the peer of the connection is owed an indication of a changed table.
     pub fn is_owed(&self, rows: &Rows) -> bool
-        ensures { IfSome self.now (λ kept. result ≡ owes rows.now kept.peer) }
+        ensures { IfSome self.now (λ slot_state. result ≡ owes rows.now slot_state.peer) }
     {
         rows.owed(&self.peer)
     }

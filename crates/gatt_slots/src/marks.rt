@@ -2,9 +2,9 @@
 
 ghost use Rattle.std.specs.Prelude.{◌≡◌, false, true, ◌<◌, ◌≤◌, length, set, Option};
 ghost use Rattle.gatt_slots.specs.Commands.{gives};
-ghost use Rattle.gatt_slots.specs.Kept.{Kept};
-ghost use Rattle.gatt_slots.specs.Places.{may_listen, GoesOn, IsMarked};
-ghost use Rattle.gatt_slots.specs.Slots.{kept_at, Held};
+ghost use Rattle.gatt_slots.specs.SlotState.{SlotState};
+ghost use Rattle.gatt_slots.specs.Places.{may_listen, WaitsForNothingNew, IsMarked};
+ghost use Rattle.gatt_slots.specs.Slots.{slot_state_at, SlotStates};
 ghost use Rattle.gatt_laws.specs.declared.TheConstants.{MAX_SLOTS};
 
 use crate::places::Places;
@@ -28,7 +28,7 @@ impl Marks {
     /// Anything may be so of any slot.
     #[tactic(auto, using(crate::proofs::Covering::all_marked))]
     pub(crate) fn all() -> Marks
-        ensures { (slots : Held) → length slots ≤ MAX_SLOTS → IsMarked slots result }
+        ensures { (slots : SlotStates) → length slots ≤ MAX_SLOTS → IsMarked slots result }
     {
         Marks {
             commands: Places::ALL,
@@ -42,7 +42,7 @@ impl Marks {
     /// Takes in that anything may have become of a slot.
     pub(crate) fn change(&mut self, place: usize)
         requires { place < MAX_SLOTS }
-        ensures { (slots : Held) (slot : Option Kept) → place < length slots
+        ensures { (slots : SlotStates) (slot : Option SlotState) → place < length slots
             → IsMarked slots self.old → IsMarked (set slots place slot) self.new }
     {
         self.commands.add(place);
@@ -56,8 +56,9 @@ impl Marks {
     #[inline(always)]
     pub(crate) fn serve(&mut self, place: usize, ended: bool)
         requires { place < MAX_SLOTS }
-        ensures { (slots : Held) (slot : Option Kept) → place < length slots
-            → IsMarked slots self.old → (ended ≡ false → GoesOn (kept_at slots place) slot)
+        ensures { (slots : SlotStates) (slot : Option SlotState) → place < length slots
+            → IsMarked slots self.old
+            → (ended ≡ false → WaitsForNothingNew (slot_state_at slots place) slot)
             → IsMarked (set slots place slot) self.new }
     {
         if ended {
@@ -73,10 +74,11 @@ impl Marks {
     #[inline(always)]
     pub(crate) fn go_on(&mut self, place: usize, giving: bool)
         requires { place < MAX_SLOTS }
-        ensures { (slots : Held) (slot : Option Kept) → place < length slots
-            → IsMarked slots self.old → GoesOn (kept_at slots place) slot
-            → (may_listen slot ≡ true → may_listen (kept_at slots place) ≡ true)
-            → (giving ≡ false → gives slot ≡ false) → IsMarked (set slots place slot) self.new }
+        ensures { (slots : SlotStates) (slot : Option SlotState) → place < length slots
+            → IsMarked slots self.old → WaitsForNothingNew (slot_state_at slots place) slot
+            → (may_listen slot ≡ true → may_listen (slot_state_at slots place) ≡ true)
+            → (giving ≡ false → gives slot ≡ false)
+            → IsMarked (set slots place slot) self.new }
     {
         if giving {
             self.packets.add(place);

@@ -4,8 +4,8 @@ ghost use Rattle.std.specs.Prelude.{◌≡◌, ◌≢◌, ℕ, ◌<◌, ◌≤�
 ghost use Rattle.std.specs.Bool.{OnTrue};
 ghost use Rattle.std.specs.Int.{bit_at};
 ghost use Rattle.std.specs.List.{position};
-ghost use Rattle.gatt_slots.specs.Places.{is_due, may_listen, Covers, IsFirstPlace};
-ghost use Rattle.gatt_slots.specs.Slots.{is_own};
+ghost use Rattle.gatt_slots.specs.Places.{is_slot_due, may_listen, Covers, IsFirstPlace};
+ghost use Rattle.gatt_slots.specs.Slots.{is_own_place};
 
 use crate::slot::{Slot, Use};
 use gatt_laws::MAX_SLOTS;
@@ -77,8 +77,9 @@ impl Places {
     /// No place is in the set but that of the slot `own`.
     #[inline(always)]
     pub(crate) fn is_empty_but(self, own: Option<usize>) -> bool
-        ensures { OnTrue result ((place : ℕ) → place < MAX_SLOTS → bit_at self.bits place ≡ 1
-            → is_own own place ≡ true) }
+        ensures { OnTrue result
+            ((place : ℕ) → place < MAX_SLOTS → bit_at self.bits place ≡ 1
+            → is_own_place own place ≡ true) }
     {
         let mut others = self;
         if let Some(place) = own {
@@ -106,7 +107,7 @@ impl Slot {
     /// Whether it is due.
     #[inline(always)]
     fn is_due(&self, due: Due) -> bool
-        ensures { result ≡ is_due due self.now }
+        ensures { result ≡ is_slot_due due self.now }
     {
         match due {
             Due::Command => self.has_command(),
@@ -130,7 +131,7 @@ impl Slot {
 pub(crate) fn first_due(slots: &[Slot], due: Due, places: &mut Places) -> Option<usize>
     requires few { length slots.now ≤ MAX_SLOTS }
     requires covers { Covers due places.old.bits slots.now }
-    ensures place { result ≡ position (is_due due) slots.now }
+    ensures place { result ≡ position (is_slot_due due) slots.now }
     ensures within { IfSome result (λ place. place < length slots.now) }
     ensures covers { Covers due places.new.bits slots.now }
 {

@@ -7,8 +7,8 @@ ghost use Rattle.att_pdu.specs.Grammar.{request_of, is_due};
 ghost use Rattle.att_table.specs.ConfigRow.{IsRowOf};
 ghost use Rattle.gatt_conn.specs.Answer.{answer_to, stored_by};
 ghost use Rattle.gatt_conn.specs.Served.{IsAnswered};
-ghost use Rattle.gatt_slots.specs.Hearing.{row_by_key, row_in_force};
-ghost use Rattle.gatt_slots.specs.Request.{with_answer, bond_after, bond_served, confirmed_of, handles_of, is_full, kept_served, own_row_after, table_after, with_owed_after};
+ghost use Rattle.gatt_slots.specs.Hearing.{row_by_key, slot_row_in_force};
+ghost use Rattle.gatt_slots.specs.Request.{with_response, bond_after, bond_served, confirmed_of, handles_written_by, overflows, slot_after_request, slot_row_after, table_after, with_owed_after};
 ghost use Rattle.gatt_subs.specs.Indications.{after_confirmation, confirmed_handle, is_told};
 ghost use Rattle.gatt_subs.specs.Rows.{row_of, ChangesBond};
 
@@ -49,18 +49,25 @@ impl Slot {
     ) -> Brought
         requires there { IsSome self.old }
         requires row { IfSome self.old
-            (λ kept. IsRowOf table.old.attributes (row_in_force (row_of rows.old kept.peer) kept)) }
+            (λ slot_state. IsRowOf table.old.attributes
+            (slot_row_in_force (row_of rows.old slot_state.peer) slot_state)) }
         ensures after { self.new
             ≡ option_map
-            (λ kept. kept_served table.old now (row_of rows.old kept.peer) pdu.now kept) self.old }
-        ensures table { IfSome self.old (λ kept. table.new
-            ≡ table_after table.old now (row_of rows.old kept.peer) pdu.now kept) }
-        ensures bond { IfSome self.old (λ kept. ChangesBond (bond_served table.old now changer
-            (row_of rows.old kept.peer) pdu.now kept) kept.peer rows.old rows.new) }
-        ensures written { IfSome self.old (λ kept. written.new.items
-            ≡ handles_of table.old now (row_of rows.old kept.peer) pdu.now kept) }
-        ensures ended { IfSome self.old (λ kept. result.ended ≡ is_full pdu.now kept) }
-        ensures confirmed { IfSome self.old (λ kept. result.confirmed ≡ confirmed_of pdu.now kept) }
+            (λ slot_state. slot_after_request table.old now (row_of rows.old slot_state.peer)
+            pdu.now slot_state) self.old }
+        ensures table { IfSome self.old (λ slot_state. table.new
+            ≡ table_after table.old now (row_of rows.old slot_state.peer) pdu.now slot_state) }
+        ensures bond { IfSome self.old
+            (λ slot_state. ChangesBond (bond_served table.old now changer
+            (row_of rows.old slot_state.peer) pdu.now slot_state) slot_state.peer rows.old
+            rows.new) }
+        ensures written { IfSome self.old (λ slot_state. written.new.items
+            ≡ handles_written_by table.old now (row_of rows.old slot_state.peer) pdu.now
+            slot_state) }
+        ensures ended { IfSome self.old
+            (λ slot_state. result.ended ≡ overflows pdu.now slot_state) }
+        ensures confirmed { IfSome self.old
+            (λ slot_state. result.confirmed ≡ confirmed_of pdu.now slot_state) }
     {
         if is_full(&self.conn, &self.sender, pdu) {
             self.end(REMOTE_USER_TERMINATED);
@@ -109,7 +116,8 @@ fn is_full(conn: &Conn, sender: &Sender, pdu: &[u8]) -> bool
 /// Whether a confirmation, if it came now, would tell that the peer knows that the table was
 /// replaced.
 fn knows_change(link: &Link, pending: &Pending, changer: Option<u16>) -> bool
-    ensures { result ≡ (is_some link.now.key && option_map_or (is_told pending.now) changer false) }
+    ensures { result ≡ (is_some link.now.key
+        && option_map_or (is_told pending.now) changer false) }
 {
     match changer {
         Some(handle) => link.facts().is_some() && pending.told(handle),
@@ -156,7 +164,7 @@ fn answer_by_row(
     requires room { is_due (request_of pdu.now conn.old.mtu) ≡ true
         → length sender.old.outgoing.queue < MAX_PDUS }
     ensures queued { let by = row_by_key has_key (row_of rows.old peer.now) own.old in
-        sender.new.outgoing ≡ with_answer sender.old.outgoing
+        sender.new.outgoing ≡ with_response sender.old.outgoing
         (answer_to table.old by conn.old (request_of pdu.now conn.old.mtu)) }
     ensures answered { IsAnswered pdu.now table.old table.new
         (row_by_key has_key (row_of rows.old peer.now) own.old)
@@ -164,7 +172,7 @@ fn answer_by_row(
         result.confirmed }
     ensures own { let by = row_by_key has_key (row_of rows.old peer.now) own.old in
         let stored = stored_by table.old by conn.old (request_of pdu.now conn.old.mtu) in
-        own.new ≡ own_row_after has_key (row_of rows.old peer.now) own.old stored.row }
+        own.new ≡ slot_row_after has_key (row_of rows.old peer.now) own.old stored.row }
     ensures bond { let by = row_by_key has_key (row_of rows.old peer.now) own.old in
         let stored = stored_by table.old by conn.old (request_of pdu.now conn.old.mtu) in
         ChangesBond (bond_after has_key stored.row) peer.now rows.old rows.new }
@@ -190,7 +198,7 @@ fn answer(
     requires row { IsRowOf table.old.attributes row.old }
     requires room { is_due (request_of pdu.now conn.old.mtu) ≡ true
         → length sender.old.outgoing.queue < MAX_PDUS }
-    ensures queued { sender.new.outgoing ≡ with_answer sender.old.outgoing
+    ensures queued { sender.new.outgoing ≡ with_response sender.old.outgoing
         (answer_to table.old row.old conn.old (request_of pdu.now conn.old.mtu)) }
     ensures answered { IsAnswered pdu.now table.old table.new row.old row.new conn.old conn.new
         written.new.items result.confirmed }

@@ -2,7 +2,7 @@ ghost use Rattle.std.specs.Prelude.{◌≡◌, ◌<◌, ◌^◌, Some, None, IfO
 ghost use Rattle.std.specs.Bool.{OnTrue, OnFalse};
 ghost use Rattle.std.specs.Option.{option_and_then, option_map};
 ghost use Rattle.le_hci.specs.Command.{command_of};
-ghost use Rattle.gatt_slots.specs.Commands.{command_due, gives, packet_of, without_command, without_packet};
+ghost use Rattle.gatt_slots.specs.Commands.{command_due, gives, slot_packet, slot_without_command, slot_without_packet};
 
 use arrayvec::ArrayVec;
 use att_table::ConfigRow;
@@ -47,12 +47,13 @@ pub struct Slot {
 
 impl Model for Slot {
     ghost use Rattle.std.specs.Prelude.{◌<◌, ◌^◌, Option};
-    ghost use Rattle.gatt_slots.specs.Kept.{Kept};
-    ghost use Rattle.gatt_slots.specs.Use.{kept_where};
+    ghost use Rattle.gatt_slots.specs.SlotState.{SlotState};
+    ghost use Rattle.gatt_slots.specs.Use.{slot_state_where};
 
-    ghost Value = { Option Kept };
+    ghost Value = { Option SlotState };
 
-    ghost view = { λ slot. kept_where slot.used slot.handle slot.peer slot.key_known slot.until slot.row slot.link slot.conn slot.pending slot.sender slot.reply slot.reason };
+    ghost view = { λ slot. slot_state_where slot.used slot.handle slot.peer slot.key_known
+        slot.until slot.row slot.link slot.conn slot.pending slot.sender slot.reply slot.reason };
 
     ghost invariant = { λ slot. slot.handle < 2 ^ 12 };
 }

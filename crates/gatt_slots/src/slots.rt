@@ -5,16 +5,16 @@ ghost use Rattle.std.specs.Bool.{OnTrue, OnFalse};
 ghost use Rattle.std.specs.List.{list_any, position};
 ghost use Rattle.att_table.specs.ConfigRow.{bits_at, IsRowOf};
 ghost use Rattle.att_table.specs.Table.{Contents};
-ghost use Rattle.gatt_laws.specs.machine.Turn.{channel_answer, gained_encryption};
+ghost use Rattle.gatt_laws.specs.machine.Effect.{channel_answer, gained_encryption};
 ghost use Rattle.gatt_slots.specs.Connections.{FindsNext};
-ghost use Rattle.gatt_slots.specs.Hearing.{row_in_force};
+ghost use Rattle.gatt_slots.specs.Hearing.{slot_row_in_force};
 ghost use Rattle.gatt_slots.specs.Places.{may_listen, CoversHeard};
-ghost use Rattle.gatt_slots.specs.Request.{bond_served, confirmed_of, handles_of, is_full, kept_served, table_after};
-ghost use Rattle.gatt_slots.specs.Slots.{after_entries, all_after_table, all_after_time, all_heard, at_place, kept_at, late_handles, place_free, place_holding, place_serving, row_there, slots_at, slots_deadline, IsThere};
-ghost use Rattle.gatt_slots.specs.Turn.{after_authorizing, after_ending, after_key_asked, after_link_step, after_signal, come, has_no_room};
+ghost use Rattle.gatt_slots.specs.Request.{bond_served, confirmed_of, handles_written_by, overflows, slot_after_request, table_after};
+ghost use Rattle.gatt_slots.specs.Slots.{slots_after_entries, all_after_table, all_after_time, all_heard, at_place, slot_state_at, late_handles, place_free, place_holding, place_serving, slot_row_at, slots_at, slots_deadline, IsThere};
+ghost use Rattle.gatt_slots.specs.SlotEffects.{after_authorizing, slot_after_ending, after_key_asked, after_link_step, slot_after_other_channel, new_slot_state, has_no_room};
 ghost use Rattle.gatt_subs.specs.Rows.{owes, row_of, ChangesBond, Subscriptions};
 ghost use Rattle.le_hci.specs.Event.{completed_packets_of};
-ghost use Rattle.le_security.specs.Keys.{answer_of};
+ghost use Rattle.le_security.specs.Keys.{key_asked_for};
 ghost use Rattle.le_security.specs.Link.{after_step, Encryption, Refresh};
 ghost use Rattle.att_pdu.specs.declared.pdu_buf.TheConstants.{MAX_MTU, MIN_MTU};
 
@@ -48,13 +48,14 @@ pub struct Slots {
 impl Model for Slots {
     ghost use Rattle.gatt_slots.specs.Handles.{AreNoted};
     ghost use Rattle.gatt_slots.specs.Places.{IsMarked};
-    ghost use Rattle.gatt_slots.specs.Slots.{Held};
+    ghost use Rattle.gatt_slots.specs.Slots.{SlotStates};
 
-    ghost Value = { Held };
+    ghost Value = { SlotStates };
 
     ghost view = { λ s. s.slots.items };
 
-    ghost invariant = { λ s. IsMarked s.slots.items s.marks × AreNoted s.slots.items s.handles.noted };
+    ghost invariant = { λ s. IsMarked s.slots.items s.marks
+        × AreNoted s.slots.items s.handles.noted };
 }
 
 impl Slots {
@@ -143,7 +144,7 @@ impl Slots {
     /// Ends the connection of a slot for a reason, which the Disconnect will tell.
     pub fn end(&mut self, place: usize, reason: u8)
         requires place { place < length self.old }
-        ensures ended { self.new ≡ slots_at place (after_ending reason) self.old }
+        ensures ended { self.new ≡ slots_at place (slot_after_ending reason) self.old }
     {
         self.slots[place].end(reason);
         self.marks.change(place);
@@ -151,7 +152,7 @@ impl Slots {
 
     /// Takes in a new connection at a slot, to a server that receives PDUs of `rx_mtu` octets. At most
     /// `share` of its packets may be outstanding, with at most `acl_len` octets of data each.
-    pub fn come(
+    pub fn connect(
         &mut self,
         place: usize,
         handle: u16,
@@ -170,28 +171,29 @@ impl Slots {
         requires acl_len_most { acl_len ≤ 251 }
         ensures { self.new
             ≡ at_place place
-            (λ slot. Some (come handle peer key_known rx_mtu share acl_len)) self.old }
+            (λ slot. Some (new_slot_state handle peer key_known rx_mtu share acl_len)) self.old }
     {
-        self.slots[place].come(handle, peer, key_known, rx_mtu, share, acl_len);
-        self.handles.came(place, handle);
+        self.slots[place].connect(handle, peer, key_known, rx_mtu, share, acl_len);
+        self.handles.note_connected(place, handle);
         self.marks.change(place);
     }
 
     /// Frees a slot.
-    pub fn go(&mut self, place: usize)
+    pub fn disconnected(&mut self, place: usize)
         requires { place < length self.old }
         ensures { self.new ≡ at_place place (λ slot. None) self.old }
     {
-        self.slots[place].go();
-        self.handles.went(place);
+        self.slots[place].disconnected();
+        self.handles.note_disconnected(place);
         self.marks.change(place);
     }
 
     /// The controller asked for the key of the link of a slot: it is looked up, and a reply is due.
     pub fn ask_key(&mut self, place: usize, keys: &Keys, random_number: [u8; 8], diversifier: u16)
         requires { place < length self.old }
-        ensures { self.new ≡ slots_at place (λ kept. after_key_asked
-            (answer_of keys.now kept.peer random_number diversifier) kept) self.old }
+        ensures { self.new ≡ slots_at place (λ slot_state. after_key_asked
+            (key_asked_for keys.now slot_state.peer random_number diversifier) slot_state)
+            self.old }
     {
         self.slots[place].ask_key(keys, random_number, diversifier);
         self.marks.change(place);
@@ -203,9 +205,9 @@ impl Slots {
         requires { place < length self.old }
         ensures after { self.new
             ≡ slots_at place (after_link_step (Encryption status enabled)) self.old }
-        ensures gained { IfSome (kept_at self.old place)
-            (λ kept. result ≡ gained_encryption kept.link.key
-            (after_step kept.link (Encryption status enabled)).key) }
+        ensures gained { IfSome (slot_state_at self.old place)
+            (λ slot_state. result ≡ gained_encryption slot_state.link.key
+            (after_step slot_state.link (Encryption status enabled)).key) }
     {
         let gained = self.slots[place].encrypt(status, enabled);
         self.marks.change(place);
@@ -216,8 +218,9 @@ impl Slots {
     pub fn refresh(&mut self, place: usize, status: u8) -> bool
         requires { place < length self.old }
         ensures after { self.new ≡ slots_at place (after_link_step (Refresh status)) self.old }
-        ensures gained { IfSome (kept_at self.old place) (λ kept. result
-            ≡ gained_encryption kept.link.key (after_step kept.link (Refresh status)).key) }
+        ensures gained { IfSome (slot_state_at self.old place) (λ slot_state. result
+            ≡ gained_encryption slot_state.link.key
+            (after_step slot_state.link (Refresh status)).key) }
     {
         let gained = self.slots[place].refresh(status);
         self.marks.change(place);
@@ -227,20 +230,23 @@ impl Slots {
     /// Whether the peer of the connection of a slot is owed an indication of a changed table.
     pub fn is_owed(&self, place: usize, rows: &Rows) -> bool
         requires { place < length self.now }
-        ensures { IfSome (kept_at self.now place) (λ kept. result ≡ owes rows.now kept.peer) }
+        ensures { IfSome (slot_state_at self.now place)
+            (λ slot_state. result ≡ owes rows.now slot_state.peer) }
     {
         self.slots[place].is_owed(rows)
     }
 
     /// Takes in a payload on the channel of LE signalling or of the Security Manager: `true` where the
     /// connection is ended, since there is no room for the answer.
-    pub fn signal(&mut self, place: usize, channel: u16, payload: &[u8]) -> bool
+    pub fn other_channel(&mut self, place: usize, channel: u16, payload: &[u8]) -> bool
         requires { place < length self.old }
-        ensures after { self.new ≡ slots_at place (after_signal channel payload.now) self.old }
-        ensures ended { IfSome (kept_at self.old place)
-            (λ kept. result ≡ has_no_room (channel_answer channel payload.now) kept) }
+        ensures after { self.new
+            ≡ slots_at place (slot_after_other_channel channel payload.now) self.old }
+        ensures ended { IfSome (slot_state_at self.old place)
+            (λ slot_state. result
+            ≡ has_no_room (channel_answer channel payload.now) slot_state) }
     {
-        let ended = self.slots[place].signal(channel, payload);
+        let ended = self.slots[place].other_channel(channel, payload);
         self.marks.change(place);
         ended
     }
@@ -248,7 +254,8 @@ impl Slots {
     /// The handle of the connection of a slot.
     pub fn handle(&self, place: usize) -> u16
         requires { place < length self.now }
-        ensures { IfSome (kept_at self.now place) (λ kept. result ≡ kept.handle) }
+        ensures { IfSome (slot_state_at self.now place)
+            (λ slot_state. result ≡ slot_state.handle) }
     {
         self.slots[place].handle
     }
@@ -256,7 +263,8 @@ impl Slots {
     /// What is known of the key of the link of a slot, if it has one.
     pub fn key(&self, place: usize) -> Option<KeyFacts>
         requires { place < length self.now }
-        ensures { IfSome (kept_at self.now place) (λ kept. result ≡ kept.link.key) }
+        ensures { IfSome (slot_state_at self.now place)
+            (λ slot_state. result ≡ slot_state.link.key) }
     {
         self.slots[place].link.facts()
     }
@@ -264,7 +272,7 @@ impl Slots {
     /// Which bits the row in force of the connection of a slot has at a handle: none where there is no
     /// connection.
     pub fn bits(&self, place: usize, rows: &Rows, handle: u16) -> u8
-        ensures { result ≡ bits_at (row_there self.now rows.now place) handle }
+        ensures { result ≡ bits_at (slot_row_at self.now rows.now place) handle }
     {
         match self.slots.get(place) {
             Some(slot) => slot.bits(rows, handle),
@@ -287,23 +295,27 @@ impl Slots {
         written: &mut Touched,
     ) -> Brought
         requires place { place < length self.old }
-        requires there { IsSome (kept_at self.old place) }
-        requires row { IfSome (kept_at self.old place)
-            (λ kept. IsRowOf table.old.attributes (row_in_force (row_of rows.old kept.peer) kept)) }
+        requires there { IsSome (slot_state_at self.old place) }
+        requires row { IfSome (slot_state_at self.old place)
+            (λ slot_state. IsRowOf table.old.attributes
+            (slot_row_in_force (row_of rows.old slot_state.peer) slot_state)) }
         ensures after { self.new
             ≡ slots_at place
-            (λ kept. kept_served table.old now (row_of rows.old kept.peer) pdu.now kept) self.old }
-        ensures table { IfSome (kept_at self.old place) (λ kept. table.new
-            ≡ table_after table.old now (row_of rows.old kept.peer) pdu.now kept) }
-        ensures bond { IfSome (kept_at self.old place)
-            (λ kept. ChangesBond (bond_served table.old now changer
-            (row_of rows.old kept.peer) pdu.now kept) kept.peer rows.old rows.new) }
-        ensures written { IfSome (kept_at self.old place) (λ kept. written.new.items
-            ≡ handles_of table.old now (row_of rows.old kept.peer) pdu.now kept) }
-        ensures ended { IfSome (kept_at self.old place)
-            (λ kept. result.ended ≡ is_full pdu.now kept) }
-        ensures confirmed { IfSome (kept_at self.old place)
-            (λ kept. result.confirmed ≡ confirmed_of pdu.now kept) }
+            (λ slot_state. slot_after_request table.old now (row_of rows.old slot_state.peer)
+            pdu.now slot_state) self.old }
+        ensures table { IfSome (slot_state_at self.old place) (λ slot_state. table.new
+            ≡ table_after table.old now (row_of rows.old slot_state.peer) pdu.now slot_state) }
+        ensures bond { IfSome (slot_state_at self.old place)
+            (λ slot_state. ChangesBond (bond_served table.old now changer
+            (row_of rows.old slot_state.peer) pdu.now slot_state) slot_state.peer rows.old
+            rows.new) }
+        ensures written { IfSome (slot_state_at self.old place) (λ slot_state. written.new.items
+            ≡ handles_written_by table.old now (row_of rows.old slot_state.peer) pdu.now
+            slot_state) }
+        ensures ended { IfSome (slot_state_at self.old place)
+            (λ slot_state. result.ended ≡ overflows pdu.now slot_state) }
+        ensures confirmed { IfSome (slot_state_at self.old place)
+            (λ slot_state. result.confirmed ≡ confirmed_of pdu.now slot_state) }
     {
         let brought = self.slots[place].serve(table, rows, changer, now, pdu, written);
         self.marks.serve(place, brought.ended);
@@ -312,8 +324,8 @@ impl Slots {
 
     /// Counts packets as completed, each entry at most those that are outstanding. Entries of unknown
     /// handles are ignored.
-    pub fn complete(&mut self, entries: &[[u8; 4]])
-        ensures { self.new ≡ after_entries (map completed_packets_of entries.now) self.old }
+    pub fn packets_completed(&mut self, entries: &[[u8; 4]])
+        ensures { self.new ≡ slots_after_entries (map completed_packets_of entries.now) self.old }
     {
         complete_all(
             self.slots.as_mut_slice(),
@@ -341,7 +353,7 @@ impl Slots {
         self.marks = Marks::all();
     }
 
-    /// Ends an event: the connections hear of the values that it raised for them, in the order of their
+    /// Ends an event: the connections hear of the values that it notified to them, in the order of their
     /// slots, that of the slot `own` of those of `here` and the others of `handles`, and of what is then
     /// due.
     #[inline(always)]
@@ -374,7 +386,7 @@ impl Slots {
         here.is_empty() && (handles.is_empty() || self.marks.listening.is_empty_but(own))
     }
 
-    /// Whether a value may wait to be indicated: where it is not so, nothing is released.
+    /// Whether a value may wait to be indicated: where it is not so, nothing is indicated.
     #[inline(always)]
     fn may_wait(&self) -> bool
         ensures { OnFalse result ((table : Contents) (rows : Subscriptions) (now : ℕ)
@@ -392,7 +404,7 @@ impl Slots {
         first_due(self.slots.as_slice(), Due::Value, &mut self.marks.listening)
     }
 
-    /// Looks at who may hear of values, and has each slot hear what is raised where one does.
+    /// Looks at who may hear of values, and has each slot hear what is notified where one does.
     #[inline(never)]
     fn look_and_hear(
         &mut self,
@@ -416,7 +428,7 @@ impl Slots {
         }
     }
 
-    /// Has each slot hear what is raised, one after another.
+    /// Has each slot hear what is notified, one after another.
     #[inline(always)]
     fn hear_each(
         &mut self,

@@ -1,10 +1,10 @@
-//! The end of an event: what each connection hears of the values that it raised, and of what waits.
+//! The end of an event: what each connection hears of the values that it notified, and of what waits.
 
 ghost use Rattle.std.specs.Prelude.{◌≡◌, ◌<◌, ◌≤◌, true, false, [], length, set, Option, None};
 ghost use Rattle.gatt_slots.specs.Commands.{gives};
-ghost use Rattle.gatt_slots.specs.Kept.{Kept};
+ghost use Rattle.gatt_slots.specs.SlotState.{SlotState};
 ghost use Rattle.gatt_slots.specs.Places.{waits, Covers, CoversHeard};
-ghost use Rattle.gatt_slots.specs.Slots.{all_heard, all_raised, all_raised_in_turn, heard_by, is_among, kept_at, raised_by, Held};
+ghost use Rattle.gatt_slots.specs.Slots.{all_heard, all_notified, all_notified_in_turn, slot_heard, is_among, slot_state_at, slot_notified, SlotStates};
 ghost use Rattle.gatt_slots.specs.declared.places.Due.TheVariants.{Packet};
 ghost use Rattle.gatt_laws.specs.declared.TheConstants.{MAX_SLOTS};
 
@@ -28,9 +28,10 @@ impl Heard {
     #[inline(always)]
     fn take(&mut self, place: usize, told: bool, waiting: bool)
         requires { place < MAX_SLOTS }
-        ensures { (slots : Held) (slot : Option Kept) → CoversHeard slots self.old
-            → (told ≡ false → gives slot ≡ gives (kept_at slots place))
-            → (waiting ≡ false → waits slot ≡ false) → CoversHeard (set slots place slot) self.new }
+        ensures { (slots : SlotStates) (slot : Option SlotState) → CoversHeard slots self.old
+            → (told ≡ false → gives slot ≡ gives (slot_state_at slots place))
+            → (waiting ≡ false → waits slot ≡ false)
+            → CoversHeard (set slots place slot) self.new }
     {
         if told {
             self.packets.add(place);
@@ -41,7 +42,7 @@ impl Heard {
     }
 }
 
-/// Ends an event: the connections hear of the values that it raised for them, in the order of their
+/// Ends an event: the connections hear of the values that it notified to them, in the order of their
 /// slots, that of the slot `own` of those of `here` and the others of `handles`, and of what is then
 /// due. What might be due before is marked in `before`.
 #[tactic(auto, using(crate::proofs::InTurn::all_in_turn, crate::proofs::Quiet::nothing_heard_by_all))]
@@ -62,18 +63,18 @@ pub(crate) fn hear_all(
     ensures covered { CoversHeard slots.new result }
 {
     let mut heard = before;
-    raise_all(slots, &mut heard, table, rows, own, false, here, now);
-    raise_all(slots, &mut heard, table, rows, own, true, handles, now);
+    notify_all(slots, &mut heard, table, rows, own, false, here, now);
+    notify_all(slots, &mut heard, table, rows, own, true, handles, now);
     // Most connections wait for nothing.
     if heard.waiting {
-        release_all(slots, &mut heard, table, rows, now);
+        indicate_all(slots, &mut heard, table, rows, now);
     }
     heard
 }
 
-/// Values are raised in their order, for the connection of the slot `own` or for the others.
+/// Values are notified in their order, for the connection of the slot `own` or for the others.
 #[inline(always)]
-fn raise_all(
+fn notify_all(
     slots: &mut [Slot],
     heard: &mut Heard,
     table: &Table,
@@ -86,19 +87,19 @@ fn raise_all(
     requires few { length slots.old ≤ MAX_SLOTS }
     requires covered { CoversHeard slots.old heard.old }
     ensures raised { slots.new
-        ≡ all_raised_in_turn table.now now rows.now own others handles.now slots.old }
+        ≡ all_notified_in_turn table.now now rows.now own others handles.now slots.old }
     ensures covered { CoversHeard slots.new heard.new }
     ensures count { length slots.new ≡ length slots.old }
 {
     for handle in handles {
-        raise_for(slots, heard, table, rows, own, others, *handle, now);
+        notify_for(slots, heard, table, rows, own, others, *handle, now);
     }
 }
 
-/// A value is raised for the connection of the slot `own`, or for the others. It is looked up once for
+/// A value is notified to the connection of the slot `own`, or for the others. It is looked up once for
 /// all of them, and none is looked at where nobody may hear of it.
 #[tactic(auto, using(crate::proofs::InTurn::nobody_hears))]
-fn raise_for(
+fn notify_for(
     slots: &mut [Slot],
     heard: &mut Heard,
     table: &Table,
@@ -110,16 +111,16 @@ fn raise_for(
 )
     requires few { length slots.old ≤ MAX_SLOTS }
     requires covered { CoversHeard slots.old heard.old }
-    ensures raised { slots.new ≡ all_raised table.now now rows.now own others handle slots.old }
+    ensures raised { slots.new ≡ all_notified table.now now rows.now own others handle slots.old }
     ensures covered { CoversHeard slots.new heard.new }
 {
     if let Some(raised) = Raised::of(table, handle) {
-        raise_each(slots, heard, &raised, rows, own, others, now);
+        notify_each(slots, heard, &raised, rows, own, others, now);
     }
 }
 
-/// Raises the value slot by slot.
-fn raise_each(
+/// Notifies the value slot by slot.
+fn notify_each(
     slots: &mut [Slot],
     heard: &mut Heard,
     raised: &Raised<'_>,
@@ -131,12 +132,12 @@ fn raise_each(
     requires few { length slots.old ≤ MAX_SLOTS }
     requires covered { CoversHeard slots.old heard.old }
     ensures raised { slots.new
-        ≡ all_raised raised.now.table now rows.now own others raised.now.handle slots.old }
+        ≡ all_notified raised.now.table now rows.now own others raised.now.handle slots.old }
     ensures covered { CoversHeard slots.new heard.new }
 {
     for place in 0..slots.len() {
         if is_among(own, others, place) {
-            raise_at(slots, heard, raised, rows, place, now);
+            notify_at(slots, heard, raised, rows, place, now);
         }
     }
 }
@@ -149,9 +150,9 @@ fn is_among(own: Option<usize>, others: bool, place: usize) -> bool
     (own == Some(place)) != others
 }
 
-/// A value is raised for the connection of the slot at a place.
+/// A value is notified to the connection of the slot at a place.
 #[inline(always)]
-fn raise_at(
+fn notify_at(
     slots: &mut [Slot],
     heard: &mut Heard,
     raised: &Raised<'_>,
@@ -164,18 +165,19 @@ fn raise_at(
     requires covered { CoversHeard slots.old heard.old }
     ensures slots { slots.new
         ≡ set slots.old place
-        (raised_by raised.now.table now rows.now raised.now.handle (kept_at slots.old place)) }
+        (slot_notified raised.now.table now rows.now raised.now.handle
+        (slot_state_at slots.old place)) }
     ensures covered { CoversHeard slots.new heard.new }
 {
-    let notified = slots[place].raise(raised, rows, now);
+    let notified = slots[place].notify(raised, rows, now);
     let waiting = slots[place].may_wait();
     heard.take(place, notified, waiting);
 }
 
-/// What is due is released, slot by slot: whether a value may wait still.
+/// What is due is indicated, slot by slot: whether a value may wait still.
 #[inline(never)]
 #[tactic(auto, using(crate::proofs::Covering::none_waits))]
-fn release_all(slots: &mut [Slot], heard: &mut Heard, table: &Table, rows: &Rows, now: u64)
+fn indicate_all(slots: &mut [Slot], heard: &mut Heard, table: &Table, rows: &Rows, now: u64)
     requires few { length slots.old ≤ MAX_SLOTS }
     requires covers { Covers Packet heard.old.packets.bits slots.old }
     ensures heard { slots.new ≡ all_heard table.now now rows.now None [] [] slots.old }
@@ -183,12 +185,12 @@ fn release_all(slots: &mut [Slot], heard: &mut Heard, table: &Table, rows: &Rows
 {
     heard.waiting = false;
     for place in 0..slots.len() {
-        release_at(slots, heard, table, rows, place, now);
+        indicate_at(slots, heard, table, rows, place, now);
     }
 }
 
-/// What is due at the slot at a place is released.
-fn release_at(
+/// What is due at the slot at a place is indicated.
+fn indicate_at(
     slots: &mut [Slot],
     heard: &mut Heard,
     table: &Table,
@@ -199,13 +201,15 @@ fn release_at(
     requires few { length slots.old ≤ MAX_SLOTS }
     requires place { place < length slots.old }
     ensures slots { slots.new
-        ≡ set slots.old place (heard_by table.now now rows.now [] (kept_at slots.old place)) }
+        ≡ set slots.old place
+        (slot_heard table.now now rows.now [] (slot_state_at slots.old place)) }
     ensures packets { Covers Packet heard.old.packets.bits slots.old
         → Covers Packet heard.new.packets.bits slots.new }
-    ensures waiting { waits (kept_at slots.new place) ≡ true → heard.new.waiting ≡ true }
+    ensures waiting { waits (slot_state_at slots.new place) ≡ true → heard.new.waiting
+        ≡ true }
     ensures still { heard.old.waiting ≡ true → heard.new.waiting ≡ true }
 {
-    if slots[place].release(table, rows, now) {
+    if slots[place].indicate(table, rows, now) {
         heard.packets.add(place);
         if slots[place].may_wait() {
             heard.waiting = true;

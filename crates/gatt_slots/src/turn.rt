@@ -2,10 +2,10 @@
 
 ghost use Rattle.std.specs.Prelude.{◌≡◌, ◌<◌, ◌≤◌, ◌^◌, ◌==◌, ◌&&◌, not, is_some, [], ◌++◌, length, if◌then◌else◌, Some, None, IfOk, IfSome};
 ghost use Rattle.std.specs.Option.{option_copied, option_map, option_map_or, option_to_list};
-ghost use Rattle.gatt_laws.specs.machine.Turn.{channel_answer, gained_encryption};
-ghost use Rattle.gatt_slots.specs.Turn.{come, after_authorizing, after_completed, after_ending, after_key_asked, after_link_step, after_loss, after_signal, after_table, after_time, has_no_room, with_answer};
+ghost use Rattle.gatt_laws.specs.machine.Effect.{channel_answer, gained_encryption};
+ghost use Rattle.gatt_slots.specs.SlotEffects.{new_slot_state, after_authorizing, slot_after_packets_completed, slot_after_ending, after_key_asked, after_link_step, after_loss, slot_after_other_channel, after_table, after_time, has_no_room, with_channel_answer};
 ghost use Rattle.gatt_slots.specs.Slots.{late_handle};
-ghost use Rattle.le_security.specs.Keys.{answer_of};
+ghost use Rattle.le_security.specs.Keys.{key_asked_for};
 ghost use Rattle.le_security.specs.Link.{Encryption, Refresh, after_step};
 ghost use Rattle.att_pdu.specs.declared.pdu_buf.TheConstants.{MAX_MTU, MIN_MTU};
 ghost use Rattle.octets.specs.declared.pdu.TheConstants.{MAX_PDU};
@@ -48,7 +48,7 @@ impl Slot {
 
     /// Takes in a new connection, to a server that receives PDUs of `rx_mtu` octets. At most `share`
     /// of its packets may be outstanding, with at most `acl_len` octets of data each.
-    pub fn come(
+    pub fn connect(
         &mut self,
         handle: u16,
         peer: Peer,
@@ -63,7 +63,7 @@ impl Slot {
         requires share { 0 < share }
         requires acl_len_least { 27 ≤ acl_len }
         requires acl_len_most { acl_len ≤ 251 }
-        ensures { self.new ≡ Some (come handle peer key_known rx_mtu share acl_len) }
+        ensures { self.new ≡ Some (new_slot_state handle peer key_known rx_mtu share acl_len) }
     {
         self.used = Use::Live;
         self.handle = handle;
@@ -81,7 +81,7 @@ impl Slot {
     }
 
     /// Frees the slot.
-    pub fn go(&mut self)
+    pub fn disconnected(&mut self)
         ensures { self.new ≡ None }
     {
         self.used = Use::Free;
@@ -96,8 +96,9 @@ impl Slot {
 
     /// The controller asked for the key of the link: it is looked up, and a reply is due.
     pub fn ask_key(&mut self, keys: &Keys, random_number: [u8; 8], diversifier: u16)
-        ensures { self.new ≡ option_map (λ kept. after_key_asked
-            (answer_of keys.now kept.peer random_number diversifier) kept) self.old }
+        ensures { self.new ≡ option_map (λ slot_state. after_key_asked
+            (key_asked_for keys.now slot_state.peer random_number diversifier) slot_state)
+            self.old }
     {
         let found = keys.answer(&self.peer, random_number, diversifier);
         self.link.request(found);
@@ -109,8 +110,9 @@ impl Slot {
     pub fn encrypt(&mut self, status: u8, enabled: u8) -> bool
         ensures after { self.new
             ≡ option_map (after_link_step (Encryption status enabled)) self.old }
-        ensures gained { IfSome self.old (λ kept. result ≡ gained_encryption kept.link.key
-            (after_step kept.link (Encryption status enabled)).key) }
+        ensures gained { IfSome self.old
+            (λ slot_state. result ≡ gained_encryption slot_state.link.key
+            (after_step slot_state.link (Encryption status enabled)).key) }
     {
         let had_key = self.link.facts().is_some();
         self.link.encryption(status, enabled);
@@ -120,8 +122,9 @@ impl Slot {
     /// The key of the link was refreshed, or could not be.
     pub fn refresh(&mut self, status: u8) -> bool
         ensures after { self.new ≡ option_map (after_link_step (Refresh status)) self.old }
-        ensures gained { IfSome self.old (λ kept. result
-            ≡ gained_encryption kept.link.key (after_step kept.link (Refresh status)).key) }
+        ensures gained { IfSome self.old (λ slot_state. result
+            ≡ gained_encryption slot_state.link.key
+            (after_step slot_state.link (Refresh status)).key) }
     {
         let had_key = self.link.facts().is_some();
         self.link.refresh(status);
@@ -132,7 +135,8 @@ impl Slot {
     /// none.
     fn judge_link(&mut self, had_key: bool) -> bool
         ensures after { self.new ≡ option_map (after_loss had_key) self.old }
-        ensures gained { IfSome self.old (λ kept. result ≡ (not had_key && is_some kept.link.key)) }
+        ensures gained { IfSome self.old
+            (λ slot_state. result ≡ (not had_key && is_some slot_state.link.key)) }
     {
         let has_key = self.link.facts().is_some();
         if had_key && !has_key {
@@ -143,10 +147,12 @@ impl Slot {
 
     /// Takes in a payload on the channel of LE signalling or of the Security Manager: `true` where the
     /// connection is ended, since there is no room for the answer.
-    pub fn signal(&mut self, channel: u16, payload: &[u8]) -> bool
-        ensures after { self.new ≡ option_map (after_signal channel payload.now) self.old }
+    pub fn other_channel(&mut self, channel: u16, payload: &[u8]) -> bool
+        ensures after { self.new
+            ≡ option_map (slot_after_other_channel channel payload.now) self.old }
         ensures ended { IfSome self.old
-            (λ kept. result ≡ has_no_room (channel_answer channel payload.now) kept) }
+            (λ slot_state. result
+            ≡ has_no_room (channel_answer channel payload.now) slot_state) }
     {
         match channel {
             LE_SIGNALLING => match signalling(payload) {
@@ -164,8 +170,10 @@ impl Slot {
     /// Queues an answer, or ends the connection where there is no room for it, and says so.
     fn answer(&mut self, channel: u16, octets: &[u8]) -> bool
         requires { length octets.now ≤ MAX_PDU }
-        ensures after { self.new ≡ option_map (with_answer channel (Some octets.now)) self.old }
-        ensures ended { IfSome self.old (λ kept. result ≡ has_no_room (Some octets.now) kept) }
+        ensures after { self.new
+            ≡ option_map (with_channel_answer channel (Some octets.now)) self.old }
+        ensures ended { IfSome self.old
+            (λ slot_state. result ≡ has_no_room (Some octets.now) slot_state) }
     {
         let full = self.sender.backlog() == MAX_PDUS;
         if full {
@@ -178,7 +186,7 @@ impl Slot {
 
     /// Ends the connection for a reason, which the Disconnect will tell.
     pub(crate) fn end(&mut self, reason: u8)
-        ensures { self.new ≡ option_map (after_ending reason) self.old }
+        ensures { self.new ≡ option_map (slot_after_ending reason) self.old }
     {
         if self.used == Use::Live {
             self.used = Use::Ending;
@@ -191,8 +199,8 @@ impl Slot {
     }
 
     /// Counts packets as completed, at most those that are outstanding.
-    pub fn complete(&mut self, count: u16)
-        ensures { self.new ≡ option_map (after_completed count) self.old }
+    pub fn packets_completed(&mut self, count: u16)
+        ensures { self.new ≡ option_map (slot_after_packets_completed count) self.old }
     {
         self.sender.completed(count);
     }

@@ -10,8 +10,8 @@ use Rattle.le_hci.specs.declared.peer.Peer.{Peer}
 use Rattle.le_security.specs.Entry.{same_peer}
 use Rattle.le_security.proofs.Peers.{equal_peers, same_as_itself}
 use Rattle.gatt_subs.specs.declared.bond.Bond.{Bond}
-use Rattle.gatt_subs.specs.Unfitted.{Written}
-use Rattle.gatt_subs.specs.Rows.{Subscriptions, place_of, bond_of, bonds_with, with_bond, with_row, ChangesBond}
+use Rattle.gatt_subs.specs.Unfitted.{WrittenRows}
+use Rattle.gatt_subs.specs.Rows.{Subscriptions, peer_place, bond_of, bonds_with, with_bond, with_row, ChangesBond}
 
 -- an element that is set, read where it is and elsewhere
 get-set_same : {X : Type 0} (xs : List X) (i : ℕ) (x : X) → i < length xs → slice_get (set xs i x) i ≡ Some x
@@ -61,7 +61,7 @@ count_changed bonds place change =
     ]
 
 -- two peers at one place are the same
-same_at : (peers : List Peer) (one other : Peer) (place : ℕ) → place_of peers one ≡ Some place → place_of peers other ≡ Some place → same_peer one other ≡ true
+same_at : (peers : List Peer) (one other : Peer) (place : ℕ) → peer_place peers one ≡ Some place → peer_place peers other ≡ Some place → same_peer one other ≡ true
 same_at peers one other place first second =
     let there = get_or peers place one in
     let found = position-Some (λ (peer : Peer). same_peer peer one) peers place one first in
@@ -71,8 +71,8 @@ same_at peers one other place first second =
     subst (λ (peer : Peer). same_peer one peer ≡ true) (sym is ∙ is') (same_as_itself one)
 
 -- what becomes of a peer's bond, and of any other, where the bond at the place of the peer is changed
-pub changes_bond : (old : Subscriptions) (peers : List Peer) (bonds : List Bond) (unfitted : Written) (peer : Peer) (place : ℕ) (change : Bond → Bond)
-    → record { peers = peers; bonds = bonds; unfitted = unfitted } ≡ old → length bonds ≡ length peers → place_of peers peer ≡ Some place
+pub changes_bond : (old : Subscriptions) (peers : List Peer) (bonds : List Bond) (unfitted : WrittenRows) (peer : Peer) (place : ℕ) (change : Bond → Bond)
+    → record { peers = peers; bonds = bonds; unfitted = unfitted } ≡ old → length bonds ≡ length peers → peer_place peers peer ≡ Some place
     → ChangesBond change peer old (record { peers = peers; bonds = bonds_with bonds place change; unfitted = unfitted })
 changes_bond old peers bonds unfitted peer place change is same at =
     let within = (position-Some (λ (other : Peer). same_peer other peer) peers place peer at).0 in
@@ -80,7 +80,7 @@ changes_bond old peers bonds unfitted peer place change is same at =
     subst (λ (old : Subscriptions). ChangesBond change peer old new) is (record {
       bond = rw at (changed_there bonds place change (omega arith));
       others = λ other apart.
-          elim (place_of peers other) as (λ found. place_of peers other ≡ found
+          elim (peer_place peers other) as (λ found. peer_place peers other ≡ found
           → option_and_then (slice_get (bonds_with bonds place change)) found ≡ option_and_then (slice_get bonds) found) [
             | None ↦ λ missing. refl
             | Some elsewhere ↦ λ found.
@@ -93,8 +93,8 @@ changes_bond old peers bonds unfitted peer place change is same at =
     })
 
 -- nothing changes where a peer has none
-pub changes_no_bond : (old : Subscriptions) (peers : List Peer) (bonds : List Bond) (unfitted : Written) (peer : Peer) (change : Bond → Bond)
-    → record { peers = peers; bonds = bonds; unfitted = unfitted } ≡ old → place_of peers peer ≡ None → ChangesBond change peer old old
+pub changes_no_bond : (old : Subscriptions) (peers : List Peer) (bonds : List Bond) (unfitted : WrittenRows) (peer : Peer) (change : Bond → Bond)
+    → record { peers = peers; bonds = bonds; unfitted = unfitted } ≡ old → peer_place peers peer ≡ None → ChangesBond change peer old old
 changes_no_bond old peers bonds unfitted peer change is missing =
     subst (λ (old : Subscriptions). ChangesBond change peer old old) is (record {
       bond = rw missing refl;
@@ -105,8 +105,8 @@ changes_no_bond old peers bonds unfitted peer change is missing =
     })
 
 -- a row that is lent
-pub lent_row : (old : Subscriptions) (peers : List Peer) (bonds : List Bond) (unfitted : Written) (peer : Peer) (place : ℕ) (bond d : Bond) (row : Row)
-    → record { peers = peers; bonds = bonds; unfitted = unfitted } ≡ old → length bonds ≡ length peers → place_of peers peer ≡ Some place
+pub lent_row : (old : Subscriptions) (peers : List Peer) (bonds : List Bond) (unfitted : WrittenRows) (peer : Peer) (place : ℕ) (bond d : Bond) (row : Row)
+    → record { peers = peers; bonds = bonds; unfitted = unfitted } ≡ old → length bonds ≡ length peers → peer_place peers peer ≡ Some place
     → bond ≡ get_or bonds place d
     → record { peers = peers; bonds = set bonds place (record { row = row; owed = bond.owed }); unfitted = unfitted } ≡ with_bond old peer (with_row row)
 lent_row old peers bonds unfitted peer place bond d row is same at there =
@@ -117,8 +117,8 @@ lent_row old peers bonds unfitted peer place bond d row is same at there =
     ∙ sym (ap (λ (found : Option ℕ). option_map_or (λ place. record held { bonds = bonds_with bonds place (with_row row) }) found held) at)
     ∙ ap (λ (rows : Subscriptions). with_bond rows peer (with_row row)) is
 
-pub row_there : (old : Subscriptions) (peers : List Peer) (bonds : List Bond) (unfitted : Written) (peer : Peer) (place : ℕ) (bond d : Bond)
-    → record { peers = peers; bonds = bonds; unfitted = unfitted } ≡ old → length bonds ≡ length peers → place_of peers peer ≡ Some place
+pub row_there : (old : Subscriptions) (peers : List Peer) (bonds : List Bond) (unfitted : WrittenRows) (peer : Peer) (place : ℕ) (bond d : Bond)
+    → record { peers = peers; bonds = bonds; unfitted = unfitted } ≡ old → length bonds ≡ length peers → peer_place peers peer ≡ Some place
     → bond ≡ get_or bonds place d → bond_of old peer ≡ Some bond
 row_there old peers bonds unfitted peer place bond d is same at there =
     let within = (position-Some (λ (other : Peer). same_peer other peer) peers place peer at).0 in
@@ -131,13 +131,13 @@ pub ends_alike : {N A B C : Type 0} (name : N) (one other : A → B) → ((x : A
 ends_alike name one other same = λ i. inl (name, λ x. same x i)
 
 -- the law of a row that is lent: what is written through it changes the bond of its peer, and no other
-pub row_changes : (old : Subscriptions) (peers : List Peer) (bonds : List Bond) (unfitted : Written) (peer : Peer) (row : Row)
+pub row_changes : (old : Subscriptions) (peers : List Peer) (bonds : List Bond) (unfitted : WrittenRows) (peer : Peer) (row : Row)
     → record { peers = peers; bonds = bonds; unfitted = unfitted } ≡ old → length bonds ≡ length peers
     → ChangesBond (with_row row) peer old (with_bond old peer (with_row row))
 row_changes old peers bonds unfitted peer row is same =
     let held : Subscriptions = record { peers = peers; bonds = bonds; unfitted = unfitted } in
     subst (λ (old : Subscriptions). ChangesBond (with_row row) peer old (with_bond old peer (with_row row))) is
-    (elim (place_of peers peer) as (λ found. place_of peers peer ≡ found
+    (elim (peer_place peers peer) as (λ found. peer_place peers peer ≡ found
     → ChangesBond (with_row row) peer held (option_map_or (λ place. record held { bonds = bonds_with bonds place (with_row row) }) found held)) [
       | None ↦ λ missing. changes_no_bond held peers bonds unfitted peer (with_row row) refl missing
       | Some place ↦ λ at. changes_bond held peers bonds unfitted peer place (with_row row) refl same at

@@ -15,8 +15,8 @@ use Rattle.gatt_subs.specs.declared.bond.Bond.{Bond}
 use Rattle.gatt_subs.specs.InOrder.{in_order}
 use Rattle.gatt_subs.specs.RowEntry.{rank_of}
 use Rattle.gatt_subs.specs.Fit.{fitted_bond, fitted_rows, peers_of, peers_with, with_peer, HasFittedBonds}
-use Rattle.gatt_subs.specs.Rows.{Subscriptions, bond_of, place_of}
-use Rattle.gatt_subs.specs.Unfitted.{Written, has_peer, nothing_written}
+use Rattle.gatt_subs.specs.Rows.{Subscriptions, bond_of, peer_place}
+use Rattle.gatt_subs.specs.Unfitted.{WrittenRows, has_peer, nothing_written}
 
 -- a peer that is put in its place is there
 pub has_in_order : (peers : List Peer) (peer other : Peer) → has_peer (in_order rank_of peer peers) other ≡ (same_peer peer other || has_peer peers other)
@@ -66,7 +66,7 @@ has_peers_of keys other = has-peers_with [] keys other ∙ plain (is_known keys 
     plain false = refl
 
 -- a peer that is among others has a place there
-place_missing : (peers : List Peer) (peer : Peer) → place_of peers peer ≡ None → has_peer peers peer ≡ false
+place_missing : (peers : List Peer) (peer : Peer) → peer_place peers peer ≡ None → has_peer peers peer ≡ false
 place_missing [] peer missing = refl
 place_missing (first ∷ peers) peer missing = grind (arith, common_steps, place_missing peers peer)
 
@@ -86,10 +86,10 @@ mapped_there f (first ∷ peers) zero peer there = ap (option_map f) there
 mapped_there f (first ∷ peers) (suc place) peer there = mapped_there f peers place peer there
 
 -- the bond of a peer, where each has the one that is made of it
-pub bond_made : (f : Peer → Bond) (peers : List Peer) (unfitted : Written) (peer : Peer)
+pub bond_made : (f : Peer → Bond) (peers : List Peer) (unfitted : WrittenRows) (peer : Peer)
     → bond_of (record { peers = peers; bonds = map f peers; unfitted = unfitted }) peer ≡ (if has_peer peers peer then Some (f peer) else None)
 bond_made f peers unfitted peer =
-    elim (place_of peers peer) as (λ found. place_of peers peer ≡ found → option_and_then (slice_get (map f peers)) found ≡ (if has_peer peers peer then Some (f peer) else None)) [
+    elim (peer_place peers peer) as (λ found. peer_place peers peer ≡ found → option_and_then (slice_get (map f peers)) found ≡ (if has_peer peers peer then Some (f peer) else None)) [
       | None ↦ λ missing. sym (ap (λ has. if has then Some (f peer) else None) (place_missing peers peer missing))
       | Some place ↦ λ found.
           let at = position-Some (λ (other : Peer). same_peer other peer) peers place peer found in
@@ -112,12 +112,12 @@ changed_each f [] place = refl
 changed_each f (bond ∷ bonds) zero = refl
 changed_each f (bond ∷ bonds) (suc place) = changed_each f bonds place
 
-pub kept_each : (f : Bond → Bond) (old : Subscriptions) (peers : List Peer) (bonds kept : List Bond) (unfitted : Written) (peer : Peer)
+pub kept_each : (f : Bond → Bond) (old : Subscriptions) (peers : List Peer) (bonds kept : List Bond) (unfitted : WrittenRows) (peer : Peer)
     → record { peers = peers; bonds = bonds; unfitted = unfitted } ≡ old → kept ≡ map f bonds
     → bond_of (record { peers = peers; bonds = kept; unfitted = unfitted }) peer ≡ option_map f (bond_of old peer)
 kept_each f old peers bonds kept unfitted peer is all =
     subst (λ (rows : Subscriptions). bond_of (record { peers = peers; bonds = kept; unfitted = unfitted }) peer ≡ option_map f (bond_of rows peer)) is
-    (ap (λ (bonds : List Bond). option_and_then (slice_get bonds) (place_of peers peer)) all ∙ by (place_of peers peer))
+    (ap (λ (bonds : List Bond). option_and_then (slice_get bonds) (peer_place peers peer)) all ∙ by (peer_place peers peer))
   where
     by : (found : Option ℕ) → option_and_then (slice_get (map f bonds)) found ≡ option_map f (option_and_then (slice_get bonds) found)
     by None = refl

@@ -6,8 +6,8 @@ use Rattle.att_numbers.specs.Types.{Handle, Row}
 use Rattle.att_policy.specs.declared.standing.Standing.{Standing}
 use Rattle.att_attributes.specs.declared.attr.Attr.{Attr}
 use Rattle.gatt_subs.specs.Hearing.{is_indicated, may_hear_at, wants_indications}
-use Rattle.gatt_subs.specs.HeardOnly.{RaisesOnlyWhatIsHeard, IsHeard, ReleasesOnlyWhatIsHeard, ReleasesOnlyWhatWaits}
-use Rattle.gatt_subs.specs.Indications.{Indications, Milliseconds, first_of, from_due, hears, may_indicate, rest_of, unconfirmed_since, with_handle}
+use Rattle.gatt_subs.specs.HeardOnly.{NotifiesOnlyWhatIsHeard, IsHeard, IndicatesOnlyWhatIsHeard, IndicatesOnlyWhatWaits}
+use Rattle.gatt_subs.specs.Indications.{Indications, Milliseconds, first_handle, from_due, hears, may_indicate, rest_of, unconfirmed_since, with_handle}
 use Rattle.gatt_subs.specs.declared.pending.Unconfirmed.{Unconfirmed}
 
 and_false : (test : Bool) → test && false ≡ false
@@ -18,7 +18,7 @@ not_heard : (pending : Indications) (attributes : List Attr) (row : Row) (standi
     → hears pending attributes row standing handle ≡ false
 not_heard pending attributes row standing handle silent = ap (λ may. not pending.timed_out && may) silent ∙ and_false (not pending.timed_out)
 
-pub raises_only_what_is_heard : RaisesOnlyWhatIsHeard
+pub raises_only_what_is_heard : NotifiesOnlyWhatIsHeard
 raises_only_what_is_heard pending attributes row standing handle silent =
     let deaf = not_heard pending attributes row standing handle silent in
     record {
@@ -27,12 +27,12 @@ raises_only_what_is_heard pending attributes row standing handle silent =
     }
 
 -- the first that is due is due
-first_here : (is_due : Handle → Bool) (next handle : Handle) (rest : List Handle) (due : Bool) → (first_of (from_due is_due rest) ≡ Some handle → is_due handle ≡ true)
-    → is_due next ≡ due → first_of (if due then next ∷ rest else from_due is_due rest) ≡ Some handle → is_due handle ≡ true
+first_here : (is_due : Handle → Bool) (next handle : Handle) (rest : List Handle) (due : Bool) → (first_handle (from_due is_due rest) ≡ Some handle → is_due handle ≡ true)
+    → is_due next ≡ due → first_handle (if due then next ∷ rest else from_due is_due rest) ≡ Some handle → is_due handle ≡ true
 first_here is_due next handle rest true later is found = let same : next ≡ handle = cc found in sym (ap is_due same) ∙ is
 first_here is_due next handle rest false later is found = later found
 
-first_is_due : (is_due : Handle → Bool) (waiting : List Handle) (handle : Handle) → first_of (from_due is_due waiting) ≡ Some handle → is_due handle ≡ true
+first_is_due : (is_due : Handle → Bool) (waiting : List Handle) (handle : Handle) → first_handle (from_due is_due waiting) ≡ Some handle → is_due handle ≡ true
 first_is_due is_due [] handle found = cc found
 first_is_due is_due (next ∷ rest) handle found = first_here is_due next handle rest (is_due next) (first_is_due is_due rest handle) refl found
 
@@ -42,10 +42,10 @@ both true true is = (refl, refl)
 both true false is = cc is
 both false other is = cc is
 
-pub releases_only_what_is_heard : ReleasesOnlyWhatIsHeard
+pub releases_only_what_is_heard : IndicatesOnlyWhatIsHeard
 releases_only_what_is_heard pending attributes row standing backlog handle = released (may_indicate pending backlog)
   where
-    released : (may : Bool) → (if may then first_of (from_due (is_indicated attributes row standing) pending.waiting) else None) ≡ Some handle → IsHeard attributes row standing handle
+    released : (may : Bool) → (if may then first_handle (from_due (is_indicated attributes row standing) pending.waiting) else None) ≡ Some handle → IsHeard attributes row standing handle
     released true found =
         let due = first_is_due (is_indicated attributes row standing) pending.waiting handle found in
         let facts = both (may_hear_at attributes row standing handle) (wants_indications row handle) due in
@@ -57,22 +57,22 @@ none_there : (unconfirmed : Option Unconfirmed) (in_time has_room : Bool) → no
 none_there None in_time has_room may = refl
 none_there (Some one) in_time has_room may = cc may
 
-pub releases_only_what_waits : ReleasesOnlyWhatWaits
+pub releases_only_what_waits : IndicatesOnlyWhatWaits
 releases_only_what_waits pending attributes row standing backlog none = record { unchanged = λ now. unchanged now (may_indicate pending backlog) refl; silent = silent (may_indicate pending backlog) }
   where
     is_due : Handle → Bool
     is_due = is_indicated attributes row standing
 
-    silent : (may : Bool) → (if may then first_of (from_due is_due pending.waiting) else None) ≡ None
-    silent true = ap (λ waiting. first_of (from_due is_due waiting)) none
+    silent : (may : Bool) → (if may then first_handle (from_due is_due pending.waiting) else None) ≡ None
+    silent true = ap (λ waiting. first_handle (from_due is_due waiting)) none
     silent false = refl
 
     unchanged : (now : Milliseconds) (may : Bool) → may_indicate pending backlog ≡ may
-        → (if may then record pending { waiting = rest_of (from_due is_due pending.waiting); unconfirmed = option_map (unconfirmed_since now) (first_of (from_due is_due pending.waiting)) } else pending) ≡ pending
+        → (if may then record pending { waiting = rest_of (from_due is_due pending.waiting); unconfirmed = option_map (unconfirmed_since now) (first_handle (from_due is_due pending.waiting)) } else pending) ≡ pending
     unchanged now true is =
         let absent = none_there pending.unconfirmed (not pending.timed_out) (nat_lt backlog 8) is in
         let waits = ap (λ waiting. rest_of (from_due is_due waiting)) none ∙ sym none in
-        let confirmed = ap (λ waiting. option_map (unconfirmed_since now) (first_of (from_due is_due waiting))) none ∙ sym absent in
+        let confirmed = ap (λ waiting. option_map (unconfirmed_since now) (first_handle (from_due is_due waiting))) none ∙ sym absent in
         λ i. record { waiting = waits i; unconfirmed = confirmed i; timed_out = pending.timed_out }
     unchanged now false is = refl
 

@@ -26,7 +26,7 @@ use Rattle.gatt_subs.specs.declared.row_entry.RowEntry.{RowEntry}
 use Rattle.gatt_subs.specs.declared.rows_line.Line.TheVariants.{Entry, Owed}
 use Rattle.gatt_subs.specs.ReadBack.{IsNamed, IsConfigured}
 use Rattle.le_security.specs.Address.{address_of}
-use Rattle.gatt_subs.specs.RowsLine.{space, parts_of, kind_of, peer_of, is_from_one, handle_of, bits_of, line_of}
+use Rattle.gatt_subs.specs.RowsLine.{space, parts_of, kind_of, peer_of_row, is_from_one, handle_of_row, bits_of, rows_line_of}
 use Rattle.gatt_subs.specs.RowsText.{address_text, entry_line, joined_by_colons, owed_line}
 
 -- words are of visible characters
@@ -154,8 +154,8 @@ first_digit : (digits : Octets) → 0 < length digits → AllDigits 10 digits �
 first_digit [] some are = absurd (omega (arith, some))
 first_digit (digit ∷ digits) some are = digit_from_value digit are.0
 
-pub handle_back : (handle : ℕ) → 1 ≤ handle → handle < 65536 → handle_of (decimal handle) ≡ Some handle
-unfolding handle_of
+pub handle_back : (handle : ℕ) → 1 ≤ handle → handle < 65536 → handle_of_row (decimal handle) ≡ Some handle
+unfolding handle_of_row
 handle_back handle some small =
     let numeral = decimal_is_IsNumeral handle (omega arith) in
     let digits : all_ascii_digits (decimal handle) ≡ true =
@@ -180,8 +180,8 @@ kind_back (suc zero) few = rw (decimal_digit 1 (omega arith)) refl
 kind_back (suc (suc more)) few = absurd (omega (arith, few))
 
 -- a peer is read from its text
-pub peer_back : (peer : Peer) → IsNamed peer → peer_of (decimal peer.kind) (address_text peer.address) ≡ Some peer
-unfolding peer_of
+pub peer_back : (peer : Peer) → IsNamed peer → peer_of_row (decimal peer.kind) (address_text peer.address) ≡ Some peer
+unfolding peer_of_row
 peer_back peer is = rw (kind_back peer.kind is.kind, address_back peer.address is.address is.octets) refl
 
 -- a line without its line feed
@@ -192,8 +192,8 @@ abbrev pub owed_words : Peer → Octets
 owed_words peer = 33 ∷ space ∷ (decimal peer.kind ++ space ∷ address_text peer.address)
 
 -- and so are both kinds of lines
-pub entry_back : (entry : RowEntry) → IsConfigured entry → line_of (entry_words entry) ≡ Some (Entry entry)
-unfolding line_of
+pub entry_back : (entry : RowEntry) → IsConfigured entry → rows_line_of (entry_words entry) ≡ Some (Entry entry)
+unfolding rows_line_of
 entry_back entry is =
     rw (
       parted (decimal entry.peer.kind) (address_text entry.peer.address ++ space ∷ (decimal entry.handle ++ space ∷ decimal entry.bits)) (number_seen entry.peer.kind (omega (arith, is.peer.kind))),
@@ -204,8 +204,8 @@ entry_back entry is =
       bits_back entry.bits is.some is.bits,
     ) refl
 
-pub owed_back : (peer : Peer) → IsNamed peer → line_of (owed_words peer) ≡ Some (Owed peer)
-unfolding line_of
+pub owed_back : (peer : Peer) → IsNamed peer → rows_line_of (owed_words peer) ≡ Some (Owed peer)
+unfolding rows_line_of
 owed_back peer is =
     rw (
       parted (33 ∷ []) (decimal peer.kind ++ space ∷ address_text peer.address) (All-cons (λ octet. 33 ≤ octet) 33 [] (omega arith) (All-nil (λ octet. 33 ≤ octet))),

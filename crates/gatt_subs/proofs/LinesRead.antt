@@ -17,12 +17,12 @@ use Rattle.hex.specs.declared.error.FromHexError.{FromHexError}
 use Rattle.hex.proofs.HexLemmas.{decode_of-ok, decode_sized-ok, decode_sized-twice}
 use Rattle.octets.specs.Number.{Octets}
 use Rattle.le_hci.specs.declared.peer.Peer.{Peer}
-use Rattle.le_security.specs.Address.{address_of, is_joined, octets_of, pair}
+use Rattle.le_security.specs.Address.{address_of, is_joined, address_octets, pair}
 use Rattle.gatt_subs.specs.declared.rows_line.Line.{Line}
 use Rattle.gatt_subs.specs.declared.rows_line.Line.TheVariants.{Entry, Owed}
 use Rattle.gatt_subs.specs.ReadBack.{IsNamed, IsConfigured}
 use Rattle.octets.specs.Missing.{◌>>=◌}
-use Rattle.gatt_subs.specs.RowsLine.{parts_of, kind_of, peer_of, is_from_one, handle_of, bits_of, line_behind, line_of}
+use Rattle.gatt_subs.specs.RowsLine.{parts_of, kind_of, peer_of_row, is_from_one, handle_of_row, bits_of, line_behind, rows_line_of}
 
 some-is : {A : Type 0} {x y : A} → Some x ≡ Some y → x ≡ y
 some-is is = cc is
@@ -65,7 +65,7 @@ decoded digits octets (Ok bytes) is reads =
     subst IsAddress (some-is reads) (turned bytes (omega (arith, twelve, pairs.2)) pairs.3)
 decoded digits octets (Err fault) is reads = cc reads
 
-joined_or_none : (joined : Bool) (digits octets : Octets) → (if joined then octets_of digits else None) ≡ Some octets → IsAddress octets
+joined_or_none : (joined : Bool) (digits octets : Octets) → (if joined then address_octets digits else None) ≡ Some octets → IsAddress octets
 joined_or_none true digits octets is = decoded digits octets (decode_sized digits 6) refl is
 joined_or_none false digits octets is = cc is
 
@@ -73,8 +73,8 @@ address_read : (text octets : Octets) → address_of text ≡ Some octets → Is
 address_read text octets is =
     joined_or_none (is_joined text) (pair text 0 ++ pair text 1 ++ pair text 2 ++ pair text 3 ++ pair text 4 ++ pair text 5) octets is
 
-peer_read : (kind address : Octets) (peer : Peer) → peer_of kind address ≡ Some peer → IsNamed peer
-unfolding peer_of
+peer_read : (kind address : Octets) (peer : Peer) → peer_of_row kind address ≡ Some peer → IsNamed peer
+unfolding peer_of_row
 peer_read kind address peer is =
     let type = found (kind_of kind) (λ type. address_of address >>= (λ octets. Some (record { kind = type; address = octets }))) peer is in
     let octets = found (address_of address) (λ octets. Some (record { kind = type.x; address = octets })) peer type.then_y in
@@ -117,8 +117,8 @@ handle_if word handle true true false first digits small is = cc is
 handle_if word handle true false small first digits below is = cc is
 handle_if word handle false digits small first all below is = cc is
 
-handle_read : (word : Octets) (handle : ℕ) → handle_of word ≡ Some handle → IsHandle handle
-unfolding handle_of
+handle_read : (word : Octets) (handle : ℕ) → handle_of_row word ≡ Some handle → IsHandle handle
+unfolding handle_of_row
 handle_read word handle is = handle_if word handle (is_from_one (slice_index word 0)) (all_ascii_digits word) (nat_lt (digits_value 10 word) 65536) refl refl refl is
 
 -- bits
@@ -148,18 +148,18 @@ owed_read true (Some peer) line named is = subst CanBeWritten (some-is is) (name
 owed_read false peer line named is = cc is
 
 behind_read : (first second rest : Octets) (last : Option (Octets × Octets)) (line : Line) → line_behind first second rest last ≡ Some line → CanBeWritten line
-behind_read mark kind address None line is = owed_read (bytes_eq mark (codes "!")) (peer_of kind address) line (peer_read kind address) is
+behind_read mark kind address None line is = owed_read (bytes_eq mark (codes "!")) (peer_of_row kind address) line (peer_read kind address) is
 behind_read kind address rest (Some last) line is =
-    let peer = found (peer_of kind address) (λ peer. handle_of last.0 >>= (λ handle. bits_of last.1 >>= (λ bits. Some (Entry (record { peer = peer; handle = handle; bits = bits }))))) line is in
-    let handle = found (handle_of last.0) (λ handle. bits_of last.1 >>= (λ bits. Some (Entry (record { peer = peer.x; handle = handle; bits = bits })))) line peer.then_y in
+    let peer = found (peer_of_row kind address) (λ peer. handle_of_row last.0 >>= (λ handle. bits_of last.1 >>= (λ bits. Some (Entry (record { peer = peer; handle = handle; bits = bits }))))) line is in
+    let handle = found (handle_of_row last.0) (λ handle. bits_of last.1 >>= (λ bits. Some (Entry (record { peer = peer.x; handle = handle; bits = bits })))) line peer.then_y in
     let bits = found (bits_of last.1) (λ bits. Some (Entry (record { peer = peer.x; handle = handle.x; bits = bits }))) line handle.then_y in
     let of_handle = handle_read last.0 handle.x handle.is in
     let of_bits = bits_read last.1 bits.x bits.is in
     subst CanBeWritten (some-is bits.then_y)
     (record { peer = peer_read kind address peer.x peer.is; from_one = of_handle.some; handle = of_handle.small; some = of_bits.some; bits = of_bits.few })
 
-pub line_read : (text : Octets) (line : Line) → line_of text ≡ Some line → CanBeWritten line
-unfolding line_of
+pub line_read : (text : Octets) (line : Line) → rows_line_of text ≡ Some line → CanBeWritten line
+unfolding rows_line_of
 line_read text line is =
     let first = found (parts_of text) (λ first. parts_of first.1 >>= (λ second. line_behind first.0 second.0 second.1 (parts_of second.1))) line is in
     let second = found (parts_of first.x.1) (λ second. line_behind first.x.0 second.0 second.1 (parts_of second.1)) line first.then_y in

@@ -14,7 +14,7 @@ use Rattle.gatt_subs.specs.declared.bond.Bond.{Bond}
 use Rattle.gatt_subs.specs.Fit.{IsListed, peers_of, peers_with, rows_listed, with_peer}
 use Rattle.gatt_subs.specs.InOrder.{in_order}
 use Rattle.gatt_subs.specs.RowEntry.{rank_of}
-use Rattle.gatt_subs.specs.Rows.{Subscriptions, bond_of, place_of}
+use Rattle.gatt_subs.specs.Rows.{Subscriptions, bond_of, peer_place}
 use Rattle.gatt_subs.specs.Unfitted.{has_peer}
 
 -- no peer stands twice
@@ -58,14 +58,14 @@ once-peers_with (key ∷ keys) peers once = once-peers_with keys (with_peer peer
 
 -- the bonds are a list, where each peer's is this
 abbrev HasBonds : (Peer → Bond) → List Peer → List Bond → Type 0
-HasBonds bond peers bonds = (peer : Peer) → has_peer peers peer ≡ true → option_and_then (slice_get bonds) (place_of peers peer) ≡ Some (bond peer)
+HasBonds bond peers bonds = (peer : Peer) → has_peer peers peer ≡ true → option_and_then (slice_get bonds) (peer_place peers peer) ≡ Some (bond peer)
 
 place-first : (first : Peer) (peers : List Peer) (bond : Bond) (bonds : List Bond) → same_peer first first ≡ true
-    → option_and_then (slice_get (bond ∷ bonds)) (place_of (first ∷ peers) first) ≡ Some bond
+    → option_and_then (slice_get (bond ∷ bonds)) (peer_place (first ∷ peers) first) ≡ Some bond
 place-first first peers bond bonds same = grind (arith, common_steps)
 
 place-later : (first : Peer) (peers : List Peer) (peer : Peer) (bond : Bond) (bonds : List Bond) → same_peer first peer ≡ false
-    → option_and_then (slice_get (bond ∷ bonds)) (place_of (first ∷ peers) peer) ≡ option_and_then (slice_get bonds) (place_of peers peer)
+    → option_and_then (slice_get (bond ∷ bonds)) (peer_place (first ∷ peers) peer) ≡ option_and_then (slice_get bonds) (peer_place peers peer)
 place-later first peers peer bond bonds apart = grind (arith, common_steps)
 
 -- one that stands behind the first is another
@@ -102,7 +102,7 @@ pub rows_are_listed : (keys : List Entry) (rows : Subscriptions) (bond : Peer �
 rows_are_listed keys rows bond listed known =
     let has : HasBonds bond (peers_of keys) rows.bonds =
     λ peer there.
-    ap (λ (peers : List Peer). option_and_then (slice_get rows.bonds) (place_of peers peer)) (sym listed.peers) ∙ known peer
+    ap (λ (peers : List Peer). option_and_then (slice_get rows.bonds) (peer_place peers peer)) (sym listed.peers) ∙ known peer
     ∙ ap (λ known. if known then Some (bond peer) else None) (sym (has_peers_of keys peer) ∙ there)
     in
     let bonds : rows.bonds ≡ map bond (peers_of keys) =

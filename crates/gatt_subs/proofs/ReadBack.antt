@@ -20,9 +20,9 @@ use Rattle.gatt_subs.specs.InOrder.{in_order}
 use Rattle.gatt_subs.specs.ReadBack.{Climbs, IsConfigured, IsNamed, ReadsBack}
 use Rattle.gatt_subs.specs.RowEntry.{is_at, order_of, rank_of}
 use Rattle.gatt_subs.specs.Rows.{Subscriptions}
-use Rattle.gatt_subs.specs.RowsLine.{line_of}
-use Rattle.gatt_subs.specs.RowsText.{address_text, configured, entry_line, owed_in, owed_line, text_of}
-use Rattle.gatt_subs.specs.Unfitted.{Written, has_entry, has_peer, lines_of, rows_read, with_line, with_lines, with_said}
+use Rattle.gatt_subs.specs.RowsLine.{rows_line_of}
+use Rattle.gatt_subs.specs.RowsText.{address_text, configured, entry_line, owed_in, owed_line, rows_text}
+use Rattle.gatt_subs.specs.Unfitted.{WrittenRows, has_row_entry, has_peer, lines_of_rows, rows_read, rows_with_line, rows_with_lines, rows_with_said}
 use Rattle.gatt_subs.proofs.LinesBack.{HasNoFeed, entry_back, entry_ended, entry_feedless, entry_words, owed_back, owed_ended, owed_feedless, owed_words}
 
 -- what comes after all others stands at the end
@@ -57,7 +57,7 @@ is_other entry other less = by (is_at entry.peer entry.handle other) refl
     by false is = is
     by true is = absurd (same (same_peer other.peer entry.peer) (other.handle == entry.handle) refl refl is)
 
-is_new : (entry : RowEntry) (entries : List RowEntry) → All (λ other. order_of other < order_of entry) entries → has_entry entries entry.peer entry.handle ≡ false
+is_new : (entry : RowEntry) (entries : List RowEntry) → All (λ other. order_of other < order_of entry) entries → has_row_entry entries entry.peer entry.handle ≡ false
 is_new entry [] less = refl
 is_new entry (other ∷ entries) less =
     rw (is_other entry other (All-head (λ other. order_of other < order_of entry) other entries less))
@@ -77,56 +77,56 @@ is_new_peer peer (other ∷ peers) less =
     (is_new_peer peer peers (All-tail (λ other. rank_of other < rank_of peer) other peers less))
 
 -- a line that says something adds it
-said_line : (number : ℕ) (written : Written) (line : Octets) (said : Line) → 0 < length line → line_of line ≡ Some said
-    → with_line number written line ≡ with_said number written said
+said_line : (number : ℕ) (written : WrittenRows) (line : Octets) (said : Line) → 0 < length line → rows_line_of line ≡ Some said
+    → rows_with_line number written line ≡ rows_with_said number written said
 said_line number written [] said some is = absurd (omega (arith, some))
 said_line number written (octet ∷ octets) said some is = rw is refl
 
-abbrev writing : List RowEntry → List Peer → Written
+abbrev writing : List RowEntry → List Peer → WrittenRows
 writing entries owed = record { entries = entries; owed = owed }
 
 entry_added : (number : ℕ) (seen : List RowEntry) (entry : RowEntry) → All (λ other. order_of other < order_of entry) seen → length seen < 4096
-    → with_said number (writing seen []) (Entry entry) ≡ Ok (writing (seen ++ entry ∷ []) [])
+    → rows_with_said number (writing seen []) (Entry entry) ≡ Ok (writing (seen ++ entry ∷ []) [])
 entry_added number seen entry less few =
     let room : nat_lt (length seen) 4096 ≡ true = grind (arith, nat_tests) in
     rw (is_new entry seen less, room, at_end order_of entry seen less) refl
 
 owed_added : (number : ℕ) (entries : List RowEntry) (seen : List Peer) (peer : Peer) → All (λ other. rank_of other < rank_of peer) seen → length seen < 64
-    → with_said number (writing entries seen) (Owed peer) ≡ Ok (writing entries (seen ++ peer ∷ []))
+    → rows_with_said number (writing entries seen) (Owed peer) ≡ Ok (writing entries (seen ++ peer ∷ []))
 owed_added number entries seen peer less few =
     let room : nat_lt (length seen) 64 ≡ true = grind (arith, nat_tests) in
     rw (is_new_peer peer seen less, room, at_end rank_of peer seen less) refl
 
 -- the text of an entry and of what follows divides behind its line feed
-divided : (words rest : Octets) → HasNoFeed words → lines_of (words ++ 10 ∷ rest) ≡ words ∷ lines_of rest
+divided : (words rest : Octets) → HasNoFeed words → lines_of_rows (words ++ 10 ∷ rest) ≡ words ∷ lines_of_rows rest
 divided words rest feedless = slice_split_at (λ octet. octet == 10) words 10 rest feedless refl
 
 first_divided : (line words rest tail : Octets) → line ≡ words ++ 10 ∷ [] → HasNoFeed words
-    → lines_of ((line ++ rest) ++ tail) ≡ words ∷ lines_of (rest ++ tail)
+    → lines_of_rows ((line ++ rest) ++ tail) ≡ words ∷ lines_of_rows (rest ++ tail)
 first_divided line words rest tail is feedless =
-    ap (λ (line : Octets). lines_of ((line ++ rest) ++ tail)) is
-    ∙ ap lines_of (append_assoc (words ++ 10 ∷ []) rest tail ∙ append_assoc words (10 ∷ []) (rest ++ tail))
+    ap (λ (line : Octets). lines_of_rows ((line ++ rest) ++ tail)) is
+    ∙ ap lines_of_rows (append_assoc (words ++ 10 ∷ []) rest tail ∙ append_assoc words (10 ∷ []) (rest ++ tail))
     ∙ divided words (rest ++ tail) feedless
 
 -- lines that are written one after the other are taken in one after the other
-module _ (X : Type 0) (line : X → Octets) (words : X → Octets) (with_all : List X → Written) (Fits : List X → X → Type 0) (Good : X → Type 0)
+module _ (X : Type 0) (line : X → Octets) (words : X → Octets) (with_all : List X → WrittenRows) (Fits : List X → X → Type 0) (Good : X → Type 0)
     (line_is : (x : X) → line x ≡ words x ++ 10 ∷ []) (feedless : (x : X) → Good x → HasNoFeed (words x))
-    (added : (number : ℕ) (seen : List X) (x : X) → Good x → Fits seen x → with_line number (with_all seen) (words x) ≡ Ok (with_all (seen ++ x ∷ []))) where
+    (added : (number : ℕ) (seen : List X) (x : X) → Good x → Fits seen x → rows_with_line number (with_all seen) (words x) ≡ Ok (with_all (seen ++ x ∷ []))) where
   abbrev pub AllFit : List X → List X → Type 0
   AllFit seen [] = Unit
   AllFit seen (x ∷ rest) = Good x × Fits seen x × AllFit (seen ++ x ∷ []) rest
 
   pub taken_in : (number : ℕ) (seen rest : List X) (tail : Octets) → AllFit seen rest
-      → with_lines number (with_all seen) (lines_of (flat_map line rest ++ tail)) ≡ with_lines (number + length rest) (with_all (seen ++ rest)) (lines_of tail)
+      → rows_with_lines number (with_all seen) (lines_of_rows (flat_map line rest ++ tail)) ≡ rows_with_lines (number + length rest) (with_all (seen ++ rest)) (lines_of_rows tail)
   taken_in number seen [] tail fit =
-      ap (λ (all : List X). with_lines number (with_all all) (lines_of tail)) (sym (append-nil seen))
-      ∙ ap (λ (at : ℕ). with_lines at (with_all (seen ++ [])) (lines_of tail)) (omega arith)
+      ap (λ (all : List X). rows_with_lines number (with_all all) (lines_of_rows tail)) (sym (append-nil seen))
+      ∙ ap (λ (at : ℕ). rows_with_lines at (with_all (seen ++ [])) (lines_of_rows tail)) (omega arith)
   taken_in number seen (x ∷ rest) tail fit =
-      ap (λ (lines : List Octets). with_lines number (with_all seen) lines) (first_divided (line x) (words x) (flat_map line rest) tail (line_is x) (feedless x fit.0))
-      ∙ ap (λ (next : Result Written RowsFault). next >>= (λ written. with_lines (number + 1) written (lines_of (flat_map line rest ++ tail)))) (added number seen x fit.0 fit.1)
+      ap (λ (lines : List Octets). rows_with_lines number (with_all seen) lines) (first_divided (line x) (words x) (flat_map line rest) tail (line_is x) (feedless x fit.0))
+      ∙ ap (λ (next : Result WrittenRows RowsFault). next >>= (λ written. rows_with_lines (number + 1) written (lines_of_rows (flat_map line rest ++ tail)))) (added number seen x fit.0 fit.1)
       ∙ taken_in (number + 1) (seen ++ x ∷ []) rest tail fit.2
-      ∙ ap (λ (all : List X). with_lines ((number + 1) + length rest) (with_all all) (lines_of tail)) (append_assoc seen (x ∷ []) rest)
-      ∙ ap (λ (at : ℕ). with_lines at (with_all (seen ++ x ∷ rest)) (lines_of tail)) (omega arith)
+      ∙ ap (λ (all : List X). rows_with_lines ((number + 1) + length rest) (with_all all) (lines_of_rows tail)) (append_assoc seen (x ∷ []) rest)
+      ∙ ap (λ (at : ℕ). rows_with_lines at (with_all (seen ++ x ∷ rest)) (lines_of_rows tail)) (omega arith)
 
 -- what stands behind all that was taken in, where there may be one more
 pub record Follows (X : Type 0) (order : X → ℕ) (most : ℕ) (seen : List X) (x : X) : Type 0 where
@@ -137,20 +137,20 @@ entry_some : (entry : RowEntry) → 0 < length (entry_words entry)
 entry_some entry = omega (arith, length-append (decimal entry.peer.kind) (32 ∷ (address_text entry.peer.address ++ 32 ∷ (decimal entry.handle ++ 32 ∷ decimal entry.bits))))
 
 entry_line_added : (number : ℕ) (seen : List RowEntry) (entry : RowEntry) → IsConfigured entry → Follows RowEntry order_of 4096 seen entry
-    → with_line number (writing seen []) (entry_words entry) ≡ Ok (writing (seen ++ entry ∷ []) [])
+    → rows_with_line number (writing seen []) (entry_words entry) ≡ Ok (writing (seen ++ entry ∷ []) [])
 entry_line_added number seen entry good follows =
     said_line number (writing seen []) (entry_words entry) (Entry entry) (entry_some entry) (entry_back entry good)
     ∙ entry_added number seen entry follows.before follows.few
 
 owed_line_added : (entries : List RowEntry) (number : ℕ) (seen : List Peer) (peer : Peer) → IsNamed peer → Follows Peer rank_of 64 seen peer
-    → with_line number (writing entries seen) (owed_words peer) ≡ Ok (writing entries (seen ++ peer ∷ []))
+    → rows_with_line number (writing entries seen) (owed_words peer) ≡ Ok (writing entries (seen ++ peer ∷ []))
 owed_line_added entries number seen peer good follows =
     said_line number (writing entries seen) (owed_words peer) (Owed peer) (omega arith) (owed_back peer good)
     ∙ owed_added number entries seen peer follows.before follows.few
 
-module _ (X : Type 0) (line : X → Octets) (words : X → Octets) (with_all : List X → Written) (order : X → ℕ) (most : ℕ) (Good : X → Type 0)
+module _ (X : Type 0) (line : X → Octets) (words : X → Octets) (with_all : List X → WrittenRows) (order : X → ℕ) (most : ℕ) (Good : X → Type 0)
     (line_is : (x : X) → line x ≡ words x ++ 10 ∷ []) (feedless : (x : X) → Good x → HasNoFeed (words x))
-    (added : (number : ℕ) (seen : List X) (x : X) → Good x → Follows X order most seen x → with_line number (with_all seen) (words x) ≡ Ok (with_all (seen ++ x ∷ []))) where
+    (added : (number : ℕ) (seen : List X) (x : X) → Good x → Follows X order most seen x → rows_with_line number (with_all seen) (words x) ≡ Ok (with_all (seen ++ x ∷ []))) where
   all_fit : (seen rest : List X) → All Good rest → Climbs order (seen ++ rest) → length (seen ++ rest) ≤ most
       → AllFit X line words with_all (Follows X order most) Good line_is feedless added seen rest
   all_fit seen [] good climbs few = tt
@@ -162,15 +162,15 @@ module _ (X : Type 0) (line : X → Octets) (words : X → Octets) (with_all : L
       )
 
   pub all_taken_in : (number : ℕ) (all : List X) (tail : Octets) → All Good all → Climbs order all → length all ≤ most
-      → with_lines number (with_all []) (lines_of (flat_map line all ++ tail)) ≡ with_lines (number + length all) (with_all all) (lines_of tail)
+      → rows_with_lines number (with_all []) (lines_of_rows (flat_map line all ++ tail)) ≡ rows_with_lines (number + length all) (with_all all) (lines_of_rows tail)
   all_taken_in number all tail good climbs few =
       taken_in X line words with_all (Follows X order most) Good line_is feedless added number [] all tail (all_fit [] all good climbs few)
 
 pub reads_back : (rows : Subscriptions) → ReadsBack rows
-unfolding rows_read text_of
+unfolding rows_read rows_text
 reads_back rows is =
     all_taken_in RowEntry entry_line entry_words (λ entries. writing entries []) order_of 4096 IsConfigured entry_ended entry_feedless entry_line_added
     1 (configured rows) (flat_map owed_line (owed_in rows)) is.entries is.climbs is.few
-    ∙ ap (λ (text : Octets). with_lines (1 + length (configured rows)) (writing (configured rows) []) (lines_of text)) (sym (append-nil (flat_map owed_line (owed_in rows))))
+    ∙ ap (λ (text : Octets). rows_with_lines (1 + length (configured rows)) (writing (configured rows) []) (lines_of_rows text)) (sym (append-nil (flat_map owed_line (owed_in rows))))
     ∙ all_taken_in Peer owed_line owed_words (writing (configured rows)) rank_of 64 IsNamed owed_ended owed_feedless (owed_line_added (configured rows))
     (1 + length (configured rows)) (owed_in rows) [] is.owed is.owed_climb is.owed_few

@@ -15,7 +15,7 @@ use Rattle.gatt_subs.specs.ReadBack.{Climbs, IsBondOfAFile, IsConfigured, IsName
 use Rattle.gatt_subs.specs.RowEntry.{order_of, rank_of}
 use Rattle.gatt_subs.specs.Rows.{Subscriptions}
 use Rattle.gatt_subs.specs.RowsText.{bond_entries, entries_of, entries_with, owed_peers}
-use Rattle.gatt_subs.specs.Unfitted.{Written}
+use Rattle.gatt_subs.specs.Unfitted.{WrittenRows}
 use Rattle.gatt_subs.proofs.RowsRead.{all_in_order, clash, climbs_in_order, length_in_order, neither, place_then}
 
 -- entries of one peer, at other handles than those of a row that is to come
@@ -203,5 +203,5 @@ fitted_can_be_written rows is =
       few = omega (arith, entries.few, is.few);
       owed_few = omega (arith, few_owed rows.peers rows.bonds, is.few);
     }) in
-    subst (λ (unfitted : Written). IsOfAFile (record { entries = bond_entries rows.peers rows.bonds ++ unfitted.entries; owed = owed_peers rows.peers rows.bonds ++ unfitted.owed }))
+    subst (λ (unfitted : WrittenRows). IsOfAFile (record { entries = bond_entries rows.peers rows.bonds ++ unfitted.entries; owed = owed_peers rows.peers rows.bonds ++ unfitted.owed }))
     (sym is.unfitted) fitted

@@ -4,13 +4,13 @@ use Rattle.std.specs.Result.{OkIff, result_ok}
 use Rattle.std.specs.Str.{all_ascii_digits}
 use Rattle.std.specs.Str.Parse.{digits_value}
 use Rattle.std.proofs.lemmas.Bool.Decides.{nat_tests}
-use Rattle.gatt_subs.specs.RowsLine.{is_from_one, handle_of}
+use Rattle.gatt_subs.specs.RowsLine.{is_from_one, handle_of_row}
 
 -- a number that is parsed behind a digit from 1 to 9 is the handle
 pub handle_parsed : {E : Type 0} (word : List ℕ) (parsed : Result ℕ E) → is_from_one (slice_index word 0) ≡ true
     → OkIff parsed ((all_ascii_digits word ≡ true) × (0 < length word) × (digits_value 10 word < 2 ^ 16)) (digits_value 10 word)
-    → 0 < length word → result_ok parsed ≡ handle_of word
-unfolding handle_of
+    → 0 < length word → result_ok parsed ≡ handle_of_row word
+unfolding handle_of_row
 handle_parsed word (Ok number) first is some =
     let small = is.0.2 in
     rw (first, is.0.0, is.1) (grind (arith, nat_tests))

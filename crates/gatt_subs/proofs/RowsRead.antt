@@ -16,12 +16,12 @@ use Rattle.gatt_subs.specs.declared.rows_fault.RowsFault.TheVariants.{BadLine, O
 use Rattle.gatt_subs.specs.declared.rows_line.Line.{Line}
 use Rattle.gatt_subs.specs.declared.rows_line.Line.TheVariants.{Entry, Owed}
 use Rattle.gatt_subs.specs.InOrder.{in_order}
-use Rattle.gatt_subs.specs.ReadBack.{Climbs, IsConfigured, IsNamed, IsOfAFile, said_by}
+use Rattle.gatt_subs.specs.ReadBack.{Climbs, IsConfigured, IsNamed, IsOfAFile, written_by}
 use Rattle.gatt_subs.specs.Rows.{Subscriptions, subscriptions_read, unfitted_rows}
 use Rattle.octets.specs.Memory.{Gives}
 use Rattle.gatt_subs.specs.RowEntry.{is_at, order_of, rank_of}
-use Rattle.gatt_subs.specs.RowsLine.{line_of}
-use Rattle.gatt_subs.specs.Unfitted.{Written, has_entry, has_peer, lines_of, nothing_written, rows_read, with_line, with_lines, with_said}
+use Rattle.gatt_subs.specs.RowsLine.{rows_line_of}
+use Rattle.gatt_subs.specs.Unfitted.{WrittenRows, has_row_entry, has_peer, lines_of_rows, nothing_written, rows_read, rows_with_line, rows_with_lines, rows_with_said}
 use Rattle.gatt_subs.proofs.LinesRead.{CanBeWritten, line_read}
 
 -- peers that stand at the same place are one
@@ -128,11 +128,11 @@ pub neither : (x y : Bool) → (x || y) ≡ false → (x ≡ false) × (y ≡ fa
 neither false y is = (refl, is)
 neither true y is = cc is
 
-entries_apart : (entry : RowEntry) (entries : List RowEntry) → IsConfigured entry → All IsConfigured entries → has_entry entries entry.peer entry.handle ≡ false
+entries_apart : (entry : RowEntry) (entries : List RowEntry) → IsConfigured entry → All IsConfigured entries → has_row_entry entries entry.peer entry.handle ≡ false
     → All (λ other. order_of other ≢ order_of entry) entries
 entries_apart entry [] good all none = All-nil (λ other. order_of other ≢ order_of entry)
 entries_apart entry (other ∷ entries) good all none =
-    let apart = neither (is_at entry.peer entry.handle other) (has_entry entries entry.peer entry.handle) none in
+    let apart = neither (is_at entry.peer entry.handle other) (has_row_entry entries entry.peer entry.handle) none in
     All-cons (λ other. order_of other ≢ order_of entry) other entries
     (λ same. clash (sym (is_there entry other good (All-head IsConfigured other entries all) same) ∙ apart.0))
     (entries_apart entry entries good (All-tail IsConfigured other entries all) apart.1)
@@ -147,10 +147,10 @@ peers_apart peer (other ∷ peers) good all none =
     (peers_apart peer peers good (All-tail IsNamed other peers all) apart.1)
 
 -- one line more
-abbrev Stays : Result Written RowsFault → Type 0
+abbrev Stays : Result WrittenRows RowsFault → Type 0
 Stays read = IfOk read IsOfAFile
 
-entry_if : (number : ℕ) (written : Written) (entry : RowEntry) (has room : Bool) → has_entry written.entries entry.peer entry.handle ≡ has
+entry_if : (number : ℕ) (written : WrittenRows) (entry : RowEntry) (has room : Bool) → has_row_entry written.entries entry.peer entry.handle ≡ has
     → nat_lt (length written.entries) 4096 ≡ room → IsOfAFile written → IsConfigured entry
     → Stays (unless (not has) (Twice number) >>= (λ _. unless room TooMany >>= (λ _. Ok (record written { entries = in_order order_of entry written.entries }))))
 entry_if number written entry true room has few is good = tt
@@ -166,7 +166,7 @@ entry_if number written entry false true has few is good =
       owed_few = is.owed_few;
     }
 
-owed_if : (number : ℕ) (written : Written) (peer : Peer) (has room : Bool) → has_peer written.owed peer ≡ has
+owed_if : (number : ℕ) (written : WrittenRows) (peer : Peer) (has room : Bool) → has_peer written.owed peer ≡ has
     → nat_lt (length written.owed) 64 ≡ room → IsOfAFile written → IsNamed peer
     → Stays (unless (not has) (Twice number) >>= (λ _. unless room TooMany >>= (λ _. Ok (record written { owed = in_order rank_of peer written.owed }))))
 owed_if number written peer true room has few is good = tt
@@ -182,32 +182,32 @@ owed_if number written peer false true has few is good =
       owed_few = omega (arith, below, length_in_order rank_of peer written.owed);
     }
 
-said_stays : (number : ℕ) (written : Written) (said : Line) → IsOfAFile written → CanBeWritten said → Stays (with_said number written said)
+said_stays : (number : ℕ) (written : WrittenRows) (said : Line) → IsOfAFile written → CanBeWritten said → Stays (rows_with_said number written said)
 said_stays number written (Entry entry) is good =
-    entry_if number written entry (has_entry written.entries entry.peer entry.handle) (nat_lt (length written.entries) 4096) refl refl is good
+    entry_if number written entry (has_row_entry written.entries entry.peer entry.handle) (nat_lt (length written.entries) 4096) refl refl is good
 said_stays number written (Owed peer) is good = owed_if number written peer (has_peer written.owed peer) (nat_lt (length written.owed) 64) refl refl is good
 
-line_stays : (number : ℕ) (written : Written) (line : Octets) → IsOfAFile written → Stays (with_line number written line)
+line_stays : (number : ℕ) (written : WrittenRows) (line : Octets) → IsOfAFile written → Stays (rows_with_line number written line)
 line_stays number written [] is = is
-line_stays number written (octet ∷ octets) is = by (line_of (octet ∷ octets)) refl
+line_stays number written (octet ∷ octets) is = by (rows_line_of (octet ∷ octets)) refl
   where
-    by : (said : Option Line) → line_of (octet ∷ octets) ≡ said → Stays (require said (BadLine number) >>= (λ said. with_said number written said))
+    by : (said : Option Line) → rows_line_of (octet ∷ octets) ≡ said → Stays (require said (BadLine number) >>= (λ said. rows_with_said number written said))
     by None none = tt
     by (Some said) reads = said_stays number written said is (line_read (octet ∷ octets) said reads)
 
-lines_stay : (number : ℕ) (written : Written) (lines : List Octets) → IsOfAFile written → Stays (with_lines number written lines)
+lines_stay : (number : ℕ) (written : WrittenRows) (lines : List Octets) → IsOfAFile written → Stays (rows_with_lines number written lines)
 lines_stay number written [] is = is
 lines_stay number written (line ∷ lines) is =
-    by (with_line number written line) (line_stays number written line is) (λ next stays. lines_stay (number + 1) next lines stays)
+    by (rows_with_line number written line) (line_stays number written line is) (λ next stays. lines_stay (number + 1) next lines stays)
   where
-    by : (next : Result Written RowsFault) → Stays next → ((next : Written) → IsOfAFile next → Stays (with_lines (number + 1) next lines))
-        → Stays (next >>= (λ next. with_lines (number + 1) next lines))
+    by : (next : Result WrittenRows RowsFault) → Stays next → ((next : WrittenRows) → IsOfAFile next → Stays (rows_with_lines (number + 1) next lines))
+        → Stays (next >>= (λ next. rows_with_lines (number + 1) next lines))
     by (Err fault) stays later = tt
     by (Ok next) stays later = later next stays
 
 rows_of_a_file : (text : Octets) → IfOk (rows_read text) IsOfAFile
 unfolding rows_read
-rows_of_a_file text = lines_stay 1 nothing_written (lines_of text) (record {
+rows_of_a_file text = lines_stay 1 nothing_written (lines_of_rows text) (record {
   entries = All-nil IsConfigured;
   owed = All-nil IsNamed;
   climbs = tt;
@@ -221,12 +221,12 @@ same_rows x y is = cc is
 
 -- so the text of what is read can be read again
 pub read_can_be_written : (text : Octets) (result : Result Subscriptions RowsFault) → Gives OutOfMemory (subscriptions_read text) result
-    → IfOk result (λ rows. IsOfAFile (said_by rows))
+    → IfOk result (λ rows. IsOfAFile (written_by rows))
 read_can_be_written text (Err fault) gives = tt
 read_can_be_written text (Ok rows) gives = by (rows_read text) refl gives
   where
-    by : (read : Result Written RowsFault) → rows_read text ≡ read → (read >>= (λ written. Ok (unfitted_rows written))) ≡ Ok rows → IsOfAFile (said_by rows)
+    by : (read : Result WrittenRows RowsFault) → rows_read text ≡ read → (read >>= (λ written. Ok (unfitted_rows written))) ≡ Ok rows → IsOfAFile (written_by rows)
     by (Err fault) is reads = cc reads
     by (Ok written) is reads =
-        subst (λ (rows : Subscriptions). IsOfAFile (said_by rows)) (same_rows (unfitted_rows written) rows reads)
-        (subst (λ (read : Result Written RowsFault). IfOk read IsOfAFile) is (rows_of_a_file text))
+        subst (λ (rows : Subscriptions). IsOfAFile (written_by rows)) (same_rows (unfitted_rows written) rows reads)
+        (subst (λ (read : Result WrittenRows RowsFault). IfOk read IsOfAFile) is (rows_of_a_file text))

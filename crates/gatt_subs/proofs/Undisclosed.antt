@@ -9,7 +9,7 @@ use Rattle.att_pdu.specs.Response.Response.{HandleValueNotification, HandleValue
 use Rattle.att_attributes.specs.declared.attr.Attr.{Attr}
 use Rattle.gatt_subs.specs.declared.pending.TheConstants.{MAX_BACKLOG}
 use Rattle.gatt_subs.specs.Hearing.{may_hear_at, wants_indications}
-use Rattle.gatt_subs.specs.Indications.{Indications, hears, is_notified, released_handle, with_handle}
+use Rattle.gatt_subs.specs.Indications.{Indications, hears, is_notified, indicated_handle, with_handle}
 use Rattle.gatt_subs.specs.Told.{Hearer, notification_of, indication_of, is_heard, HearsNothing, AgreeWhereHeard, TellsOnlyWhatIsHeard}
 use Rattle.gatt_subs.proofs.Heard.{both, releases_only_what_is_heard}
 
@@ -32,7 +32,7 @@ raised_same attributes hearer one other handle true agree is =
 raised_same attributes hearer one other handle false agree is = refl
 
 indicated_same : (attributes : List Attr) (hearer : Hearer) (one other : Values) (found : Option Handle) → AgreeWhereHeard attributes hearer one other
-    → released_handle hearer.pending attributes hearer.row hearer.standing hearer.backlog ≡ found
+    → indicated_handle hearer.pending attributes hearer.row hearer.standing hearer.backlog ≡ found
     → option_map (λ handle. indication_of one handle hearer.mtu) found ≡ option_map (λ handle. indication_of other handle hearer.mtu) found
 indicated_same attributes hearer one other None agree is = refl
 indicated_same attributes hearer one other (Some handle) agree is =
@@ -45,7 +45,7 @@ released_same false one other same = refl
 
 pub tells_only_what_is_heard : TellsOnlyWhatIsHeard
 tells_only_what_is_heard attributes hearer one other agree =
-    let found = released_handle hearer.pending attributes hearer.row hearer.standing hearer.backlog in
+    let found = indicated_handle hearer.pending attributes hearer.row hearer.standing hearer.backlog in
     record {
       raised = λ handle. raised_same attributes hearer one other handle (hearer.live && is_notified hearer.pending attributes hearer.row hearer.standing handle hearer.backlog) agree refl;
       released = released_same hearer.live (option_map (λ handle. indication_of one handle hearer.mtu) found) (option_map (λ handle. indication_of other handle hearer.mtu) found)

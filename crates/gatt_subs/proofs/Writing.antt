@@ -12,9 +12,9 @@ use Rattle.std.proofs.lemmas.List.Concat.{flat_map-append}
 use Rattle.le_hci.specs.declared.peer.Peer.{Peer}
 use Rattle.gatt_subs.specs.declared.bond.Bond.{Bond}
 use Rattle.gatt_subs.specs.declared.row_entry.RowEntry.{RowEntry}
-use Rattle.gatt_subs.specs.RowsText.{bond_entries, entries_of, entry_line, owed_line, owed_peers, text_in_parts, text_of}
+use Rattle.gatt_subs.specs.RowsText.{bond_entries, entries_of, entry_line, owed_line, owed_peers, text_in_parts, rows_text}
 use Rattle.gatt_subs.specs.Rows.{Subscriptions}
-use Rattle.gatt_subs.specs.Unfitted.{Written}
+use Rattle.gatt_subs.specs.Unfitted.{WrittenRows}
 
 -- lines that are written one after the other
 pub lines_more : {X : Type 0} (line : X → Octets) (xs : List X) (i : ℕ) (d : X) (octets : Octets) (held mid holds : Option Octets) → i < length xs
@@ -113,8 +113,8 @@ owed_end peers bonds i end same =
     ap (λ (left : List Peer). flat_map owed_line (owed_peers left (drop i bonds))) (drop_of_length-le peers (omega arith))
 
 -- the text in its parts
-pub text_of_parts : (rows : Subscriptions) → text_in_parts rows.peers rows.bonds rows.unfitted ≡ text_of rows
-unfolding text_of
+pub text_of_parts : (rows : Subscriptions) → text_in_parts rows.peers rows.bonds rows.unfitted ≡ rows_text rows
+unfolding rows_text
 text_of_parts rows =
     let A = flat_map entry_line (bond_entries rows.peers rows.bonds) in
     let B = flat_map entry_line rows.unfitted.entries in
@@ -128,34 +128,34 @@ last_breaks_off : (text piece : Octets) (held mid holds : Option Octets) → Has
 last_breaks_off text piece held mid holds so_far front =
     breaks_off text piece [] held mid holds (subst (λ (rest : Octets). HasWritten text rest held mid) (sym (append-nil piece)) so_far) front
 
-first_written : (peers : List Peer) (bonds : List Bond) (unfitted : Written) (held mid : Option Octets) → Appends held mid (flat_map entry_line (bond_entries peers bonds))
+first_written : (peers : List Peer) (bonds : List Bond) (unfitted : WrittenRows) (held mid : Option Octets) → Appends held mid (flat_map entry_line (bond_entries peers bonds))
     → HasWritten (text_in_parts peers bonds unfitted) (flat_map entry_line unfitted.entries ++ (flat_map owed_line (owed_peers peers bonds) ++ flat_map owed_line unfitted.owed)) held mid
 first_written peers bonds unfitted held mid first =
     written_more (text_in_parts peers bonds unfitted) (flat_map entry_line (bond_entries peers bonds)) (flat_map entry_line unfitted.entries ++ (flat_map owed_line (owed_peers peers bonds) ++ flat_map owed_line unfitted.owed)) held held mid
     (written_none (text_in_parts peers bonds unfitted) held) first
 
-second_written : (peers : List Peer) (bonds : List Bond) (unfitted : Written) (entries : List RowEntry) (held mid holds : Option Octets) → entries ≡ unfitted.entries
+second_written : (peers : List Peer) (bonds : List Bond) (unfitted : WrittenRows) (entries : List RowEntry) (held mid holds : Option Octets) → entries ≡ unfitted.entries
     → Appends held mid (flat_map entry_line (bond_entries peers bonds)) → Appends mid holds (flat_map entry_line entries)
     → HasWritten (text_in_parts peers bonds unfitted) (flat_map owed_line (owed_peers peers bonds) ++ flat_map owed_line unfitted.owed) held holds
 second_written peers bonds unfitted entries held mid holds is first second =
     written_more (text_in_parts peers bonds unfitted) (flat_map entry_line unfitted.entries) (flat_map owed_line (owed_peers peers bonds) ++ flat_map owed_line unfitted.owed) held mid holds
     (first_written peers bonds unfitted held mid first) (subst (λ (entries : List RowEntry). Appends mid holds (flat_map entry_line entries)) is second)
 
-pub second_breaks_off : (peers : List Peer) (bonds : List Bond) (unfitted : Written) (entries : List RowEntry) (held mid holds : Option Octets) → entries ≡ unfitted.entries
+pub second_breaks_off : (peers : List Peer) (bonds : List Bond) (unfitted : WrittenRows) (entries : List RowEntry) (held mid holds : Option Octets) → entries ≡ unfitted.entries
     → Appends held mid (flat_map entry_line (bond_entries peers bonds)) → WritesFront (flat_map entry_line entries) mid holds
     → WritesFront (text_in_parts peers bonds unfitted) held holds
 second_breaks_off peers bonds unfitted entries held mid holds is first front =
     breaks_off (text_in_parts peers bonds unfitted) (flat_map entry_line unfitted.entries) (flat_map owed_line (owed_peers peers bonds) ++ flat_map owed_line unfitted.owed) held mid holds
     (first_written peers bonds unfitted held mid first) (subst (λ (entries : List RowEntry). WritesFront (flat_map entry_line entries) mid holds) is front)
 
-pub third_breaks_off : (peers : List Peer) (bonds : List Bond) (unfitted : Written) (entries : List RowEntry) (held mid mid' holds : Option Octets) → entries ≡ unfitted.entries
+pub third_breaks_off : (peers : List Peer) (bonds : List Bond) (unfitted : WrittenRows) (entries : List RowEntry) (held mid mid' holds : Option Octets) → entries ≡ unfitted.entries
     → Appends held mid (flat_map entry_line (bond_entries peers bonds)) → Appends mid mid' (flat_map entry_line entries)
     → WritesFront (flat_map owed_line (owed_peers peers bonds)) mid' holds → WritesFront (text_in_parts peers bonds unfitted) held holds
 third_breaks_off peers bonds unfitted entries held mid mid' holds is first second front =
     breaks_off (text_in_parts peers bonds unfitted) (flat_map owed_line (owed_peers peers bonds)) (flat_map owed_line unfitted.owed) held mid' holds
     (second_written peers bonds unfitted entries held mid mid' is first second) front
 
-pub fourth_breaks_off : {T E : Type 0} (result : Result T E) (peers : List Peer) (bonds : List Bond) (unfitted : Written) (entries : List RowEntry) (owed : List Peer) (held mid mid' mid'' holds : Option Octets)
+pub fourth_breaks_off : {T E : Type 0} (result : Result T E) (peers : List Peer) (bonds : List Bond) (unfitted : WrittenRows) (entries : List RowEntry) (owed : List Peer) (held mid mid' mid'' holds : Option Octets)
     → entries ≡ unfitted.entries → owed ≡ unfitted.owed
     → Appends held mid (flat_map entry_line (bond_entries peers bonds)) → Appends mid mid' (flat_map entry_line entries)
     → Appends mid' mid'' (flat_map owed_line (owed_peers peers bonds)) → OnErr result (WritesFront (flat_map owed_line owed) mid'' holds)

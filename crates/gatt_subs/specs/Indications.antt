@@ -43,8 +43,8 @@ abbrev pub hears : Indications → List Attr → Row → Standing → Handle →
 hears pending attributes row standing handle = not pending.timed_out && may_hear_at attributes row standing handle
 
 -- what a written value leaves: with the indication bit it waits
-abbrev pub after_raise : Indications → List Attr → Row → Standing → Handle → Indications
-after_raise pending attributes row standing handle =
+abbrev pub after_notify : Indications → List Attr → Row → Standing → Handle → Indications
+after_notify pending attributes row standing handle =
     if hears pending attributes row standing handle && wants_indications row handle
     then record pending { waiting = with_handle pending.waiting handle } else pending
 
@@ -62,28 +62,28 @@ abbrev pub from_due : (Handle → Bool) → List Handle → List Handle
 from_due is_due [] = []
 from_due is_due (handle ∷ rest) = if is_due handle then handle ∷ rest else from_due is_due rest
 
-abbrev pub first_of : List Handle → Option Handle
-first_of [] = None
-first_of (handle ∷ rest) = Some handle
+abbrev pub first_handle : List Handle → Option Handle
+first_handle [] = None
+first_handle (handle ∷ rest) = Some handle
 
 abbrev pub rest_of : List Handle → List Handle
 rest_of [] = []
 rest_of (handle ∷ rest) = rest
 
 -- the handle of the value that is indicated at the end of an event, if one is
-abbrev pub released_handle : Indications → List Attr → Row → Standing → Backlog → Option Handle
-released_handle pending attributes row standing backlog =
-    if may_indicate pending backlog then first_of (from_due (is_indicated attributes row standing) pending.waiting) else None
+abbrev pub indicated_handle : Indications → List Attr → Row → Standing → Backlog → Option Handle
+indicated_handle pending attributes row standing backlog =
+    if may_indicate pending backlog then first_handle (from_due (is_indicated attributes row standing) pending.waiting) else None
 
 -- its indication is unconfirmed from then on
 abbrev pub unconfirmed_since : Milliseconds → Handle → Unconfirmed
 unconfirmed_since now handle = record { handle = handle; since = now; outdated = false }
 
--- what the release leaves
-abbrev pub after_release : Indications → List Attr → Row → Standing → Backlog → Milliseconds → Indications
-after_release pending attributes row standing backlog now =
+-- what the indication leaves
+abbrev pub after_indicate : Indications → List Attr → Row → Standing → Backlog → Milliseconds → Indications
+after_indicate pending attributes row standing backlog now =
     if may_indicate pending backlog then (let due = from_due (is_indicated attributes row standing) pending.waiting in
-    record pending { waiting = rest_of due; unconfirmed = option_map (unconfirmed_since now) (first_of due) })
+    record pending { waiting = rest_of due; unconfirmed = option_map (unconfirmed_since now) (first_handle due) })
     else pending
 
 -- what a confirmation leaves

@@ -9,8 +9,8 @@ use Rattle.gatt_subs.specs.declared.row_entry.RowEntry.{RowEntry}
 use Rattle.gatt_subs.specs.declared.unfitted.TheConstants.{MAX_ENTRIES, MAX_OWED}
 use Rattle.gatt_subs.specs.RowEntry.{order_of, rank_of}
 use Rattle.gatt_subs.specs.Rows.{Subscriptions}
-use Rattle.gatt_subs.specs.RowsText.{configured, owed_in, text_of}
-use Rattle.gatt_subs.specs.Unfitted.{Written, nothing_written, rows_read}
+use Rattle.gatt_subs.specs.RowsText.{configured, owed_in, rows_text}
+use Rattle.gatt_subs.specs.Unfitted.{WrittenRows, nothing_written, rows_read}
 use Rattle.att_numbers.specs.declared.limit.TheConstants.{MAX_CONFIGURATIONS}
 
 -- a peer that a line can name
@@ -33,7 +33,7 @@ Climbs order [] = Unit
 Climbs order (x ∷ xs) = All (λ y. order x < order y) xs × Climbs order xs
 
 -- what a rows file can say: each once, in its order, and no more than there may be
-pub record IsOfAFile (written : Written) : Type 0 where
+pub record IsOfAFile (written : WrittenRows) : Type 0 where
   pub entries : All IsConfigured written.entries
   pub owed : All IsNamed written.owed
   pub climbs : Climbs order_of written.entries
@@ -57,13 +57,13 @@ pub record IsFitted (rows : Subscriptions) : Type 0 where
   pub unfitted : rows.unfitted ≡ nothing_written
 
 -- all that rows say, whether they are fitted or not
-abbrev pub said_by : Subscriptions → Written
-said_by rows = record { entries = configured rows; owed = owed_in rows }
+abbrev pub written_by : Subscriptions → WrittenRows
+written_by rows = record { entries = configured rows; owed = owed_in rows }
 
 -- the text of rows is read as what they say
 abbrev pub ReadsBack : Subscriptions → Type 0
-ReadsBack rows = IsOfAFile (said_by rows) → rows_read (text_of rows) ≡ Ok (said_by rows)
+ReadsBack rows = IsOfAFile (written_by rows) → rows_read (rows_text rows) ≡ Ok (written_by rows)
 
 -- what fitted rows say can be written
 abbrev pub FittedCanBeWritten : Subscriptions → Type 0
-FittedCanBeWritten rows = IsFitted rows → IsOfAFile (said_by rows)
+FittedCanBeWritten rows = IsFitted rows → IsOfAFile (written_by rows)

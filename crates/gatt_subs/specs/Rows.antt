@@ -12,17 +12,17 @@ use Rattle.le_security.specs.Entry.{same_peer}
 use Rattle.gatt_subs.specs.declared.bond.Bond.{Bond}
 use Rattle.gatt_subs.specs.declared.row_entry.RowEntry.{RowEntry}
 use Rattle.gatt_subs.specs.declared.rows_fault.RowsFault.{RowsFault}
-use Rattle.gatt_subs.specs.Unfitted.{Written, has_peer, rows_read}
+use Rattle.gatt_subs.specs.Unfitted.{WrittenRows, has_peer, rows_read}
 
 -- the peers that have a bond, in the order of a rows file, and the bond of each: its row, and whether it is owed an indication
 -- of a changed table. What was read of other peers is not fitted yet
 pub record Subscriptions : Type 0 where
   pub peers : List Peer
   pub bonds : List Bond
-  pub unfitted : Written
+  pub unfitted : WrittenRows
 
 -- as a rows file is read: no peer has a bond yet
-abbrev pub unfitted_rows : Written → Subscriptions
+abbrev pub unfitted_rows : WrittenRows → Subscriptions
 unfitted_rows written = record { peers = []; bonds = []; unfitted = written }
 
 abbrev pub subscriptions_read : Octets → Result Subscriptions RowsFault
@@ -30,12 +30,12 @@ subscriptions_read text = do
   written ← rows_read text
   Ok (unfitted_rows written)
 
-abbrev pub place_of : List Peer → Peer → Option ℕ
-place_of peers peer = position (λ other. same_peer other peer) peers
+abbrev pub peer_place : List Peer → Peer → Option ℕ
+peer_place peers peer = position (λ other. same_peer other peer) peers
 
 -- a peer's bond, and its row
 abbrev pub bond_of : Subscriptions → Peer → Option Bond
-bond_of rows peer = option_and_then (slice_get rows.bonds) (place_of rows.peers peer)
+bond_of rows peer = option_and_then (slice_get rows.bonds) (peer_place rows.peers peer)
 
 abbrev pub row_of : Subscriptions → Peer → Option Row
 row_of rows peer = option_map (λ (bond : Bond). bond.row) (bond_of rows peer)
@@ -59,7 +59,7 @@ bonds_with bonds place change = option_map_or (λ bond. slice_set bonds place (c
 -- the same of a peer's bond: nothing changes where it has none
 abbrev pub with_bond : Subscriptions → Peer → (Bond → Bond) → Subscriptions
 with_bond rows peer change =
-    option_map_or (λ place. record rows { bonds = bonds_with rows.bonds place change }) (place_of rows.peers peer) rows
+    option_map_or (λ place. record rows { bonds = bonds_with rows.bonds place change }) (peer_place rows.peers peer) rows
 
 abbrev pub with_row : Row → Bond → Bond
 with_row row bond = record bond { row = row }

@@ -36,8 +36,8 @@ kind_of word =
     else if bytes_eq word (codes "1") then Some RANDOM_ADDRESS
     else None
 
-unfoldable pub peer_of : Octets → Octets → Option Peer
-peer_of kind address = do
+unfoldable pub peer_of_row : Octets → Octets → Option Peer
+peer_of_row kind address = do
   type ← kind_of kind
   octets ← address_of address
   Some (record { kind = type; address = octets })
@@ -46,8 +46,8 @@ peer_of kind address = do
 abbrev pub is_from_one : ℕ → Bool
 is_from_one digit = nat_le 49 digit && nat_le digit 57
 
-unfoldable pub handle_of : Octets → Option Handle
-handle_of word =
+unfoldable pub handle_of_row : Octets → Option Handle
+handle_of_row word =
     if is_from_one (slice_index word 0) && (all_ascii_digits word && nat_lt (digits_value 10 word) 65536)
     then Some (digits_value 10 word) else None
 
@@ -62,16 +62,16 @@ bits_of word =
 -- behind two words: `! kind address` has one more, and `kind address handle value` two
 abbrev pub line_behind : Octets → Octets → Octets → Option (Octets × Octets) → Option Line
 line_behind mark kind address None =
-    if bytes_eq mark (codes "!") then option_map Owed (peer_of kind address) else None
+    if bytes_eq mark (codes "!") then option_map Owed (peer_of_row kind address) else None
 line_behind kind address rest (Some last) = do
-  peer ← peer_of kind address
-  handle ← handle_of last.0
+  peer ← peer_of_row kind address
+  handle ← handle_of_row last.0
   bits ← bits_of last.1
   Some (Entry (record { peer = peer; handle = handle; bits = bits }))
 
 -- what a line says, if it is one of these
-unfoldable pub line_of : Octets → Option Line
-line_of line = do
+unfoldable pub rows_line_of : Octets → Option Line
+rows_line_of line = do
   first ← parts_of line
   second ← parts_of first.1
   line_behind first.0 second.0 second.1 (parts_of second.1)

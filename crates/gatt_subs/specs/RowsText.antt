@@ -11,7 +11,7 @@ use Rattle.gatt_subs.specs.declared.row_entry.RowEntry.{RowEntry}
 use Rattle.gatt_subs.specs.InOrder.{in_order}
 use Rattle.gatt_subs.specs.RowEntry.{order_of}
 use Rattle.gatt_subs.specs.Rows.{Subscriptions}
-use Rattle.gatt_subs.specs.Unfitted.{Written}
+use Rattle.gatt_subs.specs.Unfitted.{WrittenRows}
 
 -- octets in hexadecimal, joined by colons
 abbrev pub joined_by_colons : Octets → Octets
@@ -62,10 +62,10 @@ configured rows = bond_entries rows.peers rows.bonds ++ rows.unfitted.entries
 abbrev pub owed_in : Subscriptions → List Peer
 owed_in rows = owed_peers rows.peers rows.bonds ++ rows.unfitted.owed
 
-unfoldable pub text_of : Subscriptions → Octets
-text_of rows = flat_map entry_line (configured rows) ++ flat_map owed_line (owed_in rows)
+unfoldable pub rows_text : Subscriptions → Octets
+rows_text rows = flat_map entry_line (configured rows) ++ flat_map owed_line (owed_in rows)
 
 -- the same in the four parts that it has
-abbrev pub text_in_parts : List Peer → List Bond → Written → Octets
+abbrev pub text_in_parts : List Peer → List Bond → WrittenRows → Octets
 text_in_parts peers bonds unfitted =
     flat_map entry_line (bond_entries peers bonds) ++ (flat_map entry_line unfitted.entries ++ (flat_map owed_line (owed_peers peers bonds) ++ flat_map owed_line unfitted.owed))

@@ -9,7 +9,7 @@ use Rattle.att_attributes.specs.declared.attr.Attr.{Attr}
 use Rattle.att_table.specs.Table.{value_at}
 use Rattle.octets.specs.Number.{Octets}
 use Rattle.gatt_subs.specs.Hearing.{may_hear_at}
-use Rattle.gatt_subs.specs.Indications.{Indications, Backlog, Milliseconds, hears, is_notified, after_raise, released_handle, after_release}
+use Rattle.gatt_subs.specs.Indications.{Indications, Backlog, Milliseconds, hears, is_notified, after_notify, indicated_handle, after_indicate}
 
 -- as many octets of a value as fit behind the opcode and the handle
 abbrev pub value_front : Values → Handle → Mtu → Octets
@@ -35,31 +35,31 @@ pub record Hearer : Type 0 where
 abbrev pub is_heard : List Attr → Hearer → Handle → Bool
 is_heard attributes hearer handle = hearer.live && hears hearer.pending attributes hearer.row hearer.standing handle
 
--- what it is told where the value at a handle is raised, and its indications then
-abbrev pub raise_tells : List Attr → Values → Hearer → Handle → Option Response
-raise_tells attributes values hearer handle =
+-- what it is told where the value at a handle is notified, and its indications then
+abbrev pub notify_tells : List Attr → Values → Hearer → Handle → Option Response
+notify_tells attributes values hearer handle =
     if hearer.live && is_notified hearer.pending attributes hearer.row hearer.standing handle hearer.backlog
     then Some (notification_of values handle hearer.mtu) else None
 
-abbrev pub pending_after_raise : List Attr → Hearer → Handle → Indications
-pending_after_raise attributes hearer handle =
-    if hearer.live then after_raise hearer.pending attributes hearer.row hearer.standing handle else hearer.pending
+abbrev pub pending_after_notify : List Attr → Hearer → Handle → Indications
+pending_after_notify attributes hearer handle =
+    if hearer.live then after_notify hearer.pending attributes hearer.row hearer.standing handle else hearer.pending
 
 -- what it is told at the end of an event, and its indications then
-abbrev pub release_tells : List Attr → Values → Hearer → Option Response
-release_tells attributes values hearer =
+abbrev pub indicate_tells : List Attr → Values → Hearer → Option Response
+indicate_tells attributes values hearer =
     if hearer.live then option_map (λ handle. indication_of values handle hearer.mtu)
-    (released_handle hearer.pending attributes hearer.row hearer.standing hearer.backlog)
+    (indicated_handle hearer.pending attributes hearer.row hearer.standing hearer.backlog)
     else None
 
-abbrev pub pending_after_release : List Attr → Hearer → Milliseconds → Indications
-pending_after_release attributes hearer now =
-    if hearer.live then after_release hearer.pending attributes hearer.row hearer.standing hearer.backlog now else hearer.pending
+abbrev pub pending_after_indicate : List Attr → Hearer → Milliseconds → Indications
+pending_after_indicate attributes hearer now =
+    if hearer.live then after_indicate hearer.pending attributes hearer.row hearer.standing hearer.backlog now else hearer.pending
 
 -- where it may not hear of a value it is told nothing of it, and nothing waits more than before
 pub record HearsNothing (attributes : List Attr) (hearer : Hearer) (handle : Handle) : Type 0 where
-  pub unchanged : pending_after_raise attributes hearer handle ≡ hearer.pending
-  pub silent : (values : Values) → raise_tells attributes values hearer handle ≡ None
+  pub unchanged : pending_after_notify attributes hearer handle ≡ hearer.pending
+  pub silent : (values : Values) → notify_tells attributes values hearer handle ≡ None
 
 -- values that are the same wherever it may hear of them
 abbrev pub AgreeWhereHeard : List Attr → Hearer → Values → Values → Type 0
@@ -67,8 +67,8 @@ AgreeWhereHeard attributes hearer one other =
     (handle : Handle) → may_hear_at attributes hearer.row hearer.standing handle ≡ true → value_at one handle ≡ value_at other handle
 
 pub record TellsTheSame (attributes : List Attr) (hearer : Hearer) (one other : Values) : Type 0 where
-  pub raised : (handle : Handle) → raise_tells attributes one hearer handle ≡ raise_tells attributes other hearer handle
-  pub released : release_tells attributes one hearer ≡ release_tells attributes other hearer
+  pub raised : (handle : Handle) → notify_tells attributes one hearer handle ≡ notify_tells attributes other hearer handle
+  pub released : indicate_tells attributes one hearer ≡ indicate_tells attributes other hearer
 
 -- what it is told depends on no value that it may not hear of
 abbrev pub TellsOnlyWhatIsHeard : Type 0

@@ -14,48 +14,48 @@ use Rattle.gatt_subs.specs.declared.rows_line.Line.TheVariants.{Entry, Owed}
 use Rattle.gatt_subs.specs.declared.unfitted.TheConstants.{MAX_ENTRIES, MAX_OWED}
 use Rattle.gatt_subs.specs.InOrder.{in_order}
 use Rattle.gatt_subs.specs.RowEntry.{is_at, order_of, rank_of}
-use Rattle.gatt_subs.specs.RowsLine.{line_of}
+use Rattle.gatt_subs.specs.RowsLine.{rows_line_of}
 
 -- what peers have configured, and which peers are owed an indication of a changed table, both in the order of a rows file
-pub record Written : Type 0 where
+pub record WrittenRows : Type 0 where
   pub entries : List RowEntry
   pub owed : List Peer
 
-abbrev pub nothing_written : Written
+abbrev pub nothing_written : WrittenRows
 nothing_written = record { entries = []; owed = [] }
 
-abbrev pub has_entry : List RowEntry → Peer → Handle → Bool
-has_entry entries peer handle = list_any (is_at peer handle) entries
+abbrev pub has_row_entry : List RowEntry → Peer → Handle → Bool
+has_row_entry entries peer handle = list_any (is_at peer handle) entries
 
 abbrev pub has_peer : List Peer → Peer → Bool
 has_peer peers peer = list_any (λ other. same_peer other peer) peers
 
 -- what one line adds to the lines before it
-abbrev pub with_said : ℕ → Written → Line → Result Written RowsFault
-with_said number written (Entry entry) = do
-  _ ← unless (not (has_entry written.entries entry.peer entry.handle)) (Twice number)
+abbrev pub rows_with_said : ℕ → WrittenRows → Line → Result WrittenRows RowsFault
+rows_with_said number written (Entry entry) = do
+  _ ← unless (not (has_row_entry written.entries entry.peer entry.handle)) (Twice number)
   _ ← unless (nat_lt (length written.entries) MAX_ENTRIES) TooMany
   Ok (record written { entries = in_order order_of entry written.entries })
-with_said number written (Owed peer) = do
+rows_with_said number written (Owed peer) = do
   _ ← unless (not (has_peer written.owed peer)) (Twice number)
   _ ← unless (nat_lt (length written.owed) MAX_OWED) TooMany
   Ok (record written { owed = in_order rank_of peer written.owed })
 
 -- a blank line adds nothing
-abbrev pub with_line : ℕ → Written → Octets → Result Written RowsFault
-with_line number written [] = Ok written
-with_line number written (octet ∷ octets) = do
-  said ← require (line_of (octet ∷ octets)) (BadLine number)
-  with_said number written said
+abbrev pub rows_with_line : ℕ → WrittenRows → Octets → Result WrittenRows RowsFault
+rows_with_line number written [] = Ok written
+rows_with_line number written (octet ∷ octets) = do
+  said ← require (rows_line_of (octet ∷ octets)) (BadLine number)
+  rows_with_said number written said
 
 -- lines that are counted from a number, behind others
-abbrev pub with_lines : ℕ → Written → List Octets → Result Written RowsFault
-with_lines number written [] = Ok written
-with_lines number written (line ∷ lines) = with_line number written line >>= (λ next. with_lines (number + 1) next lines)
+abbrev pub rows_with_lines : ℕ → WrittenRows → List Octets → Result WrittenRows RowsFault
+rows_with_lines number written [] = Ok written
+rows_with_lines number written (line ∷ lines) = rows_with_line number written line >>= (λ next. rows_with_lines (number + 1) next lines)
 
 -- a text, whose lines end with line feeds: what stands behind the last one is a line too, which may be blank
-abbrev pub lines_of : Octets → List Octets
-lines_of text = slice_split (λ octet. octet == 10) text
+abbrev pub lines_of_rows : Octets → List Octets
+lines_of_rows text = slice_split (λ octet. octet == 10) text
 
-unfoldable pub rows_read : Octets → Result Written RowsFault
-rows_read text = with_lines 1 nothing_written (lines_of text)
+unfoldable pub rows_read : Octets → Result WrittenRows RowsFault
+rows_read text = rows_with_lines 1 nothing_written (lines_of_rows text)

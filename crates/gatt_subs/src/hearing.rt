@@ -39,7 +39,8 @@ impl<'a> Model for Raised<'a> {
 
     ghost view = { λ raised. record { table = raised.table.now; handle = raised.handle } };
 
-    ghost invariant = { λ raised. IsLookedUp raised.table.now raised.handle raised.guard.now raised.unguarded raised.octets.now };
+    ghost invariant = { λ raised. IsLookedUp raised.table.now raised.handle raised.guard.now
+        raised.unguarded raised.octets.now };
 }
 
 impl<'a> Raised<'a> {
@@ -50,7 +51,8 @@ impl<'a> Raised<'a> {
     pub fn of(table: &'a Table, handle: u16) -> Option<Raised<'a>>
         ensures raised { IfSome result
             (λ raised. raised ≡ record { table = table.now; handle = handle }) }
-        ensures value { IfSome result (λ raised. is_value_at table.now.attributes handle ≡ true) }
+        ensures value { IfSome result
+            (λ raised. is_value_at table.now.attributes handle ≡ true) }
         ensures used { IfSome result (λ raised. 0 < handle) }
         ensures most { IfSome result (λ raised. handle ≤ MAX_ATTRIBUTES) }
         ensures none { IsNone result → (row : Row) (standing : Standing)
@@ -110,7 +112,8 @@ impl<'a> Raised<'a> {
 /// Whether each connection meets what is needed.
 #[tactic(auto, using(crate::proofs::Unheard::met_by_all))]
 fn needs_nothing(need: &Need) -> bool
-    ensures { OnTrue result ((standing : Standing) → first_unmet_rule_of need.now standing ≡ None) }
+    ensures { OnTrue result
+        ((standing : Standing) → first_unmet_rule_of need.now standing ≡ None) }
 {
     *need == Need::NONE
 }

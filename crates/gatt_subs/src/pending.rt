@@ -3,8 +3,8 @@ ghost use Rattle.std.specs.Bool.{OnTrue, OnFalse};
 ghost use Rattle.att_attributes.specs.Attributes.{is_value_at};
 ghost use Rattle.gatt_subs.specs.Deadline.{deadline_of};
 ghost use Rattle.gatt_subs.specs.Hearing.{is_indicated};
-ghost use Rattle.gatt_subs.specs.HeardOnly.{RaisesOnlyWhatIsHeard, ReleasesOnlyWhatIsHeard, ReleasesOnlyWhatWaits};
-ghost use Rattle.gatt_subs.specs.Indications.{after_confirmation, after_end, after_raise, after_release, after_replacement, after_tick, confirmed_handle, first_of, from_due, is_notified, is_told, is_waiting, no_indications, released_handle, rest_of, times_out, with_handle, HaveOnePlace};
+ghost use Rattle.gatt_subs.specs.HeardOnly.{NotifiesOnlyWhatIsHeard, IndicatesOnlyWhatIsHeard, IndicatesOnlyWhatWaits};
+ghost use Rattle.gatt_subs.specs.Indications.{after_confirmation, after_end, after_notify, after_indicate, after_replacement, after_tick, confirmed_handle, first_handle, from_due, is_notified, is_told, is_waiting, no_indications, indicated_handle, rest_of, times_out, with_handle, HaveOnePlace};
 ghost use Rattle.gatt_subs.specs.Told.{TellsOnlyWhatIsHeard};
 
 use crate::hearing::{Raised, Telling, is_indicated};
@@ -44,7 +44,12 @@ impl Model for Pending {
 
     ghost Value = { Indications };
 
-    ghost view = { λ pending. record { waiting = pending.waiting.items; unconfirmed = pending.unconfirmed; timed_out = pending.timed_out } };
+    ghost view = { λ pending.
+        record {
+          waiting = pending.waiting.items;
+          unconfirmed = pending.unconfirmed;
+          timed_out = pending.timed_out;
+        } };
 
     ghost invariant = { λ pending. HaveOnePlace pending.waiting.items };
 }
@@ -55,9 +60,9 @@ impl Pending {
     pub fn new() -> Self
         ensures pending { result ≡ no_indications }
         // Whatever the table and its values are by then, nothing is told that may not be heard.
-        ensures raised { RaisesOnlyWhatIsHeard }
-        ensures released { ReleasesOnlyWhatIsHeard }
-        ensures idle { ReleasesOnlyWhatWaits }
+        ensures raised { NotifiesOnlyWhatIsHeard }
+        ensures released { IndicatesOnlyWhatIsHeard }
+        ensures idle { IndicatesOnlyWhatWaits }
         ensures undisclosed { TellsOnlyWhatIsHeard }
     {
         Pending {
@@ -79,9 +84,10 @@ impl Pending {
         backlog: usize,
     ) -> bool
         ensures notified { result
-            ≡ is_notified self.old table.now.attributes row.now standing.entry.now handle backlog }
+            ≡ is_notified self.old table.now.attributes row.now standing.entry.now handle
+            backlog }
         ensures pending { self.new
-            ≡ after_raise self.old table.now.attributes row.now standing.entry.now handle }
+            ≡ after_notify self.old table.now.attributes row.now standing.entry.now handle }
         ensures room { OnTrue result (backlog < MAX_BACKLOG) }
         ensures value { OnTrue result (is_value_at table.now.attributes handle ≡ true) }
     {
@@ -100,8 +106,12 @@ impl Pending {
         standing: &Standing,
         backlog: usize,
     ) -> bool
-        ensures notified { result ≡ is_notified self.old raised.now.table.attributes row.now standing.entry.now raised.now.handle backlog }
-        ensures pending { self.new ≡ after_raise self.old raised.now.table.attributes row.now standing.entry.now raised.now.handle }
+        ensures notified { result
+            ≡ is_notified self.old raised.now.table.attributes row.now standing.entry.now
+            raised.now.handle backlog }
+        ensures pending { self.new
+            ≡ after_notify self.old raised.now.table.attributes row.now standing.entry.now
+            raised.now.handle }
         ensures room { OnTrue result (backlog < MAX_BACKLOG) }
     {
         if self.timed_out {
@@ -128,11 +138,13 @@ impl Pending {
         now: u64,
     ) -> Option<u16>
         ensures due { result
-            ≡ released_handle self.old table.now.attributes row.now standing.entry.now backlog }
+            ≡ indicated_handle self.old table.now.attributes row.now standing.entry.now backlog }
         ensures pending { self.new
-            ≡ after_release self.old table.now.attributes row.now standing.entry.now backlog now }
+            ≡ after_indicate self.old table.now.attributes row.now standing.entry.now backlog
+            now }
         ensures room { IfSome result (λ handle. backlog < MAX_BACKLOG) }
-        ensures value { IfSome result (λ handle. is_value_at table.now.attributes handle ≡ true) }
+        ensures value { IfSome result
+            (λ handle. is_value_at table.now.attributes handle ≡ true) }
     {
         if self.unconfirmed.is_some() || self.timed_out || backlog >= MAX_BACKLOG {
             return None;
@@ -252,7 +264,7 @@ fn take_due(
     standing: &Standing,
 ) -> Option<u16>
     requires { HaveOnePlace waiting.old.items }
-    ensures due { result ≡ first_of (from_due
+    ensures due { result ≡ first_handle (from_due
         (is_indicated table.now.attributes row.now standing.entry.now) waiting.old.items) }
     ensures rest { waiting.new.items ≡ rest_of (from_due
         (is_indicated table.now.attributes row.now standing.entry.now) waiting.old.items) }

@@ -14,11 +14,11 @@ ghost use Rattle.att_table.specs.ConfigRow.{bits_at, has_room, HasOneEntryEach};
 ghost use Rattle.gatt_subs.specs.declared.rows_fault.RowsFault.TheVariants.{OutOfMemory};
 ghost use Rattle.gatt_subs.specs.Fit.{fitted_bond, fitted_rows, row_fitted, HasFittedBonds};
 ghost use Rattle.gatt_subs.specs.InOrder.{Ascends};
-ghost use Rattle.gatt_subs.specs.ReadBack.{said_by, FittedCanBeWritten, IsOfAFile, ReadsBack};
+ghost use Rattle.gatt_subs.specs.ReadBack.{written_by, FittedCanBeWritten, IsOfAFile, ReadsBack};
 ghost use Rattle.gatt_subs.specs.RowEntry.{is_at, rank_of};
-ghost use Rattle.gatt_subs.specs.Rows.{place_of, bond_of, row_of, row_in, row_read, owes, bonds_with, with_bond, with_row, with_set, with_owed, kept_bond, subscriptions_read, ChangesBond};
+ghost use Rattle.gatt_subs.specs.Rows.{peer_place, bond_of, row_of, row_in, row_read, owes, bonds_with, with_bond, with_row, with_set, with_owed, kept_bond, subscriptions_read, ChangesBond};
 ghost use Rattle.gatt_subs.specs.Changes.{with_changes_owed};
-ghost use Rattle.gatt_subs.specs.RowsText.{text_of};
+ghost use Rattle.gatt_subs.specs.RowsText.{rows_text};
 ghost use Rattle.att_numbers.specs.declared.limit.TheConstants.{MAX_ATTRIBUTES};
 
 use crate::bond::Bond;
@@ -51,7 +51,8 @@ impl Model for Rows {
 
     ghost Value = { Subscriptions };
 
-    ghost view = { λ rows. record { peers = rows.peers.items; bonds = rows.bonds.items; unfitted = rows.unfitted } };
+    ghost view = { λ rows.
+        record { peers = rows.peers.items; bonds = rows.bonds.items; unfitted = rows.unfitted } };
 
     ghost invariant = { λ rows. length rows.bonds.items ≡ length rows.peers.items };
 }
@@ -65,7 +66,7 @@ impl Rows {
     pub fn read(alloc: Global, text: &str) -> Result<Rows, RowsFault>
         ensures rows { Gives OutOfMemory (subscriptions_read text.now) result }
         // So their text can be read again.
-        ensures of_a_file { IfOk result (λ rows. IsOfAFile (said_by rows)) }
+        ensures of_a_file { IfOk result (λ rows. IsOfAFile (written_by rows)) }
     {
         Rows::read_unfitted(alloc, text)
     }
@@ -152,9 +153,9 @@ impl Rows {
     #[tactic(auto, using(crate::proofs::ReadBack::reads_back, crate::proofs::RowsFitted::fitted_can_be_written))]
     pub fn text<W: Sink>(&self, sink: &mut W) -> Result<(), Failed>
         ensures ok { OnOk result
-            (Appends (W.contents sink.old) (W.contents sink.new) (text_of self.now)) }
+            (Appends (W.contents sink.old) (W.contents sink.new) (rows_text self.now)) }
         ensures front { OnErr result
-            (WritesFront (text_of self.now) (W.contents sink.old) (W.contents sink.new)) }
+            (WritesFront (rows_text self.now) (W.contents sink.old) (W.contents sink.new)) }
         ensures failures { CountsFailure (W.failures sink.old) (W.failures sink.new) result }
         // And it is read as what the rows say, as fitted rows can be written.
         ensures read_back { ReadsBack self.now }
@@ -235,7 +236,8 @@ impl Rows {
         } }
         ensures each { (peer : Peer)
             → bond_of self.new peer
-            ≡ option_map (kept_bond old.now.attributes new.now.attributes) (bond_of self.old peer) }
+            ≡ option_map (kept_bond old.now.attributes new.now.attributes)
+            (bond_of self.old peer) }
     {
         keep_rows(&mut self.bonds, old, new);
     }
@@ -275,7 +277,7 @@ fn keep_rows(bonds: &mut Vec<Bond>, old: &Table, new: &Table)
 
 /// Where a peer is among others.
 fn place_of(peers: &[Peer], peer: &Peer) -> Option<usize>
-    ensures { result ≡ place_of peers.now peer.now }
+    ensures { result ≡ peer_place peers.now peer.now }
 {
     peers.iter().position(|other| *other == *peer)
 }

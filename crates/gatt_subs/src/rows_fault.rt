@@ -1,6 +1,6 @@
 ghost use Rattle.std.specs.Prelude.{◌≡◌};
 ghost use Rattle.gatt_subs.specs.declared.rows_fault.RowsFault.TheVariants.{OutOfMemory};
-ghost use Rattle.gatt_subs.specs.RowsFault.{number_of};
+ghost use Rattle.gatt_subs.specs.RowsFault.{rows_fault_number};
 
 use std::alloc::AllocError;
 use std::error::Error;
@@ -22,7 +22,7 @@ pub enum RowsFault {
 impl RowsFault {
     /// The number by which the fault is told, from 1.
     pub fn number(self) -> u8
-        ensures { result ≡ number_of self }
+        ensures { result ≡ rows_fault_number self }
     {
         match self {
             RowsFault::BadLine(_) => 1,

@@ -2,7 +2,7 @@
 
 ghost use Rattle.std.specs.Prelude.{◌≡◌, None};
 ghost use Rattle.std.specs.Option.{option_map};
-ghost use Rattle.gatt_subs.specs.RowsLine.{parts_view, parts_of, line_behind, line_of, peer_of, handle_of, bits_of};
+ghost use Rattle.gatt_subs.specs.RowsLine.{parts_view, parts_of, line_behind, rows_line_of, peer_of_row, handle_of_row, bits_of};
 
 use crate::row_entry::RowEntry;
 use le_hci::{PUBLIC_ADDRESS, Peer, RANDOM_ADDRESS};
@@ -18,9 +18,9 @@ pub enum Line {
 }
 
 /// What a line says, if it is `kind address handle value` or `! kind address`.
-#[tactic(auto, unfolding(crate::specs::RowsLine::line_of))]
+#[tactic(auto, unfolding(crate::specs::RowsLine::rows_line_of))]
 pub fn read_line(line: &str) -> Option<Line>
-    ensures { result ≡ line_of line.now }
+    ensures { result ≡ rows_line_of line.now }
 {
     let (first, rest) = parts(line)?;
     let (second, rest) = parts(rest)?;
@@ -53,9 +53,9 @@ fn read_owed(mark: &str, kind: &str, address: &str) -> Option<Line>
 }
 
 /// The peer of a type of address and an address.
-#[tactic(auto, unfolding(crate::specs::RowsLine::peer_of))]
+#[tactic(auto, unfolding(crate::specs::RowsLine::peer_of_row))]
 fn read_peer(kind: &str, address: &str) -> Option<Peer>
-    ensures { result ≡ peer_of kind.now address.now }
+    ensures { result ≡ peer_of_row kind.now address.now }
 {
     let kind = match kind {
         "0" => PUBLIC_ADDRESS,
@@ -69,9 +69,9 @@ fn read_peer(kind: &str, address: &str) -> Option<Peer>
 }
 
 /// The handle that decimal digits write, without leading zeros.
-#[tactic(auto, unfolding(crate::specs::RowsLine::handle_of))]
+#[tactic(auto, unfolding(crate::specs::RowsLine::handle_of_row))]
 fn read_handle(word: &str) -> Option<u16>
-    ensures { result ≡ handle_of word.now }
+    ensures { result ≡ handle_of_row word.now }
 {
     match word.as_bytes() {
         [b'1'..=b'9', ..] => word.parse::<u16>().ok(),

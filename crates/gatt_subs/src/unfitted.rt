@@ -6,7 +6,7 @@ ghost use Rattle.octets.specs.Memory.{Gives, Leaves};
 ghost use Rattle.gatt_subs.specs.declared.rows_fault.RowsFault.TheVariants.{OutOfMemory};
 ghost use Rattle.gatt_subs.specs.InOrder.{in_order};
 ghost use Rattle.gatt_subs.specs.RowEntry.{order_of, rank_of};
-ghost use Rattle.gatt_subs.specs.Unfitted.{has_entry, has_peer, nothing_written, lines_of, with_line, with_said, rows_read};
+ghost use Rattle.gatt_subs.specs.Unfitted.{has_row_entry, has_peer, nothing_written, lines_of_rows, rows_with_line, rows_with_said, rows_read};
 
 use crate::row_entry::{RowEntry, rank};
 use crate::rows_fault::RowsFault;
@@ -29,11 +29,12 @@ pub struct Unfitted {
 }
 
 impl Model for Unfitted {
-    ghost use Rattle.gatt_subs.specs.Unfitted.{Written};
+    ghost use Rattle.gatt_subs.specs.Unfitted.{WrittenRows};
 
-    ghost Value = { Written };
+    ghost Value = { WrittenRows };
 
-    ghost view = { λ unfitted. record { entries = unfitted.entries.items; owed = unfitted.owed.items } };
+    ghost view = { λ unfitted.
+        record { entries = unfitted.entries.items; owed = unfitted.owed.items } };
 }
 
 impl Unfitted {
@@ -81,7 +82,7 @@ impl Unfitted {
 
     /// Takes in the line of a number.
     fn take_line(&mut self, number: u64, line: &str) -> Result<(), RowsFault>
-        ensures { Leaves OutOfMemory (with_line number self.old line.now) result self.new }
+        ensures { Leaves OutOfMemory (rows_with_line number self.old line.now) result self.new }
     {
         if line.is_empty() {
             return Ok(());
@@ -92,7 +93,7 @@ impl Unfitted {
 
     /// Takes in what the line of a number says.
     fn take(&mut self, number: u64, said: Line) -> Result<(), RowsFault>
-        ensures { Leaves OutOfMemory (with_said number self.old said) result self.new }
+        ensures { Leaves OutOfMemory (rows_with_said number self.old said) result self.new }
     {
         match said {
             Line::Entry(entry) => {
@@ -121,8 +122,8 @@ impl Unfitted {
 /// The first line of a text that has another one, and what stands behind its line feed.
 fn first_line(text: &str) -> Option<(&str, &str)>
     ensures first { IfSome result
-        (λ parts. lines_of text.now ≡ parts.0.now ∷ lines_of parts.1.now) }
-    ensures only { IfNone result (lines_of text.now ≡ text.now ∷ []) }
+        (λ parts. lines_of_rows text.now ≡ parts.0.now ∷ lines_of_rows parts.1.now) }
+    ensures only { IfNone result (lines_of_rows text.now ≡ text.now ∷ []) }
     ensures shorter { IfSome result (λ parts. length parts.1.now < length text.now) }
 {
     text.split_once('\n')
@@ -130,7 +131,7 @@ fn first_line(text: &str) -> Option<(&str, &str)>
 
 /// Whether one of the entries is what a peer has configured at a handle.
 fn has_entry(entries: &[RowEntry], peer: &Peer, handle: u16) -> bool
-    ensures { result ≡ has_entry entries.now peer.now handle }
+    ensures { result ≡ has_row_entry entries.now peer.now handle }
 {
     entries.iter().any(|entry| entry.is_at(peer, handle))
 }

@@ -116,13 +116,13 @@ command_line =
     att_shape) check_shape) show_shape) run_shape) serve_shape) host_shape
 
 -- the name that chooses a command
-abbrev pub name_of : Choice → List ℕ
-name_of Att = codes "att"
-name_of (Check table keys) = codes "check"
-name_of (Show table keys rows) = codes "show"
-name_of (Run table next keys rows script notices echo) = codes "run"
-name_of (Serve table keys rows address) = codes "serve"
-name_of (Host words) = codes "host"
+abbrev pub command_name : Choice → List ℕ
+command_name Att = codes "att"
+command_name (Check table keys) = codes "check"
+command_name (Show table keys rows) = codes "show"
+command_name (Run table next keys rows script notices echo) = codes "run"
+command_name (Serve table keys rows address) = codes "serve"
+command_name (Host words) = codes "host"
 
 -- an argument is a path, and an option is one or is left out
 abbrev pub IsGiven : List ℕ → List Row → List ℕ → Type 0

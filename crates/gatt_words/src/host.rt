@@ -3,7 +3,7 @@
 ghost use Rattle.std.specs.Prelude.{◌≡◌, codes, map, take, IfSome, IfOk, false};
 ghost use Rattle.clap.specs.Words.{shape_of, found_of, rows_of};
 ghost use Rattle.clap.specs.declared.builder.Command.TheViews.{out-Command};
-ghost use Rattle.gatt_words.specs.CommandLine.{host_shape, name_of};
+ghost use Rattle.gatt_words.specs.CommandLine.{host_shape, command_name};
 ghost use Rattle.gatt_words.specs.CommandLine.{given, HasFilesOf};
 
 use crate::argument::with_arguments;
@@ -58,7 +58,7 @@ pub struct HostChoice<'a> {
 /// The choice of `host`, with its files, its options and its flag.
 #[tactic(auto, using(crate::proofs::CommandLines::first_in_rows, crate::proofs::CommandLines::flag_in_rows))]
 pub(crate) fn hosting<'a>(matches: &ArgMatches<'a>) -> Option<Choice<'a>>
-    ensures name { IfSome result (λ choice. name_of choice ≡ codes "host") }
+    ensures name { IfSome result (λ choice. command_name choice ≡ codes "host") }
     ensures files { IfSome result (HasFilesOf (rows_of (found_of matches.now))) }
 {
     Some(Choice::Host(HostChoice {

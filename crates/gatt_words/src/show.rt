@@ -3,7 +3,7 @@
 ghost use Rattle.std.specs.Prelude.{◌≡◌, codes, IfSome, IfOk, false};
 ghost use Rattle.clap.specs.Words.{shape_of, found_of, rows_of};
 ghost use Rattle.clap.specs.declared.builder.Command.TheViews.{out-Command};
-ghost use Rattle.gatt_words.specs.CommandLine.{name_of, show_shape};
+ghost use Rattle.gatt_words.specs.CommandLine.{command_name, show_shape};
 ghost use Rattle.gatt_words.specs.CommandLine.{HasFilesOf};
 
 use crate::argument::with_arguments;
@@ -15,7 +15,7 @@ use std::alloc::{AllocError, Global};
 /// The choice of `show`, with its files.
 #[tactic(auto, using(crate::proofs::CommandLines::first_in_rows))]
 pub(crate) fn showing<'a>(matches: &ArgMatches<'a>) -> Option<Choice<'a>>
-    ensures name { IfSome result (λ choice. name_of choice ≡ codes "show") }
+    ensures name { IfSome result (λ choice. command_name choice ≡ codes "show") }
     ensures files { IfSome result (HasFilesOf (rows_of (found_of matches.now))) }
 {
     Some(Choice::Show {

@@ -4,7 +4,7 @@ ghost use Rattle.std.specs.Prelude.{IfSome, IfOk, IfErr, IsErrAnd, MatchResult, 
 ghost use Rattle.clap.specs.Words.{IsAmong, app_of, fault_of, kind_of, shape_of};
 ghost use Rattle.clap.specs.declared.builder.Command.TheViews.{out-Command};
 ghost use Rattle.clap.specs.Words.{found_of, rows_of, subcommand_name_of, subcommand_of, subcommand_rows_of};
-ghost use Rattle.gatt_words.specs.CommandLine.{att_shape, check_shape, run_shape, serve_shape, program_line, command_line, name_of};
+ghost use Rattle.gatt_words.specs.CommandLine.{att_shape, check_shape, run_shape, serve_shape, program_line, command_line, command_name};
 ghost use Rattle.gatt_words.specs.CommandLine.{HasFiles, HasFilesOf};
 ghost use Rattle.gatt_words.specs.Refusal.{ShowsUnlessMemory, refusal_for};
 
@@ -97,9 +97,11 @@ impl Refusal {
 
 /// The command that a parse has met.
 fn choice_in<'a>(matches: &ArgMatches<'a>) -> Result<Choice<'a>, Refusal>
-    ensures named { IfOk result (λ choice. subcommand_name_of matches.now ≡ Some (name_of choice)) }
+    ensures named { IfOk result
+        (λ choice. subcommand_name_of matches.now ≡ Some (command_name choice)) }
     ensures files { IfOk result (HasFiles (subcommand_rows_of matches.now)) }
-    ensures att { subcommand_name_of matches.now ≡ Some (codes "att") → result ≡ Ok Choice.Att }
+    ensures att { subcommand_name_of matches.now ≡ Some (codes "att") → result
+        ≡ Ok Choice.Att }
     ensures err { IfErr result (λ refusal. refusal ≡ Refusal.Misunderstood) }
 {
     let Some((name, named)) = matches.subcommand() else {
@@ -119,7 +121,7 @@ fn choice_in<'a>(matches: &ArgMatches<'a>) -> Result<Choice<'a>, Refusal>
 /// The choice of `check`, with its files.
 #[tactic(auto, using(crate::proofs::CommandLines::first_in_rows))]
 fn checking<'a>(matches: &ArgMatches<'a>) -> Option<Choice<'a>>
-    ensures name { IfSome result (λ choice. name_of choice ≡ codes "check") }
+    ensures name { IfSome result (λ choice. command_name choice ≡ codes "check") }
     ensures files { IfSome result (HasFilesOf (rows_of (found_of matches.now))) }
 {
     Some(Choice::Check {
@@ -131,7 +133,7 @@ fn checking<'a>(matches: &ArgMatches<'a>) -> Option<Choice<'a>>
 /// The choice of `run`, with its files and its flags.
 #[tactic(auto, using(crate::proofs::CommandLines::first_in_rows, crate::proofs::CommandLines::flag_in_rows))]
 fn running<'a>(matches: &ArgMatches<'a>) -> Option<Choice<'a>>
-    ensures name { IfSome result (λ choice. name_of choice ≡ codes "run") }
+    ensures name { IfSome result (λ choice. command_name choice ≡ codes "run") }
     ensures files { IfSome result (HasFilesOf (rows_of (found_of matches.now))) }
 {
     Some(Choice::Run {
@@ -148,7 +150,7 @@ fn running<'a>(matches: &ArgMatches<'a>) -> Option<Choice<'a>>
 /// The choice of `serve`, with its files and its address.
 #[tactic(auto, using(crate::proofs::CommandLines::first_in_rows))]
 fn serving<'a>(matches: &ArgMatches<'a>) -> Option<Choice<'a>>
-    ensures name { IfSome result (λ choice. name_of choice ≡ codes "serve") }
+    ensures name { IfSome result (λ choice. command_name choice ≡ codes "serve") }
     ensures files { IfSome result (HasFilesOf (rows_of (found_of matches.now))) }
 {
     Some(Choice::Serve {
@@ -251,7 +253,7 @@ pub fn chosen<'a>(alloc: Global, words: &'a [String]) -> Result<Choice<'a>, Refu
     // have no fault.
     ensures named { IfOk result (λ choice.
         option_map (λ named. named.0) (subcommand_of command_line (map string_bytes words.now))
-        ≡ Some (name_of choice)) }
+        ≡ Some (command_name choice)) }
     ensures files { IfOk result
         (HasFiles (subcommand_of command_line (map string_bytes words.now))) }
     ensures faultless { IfOk result (λ _.
@@ -260,11 +262,13 @@ pub fn chosen<'a>(alloc: Global, words: &'a [String]) -> Result<Choice<'a>, Refu
     // A text is shown only of an error that the words have, and that asks for help or the version.
     ensures shown { (text : Error) → result ≡ Err (Refusal.Shown text)
         → IsAmong (kind_of text) (fault_of command_line (map string_bytes words.now))
-        × ((kind_of text ≡ ErrorKind.DisplayHelp) ⊎ (kind_of text ≡ ErrorKind.DisplayVersion)) }
+        × ((kind_of text ≡ ErrorKind.DisplayHelp)
+        ⊎ (kind_of text ≡ ErrorKind.DisplayVersion)) }
 
     // Behind the program's name these words alone are understood so, unless memory is refused.
     ensures att { drop 1 (map string_bytes words.now) ≡ codes "att" ∷ []
-        → MatchResult result (λ choice. choice ≡ Choice.Att) (λ refusal. refusal ≡ Refusal.Memory) }
+        → MatchResult result (λ choice. choice ≡ Choice.Att)
+        (λ refusal. refusal ≡ Refusal.Memory) }
     ensures help { drop 1 (map string_bytes words.now) ≡ codes "--help" ∷ []
         → IsErrAnd result (ShowsUnlessMemory ErrorKind.DisplayHelp) }
     ensures version { drop 1 (map string_bytes words.now) ≡ codes "--version" ∷ []

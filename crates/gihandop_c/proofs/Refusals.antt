@@ -3,38 +3,38 @@ use Rattle.std.proofs.Common.{◌≡◌, ◌≢◌, ◌∙◌, ℕ, ◌+◌, nat
 use Rattle.att_table.specs.declared.table_fault.TableFault.{TableFault}
 use Rattle.att_table.specs.declared.table_fault.TableFault.TheVariants.{OutOfMemory as NoMemoryForTheTable}
 use Rattle.att_table.specs.Table.{Contents}
-use Rattle.att_table.specs.TableFault.{number_of as number_of_table_fault}
+use Rattle.att_table.specs.TableFault.{table_fault_number}
 use Rattle.gatt_host.specs.Opening.{is_configured}
 use Rattle.gatt_subs.specs.declared.rows_fault.RowsFault.{RowsFault}
 use Rattle.gatt_subs.specs.declared.rows_fault.RowsFault.TheVariants.{OutOfMemory as NoMemoryForTheRows}
-use Rattle.gatt_subs.specs.RowsFault.{number_of as number_of_rows_fault}
+use Rattle.gatt_subs.specs.RowsFault.{rows_fault_number}
 use Rattle.gihandop_c.specs.declared.config.HostConfig.{HostConfig}
 use Rattle.gihandop_c.specs.declared.status.TheConstants.{BAD_CONFIG, BAD_KEYS, BAD_ROWS, BAD_TABLE, DONE}
-use Rattle.gihandop_c.specs.Files.{keys_in, keys_status, rows_in, rows_status, table_in, table_status}
+use Rattle.gihandop_c.specs.Files.{keys_given, keys_status, rows_given, rows_status, table_given, table_status}
 use Rattle.gihandop_c.specs.Opening.{config_given, config_status, IsNotOfMemory, IsStatusOf}
 use Rattle.le_security.specs.declared.key_fault.KeyFault.{KeyFault}
 use Rattle.le_security.specs.declared.key_fault.KeyFault.TheVariants.{OutOfMemory as NoMemoryForTheKeys}
-use Rattle.le_security.specs.KeyFault.{number_of as number_of_key_fault}
+use Rattle.le_security.specs.KeyFault.{key_fault_number}
 use Rattle.octets.specs.Memory.{Gives}
 use Rattle.octets.specs.Number.{Octets}
 
-pub table_refused : (octets : Octets) (fault : TableFault) (status : ℕ) → Gives NoMemoryForTheTable (table_in octets) (Err fault)
-    → status ≡ BAD_TABLE + number_of_table_fault fault → IsStatusOf (table_status (table_in octets)) status
+pub table_refused : (octets : Octets) (fault : TableFault) (status : ℕ) → Gives NoMemoryForTheTable (table_given octets) (Err fault)
+    → status ≡ BAD_TABLE + table_fault_number fault → IsStatusOf (table_status (table_given octets)) status
 table_refused octets fault status gives is = λ enough behind.
     is ∙ ap (λ read. table_status read behind)
-    (sym (gives (λ none. enough.table (is ∙ ap (λ (f : TableFault). BAD_TABLE + number_of_table_fault f) none))))
+    (sym (gives (λ none. enough.table (is ∙ ap (λ (f : TableFault). BAD_TABLE + table_fault_number f) none))))
 
-pub keys_refused : (octets : Octets) (fault : KeyFault) (status : ℕ) → Gives NoMemoryForTheKeys (keys_in octets) (Err fault)
-    → status ≡ BAD_KEYS + number_of_key_fault fault → IsStatusOf (keys_status (keys_in octets)) status
+pub keys_refused : (octets : Octets) (fault : KeyFault) (status : ℕ) → Gives NoMemoryForTheKeys (keys_given octets) (Err fault)
+    → status ≡ BAD_KEYS + key_fault_number fault → IsStatusOf (keys_status (keys_given octets)) status
 keys_refused octets fault status gives is = λ enough behind.
     is ∙ ap (λ read. keys_status read behind)
-    (sym (gives (λ none. enough.keys (is ∙ ap (λ (f : KeyFault). BAD_KEYS + number_of_key_fault f) none))))
+    (sym (gives (λ none. enough.keys (is ∙ ap (λ (f : KeyFault). BAD_KEYS + key_fault_number f) none))))
 
-pub rows_refused : (octets : Octets) (fault : RowsFault) (status : ℕ) → Gives NoMemoryForTheRows (rows_in octets) (Err fault)
-    → status ≡ BAD_ROWS + number_of_rows_fault fault → IsStatusOf (rows_status (rows_in octets)) status
+pub rows_refused : (octets : Octets) (fault : RowsFault) (status : ℕ) → Gives NoMemoryForTheRows (rows_given octets) (Err fault)
+    → status ≡ BAD_ROWS + rows_fault_number fault → IsStatusOf (rows_status (rows_given octets)) status
 rows_refused octets fault status gives is = λ enough behind.
     is ∙ ap (λ read. rows_status read behind)
-    (sym (gives (λ none. enough.rows (is ∙ ap (λ (f : RowsFault). BAD_ROWS + number_of_rows_fault f) none))))
+    (sym (gives (λ none. enough.rows (is ∙ ap (λ (f : RowsFault). BAD_ROWS + rows_fault_number f) none))))
 
 -- what is accepted has no such status: it would be whatever comes behind
 pub table_not_refused : (read : Result Contents TableFault) (contents : Contents) (status : ℕ) → IsStatusOf (table_status read) status
@@ -44,7 +44,7 @@ table_not_refused read contents status is accepted enough =
     subst (λ (n : ℕ). T (nat_eq n 0)) (sym (same 0) ∙ same 1) tt
 
 pub table_refused_for : (read : Result Contents TableFault) (fault : TableFault) (status : ℕ) → IsStatusOf (table_status read) status
-    → read ≡ Err fault → IsNotOfMemory status → status ≡ BAD_TABLE + number_of_table_fault fault
+    → read ≡ Err fault → IsNotOfMemory status → status ≡ BAD_TABLE + table_fault_number fault
 table_refused_for read fault status is refused enough = is enough 0 ∙ ap (λ r. table_status r 0) refused
 
 -- by the two tests of a configuration

@@ -4,9 +4,9 @@ use Rattle.att_table.specs.Table.{Contents}
 use Rattle.gatt_host.specs.declared.host_fault.HostFault.{HostFault}
 use Rattle.gatt_host.specs.Numbers.{number_of_fault}
 use Rattle.gatt_host.specs.Telling.{notices_told, silent}
-use Rattle.gatt_host.specs.Whole.{Leads, StandsAt}
+use Rattle.gatt_host.specs.HostModel.{Refines, RefinesRun}
 use Rattle.gatt_laws.specs.machine.Calls.{Call, Refused, NoSuchHandle, NotAValue, BadLength, NoSuchConnection, TimeWentBack, Stopped, NoServiceChanged}
-use Rattle.gatt_laws.specs.machine.Input.{Course, Item, course, call_refusal, replacement_refusal}
+use Rattle.gatt_laws.specs.machine.Input.{Run, Item, run, call_refusal, replacement_refusal}
 use Rattle.gatt_laws.specs.machine.Notice.{Notice, notices_in, notices_of}
 use Rattle.gatt_laws.specs.machine.Start.{Start}
 use Rattle.gihandop_c.specs.declared.opened.Opened.{Opened}
@@ -20,11 +20,11 @@ OfTheHost Holds None None = Unit
 OfTheHost Holds old new = ⊥
 
 -- a host that goes on takes in these items, and gives out these packets
-abbrev pub LeadsOn : List Item → List Octets → Opened → Opened → Type 0
-LeadsOn items packets old new = old.host.fault ≡ None → Leads items packets old.host new.host
+abbrev pub OpenedRefines : List Item → List Octets → Opened → Opened → Type 0
+OpenedRefines items packets old new = old.host.fault ≡ None → Refines items packets old.host new.host
 
-abbrev pub HostLeads : List Item → List Octets → Option Opened → Option Opened → Type 0
-HostLeads items packets = OfTheHost (LeadsOn items packets)
+abbrev pub HostRefines : List Item → List Octets → Option Opened → Option Opened → Type 0
+HostRefines items packets = OfTheHost (OpenedRefines items packets)
 
 -- the notices that the host tells and that have not been handed out
 abbrev pub untold : Opened → List Notice
@@ -32,13 +32,13 @@ untold opened = drop opened.told (notices_told opened.host)
 
 -- wherever the host stood, what is told is what the state machine tells of these items: nothing, where the host stops at them
 abbrev pub TellsItems : List Item → Opened → Opened → Type 0
-TellsItems items old new = (start : Start) (input : List Item) (gone : List Octets) → StandsAt (course start input) gone old.host
-    → old.host.fault ≡ None → untold new ≡ notices_in (course start input) items
+TellsItems items old new = (start : Start) (input : List Item) (sent : List Octets) → RefinesRun (run start input) sent old.host
+    → old.host.fault ≡ None → untold new ≡ notices_in (run start input) items
 
 -- and of one item
 abbrev pub TellsItem : Item → Opened → Opened → Type 0
-TellsItem item old new = (start : Start) (input : List Item) (gone : List Octets) → StandsAt (course start input) gone old.host
-    → old.host.fault ≡ None → new.host.fault ≡ None → untold new ≡ notices_of (course start input) item
+TellsItem item old new = (start : Start) (input : List Item) (sent : List Octets) → RefinesRun (run start input) sent old.host
+    → old.host.fault ≡ None → new.host.fault ≡ None → untold new ≡ notices_of (run start input) item
 
 abbrev pub HostTellsItems : List Item → Option Opened → Option Opened → Type 0
 HostTellsItems items = OfTheHost (TellsItems items)
@@ -87,9 +87,9 @@ call_status None = DONE
 call_status (Some refused) = REFUSED + refusal_number refused
 
 -- wherever the host stood, it refuses what the state machine refuses there, and for that
-abbrev pub AnswersBy : (Course → Option Refused) → ℕ → Opened → Type 0
-AnswersBy refusal status opened = (start : Start) (input : List Item) (gone : List Octets) → StandsAt (course start input) gone opened.host
-    → opened.host.fault ≡ None → status ≡ call_status (refusal (course start input))
+abbrev pub AnswersBy : (Run → Option Refused) → ℕ → Opened → Type 0
+AnswersBy refusal status opened = (start : Start) (input : List Item) (sent : List Octets) → RefinesRun (run start input) sent opened.host
+    → opened.host.fault ≡ None → status ≡ call_status (refusal (run start input))
 
 abbrev pub AnswersCall : Call → ℕ → Opened → Type 0
 AnswersCall call = AnswersBy (λ at. call_refusal at.intake call)

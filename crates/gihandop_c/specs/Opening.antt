@@ -2,21 +2,21 @@
 use Rattle.std.specs.Prelude.{◌≡◌, ◌≢◌, ℕ, ◌+◌, ◌==◌, nat_lt, if◌then◌else◌, take, List, [], Option, Some, None, Ok}
 use Rattle.att_table.specs.declared.table_fault.TableFault.TheVariants.{OutOfMemory as NoMemoryForTheTable}
 use Rattle.att_table.specs.Table.{Contents}
-use Rattle.att_table.specs.TableFault.{number_of as number_of_table_fault}
+use Rattle.att_table.specs.TableFault.{table_fault_number}
 use Rattle.gatt_host.specs.declared.config.Config.{Config}
 use Rattle.gatt_host.specs.Opening.{is_configured, start_of}
-use Rattle.gatt_host.specs.Whole.{StandsAt, Whole}
-use Rattle.gatt_laws.specs.machine.Input.{course}
+use Rattle.gatt_host.specs.HostModel.{RefinesRun, HostModel}
+use Rattle.gatt_laws.specs.machine.Input.{run}
 use Rattle.gatt_subs.specs.declared.rows_fault.RowsFault.TheVariants.{OutOfMemory as NoMemoryForTheRows}
 use Rattle.gatt_subs.specs.Rows.{Subscriptions}
-use Rattle.gatt_subs.specs.RowsFault.{number_of as number_of_rows_fault}
+use Rattle.gatt_subs.specs.RowsFault.{rows_fault_number}
 use Rattle.gihandop_c.specs.declared.config.HostConfig.{HostConfig}
 use Rattle.gihandop_c.specs.declared.opened.Opened.{Opened}
 use Rattle.gihandop_c.specs.declared.status.TheConstants.{BAD_CONFIG, BAD_KEYS, BAD_ROWS, BAD_TABLE, DONE, OUT_OF_MEMORY}
-use Rattle.gihandop_c.specs.Files.{keys_in, keys_status, rows_in, rows_status, table_in, table_status}
+use Rattle.gihandop_c.specs.Files.{keys_given, keys_status, rows_given, rows_status, table_given, table_status}
 use Rattle.le_security.specs.declared.entry.Entry.{Entry}
 use Rattle.le_security.specs.declared.key_fault.KeyFault.TheVariants.{OutOfMemory as NoMemoryForTheKeys}
-use Rattle.le_security.specs.KeyFault.{number_of as number_of_key_fault}
+use Rattle.le_security.specs.KeyFault.{key_fault_number}
 use Rattle.octets.specs.Number.{Octets}
 
 -- a configuration of C: the random address counts where it is said to, and of the advertising data as much as is said
@@ -29,14 +29,14 @@ config_given config = record {
 }
 
 -- the host stands where its files and its configuration have it start, and nothing has gone out
-abbrev pub IsOpenedWith : Octets → Octets → Octets → HostConfig → Whole → Type 0
-IsOpenedWith table keys rows config whole = (contents : Contents) (entries : List Entry) (said : Subscriptions)
-    → table_in table ≡ Ok contents → keys_in keys ≡ Ok entries → rows_in rows ≡ Ok said
-    → StandsAt (course (start_of contents entries said (config_given config)) []) [] whole
+abbrev pub IsOpenedByFiles : Octets → Octets → Octets → HostConfig → HostModel → Type 0
+IsOpenedByFiles table keys rows config whole = (contents : Contents) (entries : List Entry) (said : Subscriptions)
+    → table_given table ≡ Ok contents → keys_given keys ≡ Ok entries → rows_given rows ≡ Ok said
+    → RefinesRun (run (start_of contents entries said (config_given config)) []) [] whole
 
 -- and it is the one that is open
 abbrev pub IsOpenWith : Octets → Octets → Octets → HostConfig → Option Opened → Type 0
-IsOpenWith table keys rows config (Some opened) = IsOpenedWith table keys rows config opened.host
+IsOpenWith table keys rows config (Some opened) = IsOpenedByFiles table keys rows config opened.host
 IsOpenWith table keys rows config None = ⊥
 
 -- the status of a configuration: there are 31 octets of advertising data at most
@@ -48,14 +48,14 @@ config_status config =
 -- the status of opening, where memory suffices: the first fault of the first file that has one, and else the configuration's
 abbrev pub open_status : Octets → Octets → Octets → HostConfig → ℕ
 open_status table keys rows config =
-    table_status (table_in table) (keys_status (keys_in keys) (rows_status (rows_in rows) (config_status config)))
+    table_status (table_given table) (keys_status (keys_given keys) (rows_status (rows_given rows) (config_status config)))
 
 -- it is none of the four statuses that say that memory was refused
 pub record IsNotOfMemory (status : ℕ) : Type 0 where
   pub host : status ≢ OUT_OF_MEMORY
-  pub table : status ≢ BAD_TABLE + number_of_table_fault NoMemoryForTheTable
-  pub keys : status ≢ BAD_KEYS + number_of_key_fault NoMemoryForTheKeys
-  pub rows : status ≢ BAD_ROWS + number_of_rows_fault NoMemoryForTheRows
+  pub table : status ≢ BAD_TABLE + table_fault_number NoMemoryForTheTable
+  pub keys : status ≢ BAD_KEYS + key_fault_number NoMemoryForTheKeys
+  pub rows : status ≢ BAD_ROWS + rows_fault_number NoMemoryForTheRows
 
 -- where memory suffices, it is the status of a file, whatever comes behind that
 abbrev pub IsStatusOf : (ℕ → ℕ) → ℕ → Type 0

@@ -51,4 +51,4 @@ connection_fields connection = with_the_key connection.key (without_a_key connec
 
 -- the connection at a place, in the order of the slots, if there are so many
 abbrev pub connection_at : Opened → ℕ → Option ConnectionFields
-connection_at opened place = option_map connection_fields (slice_get (connections_in opened.host.held.slots) place)
+connection_at opened place = option_map connection_fields (slice_get (connections_in opened.host.server.slots) place)

@@ -3,9 +3,9 @@ use Rattle.std.specs.Prelude.{◌≡◌, ◌↔◌, ℕ, nat_le, nat_lt, Bool, f
 use Rattle.att_attributes.specs.Attributes.{attribute_at}
 use Rattle.att_table.specs.Table.{value_at}
 use Rattle.gatt_host.specs.declared.host_fault.HostFault.{HostFault}
-use Rattle.gatt_host.specs.Whole.{all_out}
+use Rattle.gatt_host.specs.HostModel.{all_out}
 use Rattle.gatt_slots.specs.Slots.{slots_deadline}
-use Rattle.gatt_subs.specs.RowsText.{text_of}
+use Rattle.gatt_subs.specs.RowsText.{rows_text}
 use Rattle.gihandop_c.specs.declared.opened.Opened.{Opened}
 use Rattle.gihandop_c.specs.declared.status.TheConstants.{CLOSED, DONE, NOTHING, OUTPUT_OWED, SHORT_BUFFER}
 use Rattle.gihandop_c.specs.Boundary.{fault_status}
@@ -51,30 +51,30 @@ notice_status opened = there_status (next_notice opened)
 -- of the value at a handle: whether there is an attribute comes first
 abbrev pub value_status : ℕ → ℕ → Opened → ℕ
 value_status handle room opened =
-    if is_none (attribute_at opened.host.held.table.attributes handle) then NOTHING
-    else room_status (length (value_at opened.host.held.table.values handle)) room
+    if is_none (attribute_at opened.host.server.table.attributes handle) then NOTHING
+    else room_status (length (value_at opened.host.server.table.values handle)) room
 
 -- of what is looked up
 abbrev pub find_status : Octets → Octets → Opened → ℕ
-find_status service characteristic opened = there_status (found_by opened.host.held.table service characteristic)
+find_status service characteristic opened = there_status (found_by opened.host.server.table service characteristic)
 
 abbrev pub connection_status : ℕ → Opened → ℕ
 connection_status place opened = there_status (connection_at opened place)
 
 abbrev pub deadline_status : Opened → ℕ
-deadline_status opened = there_status (slots_deadline opened.host.held.slots)
+deadline_status opened = there_status (slots_deadline opened.host.server.slots)
 
 abbrev pub rows_text_status : ℕ → Opened → ℕ
-rows_text_status room opened = room_status (length (text_of opened.host.held.rows)) room
+rows_text_status room opened = room_status (length (rows_text opened.host.server.rows)) room
 
 -- a function answers it
-abbrev pub is_within : ℕ → ℕ → ℕ → Bool
-is_within first last status = nat_le first status && nat_le status last
+abbrev pub is_between : ℕ → ℕ → ℕ → Bool
+is_between first last status = nat_le first status && nat_le status last
 
 abbrev pub is_status : ℕ → Bool
 is_status status =
-    is_within 0 7 status || is_within 21 24 status || is_within 41 47 status
-    || is_within 101 111 status || is_within 201 210 status || is_within 301 304 status
+    is_between 0 7 status || is_between 21 24 status || is_between 41 47 status
+    || is_between 101 111 status || is_between 201 210 status || is_between 301 304 status
 
 -- of a text
 abbrev pub text_status : ℕ → ℕ → ℕ → ℕ

@@ -25,23 +25,23 @@ fields_of_connection kind handle = record {
 abbrev pub fields_of_attribute : ℕ → ℕ → ℕ → ℕ → NoticeFields
 fields_of_attribute kind handle attribute bits = record (fields_of_connection kind handle) { attribute = attribute; bits = bits }
 
-abbrev pub fields_of : Notice → NoticeFields
-fields_of (Connected handle peer) =
+abbrev pub notice_fields : Notice → NoticeFields
+notice_fields (Connected handle peer) =
     record (fields_of_connection 1 handle) { address_kind = peer.kind; address = peer.address }
-fields_of (Disconnected handle) = fields_of_connection 2 handle
-fields_of (Secured handle facts) =
+notice_fields (Disconnected handle) = fields_of_connection 2 handle
+notice_fields (Secured handle facts) =
     record (fields_of_connection 3 handle) { key_size = facts.size; authenticated = facts.authenticated; secure = facts.secure }
-fields_of (Unsecured handle) = fields_of_connection 4 handle
-fields_of (Written handle attribute) = fields_of_attribute 5 handle attribute 0
-fields_of (Configured handle attribute bits) = fields_of_attribute 6 handle attribute bits
-fields_of (Confirmed handle attribute) = fields_of_attribute 7 handle attribute 0
-fields_of (TimedOut handle) = fields_of_connection 8 handle
-fields_of (Ending handle reason) = record (fields_of_connection 9 handle) { reason = reason }
+notice_fields (Unsecured handle) = fields_of_connection 4 handle
+notice_fields (Written handle attribute) = fields_of_attribute 5 handle attribute 0
+notice_fields (Configured handle attribute bits) = fields_of_attribute 6 handle attribute bits
+notice_fields (Confirmed handle attribute) = fields_of_attribute 7 handle attribute 0
+notice_fields (TimedOut handle) = fields_of_connection 8 handle
+notice_fields (Ending handle reason) = record (fields_of_connection 9 handle) { reason = reason }
 
 -- the first notice that has not been handed out, of as many as can be counted
 abbrev pub next_notice : Opened → Option NoticeFields
 next_notice opened =
-    if nat_lt opened.told (2 ^ 64 - 1) then option_map fields_of (slice_get (notices_told opened.host) opened.told) else None
+    if nat_lt opened.told (2 ^ 64 - 1) then option_map notice_fields (slice_get (notices_told opened.host) opened.told) else None
 
 -- it is handed out, and counted
 pub record HandsOut (fields : NoticeFields) (old new : Opened) : Type 0 where

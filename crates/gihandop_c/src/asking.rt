@@ -3,11 +3,11 @@
 ghost use Rattle.std.specs.Prelude.{◌≡◌, ◌≢◌, ◌+◌, ◌<◌, ◌∷◌, [], IsSome, Ok, Err};
 ghost use Rattle.att_table.specs.declared.table_fault.TableFault.{TableFault};
 ghost use Rattle.att_table.specs.Table.{Contents};
-ghost use Rattle.att_table.specs.TableFault.{number_of as number_of_table_fault};
+ghost use Rattle.att_table.specs.TableFault.{table_fault_number};
 ghost use Rattle.gatt_host.specs.Asked.{call_of};
 ghost use Rattle.gatt_laws.specs.machine.Input.{ACall, ATable};
-ghost use Rattle.gihandop_c.specs.Boundary.{AnswersCall, AnswersTable, FallsSilent, LeadsOn, TellsItem};
-ghost use Rattle.gihandop_c.specs.Files.{table_in};
+ghost use Rattle.gihandop_c.specs.Boundary.{AnswersCall, AnswersTable, FallsSilent, OpenedRefines, TellsItem};
+ghost use Rattle.gihandop_c.specs.Files.{table_given};
 ghost use Rattle.gihandop_c.specs.Opening.{IsNotOfMemory};
 ghost use Rattle.gihandop_c.specs.Statuses.{WaitsForOutput};
 ghost use Rattle.gihandop_c.specs.declared.status.TheConstants.{BAD_TABLE, DONE, HAS_STOPPED, OUTPUT_OWED};
@@ -20,12 +20,13 @@ use std::alloc::Global;
 /// Makes a call of the application, once all is out.
 pub(crate) fn call(opened: &mut Opened, call: App<'_>) -> u32
     ensures takes { result ≢ OUTPUT_OWED
-        → LeadsOn (ACall (call_of call.entry) ∷ []) [] opened.old opened.new }
+        → OpenedRefines (ACall (call_of call.entry) ∷ []) [] opened.old opened.new }
     ensures tells { result ≢ OUTPUT_OWED
         → TellsItem (ACall (call_of call.entry)) opened.old opened.new }
     ensures answers { result ≢ OUTPUT_OWED
         → AnswersCall (call_of call.entry) result opened.old }
-    ensures refused { result ≢ DONE → result ≢ OUTPUT_OWED → FallsSilent opened.old opened.new }
+    ensures refused { result ≢ DONE → result ≢ OUTPUT_OWED
+        → FallsSilent opened.old opened.new }
     ensures stopped { IsSome opened.old.host.fault → result ≡ HAS_STOPPED }
     ensures owes { WaitsForOutput result opened.old }
     ensures owed { result ≡ OUTPUT_OWED → opened.new ≡ opened.old }
@@ -44,20 +45,20 @@ pub(crate) fn call(opened: &mut Opened, call: App<'_>) -> u32
 /// Replaces the table by that of a table file, once all is out. A file is not read as long as a
 /// packet is owed.
 pub(crate) fn replace_by(alloc: Global, opened: &mut Opened, file: &[u8]) -> u32
-    ensures takes { (contents : Contents) → table_in file.now ≡ Ok contents
+    ensures takes { (contents : Contents) → table_given file.now ≡ Ok contents
         → result < BAD_TABLE → result ≢ OUTPUT_OWED
-        → LeadsOn (ATable contents ∷ []) [] opened.old opened.new }
-    ensures tells { (contents : Contents) → table_in file.now ≡ Ok contents
+        → OpenedRefines (ATable contents ∷ []) [] opened.old opened.new }
+    ensures tells { (contents : Contents) → table_given file.now ≡ Ok contents
         → result < BAD_TABLE → result ≢ OUTPUT_OWED
         → TellsItem (ATable contents) opened.old opened.new }
-    ensures answers { (contents : Contents) → table_in file.now ≡ Ok contents
+    ensures answers { (contents : Contents) → table_given file.now ≡ Ok contents
         → IsNotOfMemory result → result ≢ OUTPUT_OWED
         → AnswersTable contents result opened.old }
-    ensures stopped { (contents : Contents) → table_in file.now ≡ Ok contents
+    ensures stopped { (contents : Contents) → table_given file.now ≡ Ok contents
         → IsNotOfMemory result → IsSome opened.old.host.fault → result ≡ HAS_STOPPED }
-    ensures file { (fault : TableFault) → table_in file.now ≡ Err fault
+    ensures file { (fault : TableFault) → table_given file.now ≡ Err fault
         → IsNotOfMemory result → result ≢ OUTPUT_OWED
-        → result ≡ BAD_TABLE + number_of_table_fault fault }
+        → result ≡ BAD_TABLE + table_fault_number fault }
     ensures refused { result ≢ DONE → result < BAD_TABLE → result ≢ OUTPUT_OWED
         → FallsSilent opened.old opened.new }
     ensures owes { WaitsForOutput result opened.old }
@@ -76,11 +77,12 @@ pub(crate) fn replace_by(alloc: Global, opened: &mut Opened, file: &[u8]) -> u32
 /// Replaces the table, once all is out.
 fn replace(opened: &mut Opened, table: Table) -> u32
     ensures takes { result ≢ OUTPUT_OWED
-        → LeadsOn (ATable table ∷ []) [] opened.old opened.new }
+        → OpenedRefines (ATable table ∷ []) [] opened.old opened.new }
     ensures tells { result ≢ OUTPUT_OWED → TellsItem (ATable table) opened.old opened.new }
     ensures answers { result ≢ OUTPUT_OWED → AnswersTable table result opened.old }
     ensures stopped { IsSome opened.old.host.fault → result ≡ HAS_STOPPED }
-    ensures refused { result ≢ DONE → result ≢ OUTPUT_OWED → FallsSilent opened.old opened.new }
+    ensures refused { result ≢ DONE → result ≢ OUTPUT_OWED
+        → FallsSilent opened.old opened.new }
     ensures below { result < BAD_TABLE }
     ensures owes { WaitsForOutput result opened.old }
     ensures owed { result ≡ OUTPUT_OWED → opened.new ≡ opened.old }

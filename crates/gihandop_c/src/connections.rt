@@ -52,7 +52,7 @@ pub(crate) fn connection(opened: &Opened, place: usize, connection: &mut Connect
 /// The connection at a place, counted from 0, in the order of the slots.
 fn at(host: &Host, place: usize) -> Option<ConnectionFields>
     ensures { result
-        ≡ option_map connection_fields (slice_get (connections_in host.now.held.slots) place) }
+        ≡ option_map connection_fields (slice_get (connections_in host.now.server.slots) place) }
 {
     let mut left = place;
     for connection in host.connections() {

@@ -5,7 +5,7 @@ ghost use Rattle.std.specs.Option.{option_map};
 ghost use Rattle.gatt_host.specs.Notices.{notice_of};
 ghost use Rattle.gatt_host.specs.Telling.{notices_told};
 ghost use Rattle.gatt_laws.specs.machine.Notice.{Connected, Ending, Secured};
-ghost use Rattle.gihandop_c.specs.Telling.{fields_of, fields_of_attribute, fields_of_connection, HandsOut};
+ghost use Rattle.gihandop_c.specs.Telling.{notice_fields, fields_of_attribute, fields_of_connection, HandsOut};
 ghost use Rattle.gihandop_c.specs.Statuses.{notice_status};
 ghost use Rattle.gihandop_c.specs.declared.status.TheConstants.{DONE};
 
@@ -60,7 +60,7 @@ pub(crate) fn next(opened: &mut Opened, notice: &mut NoticeFields) -> u32
 
 /// The notice at a place, counted from 0.
 fn at(host: &Host, place: usize) -> Option<NoticeFields>
-    ensures { result ≡ option_map fields_of (slice_get (notices_told host.now) place) }
+    ensures { result ≡ option_map notice_fields (slice_get (notices_told host.now) place) }
 {
     let mut left = place;
     for notice in host.notices() {
@@ -74,7 +74,7 @@ fn at(host: &Host, place: usize) -> Option<NoticeFields>
 
 /// What a notice says.
 fn fields(notice: Notice<'_>) -> NoticeFields
-    ensures { result ≡ fields_of (notice_of notice.entry) }
+    ensures { result ≡ notice_fields (notice_of notice.entry) }
 {
     match notice {
         Notice::Connected { handle, peer } => connected(handle, peer),
@@ -126,7 +126,7 @@ fn of_attribute(kind: u8, handle: u16, attribute: u16, bits: u8) -> NoticeFields
 }
 
 fn connected(handle: u16, peer: Peer) -> NoticeFields
-    ensures { result ≡ fields_of (Connected handle peer) }
+    ensures { result ≡ notice_fields (Connected handle peer) }
 {
     let address = peer.address;
     let mut said = of_connection(1, handle);
@@ -136,7 +136,7 @@ fn connected(handle: u16, peer: Peer) -> NoticeFields
 }
 
 fn secured(handle: u16, facts: KeyFacts) -> NoticeFields
-    ensures { result ≡ fields_of (Secured handle facts) }
+    ensures { result ≡ notice_fields (Secured handle facts) }
 {
     let mut said = of_connection(3, handle);
     said.key_size = facts.size;
@@ -146,7 +146,7 @@ fn secured(handle: u16, facts: KeyFacts) -> NoticeFields
 }
 
 fn ending(handle: u16, reason: u8) -> NoticeFields
-    ensures { result ≡ fields_of (Ending handle reason) }
+    ensures { result ≡ notice_fields (Ending handle reason) }
 {
     let mut said = of_connection(9, handle);
     said.reason = reason;

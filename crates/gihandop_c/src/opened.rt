@@ -1,7 +1,7 @@
 //! A host, and what of it has been handed out.
 
 ghost use Rattle.std.specs.Prelude.{◌≡◌, ◌||◌, not, true};
-ghost use Rattle.gatt_host.specs.Whole.{all_out};
+ghost use Rattle.gatt_host.specs.HostModel.{all_out};
 
 use gatt_host::Host;
 

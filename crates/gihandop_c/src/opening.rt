@@ -2,10 +2,10 @@
 
 ghost use Rattle.std.specs.Prelude.{◌≡◌, ◌<◌, [], IfOk, IfErr, IsOk, Ok};
 ghost use Rattle.gatt_host.specs.Opening.{start_of};
-ghost use Rattle.gatt_host.specs.Whole.{StandsAt};
-ghost use Rattle.gatt_laws.specs.machine.Input.{course};
-ghost use Rattle.gihandop_c.specs.Files.{keys_in, keys_status, rows_in, rows_status, table_in, table_status};
-ghost use Rattle.gihandop_c.specs.Opening.{config_given, config_status, open_status, IsNotOfMemory, IsOpenedWith, IsStatusOf};
+ghost use Rattle.gatt_host.specs.HostModel.{RefinesRun};
+ghost use Rattle.gatt_laws.specs.machine.Input.{run};
+ghost use Rattle.gihandop_c.specs.Files.{keys_given, keys_status, rows_given, rows_status, table_given, table_status};
+ghost use Rattle.gihandop_c.specs.Opening.{config_given, config_status, open_status, IsNotOfMemory, IsOpenedByFiles, IsStatusOf};
 ghost use Rattle.gihandop_c.specs.declared.status.TheConstants.{BAD_TABLE, DONE};
 ghost use Rattle.octets.specs.Memory.{Gives};
 
@@ -24,7 +24,7 @@ pub(crate) fn open(
     rows: &[u8],
     config: &HostConfig,
 ) -> Result<Host, u32>
-    ensures opened { IfOk result (IsOpenedWith table.now keys.now rows.now config.now) }
+    ensures opened { IfOk result (IsOpenedByFiles table.now keys.now rows.now config.now) }
     ensures accepted { IsOk result
         → open_status table.now keys.now rows.now config.now ≡ DONE }
     ensures refused { IfErr result (λ status. 0 < status) }
@@ -47,7 +47,7 @@ fn open_with(
     config: &HostConfig,
 ) -> Result<Host, u32>
     ensures opened { IfOk result (λ host.
-        StandsAt (course (start_of table keys rows (config_given config.now)) []) [] host) }
+        RefinesRun (run (start_of table keys rows (config_given config.now)) []) [] host) }
     ensures accepted { IsOk result → config_status config.now ≡ DONE }
     ensures refused { IfErr result (λ status. 0 < status) }
     ensures status { IfErr result (λ status. IsNotOfMemory status
@@ -66,9 +66,9 @@ fn open_with(
 /// The table of a table file, or the status of its first fault.
 #[tactic(auto, using(crate::proofs::Refusals::table_refused))]
 pub(crate) fn read_table(alloc: Global, octets: &[u8]) -> Result<Table, u32>
-    ensures table { IfOk result (λ table. table_in octets.now ≡ Ok table) }
+    ensures table { IfOk result (λ table. table_given octets.now ≡ Ok table) }
     ensures refused { IfErr result (λ status. BAD_TABLE < status) }
-    ensures status { IfErr result (IsStatusOf (table_status (table_in octets.now))) }
+    ensures status { IfErr result (IsStatusOf (table_status (table_given octets.now))) }
 {
     match table_in(alloc, octets) {
         Ok(table) => Ok(table),
@@ -79,7 +79,7 @@ pub(crate) fn read_table(alloc: Global, octets: &[u8]) -> Result<Table, u32>
 /// The table of a table file, or its first fault: what is not UTF-8 is no TOML.
 #[tactic(auto, using(crate::proofs::Texts::table_of_text, crate::proofs::Texts::table_of_no_text))]
 fn table_in(alloc: Global, octets: &[u8]) -> Result<Table, TableFault>
-    ensures { Gives TableFault.OutOfMemory (table_in octets.now) result }
+    ensures { Gives TableFault.OutOfMemory (table_given octets.now) result }
 {
     match str::from_utf8(octets) {
         Ok(text) => Table::read(alloc, text),
@@ -90,9 +90,9 @@ fn table_in(alloc: Global, octets: &[u8]) -> Result<Table, TableFault>
 /// The keys of a key file, or the status of its first fault.
 #[tactic(auto, using(crate::proofs::Refusals::keys_refused))]
 fn read_keys(alloc: Global, octets: &[u8]) -> Result<Keys, u32>
-    ensures keys { IfOk result (λ keys. keys_in octets.now ≡ Ok keys) }
+    ensures keys { IfOk result (λ keys. keys_given octets.now ≡ Ok keys) }
     ensures refused { IfErr result (λ status. 0 < status) }
-    ensures status { IfErr result (IsStatusOf (keys_status (keys_in octets.now))) }
+    ensures status { IfErr result (IsStatusOf (keys_status (keys_given octets.now))) }
 {
     match keys_in(alloc, octets) {
         Ok(keys) => Ok(keys),
@@ -103,7 +103,7 @@ fn read_keys(alloc: Global, octets: &[u8]) -> Result<Keys, u32>
 /// The keys of a key file, or its first fault: what is not UTF-8 is no TOML.
 #[tactic(auto, using(crate::proofs::Texts::keys_of_text, crate::proofs::Texts::keys_of_no_text))]
 fn keys_in(alloc: Global, octets: &[u8]) -> Result<Keys, KeyFault>
-    ensures { Gives KeyFault.OutOfMemory (keys_in octets.now) result }
+    ensures { Gives KeyFault.OutOfMemory (keys_given octets.now) result }
 {
     match str::from_utf8(octets) {
         Ok(text) => Keys::read(alloc, text),
@@ -114,9 +114,9 @@ fn keys_in(alloc: Global, octets: &[u8]) -> Result<Keys, KeyFault>
 /// What a rows file says, or the status of its first fault.
 #[tactic(auto, using(crate::proofs::Refusals::rows_refused))]
 fn read_rows(alloc: Global, octets: &[u8]) -> Result<Rows, u32>
-    ensures rows { IfOk result (λ rows. rows_in octets.now ≡ Ok rows) }
+    ensures rows { IfOk result (λ rows. rows_given octets.now ≡ Ok rows) }
     ensures refused { IfErr result (λ status. 0 < status) }
-    ensures status { IfErr result (IsStatusOf (rows_status (rows_in octets.now))) }
+    ensures status { IfErr result (IsStatusOf (rows_status (rows_given octets.now))) }
 {
     match rows_in(alloc, octets) {
         Ok(rows) => Ok(rows),
@@ -127,7 +127,7 @@ fn read_rows(alloc: Global, octets: &[u8]) -> Result<Rows, u32>
 /// What a rows file says, or its first fault: the first line of what is not UTF-8 is bad.
 #[tactic(auto, using(crate::proofs::Texts::rows_of_text, crate::proofs::Texts::rows_of_no_text))]
 fn rows_in(alloc: Global, octets: &[u8]) -> Result<Rows, RowsFault>
-    ensures { Gives RowsFault.OutOfMemory (rows_in octets.now) result }
+    ensures { Gives RowsFault.OutOfMemory (rows_given octets.now) result }
 {
     match str::from_utf8(octets) {
         Ok(text) => Rows::read(alloc, text),

@@ -3,7 +3,7 @@
 ghost use Rattle.std.specs.Prelude.{◌≡◌, ◌≢◌, ◌≤◌, length, take, Some};
 ghost use Rattle.att_table.specs.Table.{value_at};
 ghost use Rattle.gatt_slots.specs.Slots.{slots_deadline};
-ghost use Rattle.gatt_subs.specs.RowsText.{text_of};
+ghost use Rattle.gatt_subs.specs.RowsText.{rows_text};
 ghost use Rattle.gihandop_c.specs.Seeing.{found_by, uuid_of};
 ghost use Rattle.gihandop_c.specs.Statuses.{deadline_status, find_status, rows_text_status, value_status};
 ghost use Rattle.gihandop_c.specs.declared.status.TheConstants.{DONE, OUT_OF_MEMORY, SHORT_BUFFER};
@@ -18,10 +18,10 @@ use std::alloc::Global;
 pub(crate) fn value(opened: &Opened, handle: u16, out: &mut [u8], count: &mut usize) -> u32
     ensures status { result ≡ value_status handle (length out.old) opened.now }
     ensures value { result ≡ DONE
-        → take count.new out.new ≡ value_at opened.now.host.held.table.values handle }
+        → take count.new out.new ≡ value_at opened.now.host.server.table.values handle }
     ensures within { result ≡ DONE → count.new ≤ length out.old }
     ensures needs { result ≡ SHORT_BUFFER
-        → count.new ≡ length (value_at opened.now.host.held.table.values handle) }
+        → count.new ≡ length (value_at opened.now.host.server.table.values handle) }
     ensures none { result ≢ DONE → result ≢ SHORT_BUFFER → count.new ≡ 0 }
     ensures untouched { result ≢ DONE → out.new ≡ out.old }
 {
@@ -36,7 +36,8 @@ pub(crate) fn value(opened: &Opened, handle: u16, out: &mut [u8], count: &mut us
 /// Puts the time until which none has to be told into `time`.
 pub(crate) fn deadline(opened: &Opened, time: &mut u64) -> u32
     ensures status { result ≡ deadline_status opened.now }
-    ensures deadline { result ≡ DONE → slots_deadline opened.now.host.held.slots ≡ Some time.new }
+    ensures deadline { result ≡ DONE → slots_deadline opened.now.host.server.slots
+        ≡ Some time.new }
 {
     match opened.host.deadline() {
         Some(deadline) => {
@@ -56,10 +57,10 @@ pub(crate) fn rows_text(alloc: Global, opened: &Opened, out: &mut [u8], count: &
     ensures status { result ≢ OUT_OF_MEMORY
         → result ≡ rows_text_status (length out.old) opened.now }
     ensures rows { result ≡ DONE
-        → take count.new out.new ≡ text_of opened.now.host.held.rows }
+        → take count.new out.new ≡ rows_text opened.now.host.server.rows }
     ensures within { result ≡ DONE → count.new ≤ length out.old }
     ensures needs { result ≡ SHORT_BUFFER
-        → count.new ≡ length (text_of opened.now.host.held.rows) }
+        → count.new ≡ length (rows_text opened.now.host.server.rows) }
     ensures none { result ≢ DONE → result ≢ SHORT_BUFFER → count.new ≡ 0 }
     ensures untouched { result ≢ DONE → out.new ≡ out.old }
 {
@@ -78,7 +79,8 @@ pub(crate) fn rows_text(alloc: Global, opened: &Opened, out: &mut [u8], count: &
 pub(crate) fn find(opened: &Opened, service: &[u8], characteristic: &[u8], handle: &mut u16) -> u32
     ensures status { result ≡ find_status service.now characteristic.now opened.now }
     ensures found { result ≡ DONE
-        → found_by opened.now.host.held.table service.now characteristic.now ≡ Some handle.new }
+        → found_by opened.now.host.server.table service.now characteristic.now
+        ≡ Some handle.new }
 {
     *handle = 0;
     let Some(service) = uuid(service) else {

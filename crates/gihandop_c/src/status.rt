@@ -1,13 +1,13 @@
 //! What a function answers, as one number.
 
 ghost use Rattle.std.specs.Prelude.{◌≡◌, ◌+◌, Some};
-ghost use Rattle.att_table.specs.TableFault.{number_of as number_of_table_fault};
+ghost use Rattle.att_table.specs.TableFault.{table_fault_number};
 ghost use Rattle.gatt_host.specs.Asked.{refused_of};
 ghost use Rattle.gatt_host.specs.Numbers.{number_of_fault, number_of_refusal};
-ghost use Rattle.gatt_subs.specs.RowsFault.{number_of as number_of_rows_fault};
+ghost use Rattle.gatt_subs.specs.RowsFault.{rows_fault_number};
 ghost use Rattle.gihandop_c.specs.Boundary.{call_status};
 ghost use Rattle.gihandop_c.specs.declared.status.TheConstants.{BAD_KEYS, BAD_ROWS, BAD_TABLE, REFUSED, STOPPED};
-ghost use Rattle.le_security.specs.KeyFault.{number_of as number_of_key_fault};
+ghost use Rattle.le_security.specs.KeyFault.{key_fault_number};
 
 use gatt_host::{AppFault, HostFault, KeyFault, RowsFault, TableFault};
 
@@ -68,19 +68,19 @@ pub(crate) fn of_refusal(fault: AppFault) -> u32
 }
 
 pub(crate) fn of_table_fault(fault: TableFault) -> u32
-    ensures { result ≡ BAD_TABLE + number_of_table_fault fault }
+    ensures { result ≡ BAD_TABLE + table_fault_number fault }
 {
     BAD_TABLE + u32::from(fault.number())
 }
 
 pub(crate) fn of_key_fault(fault: KeyFault) -> u32
-    ensures { result ≡ BAD_KEYS + number_of_key_fault fault }
+    ensures { result ≡ BAD_KEYS + key_fault_number fault }
 {
     BAD_KEYS + u32::from(fault.number())
 }
 
 pub(crate) fn of_rows_fault(fault: RowsFault) -> u32
-    ensures { result ≡ BAD_ROWS + number_of_rows_fault fault }
+    ensures { result ≡ BAD_ROWS + rows_fault_number fault }
 {
     BAD_ROWS + u32::from(fault.number())
 }

@@ -2,8 +2,8 @@
 
 ghost use Rattle.std.specs.Prelude.{◌≡◌, ◌≢◌, ◌<◌, ◌≤◌, ◌∷◌, [], length, take, true, if◌then◌else◌};
 ghost use Rattle.gatt_host.specs.Feeding.{octet_items, TakesUpToAPacket};
-ghost use Rattle.gatt_host.specs.Whole.{all_out};
-ghost use Rattle.gihandop_c.specs.Boundary.{LeadsOn, StaysIfStopped, TellsItems};
+ghost use Rattle.gatt_host.specs.HostModel.{all_out};
+ghost use Rattle.gihandop_c.specs.Boundary.{OpenedRefines, StaysIfStopped, TellsItems};
 ghost use Rattle.gihandop_c.specs.Statuses.{out_status, room_status, take_status};
 ghost use Rattle.gihandop_c.specs.declared.status.TheConstants.{DONE, NOTHING, OUTPUT_OWED, SHORT_BUFFER};
 
@@ -18,7 +18,8 @@ const LONGEST_PACKET: usize = MAX_PACKET_OUT;
 /// says how many. Where the host stops, or had stopped, no more are to be taken in, and it says
 /// all.
 pub(crate) fn take(opened: &mut Opened, octets: &[u8], used: &mut usize) -> u32
-    ensures takes { LeadsOn (octet_items (take used.new octets.now)) [] opened.old opened.new }
+    ensures takes { OpenedRefines (octet_items (take used.new octets.now)) [] opened.old
+        opened.new }
     ensures tells { result ≢ OUTPUT_OWED
         → TellsItems (octet_items (take used.new octets.now)) opened.old opened.new }
     ensures within { used.new ≤ length octets.now }
@@ -67,7 +68,8 @@ pub(crate) fn nothing(opened: &mut Opened, count: &mut usize) -> u32
 #[inline(never)]
 pub(crate) fn next_out(opened: &mut Opened, out: &mut [u8], count: &mut usize) -> u32
     ensures status { result ≡ out_status (length out.old) opened.old }
-    ensures goes { result ≡ DONE → LeadsOn [] (take count.new out.new ∷ []) opened.old opened.new }
+    ensures goes { result ≡ DONE
+        → OpenedRefines [] (take count.new out.new ∷ []) opened.old opened.new }
     ensures within { result ≡ DONE → count.new ≤ length out.old }
     ensures needs { result ≡ SHORT_BUFFER → count.new ≡ LONGEST_PACKET }
     ensures none { result ≢ DONE → result ≢ SHORT_BUFFER → count.new ≡ 0 }

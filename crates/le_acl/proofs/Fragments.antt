@@ -4,7 +4,7 @@ use Rattle.std.specs.Prelude.{Some, slice_get}
 use Rattle.std.specs.Option.{option_map}
 use Rattle.std.proofs.lemmas.List.{drop-drop, length-drop, drop_all}
 use Rattle.le_acl.specs.Fragment.{Fragment, Beginning, Continuation}
-use Rattle.le_acl.specs.Packets.{Pdu, pieces_within, pieces, frame_of, fragments_of_pieces, fragments_of}
+use Rattle.le_acl.specs.Packets.{Pdu, pieces_within, pieces, frame_octets, fragments_of_pieces, fragments_of}
 use Rattle.le_acl.specs.Outgoing.{next_of, without_next, acl_octets}
 use Rattle.le_acl.specs.Sending.{fragment_at, fragments_from, queue_of, IsWithin}
 
@@ -51,22 +51,22 @@ pieces-none size = refl
 others_of : ℕ → ℕ → List ℕ → List Fragment
 others_of size gone frame = map Continuation (pieces size (drop gone frame))
 
-fragments-next : (size gone : ℕ) (pdu : Pdu) → 0 < size → gone < length (frame_of pdu)
-    → fragments_from size gone pdu ≡ fragment_at gone (take size (drop gone (frame_of pdu))) ∷ others_of size (gone + size) (frame_of pdu)
+fragments-next : (size gone : ℕ) (pdu : Pdu) → 0 < size → gone < length (frame_octets pdu)
+    → fragments_from size gone pdu ≡ fragment_at gone (take size (drop gone (frame_octets pdu))) ∷ others_of size (gone + size) (frame_octets pdu)
 unfolding others_of
 fragments-next size zero pdu some h =
     let e : size ≡ 0 + size = omega arith in
-    ap fragments_of_pieces (pieces-next size (frame_of pdu) some h)
-    ∙ ap (λ (n : ℕ). Beginning (take size (frame_of pdu)) ∷ map Continuation (pieces size (drop n (frame_of pdu)))) e
+    ap fragments_of_pieces (pieces-next size (frame_octets pdu) some h)
+    ∙ ap (λ (n : ℕ). Beginning (take size (frame_octets pdu)) ∷ map Continuation (pieces size (drop n (frame_octets pdu)))) e
 fragments-next size (suc gone) pdu some h =
-    ap (map Continuation) (pieces-next size (drop (suc gone) (frame_of pdu)) some (omega (arith, length-drop (suc gone) (frame_of pdu))))
-    ∙ ap (λ (xs : List ℕ). Continuation (take size (drop (suc gone) (frame_of pdu))) ∷ map Continuation (pieces size xs)) (drop-drop size (suc gone) (frame_of pdu))
+    ap (map Continuation) (pieces-next size (drop (suc gone) (frame_octets pdu)) some (omega (arith, length-drop (suc gone) (frame_octets pdu))))
+    ∙ ap (λ (xs : List ℕ). Continuation (take size (drop (suc gone) (frame_octets pdu))) ∷ map Continuation (pieces size xs)) (drop-drop size (suc gone) (frame_octets pdu))
 
 others-none : (size gone : ℕ) (frame : List ℕ) → length frame ≤ gone → others_of size gone frame ≡ []
 unfolding others_of
 others-none size gone frame h = ap (λ (xs : List ℕ). map Continuation (pieces size xs)) (drop_all gone frame h) ∙ ap (map Continuation) (pieces-none size)
 
-others-from : (size gone : ℕ) (pdu : Pdu) → 0 < gone → others_of size gone (frame_of pdu) ≡ fragments_from size gone pdu
+others-from : (size gone : ℕ) (pdu : Pdu) → 0 < gone → others_of size gone (frame_octets pdu) ≡ fragments_from size gone pdu
 unfolding others_of
 others-from size zero pdu h = absurd (omega arith)
 others-from size (suc gone) pdu h = refl
@@ -84,43 +84,43 @@ first_and_rest : (pdus : List Pdu) (pdu : Pdu) → slice_get pdus 0 ≡ Some pdu
 first_and_rest [] pdu is = cc
 first_and_rest (first ∷ pdus) pdu is = ap (λ (p : Pdu). p ∷ pdus) (cc is)
 
-module _ (size gone : ℕ) (pdus : List Pdu) (pdu : Pdu) (front : slice_get pdus 0 ≡ Some pdu) (some : 0 < size) (left : gone < length (frame_of pdu)) where
+module _ (size gone : ℕ) (pdus : List Pdu) (pdu : Pdu) (front : slice_get pdus 0 ≡ Some pdu) (some : 0 < size) (left : gone < length (frame_octets pdu)) where
   first : Fragment
-  first = fragment_at gone (take size (drop gone (frame_of pdu)))
+  first = fragment_at gone (take size (drop gone (frame_octets pdu)))
 
   later : List (List Fragment)
   later = map (fragments_of size) (drop 1 pdus)
 
-  queue-is : queue_of size gone pdus ≡ (first ∷ others_of size (gone + size) (frame_of pdu)) ∷ later
+  queue-is : queue_of size gone pdus ≡ (first ∷ others_of size (gone + size) (frame_octets pdu)) ∷ later
   unfolding first later
   queue-is = ap (queue_of size gone) (first_and_rest pdus pdu front) ∙ ap (λ (xs : List Fragment). xs ∷ later) (fragments-next size gone pdu some left)
 
-  pub gives_first : (handle : ℕ) (octets : List ℕ) → octets ≡ acl_octets handle (fragment_at gone (take size (drop gone (frame_of pdu))))
+  pub gives_first : (handle : ℕ) (octets : List ℕ) → octets ≡ acl_octets handle (fragment_at gone (take size (drop gone (frame_octets pdu))))
       → option_map (acl_octets handle) (next_of (queue_of size gone pdus)) ≡ Some octets
   unfolding first
   gives_first handle octets is = ap (λ (queue : List (List Fragment)). option_map (acl_octets handle) (next_of queue)) queue-is ∙ ap Some (sym is)
 
-  pub queue-last : length (frame_of pdu) ≤ gone + size → queue_of size 0 (drop 1 pdus) ≡ without_next (queue_of size gone pdus)
+  pub queue-last : length (frame_octets pdu) ≤ gone + size → queue_of size 0 (drop 1 pdus) ≡ without_next (queue_of size gone pdus)
   unfolding later
   queue-last ended =
       queue-anew size (drop 1 pdus)
-      ∙ sym (ap without_next (queue-is ∙ ap (λ (others : List Fragment). (first ∷ others) ∷ later) (others-none size (gone + size) (frame_of pdu) ended)))
+      ∙ sym (ap without_next (queue-is ∙ ap (λ (others : List Fragment). (first ∷ others) ∷ later) (others-none size (gone + size) (frame_octets pdu) ended)))
 
-  pub queue-more : gone + size < length (frame_of pdu) → queue_of size (gone + size) pdus ≡ without_next (queue_of size gone pdus)
+  pub queue-more : gone + size < length (frame_octets pdu) → queue_of size (gone + size) pdus ≡ without_next (queue_of size gone pdus)
   unfolding later
   queue-more more =
       let from = others-from size (gone + size) pdu (omega arith) in
       let next = fragments-next size (gone + size) pdu some more in
       ap (queue_of size (gone + size)) (first_and_rest pdus pdu front)
       ∙ ap (λ (xs : List Fragment). xs ∷ later) (sym from)
-      ∙ sym (without-next-more first (others_of size (gone + size) (frame_of pdu)) later _ _ (from ∙ next))
+      ∙ sym (without-next-more first (others_of size (gone + size) (frame_octets pdu)) later _ _ (from ∙ next))
       ∙ sym (ap without_next queue-is)
 
 -- some of the first frame is left
 pub not_all_gone : (size gone : ℕ) (pdus : List Pdu) (pdu : Pdu) → slice_get pdus 0 ≡ Some pdu → IsWithin size gone pdus
-    → gone < length (frame_of pdu)
+    → gone < length (frame_octets pdu)
 not_all_gone size gone [] pdu is within = cc
 not_all_gone size gone (first ∷ pdus) pdu is within =
     let same : first ≡ pdu = cc is in
-    let P : Pdu → Type 0 = λ p. gone < length (frame_of p) in
+    let P : Pdu → Type 0 = λ p. gone < length (frame_octets p) in
     subst P same (omega (arith, within.0))

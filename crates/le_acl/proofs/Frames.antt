@@ -7,9 +7,9 @@ use Rattle.std.proofs.lemmas.List.{append-nil, length-append, length-drop, take-
 use Rattle.std.proofs.lemmas.Grind.{reverse_onto}
 use Rattle.octets.specs.Number.{from_two}
 use Rattle.le_acl.specs.Fragment.{Fragment, Beginning, Continuation}
-use Rattle.le_acl.specs.Packets.{Pdu, frame_of, pieces_within, pieces, fragments_of_pieces, fragments_of}
+use Rattle.le_acl.specs.Packets.{Pdu, frame_octets, pieces_within, pieces, fragments_of_pieces, fragments_of}
 use Rattle.le_acl.specs.Frame.{is_enough, is_frame, newest_run, octets_of_run, is_shortest, frame_in, of_run, frame_at}
-use Rattle.le_acl.specs.Reassembler.{Assembly, nothing, assembled_of, with_more, assembly_after}
+use Rattle.le_acl.specs.Reassembler.{Assembly, no_assembly, assembled_of, with_more, assembly_after}
 
 -- what octets of a run lead to, where they are more than is enough already or not
 abbrev outcome_by : Bool → Bool → Bool → List ℕ → Bool → Assembly
@@ -30,11 +30,11 @@ first-by false frame fits octets = refl
 outcome-first : (octets : List ℕ) → assembled_of octets ≡ outcome octets true
 outcome-first octets = first-by (is_enough octets) (is_frame octets) (nat_le (length octets) 521) octets
 
-later-by : (enough frame fits : Bool) (octets : List ℕ) → outcome_by enough frame fits octets false ≡ nothing
+later-by : (enough frame fits : Bool) (octets : List ℕ) → outcome_by enough frame fits octets false ≡ no_assembly
 later-by true frame fits octets = refl
 later-by false frame fits octets = refl
 
-outcome-later : (octets : List ℕ) → outcome octets false ≡ nothing
+outcome-later : (octets : List ℕ) → outcome octets false ≡ no_assembly
 outcome-later octets = later-by (is_enough octets) (is_frame octets) (nat_le (length octets) 521) octets
 
 -- what is too long is never a frame
@@ -51,13 +51,13 @@ frame-long (a ∷ b ∷ c ∷ d ∷ payload) long =
     ap (λ (fits : Bool). (length payload == from_two a b) && fits) (lt-leb (length (a ∷ b ∷ c ∷ d ∷ payload)) 521 long)
     ∙ and-false (length payload == from_two a b)
 
-long-by : (enough : Bool) (octets : List ℕ) (short : Bool) → outcome_by enough false false octets short ≡ nothing
+long-by : (enough : Bool) (octets : List ℕ) (short : Bool) → outcome_by enough false false octets short ≡ no_assembly
 long-by true octets true = refl
 long-by true octets false = refl
 long-by false octets true = refl
 long-by false octets false = refl
 
-outcome-long : (octets : List ℕ) (short : Bool) → 521 < length octets → outcome octets short ≡ nothing
+outcome-long : (octets : List ℕ) (short : Bool) → 521 < length octets → outcome octets short ≡ no_assembly
 outcome-long octets short long =
     ap (λ (frame : Bool). outcome_by (is_enough octets) frame (nat_le (length octets) 521) octets short) (frame-long octets long)
     ∙ ap (λ (fits : Bool). outcome_by (is_enough octets) false fits octets short) (lt-leb (length octets) 521 long)
@@ -72,7 +72,7 @@ more-by false true true octets more long = outcome-first (octets ++ more)
 more-by false true false octets more long = sym (outcome-long (octets ++ more) true (long refl))
 
 abbrev summary : Option (List (List ℕ)) → Assembly
-summary None = nothing
+summary None = no_assembly
 summary (Some run) = outcome (octets_of_run run) (is_shortest run)
 
 summary-more : (run : Option (List (List ℕ))) (octets : List ℕ)
@@ -110,7 +110,7 @@ frame_in_by enough short frame octets = cond (enough && (short && frame)) (Some 
 
 -- less than the frame of a PDU is not enough
 module _ (pdu : Pdu) where
-  too_few : (octets more : List ℕ) → octets ++ more ≡ frame_of pdu → 0 < length more → is_enough octets ≡ false
+  too_few : (octets more : List ℕ) → octets ++ more ≡ frame_octets pdu → 0 < length more → is_enough octets ≡ false
   too_few [] more is some = refl
   too_few (a ∷ []) more is some = refl
   too_few (a ∷ b ∷ []) more is some = refl
@@ -120,26 +120,26 @@ module _ (pdu : Pdu) where
       let high : b ≡ length pdu.1 / 256 = cc is in
       lt-leb (from_two a b) (length payload) (omega (arith, ap length is, low, high, length-append payload more))
 
-  short_of : (run : List (List ℕ)) (more : List ℕ) → octets_of_run run ++ more ≡ frame_of pdu → 0 < length more → is_shortest run ≡ true
+  short_of : (run : List (List ℕ)) (more : List ℕ) → octets_of_run run ++ more ≡ frame_octets pdu → 0 < length more → is_shortest run ≡ true
   short_of [] more is some = refl
   short_of (octets ∷ run) more is some =
-      let whole : octets_of_run run ++ (octets ++ more) ≡ frame_of pdu = sym (append_assoc (octets_of_run run) octets more) ∙ is in
+      let whole : octets_of_run run ++ (octets ++ more) ≡ frame_octets pdu = sym (append_assoc (octets_of_run run) octets more) ∙ is in
       let longer : 0 < length (octets ++ more) = omega (arith, length-append octets more) in
       rw (too_few (octets_of_run run) (octets ++ more) whole longer) (short_of run (octets ++ more) whole longer)
 
   IsRun : List (List ℕ) → Type 0
-  IsRun run = (octets_of_run run ≡ frame_of pdu) × (is_shortest run ≡ true)
+  IsRun run = (octets_of_run run ≡ frame_octets pdu) × (is_shortest run ≡ true)
 
   -- the pieces of what is left, behind those before them
   run_of : (count size : ℕ) (octets : List ℕ) (older : List (List ℕ)) → 0 < size → length octets ≤ count → 0 < length octets
-      → octets_of_run older ++ octets ≡ frame_of pdu → IsRun (reverse (pieces_within count size octets) ++ older)
+      → octets_of_run older ++ octets ≡ frame_octets pdu → IsRun (reverse (pieces_within count size octets) ++ older)
   unfolding IsRun
   run_of zero size octets older h within some is = absurd (omega arith)
   run_of (suc count) size [] older h within some is = absurd (omega arith)
   run_of (suc count) size (x ∷ xs) older h within some is =
       let piece : List ℕ = take size (x ∷ xs) in
       let left : List ℕ = drop size (x ∷ xs) in
-      let both : (octets_of_run older ++ piece) ++ left ≡ frame_of pdu =
+      let both : (octets_of_run older ++ piece) ++ left ≡ frame_octets pdu =
       append_assoc (octets_of_run older) piece left ∙ ap (λ (octets : List ℕ). octets_of_run older ++ octets) (take-append-drop size (x ∷ xs)) ∙ is in
       let fewer : length left ≤ count = omega (arith, length-drop size (x ∷ xs)) in
       subst IsRun (sym (newer piece (pieces_within count size left) older)) (elim (cases_lt 0 (length left)) [
@@ -157,16 +157,16 @@ module _ (pdu : Pdu) where
       alone zero piece last = last
       alone (suc count) piece last = last
 
-  whole_frame : length pdu.1 ≤ 517 → frame_in_by (is_enough (frame_of pdu)) true (is_frame (frame_of pdu)) (frame_of pdu) ≡ Some (frame_of pdu)
+  whole_frame : length pdu.1 ≤ 517 → frame_in_by (is_enough (frame_octets pdu)) true (is_frame (frame_octets pdu)) (frame_octets pdu) ≡ Some (frame_octets pdu)
   whole_frame fits =
       let stated : from_two (length pdu.1 % 256) (length pdu.1 / 256) ≡ length pdu.1 = omega arith in
       rw (
         le-leb (from_two (length pdu.1 % 256) (length pdu.1 / 256)) (length pdu.1) (omega arith),
         eq-eqb (length pdu.1) (from_two (length pdu.1 % 256) (length pdu.1 / 256)) (sym stated),
-        le-leb (length (frame_of pdu)) 521 (omega arith),
+        le-leb (length (frame_octets pdu)) 521 (omega arith),
       ) refl
 
-  run_frame : (run : List (List ℕ)) → IsRun run → length pdu.1 ≤ 517 → frame_in run ≡ Some (frame_of pdu)
+  run_frame : (run : List (List ℕ)) → IsRun run → length pdu.1 ≤ 517 → frame_in run ≡ Some (frame_octets pdu)
   unfolding IsRun
   run_frame run is fits =
       ap₂ (λ (octets : List ℕ) (short : Bool). frame_in_by (is_enough octets) short (is_frame octets) octets) is.0 is.1 ∙ whole_frame fits
@@ -189,9 +189,9 @@ newest-flagged (piece ∷ others) older some =
 
 -- the fragments of a PDU make its frame
 pub fragments_frame : (size : ℕ) (pdu : Pdu) (older : List Fragment) → 0 < size → length pdu.1 ≤ 517
-    → frame_at (reverse (fragments_of size pdu) ++ older) ≡ Some (frame_of pdu)
+    → frame_at (reverse (fragments_of size pdu) ++ older) ≡ Some (frame_octets pdu)
 unfolding frame_at pieces
 fragments_frame size pdu older some fits =
-    ap of_run (newest-flagged (pieces size (frame_of pdu)) older (omega arith))
-    ∙ run_frame pdu (reverse (pieces size (frame_of pdu)) ++ [])
-    (run_of pdu (length (frame_of pdu)) size (frame_of pdu) [] some (omega arith) (omega arith) refl) fits
+    ap of_run (newest-flagged (pieces size (frame_octets pdu)) older (omega arith))
+    ∙ run_frame pdu (reverse (pieces size (frame_octets pdu)) ++ [])
+    (run_of pdu (length (frame_octets pdu)) size (frame_octets pdu) [] some (omega arith) (omega arith) refl) fits

@@ -9,7 +9,7 @@ use Rattle.std.proofs.Math.Seq.{drop-append-add}
 use Rattle.le_acl.specs.Fragment.{Fragment}
 use Rattle.le_acl.specs.Packets.{Pdu, fragments_of, all_packets, packets_of, total, rest}
 use Rattle.le_acl.specs.Outgoing.{Outgoing, outgoing_after, with_pdu, next_of, without_next, may_give, after_next, with_completed}
-use Rattle.le_acl.specs.History.{packets_allowed, StandsAt, StepsTo, FollowsHistory}
+use Rattle.le_acl.specs.History.{packets_allowed, IsAfterHistory, StepsTo, FollowsHistory}
 use Rattle.le_acl.proofs.Shares.{EachSome, fragments-some, one-next, all-without, rest-next, rest-push}
 
 drop_past : (n : ℕ) (xs ys : List Fragment) → length xs ≤ n → drop n (xs ++ ys) ≡ drop (n - length xs) ys
@@ -63,8 +63,8 @@ module _ (share size : ℕ) where
         length-append (packets_of size pdus) (all_packets (fragments_of size pdu ∷ [])),
       )
 
-  stands-pdu : (outgoing : Outgoing) (pdus : List Pdu) (given done : ℕ) (pdu : Pdu) → StandsAt outgoing share size pdus given done
-      → StandsAt (with_pdu outgoing pdu) share size (pdus ++ pdu ∷ []) given done
+  stands-pdu : (outgoing : Outgoing) (pdus : List Pdu) (given done : ℕ) (pdu : Pdu) → IsAfterHistory outgoing share size pdus given done
+      → IsAfterHistory (with_pdu outgoing pdu) share size (pdus ++ pdu ∷ []) given done
   stands-pdu outgoing pdus given done pdu at =
       let left : rest given (map (fragments_of size) (pdus ++ pdu ∷ [])) ≡ rest given (map (fragments_of size) pdus) ++ fragments_of size pdu ∷ [] =
       ap (rest given) (map-append (fragments_of size) pdus (pdu ∷ []))
@@ -92,11 +92,11 @@ module _ (share size : ℕ) where
         rw (eq-eqb (length (queue_after pdus given)) 0 none) (sym (le-ltb given (packets_allowed share size pdus done) (omega arith)))
   ]
 
-  stands-may : (outgoing : Outgoing) (pdus : List Pdu) (given done : ℕ) → StandsAt outgoing share size pdus given done
+  stands-may : (outgoing : Outgoing) (pdus : List Pdu) (given done : ℕ) → IsAfterHistory outgoing share size pdus given done
       → may_give outgoing ≡ nat_lt given (packets_allowed share size pdus done)
   stands-may outgoing pdus given done at = ap may_give at.stands ∙ may-at pdus given done at.most at.done_before
 
-  stands-next : (outgoing : Outgoing) (pdus : List Pdu) (given done : ℕ) → StandsAt outgoing share size pdus given done
+  stands-next : (outgoing : Outgoing) (pdus : List Pdu) (given done : ℕ) → IsAfterHistory outgoing share size pdus given done
       → given < packets_allowed share size pdus done → StepsTo outgoing share size pdus given done
   unfolding queue_after
   stands-next outgoing pdus given done at more =
@@ -126,8 +126,8 @@ module _ (share size : ℕ) where
         };
       }
 
-  stands-completed : (outgoing : Outgoing) (pdus : List Pdu) (given done count : ℕ) → StandsAt outgoing share size pdus given done
-      → StandsAt (with_completed outgoing count) share size pdus given (done + min count (given - done))
+  stands-completed : (outgoing : Outgoing) (pdus : List Pdu) (given done count : ℕ) → IsAfterHistory outgoing share size pdus given done
+      → IsAfterHistory (with_completed outgoing count) share size pdus given (done + min count (given - done))
   stands-completed outgoing pdus given done count at =
       let left : given - done - count ≡ given - (done + min count (given - done)) = omega arith in
       let after : ℕ → Outgoing = λ outstanding. record { queue = rest given (map (fragments_of size) pdus); outstanding = outstanding; share = share; size = size } in

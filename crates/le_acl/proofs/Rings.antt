@@ -8,7 +8,7 @@ use Rattle.std.proofs.lemmas.Slice.Zip.{length-zip}
 use Rattle.std.proofs.lemmas.Bool.{cases_lt}
 use Rattle.std.proofs.lemmas.Grind.{common_steps}
 use Rattle.arrayvec.specs.ArrayVec.{ArrayVec}
-use Rattle.le_acl.specs.Pdus.{Queued, empty, octets_of, window, queued_of, IsRing}
+use Rattle.le_acl.specs.Pdus.{Queued, empty, payload_octets, window, queued_of, IsRing}
 
 -- an index below 2 N wraps once at most
 mod_wraps_once : (N j : ℕ) → j < N + N → ((j < N) × (j % N ≡ j)) ⊎ ((N ≤ j) × (j % N ≡ j - N))
@@ -84,11 +84,11 @@ module _ (first count : ℕ) (channels : List ℕ) (payloads : List (ArrayVec �
   length-channels : length (window first count channels) ≡ count
   length-channels = length-window 16 first count channels ring.first_below ring.count_within ring.channels_length
 
-  length-payloads : length (map octets_of (window first count payloads)) ≡ count
-  length-payloads = length-map (window first count payloads) octets_of ∙ length-window 16 first count payloads ring.first_below ring.count_within ring.payloads_length
+  length-payloads : length (map payload_octets (window first count payloads)) ≡ count
+  length-payloads = length-map (window first count payloads) payload_octets ∙ length-window 16 first count payloads ring.first_below ring.count_within ring.payloads_length
 
   pub count_is : length (queued_of first count channels payloads).pdus ≡ count
-  count_is = length-zip (window first count channels) (map octets_of (window first count payloads)) ∙ omega (arith, length-channels, length-payloads)
+  count_is = length-zip (window first count channels) (map payload_octets (window first count payloads)) ∙ omega (arith, length-channels, length-payloads)
 
   pub push_is : (channel : ℕ) → count < 16
       → (queued_of first (count + 1) (set channels ((first + count) % 16) channel) payloads).pdus
@@ -102,16 +102,16 @@ module _ (first count : ℕ) (channels : List ℕ) (payloads : List (ArrayVec �
       ∙ ap₂ (λ (xs : List ℕ) (x : ℕ). xs ++ x ∷ [])
       (window-set 16 first count channels ring.first_below ring.count_within ring.channels_length channel has_room)
       (get_or-set_same channels slot channel 0 below) in
-      let more_payloads : map octets_of (window first (count + 1) payloads) ≡ map octets_of (window first count payloads) ++ (get_or payloads slot empty).items ∷ [] =
-      ap (map octets_of) (window-longer 16 first count payloads ring.first_below ring.count_within ring.payloads_length empty has_room)
-      ∙ map-append octets_of (window first count payloads) (get_or payloads slot empty ∷ []) in
+      let more_payloads : map payload_octets (window first (count + 1) payloads) ≡ map payload_octets (window first count payloads) ++ (get_or payloads slot empty).items ∷ [] =
+      ap (map payload_octets) (window-longer 16 first count payloads ring.first_below ring.count_within ring.payloads_length empty has_room)
+      ∙ map-append payload_octets (window first count payloads) (get_or payloads slot empty ∷ []) in
       ap₂ (λ (xs : List ℕ) (ys : List (List ℕ)). zip xs ys) more_channels more_payloads
-      ∙ zip-append (window first count channels) (map octets_of (window first count payloads)) channel (get_or payloads slot empty).items (length-channels ∙ sym length-payloads)
+      ∙ zip-append (window first count channels) (map payload_octets (window first count payloads)) channel (get_or payloads slot empty).items (length-channels ∙ sym length-payloads)
 
   pub pdus-parts : 0 < count → (queued_of first count channels payloads).pdus
       ≡ (get_or channels first 0, (get_or payloads first empty).items) ∷ (queued_of ((first + 1) % 16) (count - 1) channels payloads).pdus
   pdus-parts some =
-      ap₂ (λ (xs : List ℕ) (ys : List (ArrayVec ℕ)). zip xs (map octets_of ys))
+      ap₂ (λ (xs : List ℕ) (ys : List (ArrayVec ℕ)). zip xs (map payload_octets ys))
       (window-shorter 16 first count channels ring.first_below ring.count_within ring.channels_length 0 some)
       (window-shorter 16 first count payloads ring.first_below ring.count_within ring.payloads_length empty some)
 
@@ -127,9 +127,9 @@ module _ (first count : ℕ) (channels : List ℕ) (payloads : List (ArrayVec �
   room_is written has_room =
       let slot = (first + count) % 16 in
       let below : slot < length payloads = omega (arith, ring.payloads_length) in
-      ap₂ (λ (ys : List (ArrayVec ℕ)) (room : List ℕ). let held : Queued = record { pdus = zip (window first count channels) (map octets_of ys); room = room } in held)
+      ap₂ (λ (ys : List (ArrayVec ℕ)) (room : List ℕ). let held : Queued = record { pdus = zip (window first count channels) (map payload_octets ys); room = room } in held)
       (window-set 16 first count payloads ring.first_below ring.count_within ring.payloads_length written has_room)
-      (ap octets_of (get_or-set_same payloads slot written empty below))
+      (ap payload_octets (get_or-set_same payloads slot written empty below))
 
   pub ring-push : (channel : ℕ) → count < 16 → IsRing first (count + 1) (set channels ((first + count) % 16) channel) payloads
   ring-push channel has_room = record {

@@ -1,4 +1,4 @@
--- What is given is a share of what is queued.
+-- What is given is a quota of what is queued.
 use Rattle.std.proofs.Common.{◌≡◌, ◌≢◌, ℕ, ◌+◌, ◌-◌, ◌<◌, ◌≤◌, List, [], ◌∷◌, ◌++◌, length, take, drop, Bool, true, false, refl, sym, ◌∙◌, ap, subst, arith, append_assoc, inl, inr}
 use Rattle.std.specs.Prelude.{cond, not, ◌&&◌, ◌==◌, nat_lt}
 use Rattle.std.specs.Option.{option_to_list}
@@ -8,7 +8,7 @@ use Rattle.std.proofs.lemmas.List.{append-nil, length-append, length-drop, take_
 use Rattle.le_acl.specs.Fragment.{Fragment}
 use Rattle.le_acl.specs.Packets.{Pdu, pieces, fragments_of, all_packets, rest}
 use Rattle.le_acl.specs.Outgoing.{Outgoing, none_queued, next_of, without_next, may_give, after_next}
-use Rattle.le_acl.specs.Acts.{Act, Push, Next, Completed, Flush, Reset, after, given_in, queued_in, done_in, GivesAShare, AlwaysGivesAShare}
+use Rattle.le_acl.specs.Acts.{SenderAct, Push, Next, Completed, Flush, Reset, after_sender_acts, fragments_given, queued_in, done_in, GivesWithinQuota, AlwaysGivesWithinQuota}
 
 -- each PDU that is queued has a packet not yet given
 abbrev pub EachSome : List (List Fragment) → Type 0
@@ -155,14 +155,14 @@ module _ (share size : ℕ) where
   start : Outgoing
   start = none_queued share size
 
-  keeps : (acts : List Act) → Keeps (queued_in start acts) (given_in start acts) (done_in start acts) (after start acts)
+  keeps : (acts : List SenderAct) → Keeps (queued_in start acts) (fragments_given start acts) (done_in start acts) (after_sender_acts start acts)
   unfolding start
   keeps [] = record { order = refl; left = refl; count = refl; within = omega arith; each = tt }
   keeps (Push pdu ∷ earlier) =
       let kept = keeps earlier in
-      let old = after start earlier in
+      let old = after_sender_acts start earlier in
       let queued = queued_in start earlier in
-      let given = given_in start earlier in
+      let given = fragments_given start earlier in
       let packets = fragments_of old.size pdu in
       let some : 0 < length packets = fragments-some old.size pdu in
       record {
@@ -177,16 +177,16 @@ module _ (share size : ℕ) where
         each = each-append old.queue packets kept.each some;
       }
   keeps (Next ∷ earlier) =
-      keeps-next (queued_in start earlier) (given_in start earlier) (done_in start earlier) (after start earlier) (may_give (after start earlier)) refl (keeps earlier)
+      keeps-next (queued_in start earlier) (fragments_given start earlier) (done_in start earlier) (after_sender_acts start earlier) (may_give (after_sender_acts start earlier)) refl (keeps earlier)
   keeps (Completed count ∷ earlier) =
       let kept = keeps earlier in
       record { order = kept.order; left = kept.left; count = omega (arith, kept.count); within = omega (arith, kept.within); each = kept.each }
   keeps (Flush ∷ earlier) =
       let kept = keeps earlier in
-      record { order = refl; left = sym (rest-all (given_in start earlier)); count = kept.count; within = kept.within; each = tt }
+      record { order = refl; left = sym (rest-all (fragments_given start earlier)); count = kept.count; within = kept.within; each = tt }
   keeps (Reset other_share other_size ∷ earlier) = record { order = refl; left = refl; count = refl; within = omega arith; each = tt }
 
--- once no more may be given, none is left or the share is outstanding
+-- once no more may be given, none is left or the quota is outstanding
 stopped : (now : Outgoing) → may_give now ≡ false → length now.queue ≢ 0 → now.share ≤ now.outstanding
 stopped now is queued = ltb-false now.outstanding now.share (second (length now.queue == 0) (nat_lt now.outstanding now.share) is (ne_eqb (length now.queue) 0 queued))
   where
@@ -198,7 +198,7 @@ none-left : (queue : List (List Fragment)) → length queue ≡ 0 → all_packet
 none-left [] none = refl
 none-left (first ∷ queue) none = absurd (omega arith)
 
-gives : (queued : List (List Fragment)) (given : List Fragment) (done : ℕ) (now : Outgoing) → Keeps queued given done now → GivesAShare queued given done now
+gives : (queued : List (List Fragment)) (given : List Fragment) (done : ℕ) (now : Outgoing) → Keeps queued given done now → GivesWithinQuota queued given done now
 gives queued given done now kept =
     let first : given ≡ take (length given) (all_packets queued) = sym (ap (take (length given)) kept.order ∙ take_at given (all_packets now.queue) (length given) refl) in
     record {
@@ -216,7 +216,7 @@ gives queued given done now kept =
       outstanding = omega (arith, kept.count);
     }
 
--- whatever is done with a sender, what it gives is a share of what is queued
-pub always_gives_a_share : (share size : ℕ) → AlwaysGivesAShare share size
+-- whatever is done with a sender, what it gives is a quota of what is queued
+pub always_gives_a_share : (share size : ℕ) → AlwaysGivesWithinQuota share size
 unfolding start
 always_gives_a_share share size acts = gives _ _ _ _ (keeps share size acts)

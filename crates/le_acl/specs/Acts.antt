@@ -6,57 +6,57 @@ use Rattle.le_acl.specs.Packets.{Pdu, fragments_of, all_packets, rest}
 use Rattle.le_acl.specs.Outgoing.{Outgoing, none_queued, with_pdu, next_of, may_give, after_next, with_completed, without_pdus}
 
 -- a PDU is queued, a packet is asked for, packets are completed, the PDUs are dropped, or all begins anew
-pub data Act : Type 0 where
-  Push : (pdu : Pdu) → Act
-  Next : Act
-  Completed : (count : ℕ) → Act
-  Flush : Act
-  Reset : (share size : ℕ) → Act
+pub data SenderAct : Type 0 where
+  Push : (pdu : Pdu) → SenderAct
+  Next : SenderAct
+  Completed : (count : ℕ) → SenderAct
+  Flush : SenderAct
+  Reset : (share size : ℕ) → SenderAct
 
-abbrev pub after_act : Outgoing → Act → Outgoing
-after_act old (Push pdu) = with_pdu old pdu
-after_act old Next = if may_give old then after_next old else old
-after_act old (Completed count) = with_completed old count
-after_act old Flush = without_pdus old
-after_act old (Reset share size) = none_queued share size
+abbrev pub sender_after_act : Outgoing → SenderAct → Outgoing
+sender_after_act old (Push pdu) = with_pdu old pdu
+sender_after_act old Next = if may_give old then after_next old else old
+sender_after_act old (Completed count) = with_completed old count
+sender_after_act old Flush = without_pdus old
+sender_after_act old (Reset share size) = none_queued share size
 
 -- after any acts, of which the newest stands first
-abbrev pub after : Outgoing → List Act → Outgoing
-after start [] = start
-after start (act ∷ earlier) = after_act (after start earlier) act
+abbrev pub after_sender_acts : Outgoing → List SenderAct → Outgoing
+after_sender_acts start [] = start
+after_sender_acts start (act ∷ earlier) = sender_after_act (after_sender_acts start earlier) act
 
 -- since the newest reset: the packets given
-abbrev pub given_in : Outgoing → List Act → List Fragment
-given_in start [] = []
-given_in start (Push pdu ∷ earlier) = given_in start earlier
-given_in start (Next ∷ earlier) =
-    given_in start earlier ++ (if may_give (after start earlier) then option_to_list (next_of (after start earlier).queue) else [])
-given_in start (Completed count ∷ earlier) = given_in start earlier
-given_in start (Flush ∷ earlier) = given_in start earlier
-given_in start (Reset share size ∷ earlier) = []
+abbrev pub fragments_given : Outgoing → List SenderAct → List Fragment
+fragments_given start [] = []
+fragments_given start (Push pdu ∷ earlier) = fragments_given start earlier
+fragments_given start (Next ∷ earlier) =
+    fragments_given start earlier ++ (if may_give (after_sender_acts start earlier) then option_to_list (next_of (after_sender_acts start earlier).queue) else [])
+fragments_given start (Completed count ∷ earlier) = fragments_given start earlier
+fragments_given start (Flush ∷ earlier) = fragments_given start earlier
+fragments_given start (Reset share size ∷ earlier) = []
 
 -- the packets of the PDUs queued; a flush leaves those that were given
-abbrev pub queued_in : Outgoing → List Act → List (List Fragment)
+abbrev pub queued_in : Outgoing → List SenderAct → List (List Fragment)
 queued_in start [] = []
-queued_in start (Push pdu ∷ earlier) = queued_in start earlier ++ fragments_of (after start earlier).size pdu ∷ []
+queued_in start (Push pdu ∷ earlier) = queued_in start earlier ++ fragments_of (after_sender_acts start earlier).size pdu ∷ []
 queued_in start (Next ∷ earlier) = queued_in start earlier
 queued_in start (Completed count ∷ earlier) = queued_in start earlier
-queued_in start (Flush ∷ earlier) = given_in start earlier ∷ []
+queued_in start (Flush ∷ earlier) = fragments_given start earlier ∷ []
 queued_in start (Reset share size ∷ earlier) = []
 
 -- and how many packets are done: each count is cut to those that were given and not done before
-abbrev pub done_in : Outgoing → List Act → ℕ
+abbrev pub done_in : Outgoing → List SenderAct → ℕ
 done_in start [] = 0
 done_in start (Push pdu ∷ earlier) = done_in start earlier
 done_in start (Next ∷ earlier) = done_in start earlier
 done_in start (Completed count ∷ earlier) =
-    done_in start earlier + min count (length (given_in start earlier) - done_in start earlier)
+    done_in start earlier + min count (length (fragments_given start earlier) - done_in start earlier)
 done_in start (Flush ∷ earlier) = done_in start earlier
 done_in start (Reset share size ∷ earlier) = 0
 
--- the packets given are the first of those queued, and at most a share beyond those that are done; all of these, once no
+-- the packets given are the first of those queued, and at most a quota beyond those that are done; all of these, once no
 -- more may be given. What is left of the queue follows from how many they are
-pub record GivesAShare (queued : List (List Fragment)) (given : List Fragment) (done : ℕ) (now : Outgoing) : Type 0 where
+pub record GivesWithinQuota (queued : List (List Fragment)) (given : List Fragment) (done : ℕ) (now : Outgoing) : Type 0 where
   pub first : given ≡ take (length given) (all_packets queued)
   pub within : length given ≤ now.share + done
   pub all : may_give now ≡ false → given ≡ take (now.share + done) (all_packets queued)
@@ -64,7 +64,7 @@ pub record GivesAShare (queued : List (List Fragment)) (given : List Fragment) (
   pub outstanding : now.outstanding ≡ length given - done
 
 -- so it is after any acts with a new sender
-abbrev pub AlwaysGivesAShare : ℕ → ℕ → Type 0
-AlwaysGivesAShare share size = (acts : List Act) →
+abbrev pub AlwaysGivesWithinQuota : ℕ → ℕ → Type 0
+AlwaysGivesWithinQuota share size = (acts : List SenderAct) →
     let start = none_queued share size in
-    GivesAShare (queued_in start acts) (given_in start acts) (done_in start acts) (after start acts)
+    GivesWithinQuota (queued_in start acts) (fragments_given start acts) (done_in start acts) (after_sender_acts start acts)

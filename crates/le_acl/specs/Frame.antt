@@ -3,7 +3,7 @@ use Rattle.std.specs.Prelude.{◌≡◌, ℕ, ◌<◌, ◌≤◌, ◌==◌, nat_
 use Rattle.std.specs.Option.{option_map}
 use Rattle.octets.specs.Number.{Octets, from_two}
 use Rattle.le_acl.specs.Fragment.{Fragment, Beginning, Continuation}
-use Rattle.le_acl.specs.Packets.{Pdu, frame_of, fragments_of}
+use Rattle.le_acl.specs.Packets.{Pdu, frame_octets, fragments_of}
 use Rattle.le_acl.specs.declared.frame.TheConstants.{MAX_FRAME}
 use Rattle.octets.specs.declared.pdu.TheConstants.{MAX_PDU}
 
@@ -49,4 +49,4 @@ frame_at fragments = of_run (newest_run fragments)
 -- the fragments of a PDU that is no longer than the largest make its frame, whatever came before them
 abbrev pub FragmentsMakeTheirFrame : Type 0
 FragmentsMakeTheirFrame = (size : ℕ) (pdu : Pdu) (older : List Fragment) → 0 < size → length pdu.1 ≤ MAX_PDU
-    → frame_at (reverse (fragments_of size pdu) ++ older) ≡ Some (frame_of pdu)
+    → frame_at (reverse (fragments_of size pdu) ++ older) ≡ Some (frame_octets pdu)

@@ -10,4 +10,4 @@ pub mod PdusLends
 pub mod Reassembler
 pub mod SenderLends
 pub mod Sending
-pub mod Shares
+pub mod Quotas

@@ -9,8 +9,8 @@ abbrev pub Pdu : Type 0
 Pdu = ℕ × Octets
 
 -- a PDU with its header: the length of the payload, then the channel
-abbrev pub frame_of : Pdu → Octets
-frame_of pdu = two_octets (length pdu.1) ++ two_octets pdu.0 ++ pdu.1
+abbrev pub frame_octets : Pdu → Octets
+frame_octets pdu = two_octets (length pdu.1) ++ two_octets pdu.0 ++ pdu.1
 
 -- octets cut into pieces of a size, of which the last may be shorter
 abbrev pub pieces_within : ℕ → ℕ → Octets → List Octets
@@ -28,7 +28,7 @@ fragments_of_pieces (piece ∷ others) = Beginning piece ∷ map Continuation ot
 
 -- the packets of one PDU, each with at most so many octets of data
 abbrev pub fragments_of : ℕ → Pdu → List Fragment
-fragments_of size pdu = fragments_of_pieces (pieces size (frame_of pdu))
+fragments_of size pdu = fragments_of_pieces (pieces size (frame_octets pdu))
 
 -- the packets of several PDUs one after another, and how many they are
 abbrev pub all_packets : List (List Fragment) → List Fragment

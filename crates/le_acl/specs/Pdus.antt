@@ -16,8 +16,8 @@ abbrev pub empty : ArrayVec ℕ
 empty = record { items = [] }
 
 -- the octets of a payload
-abbrev pub octets_of : ArrayVec ℕ → Octets
-octets_of payload = payload.items
+abbrev pub payload_octets : ArrayVec ℕ → Octets
+payload_octets payload = payload.items
 
 -- count slots from first on, around the end
 abbrev pub window : {X : Type 0} → ℕ → ℕ → List X → List X
@@ -25,7 +25,7 @@ window first count slots = take count (drop first slots ++ take first slots)
 
 abbrev pub queued_of : ℕ → ℕ → List ℕ → List (ArrayVec ℕ) → Queued
 queued_of first count channels payloads = record {
-  pdus = zip (window first count channels) (map octets_of (window first count payloads));
+  pdus = zip (window first count channels) (map payload_octets (window first count payloads));
   room = (get_or payloads ((first + count) % MAX_PDUS) empty).items;
 }
 

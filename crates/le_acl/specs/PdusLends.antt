@@ -7,6 +7,6 @@ use Rattle.le_acl.specs.Pdus.{Queued}
 use Rattle.le_acl.specs.contracts.pdus.Pdus.{the_row}
 
 -- the room holds what is last written through the result, and the PDUs stay
-abbrev pub LendsRoom : MutBor Queued → MutBor (ArrayVec ℕ) → Fml
-LendsRoom queued result =
+abbrev pub LendsQueueRoom : MutBor Queued → MutBor (ArrayVec ℕ) → Fml
+LendsQueueRoom queued result =
     Lends the_row (array_vec_row u8 usize unit) queued result (λ written. record { pdus = queued.now.pdus; room = written.items })

@@ -12,8 +12,8 @@ pub record Assembly : Type 0 where
   pub unfinished : Option Octets
   pub frame : Option Octets
 
-abbrev pub nothing : Assembly
-nothing = record { unfinished = None; frame = None }
+abbrev pub no_assembly : Assembly
+no_assembly = record { unfinished = None; frame = None }
 
 -- after these octets of a run, of which fewer were not enough
 abbrev pub assembled_of : Octets → Assembly
@@ -24,7 +24,7 @@ assembled_of octets =
 
 -- after more octets of the run
 abbrev pub with_more : Option Octets → Octets → Assembly
-with_more None octets = nothing
+with_more None octets = no_assembly
 with_more (Some earlier) octets = assembled_of (earlier ++ octets)
 
 abbrev pub with_continuation : Assembly → Octets → Assembly
@@ -32,7 +32,7 @@ with_continuation old octets = with_more old.unfinished octets
 
 -- after any fragments, the newest first
 abbrev pub assembly_after : List Fragment → Assembly
-assembly_after [] = nothing
+assembly_after [] = no_assembly
 assembly_after (Beginning octets ∷ older) = assembled_of octets
 assembly_after (Continuation octets ∷ older) = with_continuation (assembly_after older) octets
 
@@ -42,6 +42,6 @@ GivesFrames = (fragments : List Fragment) → (assembly_after fragments).frame �
 
 -- the fields of a reassembler, as one value
 abbrev pub assembly_of : State → Octets → Assembly
-assembly_of Idle octets = nothing
+assembly_of Idle octets = no_assembly
 assembly_of Unfinished octets = record { unfinished = Some octets; frame = None }
 assembly_of Whole octets = record { unfinished = None; frame = Some octets }

@@ -3,7 +3,7 @@ use Rattle.std.specs.Prelude.{◌≡◌, ℕ, zero, suc, ◌+◌, ◌<◌, ◌�
 use Rattle.octets.specs.Number.{Octets}
 use Rattle.le_acl.specs.Pdus.{Queued}
 use Rattle.le_acl.specs.Fragment.{Fragment, Beginning, Continuation}
-use Rattle.le_acl.specs.Packets.{Pdu, pieces, frame_of, fragments_of}
+use Rattle.le_acl.specs.Packets.{Pdu, pieces, frame_octets, fragments_of}
 use Rattle.le_acl.specs.Outgoing.{Outgoing, none_queued}
 use Rattle.le_acl.specs.declared.pdus.TheConstants.{MAX_PDUS}
 
@@ -23,20 +23,20 @@ fragment_at (suc gone) octets = Continuation octets
 -- the fragments of a frame from this octet on
 abbrev pub fragments_from : ℕ → ℕ → Pdu → List Fragment
 fragments_from size zero pdu = fragments_of size pdu
-fragments_from size (suc gone) pdu = map Continuation (pieces size (drop (suc gone) (frame_of pdu)))
+fragments_from size (suc gone) pdu = map Continuation (pieces size (drop (suc gone) (frame_octets pdu)))
 
 abbrev pub queue_of : ℕ → ℕ → List Pdu → List (List Fragment)
 queue_of size gone [] = []
 queue_of size gone (pdu ∷ pdus) = fragments_from size gone pdu ∷ map (fragments_of size) pdus
 
-abbrev pub room_of : Bool → Octets → Option Octets
-room_of true room = Some room
-room_of false room = None
+abbrev pub lent_room : Bool → Octets → Option Octets
+lent_room true room = Some room
+lent_room false room = None
 
 abbrev pub sending_of : Queued → ℕ → ℕ → ℕ → ℕ → Bool → Sending
 sending_of queued gone outstanding share size lent = record {
   outgoing = record { queue = queue_of size gone queued.pdus; outstanding = outstanding; share = share; size = size };
-  room = room_of lent queued.room;
+  room = lent_room lent queued.room;
 }
 
 -- of the first PDU some fragments may be gone, but not all

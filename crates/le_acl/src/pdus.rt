@@ -50,7 +50,7 @@ impl Model for Pdus {
 }
 
 impl Pdus {
-    ghost use Rattle.le_acl.specs.PdusLends.{LendsRoom};
+    ghost use Rattle.le_acl.specs.PdusLends.{LendsQueueRoom};
 
     /// No PDUs, with room for as many as may be.
     pub(crate) fn new(alloc: Global) -> Result<Pdus, AllocError>
@@ -78,7 +78,7 @@ impl Pdus {
     #[inline(always)]
     pub(crate) fn room(&mut self) -> &mut PduOctets
         requires { length self.old.pdus < MAX_PDUS }
-        ensures* writes_back { sem 𝓛 (LendsRoom self.entry result) }
+        ensures* writes_back { sem 𝓛 (LendsQueueRoom self.entry result) }
     {
         self.payloads.at_mut((self.first + self.count) % MAX_PDUS)
     }
@@ -110,7 +110,8 @@ impl Pdus {
     #[inline(always)]
     pub(crate) fn front(&self) -> Option<(u16, &[u8])>
         ensures none { IsNone result ↔ (self.now.pdus ≡ []) }
-        ensures front { IfSome result (λ pdu. slice_get self.now.pdus 0 ≡ Some (pdu.0, pdu.1.now)) }
+        ensures front { IfSome result
+            (λ pdu. slice_get self.now.pdus 0 ≡ Some (pdu.0, pdu.1.now)) }
         ensures fits { IfSome result (λ pdu. length pdu.1.now ≤ MAX_PDU) }
     {
         if self.count == 0 {

@@ -1,6 +1,6 @@
 ghost use Rattle.std.specs.Prelude.{◌≡◌, ◌≤◌, ◌↔◌, ◌++◌, length, take, Some, IsSome};
 ghost use Rattle.le_acl.specs.Frame.{FragmentsMakeTheirFrame, is_frame};
-ghost use Rattle.le_acl.specs.Reassembler.{GivesFrames, nothing, assembled_of, with_continuation, assembly_of};
+ghost use Rattle.le_acl.specs.Reassembler.{GivesFrames, no_assembly, assembled_of, with_continuation, assembly_of};
 
 use crate::frame::MAX_FRAME;
 use std::cmp::Ordering;
@@ -55,7 +55,7 @@ impl Reassembler {
     /// A reassembler that holds nothing.
     #[tactic(auto, using(crate::proofs::Frames::assembled_frame, crate::proofs::Frames::fragments_frame))]
     pub fn new() -> Self
-        ensures nothing { result ≡ nothing }
+        ensures nothing { result ≡ no_assembly }
         // Whatever fragments come, `start` and `more` give the frames that they make.
         ensures frames { GivesFrames }
         ensures fragments { FragmentsMakeTheirFrame }
@@ -99,7 +99,7 @@ impl Reassembler {
 
     /// Drops what is held.
     pub fn clear(&mut self)
-        ensures { self.new ≡ nothing }
+        ensures { self.new ≡ no_assembly }
     {
         self.state = State::Idle;
     }

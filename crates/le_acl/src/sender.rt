@@ -2,9 +2,9 @@ ghost use Rattle.std.specs.Prelude.{◌≡◌, ◌+◌, ◌-◌, ◌*◌, ◌^�
 ghost use Rattle.std.specs.Bool.{OnTrue, OnFalse};
 ghost use Rattle.std.specs.Borrow.{sem};
 ghost use Rattle.std.specs.Option.{option_map};
-ghost use Rattle.le_acl.specs.Packets.{frame_of};
+ghost use Rattle.le_acl.specs.Packets.{frame_octets};
 ghost use Rattle.le_acl.specs.Outgoing.{with_pdu, next_of, may_give, after_next, with_completed, without_pdus, acl_octets};
-ghost use Rattle.le_acl.specs.Acts.{AlwaysGivesAShare};
+ghost use Rattle.le_acl.specs.Acts.{AlwaysGivesWithinQuota};
 ghost use Rattle.le_acl.specs.History.{FollowsHistory};
 ghost use Rattle.le_acl.specs.Sending.{idle, fragment_at};
 ghost use Rattle.octets.specs.Number.{Octets, two_octets};
@@ -24,7 +24,7 @@ use std::marker::Model;
 pub struct Full;
 
 /// Queues the PDUs that go out on one connection, at most `MAX_PDUS`, and gives them as ACL
-/// packets, of which only a share may be outstanding. (Core 5.0, Vol 2 Part E, 4.1.1)
+/// packets, of which only a quota may be outstanding. (Core 5.0, Vol 2 Part E, 4.1.1)
 #[derive(Drop)]
 pub struct Sender {
     pdus: Pdus,
@@ -61,8 +61,8 @@ impl Sender {
         requires acl_len_least { 27 ≤ acl_len }
         requires acl_len_most { acl_len ≤ 251 }
         ensures idle { IfOk result (λ sender. sender ≡ idle share acl_len) }
-        // Whatever is done with it, the packets that it gives are a share of those that are queued.
-        ensures share { AlwaysGivesAShare share acl_len }
+        // Whatever is done with it, the packets that it gives are a quota of those that are queued.
+        ensures share { AlwaysGivesWithinQuota share acl_len }
         ensures history { FollowsHistory share acl_len }
     {
         Ok(Sender {
@@ -206,7 +206,8 @@ impl Sender {
 
     /// Counts packets as completed, at most those that are outstanding.
     pub fn completed(&mut self, count: u16)
-        ensures { self.new ≡ record self.old { outgoing = with_completed self.old.outgoing count } }
+        ensures { self.new ≡ record self.old
+            { outgoing = with_completed self.old.outgoing count } }
     {
         self.outstanding = self.outstanding.saturating_sub(count);
     }
@@ -228,7 +229,7 @@ impl Sender {
         self.pdus.len()
     }
 
-    /// Drops the PDUs, counts no packet as outstanding, and takes another share and size.
+    /// Drops the PDUs, counts no packet as outstanding, and takes another quota and size.
     pub fn reset(&mut self, share: u16, acl_len: u16)
         requires share { 0 < share }
         requires acl_len_least { 27 ≤ acl_len }
@@ -260,7 +261,7 @@ fn write_fragment(
     requires most { acl_len ≤ 251 }
     ensures { out.new
         ≡ acl_octets handle
-        (fragment_at gone (take acl_len (drop gone (frame_of (channel, payload.now))))) }
+        (fragment_at gone (take acl_len (drop gone (frame_octets (channel, payload.now))))) }
 {
     if gone == 0 {
         let header = frame_header(channel, payload.len() as u16);
@@ -292,7 +293,7 @@ fn fragment_into(
     requires room { MAX_PACKET_OUT ≤ length out.old }
     ensures written { take result out.new
         ≡ acl_octets handle
-        (fragment_at gone (take acl_len (drop gone (frame_of (channel, payload.now))))) }
+        (fragment_at gone (take acl_len (drop gone (frame_octets (channel, payload.now))))) }
     ensures within { result ≤ length out.old }
 {
     if gone == 0 {

@@ -6,7 +6,7 @@ use Rattle.std.proofs.lemmas.Bool.{leb-true, eqb-true, cases_Bool}
 use Rattle.std.proofs.lemmas.List.{length-drop}
 use Rattle.octets.specs.Number.{Octets, from_two}
 use Rattle.le_h4.specs.declared.packet.WholePacket.{WholePacket}
-use Rattle.le_h4.specs.Packet.{Packet, EventPacket, ScoPacket, First, FirstPacket, NoneYet, NoPacket, first_of, acl_form, sco_form, event_form, acl_packet, seen, Spells}
+use Rattle.le_h4.specs.Packet.{Packet, EventPacket, ScoPacket, First, FirstPacket, NoneYet, NoPacket, first_of, acl_form, sco_form, event_form, acl_packet, packet_of_ref, Spells}
 use Rattle.le_h4.specs.Division.{is_long, before, unfinished, division, division_past, kept_first}
 use Rattle.le_h4.specs.Deframer.{Deframing, still}
 use Rattle.le_h4.specs.Whole.{lying_in, is_at_border}
@@ -77,8 +77,8 @@ first_alone (indicator ∷ octets) rest packet used is within follows =
 
 -- the octets that it takes are the packet's alone, and it is kept
 record Lies (octets : Octets) (whole : WholePacket) : Type 0 where
-  alone : first_of (take whole.used octets) ≡ FirstPacket (seen whole.packet) []
-  short : is_long (seen whole.packet) ≡ false
+  alone : first_of (take whole.used octets) ≡ FirstPacket (packet_of_ref whole.packet) []
+  short : is_long (packet_of_ref whole.packet) ≡ false
 
 abbrev found_or : Packet × Octets → Option (Packet × Octets) → Packet × Octets
 found_or default (Some found) = found
@@ -92,7 +92,7 @@ lies octets whole same within = by (first_of octets) refl same
     kept packet rest is true long same = absurd (cc same)
     kept packet rest is false short same =
         let parts : lying_in octets whole ≡ (packet, rest) = ap (found_or (packet, rest)) same in
-        let is_packet : seen whole.packet ≡ packet = ap (λ (pair : Packet × Octets). pair.0) parts in
+        let is_packet : packet_of_ref whole.packet ≡ packet = ap (λ (pair : Packet × Octets). pair.0) parts in
         let follows : drop whole.used octets ≡ rest = ap (λ (pair : Packet × Octets). pair.1) parts in
         record {
           alone = first_alone octets rest packet whole.used is within follows ∙ ap (λ (found : Packet). FirstPacket found []) (sym is_packet);
@@ -123,18 +123,18 @@ still_at_border deframing is rest =
 -- what a deframer says of such a packet
 module _ (deframing : Deframing) (octets : Octets) (at_border : is_at_border deframing ≡ true) where
   pub whole_divides : (found : Option WholePacket) → option_map (lying_in octets) found ≡ kept_first (first_of octets) → IfSome found (λ (whole : WholePacket). whole.used ≤ length octets)
-      → IfSome found (λ (whole : WholePacket). (rest : Octets) → still deframing (take whole.used octets ++ rest) ≡ before (seen whole.packet ∷ []) (still deframing rest))
+      → IfSome found (λ (whole : WholePacket). (rest : Octets) → still deframing (take whole.used octets ++ rest) ≡ before (packet_of_ref whole.packet ∷ []) (still deframing rest))
   whole_divides None same within = tt
   whole_divides (Some whole) same within = λ rest.
       let found = lies octets whole same within in
       still_at_border deframing at_border (take whole.used octets ++ rest)
-      ∙ division-packet (take whole.used octets) rest (seen whole.packet) found.alone found.short
-      ∙ ap (before (seen whole.packet ∷ [])) (sym (still_at_border deframing at_border rest))
+      ∙ division-packet (take whole.used octets) rest (packet_of_ref whole.packet) found.alone found.short
+      ∙ ap (before (packet_of_ref whole.packet ∷ [])) (sym (still_at_border deframing at_border rest))
 
   pub whole_spelled : (found : Option WholePacket) → option_map (lying_in octets) found ≡ kept_first (first_of octets) → IfSome found (λ (whole : WholePacket). whole.used ≤ length octets)
-      → IfSome found (λ (whole : WholePacket). Spells (take whole.used octets) (seen whole.packet))
+      → IfSome found (λ (whole : WholePacket). Spells (take whole.used octets) (packet_of_ref whole.packet))
   whole_spelled None same within = tt
-  whole_spelled (Some whole) same within = (first_spelled (take whole.used octets) (seen whole.packet) (lies octets whole same within).alone).0
+  whole_spelled (Some whole) same within = (first_spelled (take whole.used octets) (packet_of_ref whole.packet) (lies octets whole same within).alone).0
 
   pub whole_unfinished : (found : Option WholePacket) → IfSome found (λ (whole : WholePacket). still deframing [] ≡ unfinished)
   whole_unfinished None = tt

@@ -4,7 +4,7 @@ use Rattle.std.proofs.lemmas.Bool.{le-ltb, cases_lt}
 use Rattle.std.proofs.lemmas.List.{append-nil, length-append, length-drop, length-take, take-append-drop, take_at, drop_all}
 use Rattle.le_h4.specs.Packet.{Packet, AclPacket, EventPacket, ScoPacket, First, FirstPacket, NoneYet, NoPacket, first_of, Spells}
 use Rattle.le_h4.specs.Division.{is_long, unfinished, before, division_past}
-use Rattle.le_h4.specs.Progress.{progress_of, Fits, packet_in, BeginsWith}
+use Rattle.le_h4.specs.Progress.{progress_of, IsWithinFirst, packet_in, BeginsWith}
 use Rattle.le_h4.specs.Gathering.{GathersPacket, GathersAll, GathersLost}
 use Rattle.le_h4.specs.declared.progress.Progress.{Progress}
 use Rattle.le_h4.specs.declared.progress.Progress.TheVariants.{Lacks, Whole, Long, Desync}
@@ -19,7 +19,7 @@ pub record SoFar (skipping_first : ℕ) (gathered_first octets : List ℕ) (skip
   pub parts : octets ≡ taken ++ rest
   pub kept : gathered_first ++ taken ≡ earlier ++ gathered
   pub divided : (more : List ℕ) → division_past skipping_first (gathered_first ++ (taken ++ more)) ≡ division_past skipping (gathered ++ more)
-  pub fits : Fits gathered
+  pub fits : IsWithinFirst gathered
   pub passes : 0 < skipping → gathered ≡ []
   pub begun : taken ≡ [] → packet_in (first_of gathered) ≡ None
 
@@ -30,10 +30,10 @@ at_progress gathered progress is = subst (Agrees gathered (λ more. first_of (ga
 alone : (gathered : List ℕ) (first : First) → first_of (gathered ++ []) ≡ first → first_of gathered ≡ first
 alone gathered first is = ap first_of (sym (append-nil gathered)) ∙ is
 
-nothing_fits : Fits []
+nothing_fits : IsWithinFirst []
 nothing_fits = record { whole = λ packet rest is. cc; lost = λ indicator is. cc }
 
-fits_from : (octets : List ℕ) → EndsIn octets (first_of octets) → Fits octets
+fits_from : (octets : List ℕ) → EndsIn octets (first_of octets) → IsWithinFirst octets
 fits_from octets ends = record {
   whole = λ packet rest is. let P : First → Type 0 = EndsIn octets in subst P is ends;
   lost = λ indicator is. let P : First → Type 0 = EndsIn octets in subst P is ends;
@@ -55,7 +55,7 @@ passed skipping rest more =
     ∙ ap (λ (xs : List ℕ). division_past (skipping - length rest) (xs ++ more)) (drop_all skipping (take skipping rest) (omega (arith, length-take skipping rest)))
 
 module _ (skipping_first : ℕ) (gathered_first octets : List ℕ) where
-  pub so_far-start : Fits gathered_first → packet_in (first_of gathered_first) ≡ None → (0 < skipping_first → gathered_first ≡ [])
+  pub so_far-start : IsWithinFirst gathered_first → packet_in (first_of gathered_first) ≡ None → (0 < skipping_first → gathered_first ≡ [])
       → SoFar skipping_first gathered_first octets skipping_first gathered_first octets
   so_far-start fits unfinished passes = record {
     taken = [];

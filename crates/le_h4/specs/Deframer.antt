@@ -14,8 +14,8 @@ pub record Deframing : Type 0 where
   pub marked : Option Packet
 
 -- nothing is held
-abbrev pub at_start : Deframing
-at_start = record { skipping = 0; gathered = []; marked = None }
+abbrev pub deframing_at_start : Deframing
+deframing_at_start = record { skipping = 0; gathered = []; marked = None }
 
 -- an indicator was met that no packet has
 abbrev pub lost_at : ℕ → Deframing
@@ -37,24 +37,24 @@ pub record EndsWith (octets : Octets) (packet : Packet) : Type 0 where
   pub spelled : Spells spelling packet
 
 -- a call: the octets that it took, and the packet that it marked or lent, if there is one
-pub record Call : Type 0 where
+pub record DeframerCall : Type 0 where
   pub taken : Octets
   pub packets : List Packet
 
 -- these calls, one after another, lead from one state to another
-abbrev pub Feeds : Deframing → List Call → Deframing → Type 0
-Feeds old [] new = new ≡ old
-Feeds old (call ∷ calls) new =
-    (mid : Deframing) × ((rest : Octets) → still old (call.taken ++ rest) ≡ before call.packets (still mid rest)) × Feeds mid calls new
+abbrev pub DeframesAll : Deframing → List DeframerCall → Deframing → Type 0
+DeframesAll old [] new = new ≡ old
+DeframesAll old (call ∷ calls) new =
+    (mid : Deframing) × ((rest : Octets) → still old (call.taken ++ rest) ≡ before call.packets (still mid rest)) × DeframesAll mid calls new
 
 -- the octets and the packets of calls
-abbrev pub octets_of : List Call → Octets
-octets_of calls = flat_map (λ call. call.taken) calls
+abbrev pub octets_of_calls : List DeframerCall → Octets
+octets_of_calls calls = flat_map (λ call. call.taken) calls
 
-abbrev pub packets_of : List Call → List Packet
-packets_of calls = flat_map (λ call. call.packets) calls
+abbrev pub packets_of_calls : List DeframerCall → List Packet
+packets_of_calls calls = flat_map (λ call. call.packets) calls
 
 -- however a stream is cut into calls that hold no whole packet back, the packets that they mark or lend are those of its division
 abbrev pub MarksTheDivision : Type 0
-MarksTheDivision = (calls : List Call) (new : Deframing) → Feeds at_start calls new → (still new []).packets ≡ []
-    → packets_of calls ≡ (division (octets_of calls)).packets
+MarksTheDivision = (calls : List DeframerCall) (new : Deframing) → DeframesAll deframing_at_start calls new → (still new []).packets ≡ []
+    → packets_of_calls calls ≡ (division (octets_of_calls calls)).packets

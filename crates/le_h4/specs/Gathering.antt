@@ -7,7 +7,7 @@ use Rattle.le_h4.specs.declared.deframer.H4Fault.TheVariants.{Desync}
 use Rattle.le_h4.specs.Packet.{Packet, FirstPacket, NoPacket, first_of}
 use Rattle.le_h4.specs.Division.{unfinished, lost, before, division_past}
 use Rattle.le_h4.specs.Deframer.{EndsWith}
-use Rattle.le_h4.specs.Progress.{Fits, packet_in}
+use Rattle.le_h4.specs.Progress.{IsWithinFirst, packet_in}
 
 -- so many of these octets were taken, and end a packet
 pub record GathersPacket (skipping : ℕ) (gathered octets : Octets) (used left : ℕ) (holds : Octets) : Type 0 where
@@ -25,7 +25,7 @@ pub record GathersAll (skipping : ℕ) (gathered octets : Octets) (used left : �
   pub none : packet_in (first_of holds) ≡ None
   pub divided : (rest : Octets) → division_past skipping (gathered ++ (octets ++ rest)) ≡ division_past left (holds ++ rest)
   pub unfinished : division_past left holds ≡ unfinished
-  pub fits : Fits holds
+  pub fits : IsWithinFirst holds
   pub passes : 0 < left → holds ≡ []
   pub all : used ≡ length octets
 

@@ -3,7 +3,7 @@ use Rattle.std.specs.Prelude.{◌≡◌, ℕ, ◌<◌, Bool, true, false, [], Op
 use Rattle.octets.specs.Number.{Octets}
 use Rattle.le_h4.specs.Packet.{Packet, first_of}
 use Rattle.le_h4.specs.Deframer.{Deframing}
-use Rattle.le_h4.specs.Progress.{Fits, packet_in}
+use Rattle.le_h4.specs.Progress.{IsWithinFirst, packet_in}
 
 -- a packet that is marked is what was gathered, and nothing is gathered behind it
 abbrev pub unless_marked : Bool → Octets → Octets
@@ -20,7 +20,7 @@ deframing_of skipping gathered marked =
 
 -- what is gathered is one packet or less, or nothing where octets are passed over
 pub record IsHeld (skipping : ℕ) (gathered : Octets) (marked : Bool) : Type 0 where
-  pub fits : Fits gathered
+  pub fits : IsWithinFirst gathered
   pub passes : 0 < skipping → gathered ≡ []
   pub whole : marked ≡ true → IsSome (packet_in (first_of gathered))
   pub unfinished : marked ≡ false → packet_in (first_of gathered) ≡ None

@@ -12,10 +12,10 @@ pub data Packet : Type 0 where
   ScoPacket : Packet
 
 -- what a packet is that borrows its octets
-abbrev pub seen : PacketRef → Packet
-seen (Acl handle pb bc octets) = AclPacket handle pb bc octets.now
-seen (Event octets) = EventPacket octets.now
-seen Sco = ScoPacket
+abbrev pub packet_of_ref : PacketRef → Packet
+packet_of_ref (Acl handle pb bc octets) = AclPacket handle pb bc octets.now
+packet_of_ref (Event octets) = EventPacket octets.now
+packet_of_ref Sco = ScoPacket
 
 -- an ACL packet by its first field: 12 bits of the handle, then 2 of the boundary flag and 2 of the broadcast flag
 abbrev pub acl_packet : ℕ → Octets → Packet

@@ -71,7 +71,7 @@ LacksAtMost room Whole = Unit {0}
 LacksAtMost room (Desync indicator) = Unit {0}
 
 -- the octets go no further than their first packet, or than an indicator that no packet has
-pub record Fits (octets : Octets) : Type 0 where
+pub record IsWithinFirst (octets : Octets) : Type 0 where
   pub whole : (packet : Packet) (rest : Octets) → first_of octets ≡ FirstPacket packet rest → rest ≡ []
   pub lost : (indicator : ℕ) → first_of octets ≡ NoPacket indicator → octets ≡ indicator ∷ []
 

@@ -3,11 +3,11 @@ use Rattle.std.specs.Prelude.{Bool, ◌==◌, ◌&&◌, length, drop}
 use Rattle.octets.specs.Number.{Octets}
 use Rattle.le_h4.specs.declared.packet.WholePacket.{WholePacket}
 use Rattle.le_h4.specs.Deframer.{Deframing}
-use Rattle.le_h4.specs.Packet.{Packet, seen}
+use Rattle.le_h4.specs.Packet.{Packet, packet_of_ref}
 
 -- what it is, and the octets that follow it
 abbrev pub lying_in : Octets → WholePacket → Packet × Octets
-lying_in octets whole = (seen whole.packet, drop whole.used octets)
+lying_in octets whole = (packet_of_ref whole.packet, drop whole.used octets)
 
 -- no packet is unfinished, and none is passed over
 abbrev pub is_at_border : Deframing → Bool

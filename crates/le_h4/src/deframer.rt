@@ -1,10 +1,10 @@
 ghost use Rattle.std.specs.Prelude.{◌≡◌, ℕ, ◌+◌, ◌-◌, ◌<◌, ◌≤◌, ◌↔◌, [], ◌++◌, length, take, drop, ◌∷◌, Some, None, IsTrue, IsSome, IsNone, IfOk, IfSome, OnOk, if◌then◌else◌};
 ghost use Rattle.std.specs.Option.{option_map};
 ghost use Rattle.octets.specs.Number.{Octets};
-ghost use Rattle.le_h4.specs.Packet.{seen, first_of, Spells};
+ghost use Rattle.le_h4.specs.Packet.{packet_of_ref, first_of, Spells};
 ghost use Rattle.le_h4.specs.Division.{unfinished, lost, before, kept_first};
-ghost use Rattle.le_h4.specs.Deframer.{at_start, lost_at, still, marks, EndsWith, MarksTheDivision};
-ghost use Rattle.le_h4.specs.Progress.{Fits, packet_in};
+ghost use Rattle.le_h4.specs.Deframer.{deframing_at_start, lost_at, still, marks, EndsWith, MarksTheDivision};
+ghost use Rattle.le_h4.specs.Progress.{IsWithinFirst, packet_in};
 ghost use Rattle.le_h4.specs.Gathering.{Gathers};
 ghost use Rattle.le_h4.specs.Held.{unless_marked};
 ghost use Rattle.le_h4.specs.Whole.{lying_in, is_at_border};
@@ -58,7 +58,7 @@ impl Deframer {
     /// A deframer at the start of a stream.
     #[tactic(auto, using(crate::proofs::Laws::packets_feeds))]
     pub fn new() -> Self
-        ensures at_start { result ≡ at_start }
+        ensures at_start { result ≡ deframing_at_start }
         // However the stream is cut into pieces, the packets that `feed` marks and `whole_packet` lends are
         // the same.
         ensures division { MarksTheDivision }
@@ -116,9 +116,9 @@ impl Deframer {
         // Whatever follows the octets that it takes, the packet comes first.
         ensures divided { IfSome result
             (λ whole. (rest : Octets) → still self.now (take whole.used octets.now ++ rest)
-            ≡ before (seen whole.packet ∷ []) (still self.now rest)) }
+            ≡ before (packet_of_ref whole.packet ∷ []) (still self.now rest)) }
         ensures spelled { IfSome result
-            (λ whole. Spells (take whole.used octets.now) (seen whole.packet)) }
+            (λ whole. Spells (take whole.used octets.now) (packet_of_ref whole.packet)) }
         ensures used { IfSome result (λ whole. whole.used ≤ length octets.now) }
         ensures used_some { IfSome result (λ whole. 0 < whole.used) }
         ensures unfinished { IfSome result (λ whole. still self.now [] ≡ unfinished) }
@@ -141,7 +141,7 @@ impl Deframer {
     /// The packet that the last call of `feed` marked.
     pub fn packet(&self) -> PacketRef<'_>
         requires { IsSome self.now.marked }
-        ensures { self.now.marked ≡ Some (seen result) }
+        ensures { self.now.marked ≡ Some (packet_of_ref result) }
     {
         read_packet(self.gathered.as_slice())
     }
@@ -159,10 +159,11 @@ fn forget(gathered: &mut Gathered, marked: bool)
 /// Gathers octets to the end of a packet that is kept, or all of them. A packet that is all there,
 /// where nothing was gathered before, is copied at once.
 fn gather(gathered: &mut Gathered, skipping: &mut usize, octets: &[u8]) -> Result<Fed, H4Fault>
-    requires fits { Fits gathered.old }
+    requires fits { IsWithinFirst gathered.old }
     requires unfinished { packet_in (first_of gathered.old) ≡ None }
     requires passes { 0 < skipping.old → gathered.old ≡ [] }
-    ensures gathers { Gathers skipping.old gathered.old octets.now result skipping.new gathered.new }
+    ensures gathers { Gathers skipping.old gathered.old octets.now result skipping.new
+        gathered.new }
 {
     if !gathered.is_empty() || *skipping > 0 {
         return gather_by_parts(gathered, skipping, octets);
@@ -184,10 +185,11 @@ fn gather_by_parts(
     skipping: &mut usize,
     octets: &[u8],
 ) -> Result<Fed, H4Fault>
-    requires fits { Fits gathered.old }
+    requires fits { IsWithinFirst gathered.old }
     requires unfinished { packet_in (first_of gathered.old) ≡ None }
     requires passes { 0 < skipping.old → gathered.old ≡ [] }
-    ensures gathers { Gathers skipping.old gathered.old octets.now result skipping.new gathered.new }
+    ensures gathers { Gathers skipping.old gathered.old octets.now result skipping.new
+        gathered.new }
 {
     let mut rest = octets;
     'packets: loop {

@@ -1,7 +1,7 @@
 ghost use Rattle.std.specs.Prelude.{◌≡◌, ◌≤◌, ◌<◌, length, IfSome};
 ghost use Rattle.std.specs.Option.{option_map};
 ghost use Rattle.le_h4.specs.Division.{kept_first};
-ghost use Rattle.le_h4.specs.Packet.{seen, acl_packet, first_of};
+ghost use Rattle.le_h4.specs.Packet.{packet_of_ref, acl_packet, first_of};
 ghost use Rattle.le_h4.specs.Progress.{reading};
 ghost use Rattle.le_h4.specs.Whole.{lying_in};
 
@@ -90,7 +90,7 @@ pub(crate) fn first_packet(octets: &[u8]) -> Option<WholePacket<'_>>
 
 /// The packet that octets from an indicator on are.
 pub(crate) fn read_packet(octets: &[u8]) -> PacketRef<'_>
-    ensures { seen result ≡ reading octets.now }
+    ensures { packet_of_ref result ≡ reading octets.now }
 {
     let [indicator, rest @ ..] = octets else {
         return PacketRef::Sco;
@@ -108,7 +108,7 @@ pub(crate) fn read_packet(octets: &[u8]) -> PacketRef<'_>
 /// An ACL packet by its first field and its data.
 #[inline(always)]
 fn acl(field: u16, octets: &[u8]) -> PacketRef<'_>
-    ensures { seen result ≡ acl_packet field octets.now }
+    ensures { packet_of_ref result ≡ acl_packet field octets.now }
 {
     PacketRef::Acl {
         handle: field & 0x0FFF,

@@ -17,7 +17,8 @@ pub fn write_acl(handle: u16, pb: u8, octets: &[u8], out: &mut PacketOctets)
     requires pb { pb ≤ 3 }
     requires octets { length octets.now ≤ 255 }
     ensures { out.new.items
-        ≡ 0x02 ∷ two_octets (handle + 2 ^ 12 * pb) ++ two_octets (length octets.now) ++ octets.now }
+        ≡ 0x02 ∷ two_octets (handle + 2 ^ 12 * pb) ++ two_octets (length octets.now)
+        ++ octets.now }
 {
     let header = acl_header(handle, pb, octets.len() as u16);
     overwrite(out, &header, octets, &[]);

@@ -5,7 +5,7 @@ use Rattle.std.specs.Option.{option_map, option_and_then}
 use Rattle.std.proofs.lemmas.Bool.{le-leb, lt-leb, cases_lt}
 use Rattle.std.proofs.lemmas.List.{length-drop}
 use Rattle.octets.specs.Number.{from_two}
-use Rattle.le_hci.specs.Event.{Reported, ConnectionComplete, LongTermKeyRequest, handle_of, fields, connection_of, connection_complete, request_of, long_term_key_request}
+use Rattle.le_hci.specs.Event.{Reported, ConnectionComplete, LongTermKeyRequest, handle_of, fields, connection_complete_of, connection_complete, key_request_of, long_term_key_request}
 
 abbrev all_of : List ℕ → ℕ
 all_of [] = 0
@@ -54,7 +54,7 @@ connection-long (s ∷ lo ∷ hi ∷ role ∷ kind ∷ a ∷ b ∷ c ∷ d ∷ e
     let kinds : List ℕ = kind ∷ addresses in
     let roles : List ℕ = role ∷ kinds in
     let handles : List ℕ = lo ∷ hi ∷ roles in
-    ap (option_and_then connection_of)
+    ap (option_and_then connection_complete_of)
     (more 1 (2 ∷ 1 ∷ 1 ∷ 6 ∷ 2 ∷ 2 ∷ 2 ∷ 1 ∷ []) (s ∷ handles) _ (omega arith)
     (more 2 (1 ∷ 1 ∷ 6 ∷ 2 ∷ 2 ∷ 2 ∷ 1 ∷ []) handles _ (omega arith)
     (more 1 (1 ∷ 6 ∷ 2 ∷ 2 ∷ 2 ∷ 1 ∷ []) roles _ (omega arith)
@@ -70,20 +70,20 @@ request-long : (octets : List ℕ) → 12 ≤ length octets → long_term_key_re
 request-long (lo ∷ hi ∷ a ∷ b ∷ c ∷ d ∷ e ∷ f ∷ g ∷ h ∷ i ∷ j ∷ rest) enough =
     let diversifiers : List ℕ = i ∷ j ∷ rest in
     let numbers : List ℕ = a ∷ b ∷ c ∷ d ∷ e ∷ f ∷ g ∷ h ∷ diversifiers in
-    ap (option_and_then request_of)
+    ap (option_and_then key_request_of)
     (more 2 (8 ∷ 2 ∷ []) (lo ∷ hi ∷ numbers) _ (omega arith) (more 8 (2 ∷ []) numbers _ (omega arith) (more 2 [] diversifiers [] (omega arith) refl)))
 request-long _ enough = absurd (omega arith)
 
 pub connection_is : (octets : List ℕ) → connection_complete octets ≡ connection_by octets
 connection_is octets = elim (cases_lt (length octets) 18) [
   | inl few ↦
-      ap (option_and_then connection_of) (fields-short (1 ∷ 2 ∷ 1 ∷ 1 ∷ 6 ∷ 2 ∷ 2 ∷ 2 ∷ 1 ∷ []) octets (omega arith))
+      ap (option_and_then connection_complete_of) (fields-short (1 ∷ 2 ∷ 1 ∷ 1 ∷ 6 ∷ 2 ∷ 2 ∷ 2 ∷ 1 ∷ []) octets (omega arith))
       ∙ sym (connection-short octets few)
   | inr enough ↦ connection-long octets enough
 ]
 
 pub request_is : (octets : List ℕ) → long_term_key_request octets ≡ request_by octets
 request_is octets = elim (cases_lt (length octets) 12) [
-  | inl few ↦ ap (option_and_then request_of) (fields-short (2 ∷ 8 ∷ 2 ∷ []) octets (omega arith)) ∙ sym (request-short octets few)
+  | inl few ↦ ap (option_and_then key_request_of) (fields-short (2 ∷ 8 ∷ 2 ∷ []) octets (omega arith)) ∙ sym (request-short octets few)
   | inr enough ↦ request-long octets enough
 ]

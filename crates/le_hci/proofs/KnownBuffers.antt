@@ -11,7 +11,7 @@ use Rattle.le_hci.specs.declared.init.Init.TheVariants.{Resetting, Masking, LeMa
 use Rattle.le_hci.specs.declared.init.InitFault.{InitFault}
 use Rattle.le_hci.specs.declared.init.InitFault.TheVariants.{BadBuffers}
 use Rattle.le_hci.specs.Buffers.{usable_of, le_buffers_of, shared_buffers_of}
-use Rattle.le_hci.specs.Init.{opcode_awaited, outcome_by, values_of, next_by, handed_back, next, first_state, addressed_from, after_sizing, after_shared_sizing}
+use Rattle.le_hci.specs.Init.{opcode_awaited, outcome_by, returned_values, next_by, handed_back, next, first_state, addressed_from, after_sizing, after_shared_sizing}
 use Rattle.le_hci.specs.InitTold.{AreUsable, KnowsUsable, state_after, state_after_answers}
 use Rattle.arrayvec.specs.ArrayVec.{ArrayVec}
 
@@ -82,7 +82,7 @@ known-by : (command_awaited : Option ℕ) (answers : List (List ℕ)) (state : I
     → KnowsUsable (state_after (outcome_by command_awaited state returned) (state_after_answers answers))
 known-by None answers state returned knows later = later state knows
 known-by (Some opcode) answers state returned knows later =
-    known-back answers state (next_by state (values_of opcode returned)) knows (valued state (values_of opcode returned) knows) later
+    known-back answers state (next_by state (returned_values opcode returned)) knows (valued state (returned_values opcode returned) knows) later
 
 known : (answers : List (List ℕ)) (state : Init) → KnowsUsable state → KnowsUsable (state_after_answers answers state)
 known [] state knows = knows

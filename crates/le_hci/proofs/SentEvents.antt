@@ -10,8 +10,8 @@ use Rattle.le_hci.specs.declared.peer.Peer.{Peer}
 use Rattle.le_hci.specs.declared.event.CompletedPackets.{CompletedPackets}
 use Rattle.le_hci.specs.declared.event.Event.{Event}
 use Rattle.le_hci.specs.declared.event.BadEvent.{BadEvent}
-use Rattle.le_hci.specs.Event.{Reported, report_of, DisconnectionComplete, EncryptionChange, CommandComplete, CommandStatus, HardwareError, NumberOfCompletedPackets, EncryptionKeyRefreshComplete, ConnectionComplete, LongTermKeyRequest, Other, completed_packets_of, completed_entries, disconnection_complete, encryption_change, command_complete, command_status, hardware_error, number_of_completed_packets, encryption_key_refresh_complete, connection_complete, long_term_key_request, le_meta_form, form_of, read_or_bad, event_of}
-use Rattle.le_hci.specs.EventPacket.{packet, code_of, entry_fields, fields_of, HasFields, entry_told, report_read, IsSentAs, IsRead}
+use Rattle.le_hci.specs.Event.{Reported, report_of, DisconnectionComplete, EncryptionChange, CommandComplete, CommandStatus, HardwareError, NumberOfCompletedPackets, EncryptionKeyRefreshComplete, ConnectionComplete, LongTermKeyRequest, Other, completed_packets_of, completed_entries, disconnection_complete, encryption_change, command_complete, command_status, hardware_error, number_of_completed_packets, encryption_key_refresh_complete, connection_complete, long_term_key_request, le_meta_form, reported_form, read_or_bad, event_of}
+use Rattle.le_hci.specs.EventPacket.{event_packet, event_code, entry_fields, fields_of, HasFields, entry_told, report_read, IsSentAs, IsRead}
 use Rattle.octets.specs.Number.{from_two}
 use Rattle.le_hci.proofs.Fields.{connection_by, connection_is, request_by, request_is}
 
@@ -28,7 +28,7 @@ high l h k = omega arith
 record IsForm (code : ℕ) (parameters : List ℕ) (event : Reported) : Type 0 where
   pub sent : Reported
   pub extra : List ℕ
-  pub code_is : code ≡ code_of sent
+  pub code_is : code ≡ event_code sent
   pub fields : parameters ≡ fields_of sent ++ extra
   pub same : report_read sent ≡ event
 
@@ -194,7 +194,7 @@ reads_meta (subevent ∷ rest) fits =
     choose P subevent 0x01 _ _ (reads_connection rest after)
     (choose P subevent 0x05 _ _ (reads_request rest after) (reads_other (subevent ∷ rest) 0x3E))
 
-reads_form : (code : ℕ) (ps : List ℕ) → AreOctets ps → Reads ps code (form_of code ps)
+reads_form : (code : ℕ) (ps : List ℕ) → AreOctets ps → Reads ps code (reported_form code ps)
 reads_form code ps fits =
     let P : ℕ → Option Reported → Type 0 = Reads ps in
     choose P code 0x05 _ _ (reads_disconnection ps fits)
@@ -216,10 +216,10 @@ is_sent [] fits event e other = absurd (cc)
 is_sent (code ∷ []) fits event e other = absurd (cc)
 is_sent (code ∷ stated ∷ ps) fits event e other = pick (length ps == stated) refl e
   where
-    pick : (b : Bool) → (length ps == stated) ≡ b → read_or_bad code (if b then form_of code ps else None) ≡ Ok event → IsSentAs event (code ∷ stated ∷ ps)
+    pick : (b : Bool) → (length ps == stated) ≡ b → read_or_bad code (if b then reported_form code ps else None) ≡ Ok event → IsSentAs event (code ∷ stated ∷ ps)
     pick false t e = absurd (cc)
     pick true t e =
-        let form = reads_form code ps (λ i. fits (suc (suc i))) event (read_some code (form_of code ps) event e) other in
+        let form = reads_form code ps (λ i. fits (suc (suc i))) event (read_some code (reported_form code ps) event e) other in
         record {
           sent = form.sent;
           extra = form.extra;
@@ -240,7 +240,7 @@ entries_read (entry ∷ entries) extra =
     ∙ ap (λ (e : CompletedPackets). Some (e ∷ map entry_told entries)) (entry_read entry)
 
 -- the form of the code reads the fields
-form_read : (sent : Reported) (extra : List ℕ) → HasFields sent extra → form_of (code_of sent) (fields_of sent ++ extra) ≡ Some (report_read sent)
+form_read : (sent : Reported) (extra : List ℕ) → HasFields sent extra → reported_form (event_code sent) (fields_of sent ++ extra) ≡ Some (report_read sent)
 form_read (DisconnectionComplete status handle reason) extra f = cc (restored handle)
 form_read (EncryptionChange status handle enabled) extra f = cc (restored handle)
 form_read (CommandComplete allowed opcode parameters) extra f = cc (restored opcode, ap (λ xs. parameters ++ xs) f, append-nil parameters)
@@ -252,7 +252,7 @@ form_read (ConnectionComplete status handle role peer interval latency timeout a
     six peer.address f
   where
     six : (address : List ℕ) → length address ≡ 6
-        → form_of 0x3E (fields_of (ConnectionComplete status handle role (record { kind = peer.kind; address = address }) interval latency timeout accuracy) ++ extra)
+        → reported_form 0x3E (fields_of (ConnectionComplete status handle role (record { kind = peer.kind; address = address }) interval latency timeout accuracy) ++ extra)
         ≡ Some (ConnectionComplete status (handle % 4096) role (record { kind = peer.kind; address = address }) interval latency timeout accuracy)
     six (a ∷ b ∷ c ∷ d ∷ e ∷ f ∷ []) l =
         let whole : Peer = record { kind = peer.kind; address = a ∷ b ∷ c ∷ d ∷ e ∷ f ∷ [] } in
@@ -263,7 +263,7 @@ form_read (ConnectionComplete status handle role peer interval latency timeout a
 form_read (LongTermKeyRequest handle random_number diversifier) extra f = eight random_number f
   where
     eight : (random : List ℕ) → length random ≡ 8
-        → form_of 0x3E (fields_of (LongTermKeyRequest handle random diversifier) ++ extra) ≡ Some (LongTermKeyRequest (handle % 4096) random diversifier)
+        → reported_form 0x3E (fields_of (LongTermKeyRequest handle random diversifier) ++ extra) ≡ Some (LongTermKeyRequest (handle % 4096) random diversifier)
     eight (a ∷ b ∷ c ∷ d ∷ e ∷ f ∷ g ∷ h ∷ []) l =
         request_is (drop 1 (fields_of (LongTermKeyRequest handle (a ∷ b ∷ c ∷ d ∷ e ∷ f ∷ g ∷ h ∷ []) diversifier) ++ extra))
         ∙ cc (restored handle, restored diversifier)
@@ -271,12 +271,12 @@ form_read (LongTermKeyRequest handle random_number diversifier) extra f = eight 
 form_read Other extra f = absurd f
 
 -- what is sent is read
-pub is_read : (octets : List ℕ) (sent : Reported) (extra : List ℕ) → HasFields sent extra → packet (code_of sent) (fields_of sent ++ extra) ≡ octets → event_of octets ≡ Ok (report_read sent)
+pub is_read : (octets : List ℕ) (sent : Reported) (extra : List ℕ) → HasFields sent extra → event_packet (event_code sent) (fields_of sent ++ extra) ≡ octets → event_of octets ≡ Ok (report_read sent)
 is_read octets sent extra f e =
     let parameters : List ℕ = fields_of sent ++ extra in
     ap event_of (sym e)
-    ∙ ap (λ b. read_or_bad (code_of sent) (if b then form_of (code_of sent) parameters else None)) (eq-eqb (length parameters) (length parameters) refl)
-    ∙ ap (read_or_bad (code_of sent)) (form_read sent extra f)
+    ∙ ap (λ b. read_or_bad (event_code sent) (if b then reported_form (event_code sent) parameters else None)) (eq-eqb (length parameters) (length parameters) refl)
+    ∙ ap (read_or_bad (event_code sent)) (form_read sent extra f)
 
 -- the same of a result of the code
 pub result_is_sent : (octets : List ℕ) → ((i : ℕ) → Fits w8 (slice_index_or octets i 0)) → (result : Result Event BadEvent)

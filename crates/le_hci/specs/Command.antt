@@ -81,8 +81,8 @@ parameters_of (LeLongTermKeyRequestReply handle key) = key_reply handle key
 parameters_of (LeLongTermKeyRequestNegativeReply handle) = two_octets handle
 
 -- a command packet: the opcode, the length of the parameters, and the parameters
-abbrev pub packet : ℕ → Octets → Octets
-packet code parameters = two_octets code ++ length parameters ∷ parameters
+abbrev pub command_packet : ℕ → Octets → Octets
+command_packet code parameters = two_octets code ++ length parameters ∷ parameters
 
 abbrev pub packet_of : Commanded → Octets
-packet_of command = packet (opcode_of command) (parameters_of command)
+packet_of command = command_packet (opcode_of command) (parameters_of command)

@@ -97,22 +97,22 @@ number_in (low ∷ high ∷ _) = from_two low high
 abbrev pub handle_in : Octets → ℕ
 handle_in field = number_in field % 4096
 
-abbrev pub connection_of : List Octets → Option Reported
-connection_of (status ∷ handle ∷ role ∷ kind ∷ address ∷ interval ∷ latency ∷ timeout ∷ clock_accuracy ∷ []) =
+abbrev pub connection_complete_of : List Octets → Option Reported
+connection_complete_of (status ∷ handle ∷ role ∷ kind ∷ address ∷ interval ∷ latency ∷ timeout ∷ clock_accuracy ∷ []) =
     let peer : Peer = record { kind = number_in kind; address = address } in
     Some (ConnectionComplete (number_in status) (handle_in handle) (number_in role) peer
     (number_in interval) (number_in latency) (number_in timeout) (number_in clock_accuracy))
-connection_of _ = None
+connection_complete_of _ = None
 
 abbrev pub connection_complete : Octets → Option Reported
-connection_complete octets = option_and_then connection_of (fields (1 ∷ 2 ∷ 1 ∷ 1 ∷ 6 ∷ 2 ∷ 2 ∷ 2 ∷ 1 ∷ []) octets)
+connection_complete octets = option_and_then connection_complete_of (fields (1 ∷ 2 ∷ 1 ∷ 1 ∷ 6 ∷ 2 ∷ 2 ∷ 2 ∷ 1 ∷ []) octets)
 
-abbrev pub request_of : List Octets → Option Reported
-request_of (handle ∷ random_number ∷ diversifier ∷ []) = Some (LongTermKeyRequest (handle_in handle) random_number (number_in diversifier))
-request_of _ = None
+abbrev pub key_request_of : List Octets → Option Reported
+key_request_of (handle ∷ random_number ∷ diversifier ∷ []) = Some (LongTermKeyRequest (handle_in handle) random_number (number_in diversifier))
+key_request_of _ = None
 
 abbrev pub long_term_key_request : Octets → Option Reported
-long_term_key_request octets = option_and_then request_of (fields (2 ∷ 8 ∷ 2 ∷ []) octets)
+long_term_key_request octets = option_and_then key_request_of (fields (2 ∷ 8 ∷ 2 ∷ []) octets)
 
 -- what the code of an event, or of a subevent, leads to; others are taken whatever their parameters
 abbrev pub subevent_form : ℕ → Octets → Option Reported
@@ -125,8 +125,8 @@ abbrev pub le_meta_form : Octets → Option Reported
 le_meta_form (code ∷ parameters) = subevent_form code parameters
 le_meta_form [] = None
 
-abbrev pub form_of : ℕ → Octets → Option Reported
-form_of code parameters =
+abbrev pub reported_form : ℕ → Octets → Option Reported
+reported_form code parameters =
     if code == DISCONNECTION_COMPLETE then disconnection_complete parameters
     else if code == ENCRYPTION_CHANGE then encryption_change parameters
     else if code == COMMAND_COMPLETE then command_complete parameters
@@ -145,4 +145,4 @@ read_or_bad code (Some event) = Ok event
 abbrev pub event_of : Octets → Result Reported BadEvent
 event_of [] = Err (record { 0 = 0 })
 event_of (code ∷ []) = Err (record { 0 = code })
-event_of (code ∷ stated ∷ parameters) = read_or_bad code (if length parameters == stated then form_of code parameters else None)
+event_of (code ∷ stated ∷ parameters) = read_or_bad code (if length parameters == stated then reported_form code parameters else None)

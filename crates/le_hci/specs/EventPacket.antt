@@ -7,21 +7,21 @@ use Rattle.octets.specs.Number.{Octets, two_octets}
 use Rattle.le_hci.specs.declared.event_code.TheConstants.{DISCONNECTION_COMPLETE, ENCRYPTION_CHANGE, COMMAND_COMPLETE, COMMAND_STATUS, HARDWARE_ERROR, NUMBER_OF_COMPLETED_PACKETS, ENCRYPTION_KEY_REFRESH_COMPLETE, LE_META, LE_CONNECTION_COMPLETE, LE_LONG_TERM_KEY_REQUEST}
 
 -- an event packet: its code, the length of its parameters, and the parameters
-abbrev pub packet : ℕ → Octets → Octets
-packet code parameters = code ∷ length parameters ∷ parameters
+abbrev pub event_packet : ℕ → Octets → Octets
+event_packet code parameters = code ∷ length parameters ∷ parameters
 
 -- the code of an event; the last two are subevents of LE Meta. Of other events nothing is said
-abbrev pub code_of : Reported → ℕ
-code_of (DisconnectionComplete status handle reason) = DISCONNECTION_COMPLETE
-code_of (EncryptionChange status handle enabled) = ENCRYPTION_CHANGE
-code_of (CommandComplete allowed opcode parameters) = COMMAND_COMPLETE
-code_of (CommandStatus status allowed opcode) = COMMAND_STATUS
-code_of (HardwareError code) = HARDWARE_ERROR
-code_of (NumberOfCompletedPackets entries) = NUMBER_OF_COMPLETED_PACKETS
-code_of (EncryptionKeyRefreshComplete status handle) = ENCRYPTION_KEY_REFRESH_COMPLETE
-code_of (ConnectionComplete status handle role peer interval latency timeout clock_accuracy) = LE_META
-code_of (LongTermKeyRequest handle random_number diversifier) = LE_META
-code_of Other = 0x00
+abbrev pub event_code : Reported → ℕ
+event_code (DisconnectionComplete status handle reason) = DISCONNECTION_COMPLETE
+event_code (EncryptionChange status handle enabled) = ENCRYPTION_CHANGE
+event_code (CommandComplete allowed opcode parameters) = COMMAND_COMPLETE
+event_code (CommandStatus status allowed opcode) = COMMAND_STATUS
+event_code (HardwareError code) = HARDWARE_ERROR
+event_code (NumberOfCompletedPackets entries) = NUMBER_OF_COMPLETED_PACKETS
+event_code (EncryptionKeyRefreshComplete status handle) = ENCRYPTION_KEY_REFRESH_COMPLETE
+event_code (ConnectionComplete status handle role peer interval latency timeout clock_accuracy) = LE_META
+event_code (LongTermKeyRequest handle random_number diversifier) = LE_META
+event_code Other = 0x00
 
 abbrev pub entry_fields : CompletedPackets → Octets
 entry_fields entry = two_octets entry.handle ++ two_octets entry.packets
@@ -71,7 +71,7 @@ report_read Other = Other
 pub record IsSentAs (event : Reported) (octets : Octets) : Type 0 where
   pub sent : Reported
   pub extra : Octets
-  pub spelled : octets ≡ packet (code_of sent) (fields_of sent ++ extra)
+  pub spelled : octets ≡ event_packet (event_code sent) (fields_of sent ++ extra)
   pub same : report_read sent ≡ event
 
 -- and so is each event that is read, but for the other ones

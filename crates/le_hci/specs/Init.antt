@@ -73,9 +73,9 @@ next (Enabling buffers) returned = Ok (Ready buffers.length buffers.packets)
 next (Ready length packets) returned = Ok (Ready length packets)
 
 -- what the command with this opcode returned after its status, which has to be 0
-abbrev pub values_of : ℕ → Octets → Result Octets InitFault
-values_of opcode [] = Err Short
-values_of opcode (status ∷ values) = if status == 0 then Ok values else Err (Refused opcode status)
+abbrev pub returned_values : ℕ → Octets → Result Octets InitFault
+returned_values opcode [] = Err Short
+returned_values opcode (status ∷ values) = if status == 0 then Ok values else Err (Refused opcode status)
 
 abbrev pub next_by : Init → Result Octets InitFault → Result Init InitFault
 next_by state (Ok values) = next state values
@@ -89,7 +89,7 @@ handed_back state (Err fault) = Err (fault, state)
 -- what the return parameters of the awaited command lead to; once nothing is awaited, nothing changes
 abbrev pub outcome_by : Option ℕ → Init → Octets → Result Init (InitFault × Init)
 outcome_by None state returned = Ok state
-outcome_by (Some opcode) state returned = handed_back state (next_by state (values_of opcode returned))
+outcome_by (Some opcode) state returned = handed_back state (next_by state (returned_values opcode returned))
 
-abbrev pub outcome_of : Init → Octets → Result Init (InitFault × Init)
-outcome_of state = outcome_by (opcode_awaited state) state
+abbrev pub init_outcome : Init → Octets → Result Init (InitFault × Init)
+init_outcome state = outcome_by (opcode_awaited state) state

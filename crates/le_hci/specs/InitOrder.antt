@@ -4,7 +4,7 @@ use Rattle.std.specs.Option.{option_to_list}
 use Rattle.le_hci.specs.declared.init.Init.{Init}
 use Rattle.le_hci.specs.declared.init.InitFault.{InitFault}
 use Rattle.le_hci.specs.Command.{Commanded, Reset, SetEventMask, ReadBufferSize, LeSetEventMask, LeReadBufferSize, LeSetRandomAddress, LeSetAdvertisingParameters, LeSetAdvertisingData, LeSetAdvertiseEnable}
-use Rattle.le_hci.specs.Init.{event_mask, le_event_mask, command_awaited, outcome_of}
+use Rattle.le_hci.specs.Init.{event_mask, le_event_mask, command_awaited, init_outcome}
 use Rattle.octets.specs.Number.{Octets, from_two}
 use Rattle.le_hci.specs.declared.peer.TheConstants.{PUBLIC_ADDRESS, RANDOM_ADDRESS}
 
@@ -42,9 +42,9 @@ abbrev pub sent_after : Result Init (InitFault × Init) → (Init → List Comma
 sent_after (Ok following) sent_from = sent_from following
 sent_after (Err fault) sent_from = []
 
-abbrev pub commands_sent : List Octets → Init → List Commanded
-commands_sent [] state = option_to_list (command_awaited state)
-commands_sent (returned ∷ answers) state = option_to_list (command_awaited state) ++ sent_after (outcome_of state returned) (commands_sent answers)
+abbrev pub init_commands_sent : List Octets → Init → List Commanded
+init_commands_sent [] state = option_to_list (command_awaited state)
+init_commands_sent (returned ∷ answers) state = option_to_list (command_awaited state) ++ sent_after (init_outcome state returned) (init_commands_sent answers)
 
 -- some of the commands from the first on, and no others
 pub record IsPrefixOf (sent commands : List Commanded) : Type 0 where

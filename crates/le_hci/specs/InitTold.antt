@@ -5,7 +5,7 @@ use Rattle.le_hci.specs.declared.buffers.Buffers.{Buffers}
 use Rattle.le_hci.specs.declared.init.Init.{Init}
 use Rattle.le_hci.specs.declared.init.Init.TheVariants.{Resetting, Masking, LeMasking, Sizing, SharedSizing, Addressing, Describing, Filling, Enabling, Ready}
 use Rattle.le_hci.specs.declared.init.InitFault.{InitFault}
-use Rattle.le_hci.specs.Init.{outcome_of}
+use Rattle.le_hci.specs.Init.{init_outcome}
 
 -- what was told of the buffers, in the states that have it
 abbrev pub told_in : Init → Option Buffers
@@ -35,4 +35,4 @@ state_after (Err fault) go_on = fault.1
 
 abbrev pub state_after_answers : List Octets → Init → Init
 state_after_answers [] state = state
-state_after_answers (returned ∷ answers) state = state_after (outcome_of state returned) (state_after_answers answers)
+state_after_answers (returned ∷ answers) state = state_after (init_outcome state returned) (state_after_answers answers)

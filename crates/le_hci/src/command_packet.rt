@@ -1,6 +1,6 @@
 ghost use Rattle.std.specs.Prelude.{◌≡◌, ◌+◌, ◌≤◌, [], ◌∷◌, ◌++◌, ◌-◌, length, replicate};
 ghost use Rattle.arrayvec.specs.ArrayVec.{array_vec_len};
-ghost use Rattle.le_hci.specs.Command.{command_of, packet_of, packet, advertising_data, key_reply, advertising_parameters};
+ghost use Rattle.le_hci.specs.Command.{command_of, packet_of, command_packet, advertising_data, key_reply, advertising_parameters};
 ghost use Rattle.octets.specs.Number.{two_octets};
 
 use crate::command::Command;
@@ -48,7 +48,7 @@ const ADVERTISING_DATA: usize = 31;
 
 fn write_packet(opcode: u16, parameters: &[u8], out: &mut ArrayVec<u8, 260>)
     requires { length parameters.now ≤ 255 }
-    ensures packet { out.new.items ≡ packet opcode parameters.now }
+    ensures packet { out.new.items ≡ command_packet opcode parameters.now }
     ensures fits { length out.new.items ≤ 258 }
 {
     write_header(opcode, parameters.len() as u8, out);
@@ -72,7 +72,8 @@ fn append(octets: &[u8], out: &mut ArrayVec<u8, 260>)
 }
 
 fn write_advertising_parameters(opcode: u16, own_address_type: u8, out: &mut ArrayVec<u8, 260>)
-    ensures packet { out.new.items ≡ packet opcode (advertising_parameters own_address_type) }
+    ensures packet { out.new.items
+        ≡ command_packet opcode (advertising_parameters own_address_type) }
     ensures fits { length out.new.items ≤ 258 }
 {
     let parameters = [
@@ -96,7 +97,8 @@ fn write_advertising_parameters(opcode: u16, own_address_type: u8, out: &mut Arr
 }
 
 fn write_advertising_data(opcode: u16, advertising: &ArrayVec<u8, 31>, out: &mut ArrayVec<u8, 260>)
-    ensures packet { out.new.items ≡ packet opcode (advertising_data advertising.now.items) }
+    ensures packet { out.new.items
+        ≡ command_packet opcode (advertising_data advertising.now.items) }
     ensures fits { length out.new.items ≤ 258 }
 {
     let octets = advertising.as_slice();
@@ -116,7 +118,7 @@ fn fill_up(length: usize, out: &mut ArrayVec<u8, 260>)
 }
 
 fn write_key_reply(opcode: u16, handle: u16, key: &[u8; 16], out: &mut ArrayVec<u8, 260>)
-    ensures packet { out.new.items ≡ packet opcode (key_reply handle key.now) }
+    ensures packet { out.new.items ≡ command_packet opcode (key_reply handle key.now) }
     ensures fits { length out.new.items ≤ 258 }
 {
     write_header(opcode, 18, out);

@@ -2,7 +2,7 @@ ghost use Rattle.std.specs.Prelude.{◌≡◌, ◌++◌, IfOk};
 ghost use Rattle.std.specs.Result.{result_map_both};
 ghost use Rattle.octets.specs.Number.{Octets};
 ghost use Rattle.le_hci.specs.Event.{Reported, report_of, event_of, completed_packets_of};
-ghost use Rattle.le_hci.specs.EventPacket.{packet, code_of, fields_of, HasFields, report_read, IsRead};
+ghost use Rattle.le_hci.specs.EventPacket.{event_packet, event_code, fields_of, HasFields, report_read, IsRead};
 
 use crate::event_form;
 use crate::peer::Peer;
@@ -90,7 +90,8 @@ pub fn read_event(octets: &[u8]) -> Result<Event<'_>, BadEvent>
     ensures sent { IfOk result (λ event. IsRead (report_of event) octets.now) }
     // Nothing that is sent so is a bad event.
     ensures accepted { (sent : Reported) (extra : Octets) → HasFields sent extra
-        → packet (code_of sent) (fields_of sent ++ extra) ≡ octets.now → event_of octets.now ≡ Ok (report_read sent) }
+        → event_packet (event_code sent) (fields_of sent ++ extra) ≡ octets.now
+        → event_of octets.now ≡ Ok (report_read sent) }
 {
     let [code, rest @ ..] = octets else {
         return Err(BadEvent(0));

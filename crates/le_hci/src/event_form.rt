@@ -3,7 +3,7 @@
 
 ghost use Rattle.std.specs.Prelude.{◌≡◌, map};
 ghost use Rattle.std.specs.Option.{option_map};
-ghost use Rattle.le_hci.specs.Event.{report_of, handle_of, completed_packets_of, completed_entries, form_of, le_meta_form, disconnection_complete, encryption_change, command_complete, command_status, hardware_error, number_of_completed_packets, encryption_key_refresh_complete, connection_complete, long_term_key_request};
+ghost use Rattle.le_hci.specs.Event.{report_of, handle_of, completed_packets_of, completed_entries, reported_form, le_meta_form, disconnection_complete, encryption_change, command_complete, command_status, hardware_error, number_of_completed_packets, encryption_key_refresh_complete, connection_complete, long_term_key_request};
 
 use crate::event::Event;
 use crate::event_code;
@@ -15,7 +15,7 @@ const HANDLE: u16 = 0x0FFF;
 /// The event with this code and these parameters.
 #[inline(always)]
 pub fn read(code: u8, parameters: &[u8]) -> Option<Event<'_>>
-    ensures { option_map report_of result ≡ form_of code parameters.now }
+    ensures { option_map report_of result ≡ reported_form code parameters.now }
 {
     match code {
         event_code::DISCONNECTION_COMPLETE => read_disconnection_complete(parameters),

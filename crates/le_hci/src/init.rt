@@ -4,9 +4,9 @@ ghost use Rattle.std.specs.Result.{result_map_both};
 ghost use Rattle.octets.specs.Number.{Octets};
 ghost use Rattle.arrayvec.specs.ArrayVec.{ArrayVec};
 ghost use Rattle.le_hci.specs.Command.{command_of};
-ghost use Rattle.le_hci.specs.InitOrder.{commands_sent, commands_in_order, tell_shared, IsPrefixOf};
+ghost use Rattle.le_hci.specs.InitOrder.{init_commands_sent, commands_in_order, tell_shared, IsPrefixOf};
 ghost use Rattle.le_hci.specs.InitTold.{KnowsUsable, state_after_answers};
-ghost use Rattle.le_hci.specs.Init.{command_awaited, opcode_awaited, outcome_of, values_of, handed_back, next, with_buffers, first_state};
+ghost use Rattle.le_hci.specs.Init.{command_awaited, opcode_awaited, init_outcome, returned_values, handed_back, next, with_buffers, first_state};
 
 use crate::buffers::{Buffers, le_buffers, shared_buffers};
 use crate::command::{Command, EVENT_MASK, LE_EVENT_MASK};
@@ -87,7 +87,8 @@ impl Init {
     pub fn new(address: Option<[u8; 6]>, advertising: ArrayVec<u8, 31>) -> Init
         ensures exact { result ≡ first_state address advertising }
         ensures in_order { (answers : List Octets)
-            → IsPrefixOf (commands_sent answers result) (commands_in_order address advertising.items (tell_shared (drop 3 answers))) }
+            → IsPrefixOf (init_commands_sent answers result)
+            (commands_in_order address advertising.items (tell_shared (drop 3 answers))) }
         // Whatever the answers are, buffers that a state knows have 27 octets at least, and there is one.
         ensures usable { (answers : List Octets)
             → KnowsUsable (state_after_answers answers result) }
@@ -133,11 +134,12 @@ impl Init {
     /// back with what is wrong. Octets after the return parameters are ignored.
     pub fn complete(self, parameters: &[u8]) -> Result<Init, (InitFault, Init)>
         requires awaiting { IsSome (command_awaited self) }
-        ensures exact { result ≡ outcome_of self parameters.now }
+        ensures exact { result ≡ init_outcome self parameters.now }
         ensures handed_back { IfErr result (λ e. e.1 ≡ self) }
         ensures refused { (opcode status : ℕ) (returned : Octets)
             → opcode_awaited self ≡ Some opcode
-            → parameters.now ≡ status ∷ returned → status ≢ 0 → result ≡ Err (InitFault.Refused opcode status, self) }
+            → parameters.now ≡ status ∷ returned → status ≢ 0 → result
+            ≡ Err (InitFault.Refused opcode status, self) }
     {
         let Some(command) = self.command() else {
             unreachable!()
@@ -199,7 +201,7 @@ impl Init {
 /// What a command returned after its status, where it was successful.
 fn values(opcode: u16, parameters: &[u8]) -> Result<&[u8], InitFault>
     ensures { result_map_both (λ values. values.now) (λ fault. fault) result
-        ≡ values_of opcode parameters.now }
+        ≡ returned_values opcode parameters.now }
 {
     match parameters {
         [] => Err(InitFault::Short),

@@ -10,12 +10,12 @@ pub record BasicFrame : Type 0 where
   pub payload : Octets
 
 -- the same of a frame that borrows its payload
-abbrev pub contents : Frame → BasicFrame
-contents frame = record { cid = frame.cid; payload = frame.payload.now }
+abbrev pub frame_contents : Frame → BasicFrame
+frame_contents frame = record { cid = frame.cid; payload = frame.payload.now }
 
 -- the octets of a frame: the length of the payload, the channel, and the payload
-abbrev pub spelled : BasicFrame → Octets
-spelled frame = two_octets (length frame.payload) ++ two_octets frame.cid ++ frame.payload
+abbrev pub frame_spelled : BasicFrame → Octets
+frame_spelled frame = two_octets (length frame.payload) ++ two_octets frame.cid ++ frame.payload
 
 -- both fields of the header have 16 bits
 pub record HasLengthAndChannel (frame : BasicFrame) : Type 0 where

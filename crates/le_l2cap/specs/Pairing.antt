@@ -8,6 +8,6 @@ abbrev pub pairing_failed : Octets
 pairing_failed = 0x05 ∷ 0x05 ∷ []
 
 -- a Pairing Request is refused, and all else is ignored
-abbrev pub answer_of : Octets → Option Octets
-answer_of [] = None
-answer_of (code ∷ parameters) = if code == PAIRING_REQUEST then Some pairing_failed else None
+abbrev pub pairing_answer : Octets → Option Octets
+pairing_answer [] = None
+pairing_answer (code ∷ parameters) = if code == PAIRING_REQUEST then Some pairing_failed else None

@@ -10,11 +10,11 @@ pub record Command : Type 0 where
   pub payload : Octets
 
 -- the octets of a command: its code, its identifier, and its data behind their length
-abbrev pub spelled : Command → Octets
-spelled command = command.code ∷ command.identifier ∷ two_octets (length command.payload) ++ command.payload
+abbrev pub command_spelled : Command → Octets
+command_spelled command = command.code ∷ command.identifier ∷ two_octets (length command.payload) ++ command.payload
 
 -- an identifier of 8 bits that is not 0, and a length of 16 bits
-pub record HasOctetFields (command : Command) : Type 0 where
+pub record HasCommandFields (command : Command) : Type 0 where
   pub identifier : command.identifier ≢ 0
   pub length : length command.payload < 2 ^ 16
 
@@ -39,7 +39,7 @@ rejected_identifier _ = None
 pub record IsRejected (payload : Octets) (identifier : ℕ) : Type 0 where
   pub code : ℕ
   pub parameters : Octets
-  pub whole : payload ≡ spelled (record { code = code; identifier = identifier; payload = parameters })
+  pub whole : payload ≡ command_spelled (record { code = code; identifier = identifier; payload = parameters })
   pub not_ignored : is_ignored_code code ≡ false
   pub not_zero : identifier ≢ 0
 
@@ -49,4 +49,4 @@ not_understood = 0x0000
 
 -- Command Reject with the reason Command Not Understood: Core 5.0, Vol 3 Part A, 4.1
 abbrev pub command_reject : ℕ → Octets
-command_reject identifier = spelled (record { code = COMMAND_REJECT; identifier = identifier; payload = two_octets not_understood })
+command_reject identifier = command_spelled (record { code = COMMAND_REJECT; identifier = identifier; payload = two_octets not_understood })

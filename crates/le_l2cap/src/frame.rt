@@ -1,6 +1,6 @@
 ghost use Rattle.std.specs.Prelude.{◌≡◌, IfOk};
 ghost use Rattle.std.specs.Result.{result_map_both};
-ghost use Rattle.le_l2cap.specs.Frame.{BasicFrame, contents, spelled, frame_of, HasLengthAndChannel};
+ghost use Rattle.le_l2cap.specs.Frame.{BasicFrame, frame_contents, frame_spelled, frame_of, HasLengthAndChannel};
 
 /// A basic information frame: Core 5.0, Vol 3 Part A, 3.1.
 #[derive(Clone, Copy, PartialEq, Eq)]
@@ -19,10 +19,11 @@ pub struct Skip;
 /// Reads a whole frame: the length of the payload and the channel, each of 2 octets, and the
 /// payload, which is borrowed.
 pub fn read_frame(octets: &[u8]) -> Result<Frame<'_>, Skip>
-    ensures exact { result_map_both contents (λ skip. skip) result ≡ frame_of octets.now }
-    ensures spelled { IfOk result (λ frame. spelled (contents frame) ≡ octets.now) }
+    ensures exact { result_map_both frame_contents (λ skip. skip) result ≡ frame_of octets.now }
+    ensures spelled { IfOk result (λ frame. frame_spelled (frame_contents frame) ≡ octets.now) }
     // Nothing that is spelled so is skipped.
-    ensures accepted { (frame : BasicFrame) → HasLengthAndChannel frame → spelled frame ≡ octets.now
+    ensures accepted { (frame : BasicFrame) → HasLengthAndChannel frame → frame_spelled frame
+        ≡ octets.now
         → frame_of octets.now ≡ Ok frame }
 {
     let [length_low, length_high, cid_low, cid_high, payload @ ..] = octets else {

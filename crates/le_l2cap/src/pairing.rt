@@ -1,5 +1,5 @@
 ghost use Rattle.std.specs.Prelude.{◌≡◌};
-ghost use Rattle.le_l2cap.specs.Pairing.{answer_of};
+ghost use Rattle.le_l2cap.specs.Pairing.{pairing_answer};
 
 /// Pairing Request: Core 5.0, Vol 3 Part H, 3.3.
 const PAIRING_REQUEST: u8 = 0x01;
@@ -9,7 +9,7 @@ const PAIRING_NOT_SUPPORTED: [u8; 2] = [0x05, 0x05];
 /// The answer that is due to a payload of the channel of the Security Manager: Pairing Failed to
 /// a Pairing Request, and `None` where the payload is ignored.
 pub fn security(payload: &[u8]) -> Option<[u8; 2]>
-    ensures { result ≡ answer_of payload.now }
+    ensures { result ≡ pairing_answer payload.now }
 {
     match payload {
         [PAIRING_REQUEST, ..] => Some(PAIRING_NOT_SUPPORTED),

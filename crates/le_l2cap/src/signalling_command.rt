@@ -1,6 +1,6 @@
 ghost use Rattle.std.specs.Prelude.{◌≡◌, IfSome, false};
 ghost use Rattle.std.specs.Option.{option_map};
-ghost use Rattle.le_l2cap.specs.SignallingCommand.{Command, spelled, is_ignored_code, rejected_identifier, command_reject, IsRejected, HasOctetFields};
+ghost use Rattle.le_l2cap.specs.SignallingCommand.{Command, command_spelled, is_ignored_code, rejected_identifier, command_reject, IsRejected, HasCommandFields};
 
 /// The codes of the signalling commands that are named here: Core 5.0, Vol 3 Part A, 4.
 const COMMAND_REJECT: u8 = 0x01;
@@ -37,8 +37,10 @@ pub fn signalling(payload: &[u8]) -> Option<Reject>
     ensures exact { option_map (λ reject. reject.id) result ≡ rejected_identifier payload.now }
     ensures rejected { IfSome result (λ reject. IsRejected payload.now reject.id) }
     // No other command is left without an answer.
-    ensures answered { (command : Command) → HasOctetFields command → spelled command ≡ payload.now
-        → is_ignored_code command.code ≡ false → rejected_identifier payload.now ≡ Some command.identifier }
+    ensures answered { (command : Command) → HasCommandFields command → command_spelled command
+        ≡ payload.now
+        → is_ignored_code command.code ≡ false → rejected_identifier payload.now
+        ≡ Some command.identifier }
 {
     let [code, id, length_low, length_high, data @ ..] = payload else {
         return None;

@@ -9,28 +9,28 @@ use Rattle.octets.specs.Number.{Octets}
 use Rattle.le_hci.specs.declared.peer.TheConstants.{PUBLIC_ADDRESS, RANDOM_ADDRESS}
 
 -- twelve digits, whose octets stand on the wire in the other order
-abbrev pub octets_of : Octets → Option Octets
-octets_of digits = option_map reverse (result_ok (decode_sized digits 6))
+abbrev pub address_octets : Octets → Option Octets
+address_octets digits = option_map reverse (result_ok (decode_sized digits 6))
 
 -- a text has six pairs of digits, numbered from 0, and a character behind each but the last
 abbrev pub pair : Octets → ℕ → Octets
 pair text number = take 2 (drop (3 * number) text)
 
-abbrev pub behind : Octets → ℕ → ℕ
-behind text number = slice_index_or text (3 * number + 2) 0
+abbrev pub separator_behind : Octets → ℕ → ℕ
+separator_behind text number = slice_index_or text (3 * number + 2) 0
 
 -- these characters are colons
 abbrev pub colon : ℕ
 colon = 58
 
 abbrev pub is_joined : Octets → Bool
-is_joined text = (length text == 17) && list_all (λ number. behind text number == colon) (0 ∷ 1 ∷ 2 ∷ 3 ∷ 4 ∷ [])
+is_joined text = (length text == 17) && list_all (λ number. separator_behind text number == colon) (0 ∷ 1 ∷ 2 ∷ 3 ∷ 4 ∷ [])
 
 -- six pairs of digits, joined by colons
 abbrev pub address_of : Octets → Option Octets
 address_of text =
     if is_joined text
-    then octets_of (pair text 0 ++ pair text 1 ++ pair text 2 ++ pair text 3 ++ pair text 4 ++ pair text 5)
+    then address_octets (pair text 0 ++ pair text 1 ++ pair text 2 ++ pair text 3 ++ pair text 4 ++ pair text 5)
     else None
 
 -- the words for the types of addresses (Core 5.0, Vol 2 Part E, 7.7.65.1)

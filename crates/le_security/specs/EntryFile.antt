@@ -9,7 +9,7 @@ use Rattle.toml_tables.specs.Reading.{◌>>=◌, unless, require, text_at, integ
 use Rattle.toml_tables.specs.Shape.{Keys, is_shaped}
 use Rattle.toml_tables.specs.declared.shape.Shape.TheVariants.{Text, Boolean, Integer}
 use Rattle.le_security.specs.declared.entry.Entry.{Entry}
-use Rattle.le_security.specs.declared.entry_file.Written.{Written as WrittenText}
+use Rattle.le_security.specs.declared.entry_file.Written.{Written}
 use Rattle.le_security.specs.declared.key_fault.KeyFault.{KeyFault}
 use Rattle.le_security.specs.declared.key_fault.KeyFault.TheVariants.{Missing, BadAddress, BadHex, BadSize, Twice, TooMany, Shape, NotZero}
 use Rattle.le_security.specs.Address.{address_of, address_type_of}
@@ -22,7 +22,7 @@ entry_keys =
     ∷ (codes "size", Integer) ∷ (codes "authenticated", Boolean) ∷ (codes "secure", Boolean) ∷ []
 
 -- what an entry writes
-pub record Written : Type 0 where
+pub record WrittenEntry : Type 0 where
   pub address : Octets
   pub kind : Octets
   pub random_number : Octets
@@ -33,7 +33,7 @@ pub record Written : Type 0 where
   pub secure : Bool
 
 -- the same as the code has it
-abbrev pub written_view : WrittenText → Written
+abbrev pub written_view : Written → WrittenEntry
 written_view written = record {
   address = written.address.now;
   kind = written.kind.now;
@@ -51,7 +51,7 @@ diversifier_of None = Ok None
 diversifier_of (Some (pos diversifier)) = if nat_lt diversifier (2 ^ 16) then Ok (Some diversifier) else Err Shape
 diversifier_of (Some (negsuc _)) = Err Shape
 
-abbrev pub written_at : Members → Result Written KeyFault
+abbrev pub written_at : Members → Result WrittenEntry KeyFault
 written_at members = do
   ediv ← diversifier_of (integer_at (codes "ediv") members)
   address ← require (text_at (codes "address") members) Missing
@@ -73,21 +73,21 @@ written_at members = do
   })
 
 -- the size of a key: from 7 to 16 octets (Core 5.0, Vol 3 Part H, 2.3.4)
-abbrev pub size_of : ℤ → Option ℕ
-size_of (pos size) = if nat_le 7 size && nat_le size 16 then Some size else None
-size_of (negsuc _) = None
+abbrev pub key_size_in : ℤ → Option ℕ
+key_size_in (pos size) = if nat_le 7 size && nat_le size 16 then Some size else None
+key_size_in (negsuc _) = None
 
 -- a key of LE Secure Connections has the random number and the diversifier 0 (Core 5.0, Vol 3 Part H, 2.4.4)
 abbrev pub is_zero : Octets → ℕ → Bool
 is_zero random_number diversifier = bytes_eq random_number (replicate 8 0) && (diversifier == 0)
 
-abbrev pub entry_of : Written → Result Entry KeyFault
-entry_of written = do
+abbrev pub entry_written : WrittenEntry → Result Entry KeyFault
+entry_written written = do
   address ← require (address_of written.address) BadAddress
   kind ← require (address_type_of written.kind) BadAddress
   random_number ← require (result_ok (decode_sized written.random_number 8)) BadHex
   ltk ← require (result_ok (decode_sized written.ltk 16)) BadHex
-  size ← require (size_of written.size) BadSize
+  size ← require (key_size_in written.size) BadSize
   _ ← unless (not written.secure || is_zero random_number written.diversifier) NotZero
   Ok (record {
     peer = record { kind = kind; address = address };
@@ -106,6 +106,6 @@ entry_after entries value = do
   members ← require (as_table value) Shape
   _ ← unless (is_shaped entry_keys members) Shape
   written ← written_at members
-  entry ← entry_of written
+  entry ← entry_written written
   _ ← unless (not (has_answer entries entry)) Twice
   Ok entry

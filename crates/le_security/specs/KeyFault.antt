@@ -3,14 +3,14 @@ use Rattle.std.specs.Prelude.{ℕ}
 use Rattle.le_security.specs.declared.key_fault.KeyFault.{KeyFault}
 use Rattle.le_security.specs.declared.key_fault.KeyFault.TheVariants.{NotToml, Missing, BadAddress, BadHex, BadSize, Twice, TooMany, OutOfMemory, Shape, NotZero}
 
-abbrev pub number_of : KeyFault → ℕ
-number_of NotToml = 1
-number_of Missing = 2
-number_of BadAddress = 3
-number_of BadHex = 4
-number_of BadSize = 5
-number_of Twice = 6
-number_of TooMany = 7
-number_of OutOfMemory = 8
-number_of Shape = 9
-number_of NotZero = 10
+abbrev pub key_fault_number : KeyFault → ℕ
+key_fault_number NotToml = 1
+key_fault_number Missing = 2
+key_fault_number BadAddress = 3
+key_fault_number BadHex = 4
+key_fault_number BadSize = 5
+key_fault_number Twice = 6
+key_fault_number TooMany = 7
+key_fault_number OutOfMemory = 8
+key_fault_number Shape = 9
+key_fault_number NotZero = 10

@@ -11,8 +11,8 @@ use Rattle.le_security.specs.declared.key_fault.KeyFault.{KeyFault}
 use Rattle.le_security.specs.declared.key_fault.KeyFault.TheVariants.{NotToml, Shape}
 use Rattle.le_security.specs.EntryFile.{entry_after}
 
-abbrev pub root_keys : Keys
-root_keys = (codes "key", Tables) ∷ []
+abbrev pub key_file_keys : Keys
+key_file_keys = (codes "key", Tables) ∷ []
 
 abbrev pub key_step : List Entry → Data → Result (List Entry) KeyFault
 key_step entries value = do
@@ -22,7 +22,7 @@ key_step entries value = do
 -- the entries of a document, which need not have any
 abbrev pub keys_of : Members → Result (List Entry) KeyFault
 keys_of members = do
-  _ ← unless (is_shaped root_keys members) Shape
+  _ ← unless (is_shaped key_file_keys members) Shape
   each key_step [] (items_at (codes "key") members)
 
 -- the entries of a text

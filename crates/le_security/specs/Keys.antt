@@ -23,8 +23,8 @@ abbrev pub is_known : List Entry → Peer → Bool
 is_known entries peer = list_any (λ (entry : Entry). same_peer entry.peer peer) entries
 
 -- the key that is asked for by peer, random number and diversifier
-abbrev pub answer_of : List Entry → Peer → Octets → ℕ → Option Key
-answer_of entries peer random_number diversifier =
+abbrev pub key_asked_for : List Entry → Peer → Octets → ℕ → Option Key
+key_asked_for entries peer random_number diversifier =
     option_map (λ (entry : Entry). entry.key) (find (is_for peer random_number diversifier) entries)
 
 -- the peer of the key at a place, counted from 0

@@ -26,8 +26,8 @@ abbrev pub after_refresh : Linking → ℕ → Linking
 after_refresh old status = with_key old (status == 0)
 
 -- what changed
-abbrev pub change_of : Linking → Linking → LinkChange
-change_of old new = if is_some new.key then Raised else if is_some old.key then Lost else Same
+abbrev pub link_change_of : Linking → Linking → LinkChange
+link_change_of old new = if is_some new.key then Raised else if is_some old.key then Lost else Same
 
 -- a step of a link: a request and what it was answered, or an event
 pub data Step : Type 0 where

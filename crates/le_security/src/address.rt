@@ -1,7 +1,7 @@
 //! Device addresses, as texts and as on the wire.
 
 ghost use Rattle.std.specs.Prelude.{◌≡◌};
-ghost use Rattle.le_security.specs.Address.{octets_of, address_of, address_type_of};
+ghost use Rattle.le_security.specs.Address.{address_octets, address_of, address_type_of};
 
 use le_hci::{PUBLIC_ADDRESS, RANDOM_ADDRESS};
 
@@ -37,7 +37,7 @@ pub fn read_address(text: &[u8]) -> Option<[u8; 6]>
 
 /// The octets that twelve digits write, in the other order.
 fn octets_of(digits: [u8; 12]) -> Option<[u8; 6]>
-    ensures { result ≡ octets_of digits }
+    ensures { result ≡ address_octets digits }
 {
     let mut octets = [0; 6];
     if hex::decode_to_slice(digits, &mut octets).is_err() {

@@ -4,7 +4,7 @@ ghost use Rattle.std.specs.Prelude.{◌≡◌, ◌≢◌, ◌<◌, length, IfOk,
 ghost use Rattle.std.specs.Result.{result_map_both};
 ghost use Rattle.toml.specs.View.{view, table_view};
 ghost use Rattle.le_security.specs.declared.key_fault.KeyFault.TheVariants.{NotToml};
-ghost use Rattle.le_security.specs.EntryFile.{written_view, diversifier_of, written_at, size_of, is_zero, entry_of, entry_after};
+ghost use Rattle.le_security.specs.EntryFile.{written_view, diversifier_of, written_at, key_size_in, is_zero, entry_written, entry_after};
 ghost use Rattle.le_security.specs.Keys.{has_answer};
 
 use crate::address;
@@ -125,7 +125,7 @@ fn read_diversifier(number: Option<i64>) -> Result<Option<u16>, KeyFault>
 
 /// The entry that is written, or its first fault.
 fn judge(written: &Written<'_>) -> Result<Entry, KeyFault>
-    ensures entry { result ≡ entry_of (written_view written.now) }
+    ensures entry { result ≡ entry_written (written_view written.now) }
     ensures is_toml { IfErr result (λ fault. fault ≢ NotToml) }
 {
     let address = address::read_address(written.address.as_bytes()).ok_or(KeyFault::BadAddress)?;
@@ -159,7 +159,7 @@ fn judge(written: &Written<'_>) -> Result<Entry, KeyFault>
 
 /// The size of a key, in octets: `None` unless it is from 7 to 16.
 fn read_size(size: i64) -> Option<u8>
-    ensures { result ≡ size_of size }
+    ensures { result ≡ key_size_in size }
 {
     match u8::try_from(size) {
         Ok(size @ 7..=16) => Some(size),

@@ -1,6 +1,6 @@
 ghost use Rattle.std.specs.Prelude.{◌≡◌};
 ghost use Rattle.le_security.specs.declared.key_fault.KeyFault.TheVariants.{OutOfMemory};
-ghost use Rattle.le_security.specs.KeyFault.{number_of};
+ghost use Rattle.le_security.specs.KeyFault.{key_fault_number};
 
 use std::alloc::AllocError;
 use std::error::Error;
@@ -36,7 +36,7 @@ pub enum KeyFault {
 impl KeyFault {
     /// The number by which the fault is told, from 1.
     pub fn number(self) -> u8
-        ensures { result ≡ number_of self }
+        ensures { result ≡ key_fault_number self }
     {
         match self {
             KeyFault::NotToml => 1,

@@ -2,7 +2,7 @@ ghost use Rattle.std.specs.Prelude.{◌≡◌, ◌≤◌, ◌<◌, [], ◌∷◌
 ghost use Rattle.std.specs.List.{count_by};
 ghost use Rattle.std.specs.Option.{option_copied};
 ghost use Rattle.le_security.specs.Entry.{is_for};
-ghost use Rattle.le_security.specs.Keys.{has_answer, is_known, answer_of, peer_at};
+ghost use Rattle.le_security.specs.Keys.{has_answer, is_known, key_asked_for, peer_at};
 ghost use Rattle.le_security.specs.declared.entry_file.TheConstants.{MAX_ENTRIES};
 
 use crate::entry::{Entry, Key};
@@ -65,7 +65,8 @@ impl Keys {
 
     /// The key of a peer that a request for it names by its random number and its diversifier.
     pub fn answer(&self, peer: &Peer, random_number: [u8; 8], diversifier: u16) -> Option<&Key>
-        ensures key { option_copied result ≡ answer_of self.now peer.now random_number diversifier }
+        ensures key { option_copied result
+            ≡ key_asked_for self.now peer.now random_number diversifier }
         ensures only_one { count_by (is_for peer.now random_number diversifier) self.now ≤ 1 }
     {
         let entry = self

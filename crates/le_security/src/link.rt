@@ -1,5 +1,5 @@
 ghost use Rattle.std.specs.Prelude.{◌≡◌, List, option_map};
-ghost use Rattle.le_security.specs.Link.{Step, no_key, with_asked, after_encryption, after_refresh, change_of, after_steps, key_after};
+ghost use Rattle.le_security.specs.Link.{Step, no_key, with_asked, after_encryption, after_refresh, link_change_of, after_steps, key_after};
 
 use crate::entry::Key;
 use att_policy::KeyFacts;
@@ -45,7 +45,8 @@ impl Link {
 
     /// The controller asked for a key, and this was the answer.
     pub fn request(&mut self, answer: Option<&Key>)
-        ensures { self.new ≡ with_asked self.old (option_map (λ key. key.now.facts) answer.entry) }
+        ensures { self.new ≡ with_asked self.old
+            (option_map (λ key. key.now.facts) answer.entry) }
     {
         self.asked = answer.map(|key| key.facts);
     }
@@ -54,7 +55,7 @@ impl Link {
     /// `status` is not 0: Core 5.0, Vol 2 Part E, 7.7.8.
     pub fn encryption(&mut self, status: u8, enabled: u8) -> LinkChange
         ensures link { self.new ≡ after_encryption self.old status enabled }
-        ensures change { result ≡ change_of self.old self.new }
+        ensures change { result ≡ link_change_of self.old self.new }
     {
         let encrypted = status == 0 && enabled != 0;
         let asked = self.asked;
@@ -65,7 +66,7 @@ impl Link {
     /// Vol 2 Part E, 7.7.39.
     pub fn refresh(&mut self, status: u8) -> LinkChange
         ensures link { self.new ≡ after_refresh self.old status }
-        ensures change { result ≡ change_of self.old self.new }
+        ensures change { result ≡ link_change_of self.old self.new }
     {
         let asked = self.asked;
         self.replace(if status == 0 { asked } else { None })
@@ -84,7 +85,7 @@ impl Link {
     /// Sets the link's key.
     fn replace(&mut self, key: Option<KeyFacts>) -> LinkChange
         ensures link { self.new ≡ record self.old { key = key } }
-        ensures change { result ≡ change_of self.old self.new }
+        ensures change { result ≡ link_change_of self.old self.new }
     {
         let had_key = self.key.is_some();
         self.key = key;

@@ -7,9 +7,9 @@ use Rattle.scripts.specs.declared.act.PhoneAct.TheVariants.{Connect, Drop, Encry
 use Rattle.scripts.specs.declared.line.Line.TheVariants.{Phone, Authorize, Update, Tick, Replace}
 use Rattle.scripts.specs.declared.script_fault.ScriptFault.TheVariants.{BadLine}
 use Rattle.scripts.specs.Name.{is_command_word, is_name, name_of}
-use Rattle.scripts.specs.Numeral.{number_of}
+use Rattle.scripts.specs.Numeral.{numeral_of}
 use Rattle.scripts.specs.Payload.{decoded, payload_of}
-use Rattle.scripts.specs.Line.{peer_of, random_number_of, channel_of, line_of_one, line_of_two, line_of_three, line_of_four, line_of}
+use Rattle.scripts.specs.Line.{peer_of_words, random_number_of, channel_of, line_of_one, line_of_two, line_of_three, line_of_four, line_of}
 use Rattle.scripts.specs.Script.{script_of}
 
 sent : line_of (codes "U < 0a0300") ≡ Some (Phone (codes "U") (Send 4 (10 ∷ 3 ∷ 0 ∷ [])))
@@ -17,11 +17,11 @@ unfolding line_of line_of_three channel_of payload_of decoded decode_pairs name_
 sent = refl
 
 encrypted : line_of (codes "encrypt P 0101010101010101 257") ≡ Some (Phone (codes "P") (Encrypt (1 ∷ 1 ∷ 1 ∷ 1 ∷ 1 ∷ 1 ∷ 1 ∷ 1 ∷ []) 257))
-unfolding line_of line_of_four random_number_of number_of decode_pairs name_of is_name is_command_word
+unfolding line_of line_of_four random_number_of numeral_of decode_pairs name_of is_name is_command_word
 encrypted = refl
 
 no_number : line_of (codes "tick -1") ≡ None
-unfolding line_of line_of_two number_of
+unfolding line_of line_of_two numeral_of
 no_number = refl
 
 no_name : line_of (codes "drop tick") ≡ None

@@ -20,7 +20,7 @@ use Rattle.scripts.specs.declared.script_fault.ScriptFault.{ScriptFault}
 use Rattle.scripts.specs.declared.script_fault.ScriptFault.TheVariants.{BadLine, OutOfMemory}
 use Rattle.scripts.specs.Line.{line_of}
 use Rattle.scripts.specs.Phones.{IsOfPhoneBelow, HasNamedPhones}
-use Rattle.scripts.specs.Script.{Acts, no_acts, number_in, with_name, with_act, with_act_of, with_said, with_line, with_lines, number_sign, lines_of, script_of}
+use Rattle.scripts.specs.Script.{Acts, no_acts, phone_number_in, with_name, with_act, with_act_of, script_with_said, script_with_line, script_with_lines, number_sign, lines_of_script, script_of}
 
 place_within : {X : Type 0} (test : X → Bool) (xs : List X) → position_or_len test xs ≤ length xs
 place_within test [] = omega arith
@@ -40,7 +40,7 @@ missing_at_end : {X : Type 0} (test : X → Bool) (xs : List X) → position_or_
 missing_at_end test [] at = refl
 missing_at_end test (y ∷ ys) at = grind (arith, common_steps, missing_at_end test ys)
 
-number_within : (names : List Octets) (name : Octets) → number_in names name ≤ length names
+number_within : (names : List Octets) (name : Octets) → phone_number_in names name ≤ length names
 number_within names name = omega (arith, place_or_end (bytes_eq name) names, place_within (bytes_eq name) names)
 
 below_more : (count more : ℕ) → count ≤ more → (one : Act) → IsOfPhoneBelow count one → IsOfPhoneBelow more one
@@ -59,29 +59,29 @@ all_below_more count more fits (one ∷ acts) all =
 
 -- an act of the phone of a name
 act_named : (script : Acts) (name : Octets) (act : ℕ → Act) → ((phone count : ℕ) → phone < count → IsOfPhoneBelow count (act phone))
-    → number_in script.names name < MAX_PHONES → HasNamedPhones script
-    → HasNamedPhones (record { acts = script.acts ++ act (number_in script.names name) ∷ []; names = with_name script.names name })
+    → phone_number_in script.names name < MAX_PHONES → HasNamedPhones script
+    → HasNamedPhones (record { acts = script.acts ++ act (phone_number_in script.names name) ∷ []; names = with_name script.names name })
 act_named script name act is below has =
-    elim (number_in script.names name == length script.names) as (λ new. (number_in script.names name == length script.names) ≡ new
-    → HasNamedPhones (record { acts = script.acts ++ act (number_in script.names name) ∷ []; names = if new then script.names ++ name ∷ [] else script.names })) [
+    elim (phone_number_in script.names name == length script.names) as (λ new. (phone_number_in script.names name == length script.names) ≡ new
+    → HasNamedPhones (record { acts = script.acts ++ act (phone_number_in script.names name) ∷ []; names = if new then script.names ++ name ∷ [] else script.names })) [
       | true ↦ λ new.
-          let place : number_in script.names name ≡ length script.names = grind (arith, nat_tests) in
+          let place : phone_number_in script.names name ≡ length script.names = grind (arith, nat_tests) in
           let longer = length_push script.names name in
           record {
             few = omega (arith, place, below, longer);
             distinct = IsDistinct-push nat_list_eq_equiv script.names name has.distinct
                 (missing_at_end (bytes_eq name) script.names (sym (place_or_end (bytes_eq name) script.names) ∙ place));
-            named = All-push (IsOfPhoneBelow (length (script.names ++ name ∷ []))) script.acts (act (number_in script.names name))
+            named = All-push (IsOfPhoneBelow (length (script.names ++ name ∷ []))) script.acts (act (phone_number_in script.names name))
                 (all_below_more (length script.names) (length (script.names ++ name ∷ [])) (omega (arith, longer)) script.acts has.named)
-                (is (number_in script.names name) (length (script.names ++ name ∷ [])) (omega (arith, place, longer)));
+                (is (phone_number_in script.names name) (length (script.names ++ name ∷ [])) (omega (arith, place, longer)));
           }
       | false ↦ λ old.
           let within = number_within script.names name in
           record {
             few = has.few;
             distinct = has.distinct;
-            named = All-push (IsOfPhoneBelow (length script.names)) script.acts (act (number_in script.names name)) has.named
-                (is (number_in script.names name) (length script.names) (grind (arith, nat_tests)));
+            named = All-push (IsOfPhoneBelow (length script.names)) script.acts (act (phone_number_in script.names name)) has.named
+                (is (phone_number_in script.names name) (length script.names) (grind (arith, nat_tests)));
           }
     ] refl
 
@@ -101,11 +101,11 @@ act_of_named : (number : ℕ) (script : Acts) (name : Octets) (act : ℕ → Act
     → ((phone count : ℕ) → phone < count → IsOfPhoneBelow count (act phone)) → HasNamedPhones script
     → IfOk (with_act_of number script name act) HasNamedPhones
 act_of_named number script name act is has =
-    if_holds (nat_lt (number_in script.names name) MAX_PHONES) (BadLine number) _
+    if_holds (nat_lt (phone_number_in script.names name) MAX_PHONES) (BadLine number) _
     (λ few. act_named script name act is (grind (arith, nat_tests)) has)
 
 said_named : (has_next : Bool) (number : ℕ) (script : Acts) (said : Line) → HasNamedPhones script
-    → IfOk (with_said has_next number script said) HasNamedPhones
+    → IfOk (script_with_said has_next number script said) HasNamedPhones
 said_named has_next number script (line.Phone name does) has = act_of_named number script name (λ phone. act.Phone phone does) (λ phone count below. below) has
 said_named has_next number script (line.Authorize name until) has = act_of_named number script name (λ phone. act.Authorize phone until) (λ phone count below. below) has
 said_named has_next number script (line.Update handle value) has = act_added script (act.Update handle value) tt has
@@ -129,17 +129,17 @@ either true one other first second = first
 either false one other first second = second
 
 line_named : (has_next : Bool) (number : ℕ) (script : Acts) (line : Octets) → HasNamedPhones script
-    → IfOk (with_line has_next number script line) HasNamedPhones
+    → IfOk (script_with_line has_next number script line) HasNamedPhones
 line_named has_next number script [] has = has
 line_named has_next number script (octet ∷ octets) has =
     either (octet == number_sign) _ _ has
     (after (require (line_of (octet ∷ octets)) (BadLine number)) _ (λ said. said_named has_next number script said has))
 
 lines_named : (has_next : Bool) (number : ℕ) (script : Acts) (lines : List Octets) → HasNamedPhones script
-    → IfOk (with_lines has_next number script lines) HasNamedPhones
+    → IfOk (script_with_lines has_next number script lines) HasNamedPhones
 lines_named has_next number script [] has = has
 lines_named has_next number script (line ∷ lines) has =
-    after_named (with_line has_next number script line) _ (line_named has_next number script line has)
+    after_named (script_with_line has_next number script line) _ (line_named has_next number script line has)
     (λ next named. lines_named has_next (number + 1) next lines named)
 
 none_named : HasNamedPhones no_acts
@@ -148,7 +148,7 @@ none_named = record { few = omega arith; distinct = tt; named = All-nil (IsOfPho
 
 script_named : (has_next : Bool) (text : Octets) → IfOk (script_of has_next text) HasNamedPhones
 unfolding script_of
-script_named has_next text = lines_named has_next 1 no_acts (lines_of text) none_named
+script_named has_next text = lines_named has_next 1 no_acts (lines_of_script text) none_named
 
 pub phones_named : (has_next : Bool) (text : Octets) (result : Result Acts ScriptFault) → Gives OutOfMemory (script_of has_next text) result
     → IfOk result HasNamedPhones

@@ -4,12 +4,12 @@ use Rattle.std.specs.Result.{OkIff, result_ok}
 use Rattle.std.specs.Str.{all_ascii_digits}
 use Rattle.std.specs.Str.Parse.{digits_value}
 use Rattle.std.proofs.lemmas.Bool.Decides.{nat_tests}
-use Rattle.scripts.specs.Numeral.{number_of}
+use Rattle.scripts.specs.Numeral.{numeral_of}
 
 pub number_parsed : {E : Type 0} (limit : ℕ) (word : List ℕ) (parsed : Result ℕ E)
     → OkIff parsed ((all_ascii_digits word ≡ true) × (0 < length word) × (digits_value 10 word < limit)) (digits_value 10 word)
-    → 0 < length word → result_ok parsed ≡ number_of limit word
-unfolding number_of
+    → 0 < length word → result_ok parsed ≡ numeral_of limit word
+unfolding numeral_of
 number_parsed limit word (Ok number) is some =
     let small = is.0.2 in
     rw (is.0.0, is.1) (grind (arith, nat_tests))

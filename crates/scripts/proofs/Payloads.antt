@@ -1,22 +1,22 @@
 -- Digits that write octets.
 use Rattle.std.proofs.Common.{◌≡◌, ℕ, true, false, is_some, List, [], Option, Some, None, unwrap_or, refl}
 use Rattle.hex.specs.Hex.{decode_pairs}
-use Rattle.scripts.specs.Payload.{decoded, octets_in, IsWritten}
+use Rattle.scripts.specs.Payload.{decoded, decoded_octets, IsWritten}
 
 written_where : (found : Option (List ℕ)) → is_some found ≡ true → found ≡ Some (unwrap_or found [])
 written_where None is = cc is
 written_where (Some octets) is = refl
 
 pub is_written : (digits : List ℕ) → is_some (decoded digits) ≡ true → IsWritten digits
-unfolding octets_in
+unfolding decoded_octets
 is_written digits is = written_where (decoded digits) is
 
 pub none_written : IsWritten []
-unfolding decoded octets_in decode_pairs
+unfolding decoded decoded_octets decode_pairs
 none_written = refl
 
-pub no_octets : octets_in [] ≡ []
-unfolding decoded octets_in decode_pairs
+pub no_octets : decoded_octets [] ≡ []
+unfolding decoded decoded_octets decode_pairs
 no_octets = refl
 
 pub ruleset written = (is_written, none_written, no_octets)

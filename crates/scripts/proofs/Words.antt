@@ -3,17 +3,17 @@ use Rattle.std.proofs.Common.{◌≡◌, ℕ, ◌+◌, ◌<◌, ◌==◌, List, 
 use Rattle.std.specs.List.{slice_split, count_by}
 use Rattle.std.proofs.lemmas.List.Splits.{length-slice_split}
 use Rattle.octets.specs.Number.{Octets}
-use Rattle.scripts.specs.Line.{words_of, said_by}
+use Rattle.scripts.specs.Line.{words_of, line_of_words}
 
-more_words : (first second third fourth : Octets) (words : List Octets) → 0 < length words → said_by (first ∷ second ∷ third ∷ fourth ∷ words) ≡ None
+more_words : (first second third fourth : Octets) (words : List Octets) → 0 < length words → line_of_words (first ∷ second ∷ third ∷ fourth ∷ words) ≡ None
 more_words first second third fourth [] some = absurd (omega (arith, some))
 more_words first second third fourth (word ∷ words) some = refl
 
 pub too_many_words : (first second third fourth line rest other behind : Octets)
     → words_of line ≡ first ∷ words_of rest → words_of rest ≡ second ∷ words_of other → words_of other ≡ third ∷ words_of behind
-    → (parts : Octets) → words_of behind ≡ fourth ∷ words_of parts → None ≡ said_by (words_of line)
+    → (parts : Octets) → words_of behind ≡ fourth ∷ words_of parts → None ≡ line_of_words (words_of line)
 too_many_words first second third fourth line rest other behind one two three parts four =
     let some : 0 < length (words_of parts) = omega (arith, length-slice_split (λ (octet : ℕ). octet == 32) parts) in
     sym (
-    ap said_by (one ∙ ap (λ (words : List Octets). first ∷ words) (two ∙ ap (λ (words : List Octets). second ∷ words) (three ∙ ap (λ (words : List Octets). third ∷ words) four)))
+    ap line_of_words (one ∙ ap (λ (words : List Octets). first ∷ words) (two ∙ ap (λ (words : List Octets). second ∷ words) (three ∙ ap (λ (words : List Octets). third ∷ words) four)))
     ∙ more_words first second third fourth (words_of parts) some)

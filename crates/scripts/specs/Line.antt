@@ -16,7 +16,7 @@ use Rattle.scripts.specs.declared.act.PhoneAct.TheVariants.{Connect, Drop, Encry
 use Rattle.scripts.specs.declared.line.Line.{Line}
 use Rattle.scripts.specs.declared.line.Line.TheVariants.{Phone, Authorize, Update, Tick, Replace}
 use Rattle.scripts.specs.Name.{name_of}
-use Rattle.scripts.specs.Numeral.{number_of}
+use Rattle.scripts.specs.Numeral.{numeral_of}
 use Rattle.scripts.specs.Payload.{payload_of}
 
 -- the words of a line, with a single space between each two
@@ -24,8 +24,8 @@ abbrev pub words_of : Octets → List Octets
 words_of line = slice_split (λ octet. octet == 32) line
 
 -- a type of address is a digit, and an address is written as in a key file
-unfoldable pub peer_of : Octets → Octets → Option Peer
-peer_of kind address = do
+unfoldable pub peer_of_words : Octets → Octets → Option Peer
+peer_of_words kind address = do
   type ← (if bytes_eq kind (codes "0") then Some PUBLIC_ADDRESS else if bytes_eq kind (codes "1") then Some RANDOM_ADDRESS else None)
   octets ← address_of address
   Some (record { kind = type; address = octets })
@@ -64,21 +64,21 @@ line_of_two first second =
     else if bytes_eq first (codes "hold") then of_phone second Hold
     else if bytes_eq first (codes "allow") then authorized_until second last_moment
     else if bytes_eq first (codes "deny") then authorized_until second 0
-    else if bytes_eq first (codes "tick") then option_map Tick (number_of (2 ^ 64) second)
+    else if bytes_eq first (codes "tick") then option_map Tick (numeral_of (2 ^ 64) second)
     else None
 
 -- `done NAME N`
 abbrev pub done_line : Octets → Octets → Option Line
-done_line name packets = number_of (2 ^ 16) packets >>= (λ count. of_phone name (Done count))
+done_line name packets = numeral_of (2 ^ 16) packets >>= (λ count. of_phone name (Done count))
 
 -- `allow NAME MS`
 abbrev pub allow_line : Octets → Octets → Option Line
-allow_line name moment = number_of (2 ^ 64) moment >>= (λ until. authorized_until name until)
+allow_line name moment = numeral_of (2 ^ 64) moment >>= (λ until. authorized_until name until)
 
 -- `update HANDLE HEX`
 abbrev pub update_line : Octets → Octets → Option Line
 update_line handle value = do
-  place ← number_of (2 ^ 16) handle
+  place ← numeral_of (2 ^ 16) handle
   octets ← payload_of value
   Some (Update place octets)
 
@@ -98,13 +98,13 @@ line_of_three first second third =
 
 -- `connect NAME KIND ADDRESS`
 abbrev pub connect_line : Octets → Octets → Octets → Option Line
-connect_line name kind address = peer_of kind address >>= (λ peer. of_phone name (Connect peer))
+connect_line name kind address = peer_of_words kind address >>= (λ peer. of_phone name (Connect peer))
 
 -- `encrypt NAME RAND EDIV`
 abbrev pub encrypt_line : Octets → Octets → Octets → Option Line
 encrypt_line name random diversifier = do
   number ← random_number_of random
-  chosen ← number_of (2 ^ 16) diversifier
+  chosen ← numeral_of (2 ^ 16) diversifier
   of_phone name (Encrypt number chosen)
 
 unfoldable pub line_of_four : Octets → Octets → Octets → Octets → Option Line
@@ -114,12 +114,12 @@ line_of_four first second third fourth =
     else None
 
 -- what words say, if they say something
-abbrev pub said_by : List Octets → Option Line
-said_by (first ∷ []) = line_of_one first
-said_by (first ∷ second ∷ []) = line_of_two first second
-said_by (first ∷ second ∷ third ∷ []) = line_of_three first second third
-said_by (first ∷ second ∷ third ∷ fourth ∷ []) = line_of_four first second third fourth
-said_by _ = None
+abbrev pub line_of_words : List Octets → Option Line
+line_of_words (first ∷ []) = line_of_one first
+line_of_words (first ∷ second ∷ []) = line_of_two first second
+line_of_words (first ∷ second ∷ third ∷ []) = line_of_three first second third
+line_of_words (first ∷ second ∷ third ∷ fourth ∷ []) = line_of_four first second third fourth
+line_of_words _ = None
 
 unfoldable pub line_of : Octets → Option Line
-line_of line = said_by (words_of line)
+line_of line = line_of_words (words_of line)

@@ -5,7 +5,7 @@ use Rattle.std.specs.Str.Parse.{digits_value}
 use Rattle.octets.specs.Number.{Octets}
 
 -- the number below a limit that digits write, of which there is at least one
-unfoldable pub number_of : ℕ → Octets → Option ℕ
-number_of limit word =
+unfoldable pub numeral_of : ℕ → Octets → Option ℕ
+numeral_of limit word =
     if nat_lt 0 (length word) && (all_ascii_digits word && nat_lt (digits_value 10 word) limit)
     then Some (digits_value 10 word) else None

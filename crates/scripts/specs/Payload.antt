@@ -18,8 +18,8 @@ payload_of word =
     else None
 
 -- the octets that digits write, where they do
-unfoldable pub octets_in : Octets → Octets
-octets_in digits = unwrap_or (decoded digits) []
+unfoldable pub decoded_octets : Octets → Octets
+decoded_octets digits = unwrap_or (decoded digits) []
 
 abbrev pub IsWritten : Octets → Type 0
-IsWritten digits = decoded digits ≡ Some (octets_in digits)
+IsWritten digits = decoded digits ≡ Some (decoded_octets digits)

@@ -1,7 +1,7 @@
 //! The lines of a script.
 
 ghost use Rattle.std.specs.Prelude.{◌≡◌, [], ◌∷◌, IfSome, IfNone};
-ghost use Rattle.scripts.specs.Line.{words_of, peer_of, random_number_of, channel_of, line_of_one, line_of_two, line_of_three, line_of_four, of_phone, authorized_until, line_of};
+ghost use Rattle.scripts.specs.Line.{words_of, peer_of_words, random_number_of, channel_of, line_of_one, line_of_two, line_of_three, line_of_four, of_phone, authorized_until, line_of};
 
 use crate::act::PhoneAct;
 use crate::name::Name;
@@ -168,9 +168,9 @@ fn read_channel(sign: &str) -> Option<u16>
 }
 
 /// The peer of a type of address and an address.
-#[tactic(auto, unfolding(crate::specs::Line::peer_of))]
+#[tactic(auto, unfolding(crate::specs::Line::peer_of_words))]
 fn read_peer(kind: &str, address: &str) -> Option<Peer>
-    ensures { result ≡ peer_of kind.now address.now }
+    ensures { result ≡ peer_of_words kind.now address.now }
 {
     let kind = match kind {
         "0" => PUBLIC_ADDRESS,

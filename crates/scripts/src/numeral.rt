@@ -1,12 +1,12 @@
 //! Numbers in decimal.
 
 ghost use Rattle.std.specs.Prelude.{◌≡◌, ◌^◌};
-ghost use Rattle.scripts.specs.Numeral.{number_of};
+ghost use Rattle.scripts.specs.Numeral.{numeral_of};
 
 /// The number below 65,536 that digits write.
-#[tactic(auto, unfolding(crate::specs::Numeral::number_of))]
+#[tactic(auto, unfolding(crate::specs::Numeral::numeral_of))]
 pub fn read_u16(word: &str) -> Option<u16>
-    ensures { result ≡ number_of (2 ^ 16) word.now }
+    ensures { result ≡ numeral_of (2 ^ 16) word.now }
 {
     match word.as_bytes() {
         [b'0'..=b'9', ..] => word.parse::<u16>().ok(),
@@ -15,9 +15,9 @@ pub fn read_u16(word: &str) -> Option<u16>
 }
 
 /// The number of 64 bits that digits write.
-#[tactic(auto, unfolding(crate::specs::Numeral::number_of))]
+#[tactic(auto, unfolding(crate::specs::Numeral::numeral_of))]
 pub fn read_u64(word: &str) -> Option<u64>
-    ensures { result ≡ number_of (2 ^ 64) word.now }
+    ensures { result ≡ numeral_of (2 ^ 64) word.now }
 {
     match word.as_bytes() {
         [b'0'..=b'9', ..] => word.parse::<u64>().ok(),

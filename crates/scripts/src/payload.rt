@@ -14,11 +14,11 @@ pub struct Payload<'a> {
 
 impl<'a> Model for Payload<'a> {
     ghost use Rattle.octets.specs.Number.{Octets};
-    ghost use Rattle.scripts.specs.Payload.{octets_in, IsWritten};
+    ghost use Rattle.scripts.specs.Payload.{decoded_octets, IsWritten};
 
     ghost Value = { Octets };
 
-    ghost view = { λ payload. octets_in payload.digits.now };
+    ghost view = { λ payload. decoded_octets payload.digits.now };
 
     ghost invariant = { λ payload. IsWritten payload.digits.now };
 }

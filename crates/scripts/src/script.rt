@@ -6,7 +6,7 @@ ghost use Rattle.std.specs.Str.{bytes_eq};
 ghost use Rattle.octets.specs.Memory.{Gives, Leaves};
 ghost use Rattle.scripts.specs.declared.script_fault.ScriptFault.TheVariants.{OutOfMemory};
 ghost use Rattle.scripts.specs.Phones.{HasNamedPhones};
-ghost use Rattle.scripts.specs.Script.{no_acts, number_in, with_name, with_said, with_line, lines_of, script_of};
+ghost use Rattle.scripts.specs.Script.{no_acts, phone_number_in, with_name, script_with_said, script_with_line, lines_of_script, script_of};
 
 use crate::act::Act;
 use crate::line::{Line, read_line};
@@ -88,7 +88,8 @@ impl<'a> Script<'a> {
 
     /// Takes in the line of a number.
     fn take_line(&mut self, has_next: bool, number: u64, line: &'a str) -> Result<(), ScriptFault>
-        ensures { Leaves OutOfMemory (with_line has_next number self.old line.now) result self.new }
+        ensures { Leaves OutOfMemory (script_with_line has_next number self.old line.now) result
+            self.new }
     {
         if let [] | [b'#', ..] = line.as_bytes() {
             return Ok(());
@@ -100,7 +101,7 @@ impl<'a> Script<'a> {
     /// Takes in what the line of a number says.
     fn take(&mut self, has_next: bool, number: u64, said: Line<'a>) -> Result<(), ScriptFault>
         ensures { Leaves OutOfMemory
-            (with_said has_next number self.old said.entry) result self.new }
+            (script_with_said has_next number self.old said.entry) result self.new }
     {
         let act = match said {
             Line::Phone { name, act } => {
@@ -127,11 +128,11 @@ impl<'a> Script<'a> {
 
 /// The number of a name, which stands behind the others if it is a new one.
 fn take_name<'a>(names: &mut Vec<Name<'a>>, name: Name<'a>, number: u64) -> Result<u8, ScriptFault>
-    ensures few { number_in names.old.items name.entry < MAX_PHONES
+    ensures few { phone_number_in names.old.items name.entry < MAX_PHONES
         → Leaves OutOfMemory (Ok (with_name names.old.items name.entry)) result names.new.items }
     ensures place { IfOk result
-        (λ place. (place ≡ number_in names.old.items name.entry) × (place < MAX_PHONES)) }
-    ensures many { MAX_PHONES ≤ number_in names.old.items name.entry
+        (λ place. (place ≡ phone_number_in names.old.items name.entry) × (place < MAX_PHONES)) }
+    ensures many { MAX_PHONES ≤ phone_number_in names.old.items name.entry
         → result ≡ Err (ScriptFault.BadLine number) }
 {
     let place = number_in(names, &name);
@@ -162,7 +163,7 @@ fn push_name<'a>(names: &mut Vec<Name<'a>>, name: Name<'a>) -> Result<(), AllocE
 
 /// The number of a name among these, or how many these are if it is another one.
 fn number_in(names: &[Name<'_>], name: &Name<'_>) -> usize
-    ensures { result ≡ number_in names.now name.now }
+    ensures { result ≡ phone_number_in names.now name.now }
 {
     place_of(names, name).unwrap_or(names.len())
 }
@@ -179,8 +180,8 @@ fn place_of(names: &[Name<'_>], name: &Name<'_>) -> Option<usize>
 /// The first line of a text that has another one, and what stands behind its line feed.
 fn first_line(text: &str) -> Option<(&str, &str)>
     ensures first { IfSome result
-        (λ parts. lines_of text.now ≡ parts.0.now ∷ lines_of parts.1.now) }
-    ensures only { IfNone result (lines_of text.now ≡ text.now ∷ []) }
+        (λ parts. lines_of_script text.now ≡ parts.0.now ∷ lines_of_script parts.1.now) }
+    ensures only { IfNone result (lines_of_script text.now ≡ text.now ∷ []) }
     ensures shorter { IfSome result (λ parts. length parts.1.now < length text.now) }
 {
     text.split_once('\n')

@@ -7,9 +7,9 @@ use Rattle.sim_controller.specs.declared.config.SimConfig.{SimConfig}
 use Rattle.sim_controller.specs.declared.fault.SimFault.{SimFault}
 use Rattle.sim_controller.specs.declared.told.Told.{Told}
 use Rattle.le_acl.specs.Fragment.{Fragment}
-use Rattle.sim_controller.specs.Acts.{Act, Connect, Drop, Encrypt, Clear, Send, Hold, Done, told_of_act, act_fault, after_doing, after_act}
-use Rattle.sim_controller.specs.Answers.{phone_here, answers, with_end, after_answer, after_data, host_fault, after_host}
-use Rattle.sim_controller.specs.Calls.{Call, Acts, Takes, Gives, Hears, Tells, if_accepted, after_call, after, told_of_data, told_of_host, told_by, given_by, given_in, GivesInOrder}
+use Rattle.sim_controller.specs.Acts.{SimulatedAct, Connect, Drop, Encrypt, Clear, Send, Hold, Done, told_of_act, act_fault, simulated_after_doing, simulated_after_act}
+use Rattle.sim_controller.specs.Answers.{phone_here, answers, with_end, simulated_after_answer, after_data, host_fault, after_host}
+use Rattle.sim_controller.specs.Calls.{SimulatedCall, Acts, Takes, Gives, Hears, Tells, if_accepted, after_call, after_calls, told_of_data, told_of_host, told_by, given_by_call, given_in_calls, GivesInOrder}
 use Rattle.sim_controller.specs.FromHost.{Taken, Command, Data, host_packet_of}
 use Rattle.sim_controller.specs.Simulated.{Simulated}
 
@@ -18,7 +18,7 @@ accepted : (fault : Option SimFault) (old new : Simulated) (told : List Told) �
 accepted None old new told e = e
 accepted (Some fault) old new told e = sym (append-nil old.waiting)
 
-doing-waits : (old : Simulated) (act : Act) → (after_doing old act).waiting ≡ old.waiting
+doing-waits : (old : Simulated) (act : SimulatedAct) → (simulated_after_doing old act).waiting ≡ old.waiting
 doing-waits old (Connect phone peer) = refl
 doing-waits old (Drop phone) = refl
 doing-waits old (Encrypt phone random_number diversifier) = refl
@@ -31,7 +31,7 @@ end-waits : (old : Simulated) (found : Option ℕ) (reason : ℕ) → (with_end 
 end-waits old None reason = refl
 end-waits old (Some phone) reason = refl
 
-answer-waits : (old : Simulated) (asked : Asked) → (after_answer old asked).waiting ≡ old.waiting
+answer-waits : (old : Simulated) (asked : Asked) → (simulated_after_answer old asked).waiting ≡ old.waiting
 answer-waits old (Status code) = refl
 answer-waits old ReadBufferSize = refl
 answer-waits old LeReadBufferSize = refl
@@ -50,9 +50,9 @@ host-waits old (Some (Command asked)) = ap (λ (waiting : List Told). waiting ++
 host-waits old (Some (Data handle fragment)) = data-waits old (phone_here old.phones handle) fragment
 
 -- one call
-call-waits : (old : Simulated) (call : Call) → given_by old call ++ (after_call old call).waiting ≡ old.waiting ++ told_by old call
+call-waits : (old : Simulated) (call : SimulatedCall) → given_by_call old call ++ (after_call old call).waiting ≡ old.waiting ++ told_by old call
 call-waits old (Acts act) =
-    accepted (act_fault old act) old (after_act old act) (told_of_act old.config act)
+    accepted (act_fault old act) old (simulated_after_act old act) (told_of_act old.config act)
     (ap (λ (waiting : List Told). waiting ++ told_of_act old.config act) (doing-waits old act))
 call-waits old (Takes octets) =
     accepted (host_fault old (host_packet_of octets)) old (after_host old (host_packet_of octets)) (told_of_host old (host_packet_of octets))
@@ -64,9 +64,9 @@ call-waits old (Tells phone) = sym (append-nil old.waiting)
 pub gives_in_order : (config : SimConfig) → GivesInOrder config
 gives_in_order config [] = refl
 gives_in_order config (call ∷ earlier) =
-    let old : Simulated = after config earlier in
-    let given : List Told = given_in config earlier in
-    append_assoc given (given_by old call) (after_call old call).waiting
+    let old : Simulated = after_calls config earlier in
+    let given : List Told = given_in_calls config earlier in
+    append_assoc given (given_by_call old call) (after_call old call).waiting
     ∙ ap (λ (told : List Told). given ++ told) (call-waits old call)
     ∙ sym (append_assoc given old.waiting (told_by old call))
     ∙ ap (λ (told : List Told). told ++ told_by old call) (gives_in_order config earlier)

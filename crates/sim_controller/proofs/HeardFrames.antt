@@ -12,12 +12,12 @@ use Rattle.sim_controller.specs.declared.command.Asked.{Asked}
 use Rattle.sim_controller.specs.declared.command.Asked.TheVariants.{Status, ReadBufferSize, LeReadBufferSize, Advertise, Disconnect, GiveKey, RefuseKey}
 use Rattle.sim_controller.specs.declared.config.SimConfig.{SimConfig}
 use Rattle.sim_controller.specs.declared.fault.SimFault.{SimFault}
-use Rattle.sim_controller.specs.Acts.{Act, Connect, Drop, Encrypt, Clear, Send, Hold, Done, act_fault, after_doing, after_act}
-use Rattle.sim_controller.specs.Answers.{here_or_none, phone_here, with_end, after_answer, after_data, host_fault, after_host}
-use Rattle.sim_controller.specs.Calls.{Call, Acts, Takes, Gives, Hears, Tells, if_accepted, after_call, after}
+use Rattle.sim_controller.specs.Acts.{SimulatedAct, Connect, Drop, Encrypt, Clear, Send, Hold, Done, act_fault, simulated_after_doing, simulated_after_act}
+use Rattle.sim_controller.specs.Answers.{here_or_none, phone_here, with_end, simulated_after_answer, after_data, host_fault, after_host}
+use Rattle.sim_controller.specs.Calls.{SimulatedCall, Acts, Takes, Gives, Hears, Tells, if_accepted, after_call, after_calls}
 use Rattle.sim_controller.specs.FromHost.{Taken, Command, Data, host_packet_of}
 use Rattle.sim_controller.specs.Hearing.{fragment_to, fragment_in, handed_by, is_connect_of, connects, fragments_for, frames_by, frames_for, frames_heard_by, frames_heard_in, HearsItsFrames}
-use Rattle.sim_controller.specs.Phone.{Link, Phone, absent, new_link, held_link, assembled_in, with_assembly, after_hearing, after_telling}
+use Rattle.sim_controller.specs.Phone.{Link, Phone, absent_phone, new_link, held_link, assembled_in, with_assembly, phone_after_hearing, after_telling}
 use Rattle.sim_controller.specs.Phones.{phone_with}
 use Rattle.sim_controller.specs.Simulated.{Simulated, phone_at}
 
@@ -71,27 +71,27 @@ data-moves (Some link) heard ended fragment older here behind =
 
 -- a phone that is found is here
 here-by : (phones : List Phone) (found : Option ℕ) (phone : ℕ) → option_and_then (here_or_none phones) found ≡ Some phone
-    → is_some (slice_index_or phones phone absent).link ≡ true
+    → is_some (slice_index_or phones phone absent_phone).link ≡ true
 here-by phones None phone e = absurd cc
-here-by phones (Some other) phone e = pick (is_some (slice_index_or phones other absent).link) refl e
+here-by phones (Some other) phone e = pick (is_some (slice_index_or phones other absent_phone).link) refl e
   where
-    pick : (here : Bool) → is_some (slice_index_or phones other absent).link ≡ here → (if here then Some other else None) ≡ Some phone
-        → is_some (slice_index_or phones phone absent).link ≡ true
+    pick : (here : Bool) → is_some (slice_index_or phones other absent_phone).link ≡ here → (if here then Some other else None) ≡ Some phone
+        → is_some (slice_index_or phones phone absent_phone).link ≡ true
     pick true is e =
         let same : other ≡ phone = cc in
-        ap (λ (n : ℕ). is_some (slice_index_or phones n absent).link) (sym same) ∙ is
+        ap (λ (n : ℕ). is_some (slice_index_or phones n absent_phone).link) (sym same) ∙ is
     pick false is e = absurd cc
 
 module _ (phone : ℕ) (old : Simulated) (older : List Fragment) (below : phone < length old.phones) (so_far : IsBehind (phone_at old phone).link older) where
   -- a phone is changed: this one, or another one
-  own : (new : Phone) → slice_index_or (slice_set old.phones phone new) phone absent ≡ new
-  own new = get_or-set_same old.phones phone new absent below
+  own : (new : Phone) → slice_index_or (slice_set old.phones phone new) phone absent_phone ≡ new
+  own new = get_or-set_same old.phones phone new absent_phone below
 
   abbrev put : ℕ → Phone → Phone
-  put other new = slice_index_or (slice_set old.phones other new) phone absent
+  put other new = slice_index_or (slice_set old.phones other new) phone absent_phone
 
   others : (other : ℕ) (new : Phone) → other ≢ phone → put other new ≡ phone_at old phone
-  others other new differs = get_or-set_other old.phones other phone new absent (λ e. differs (sym e))
+  others other new differs = get_or-set_other old.phones other phone new absent_phone (λ e. differs (sym e))
 
   other-stays : (other : ℕ) (new : Phone) → other ≢ phone → Moves (phone_at old phone) (put other new) [] [] older
   other-stays other new differs = stays (phone_at old phone) (put other new) older (others other new differs) so_far
@@ -106,7 +106,7 @@ module _ (phone : ℕ) (old : Simulated) (older : List Fragment) (below : phone 
           same (put other (new other)) (ap (λ (n : ℕ). put n (new n)) is ∙ own (new phone))
       pick false e = differs (eqb-false other phone e)
 
-  doing-moves : (act : Act) → Moves (phone_at old phone) (phone_at (after_doing old act) phone) [] [] (if is_connect_of phone act then [] else older)
+  doing-moves : (act : SimulatedAct) → Moves (phone_at old phone) (phone_at (simulated_after_doing old act) phone) [] [] (if is_connect_of phone act then [] else older)
   doing-moves (Connect other peer) = pick (other == phone) refl
     where
       pick : (b : Bool) → (other == phone) ≡ b → Moves (phone_at old phone) (put other (record (phone_at old other) { link = Some new_link })) [] [] (if b then [] else older)
@@ -135,8 +135,8 @@ module _ (phone : ℕ) (old : Simulated) (older : List Fragment) (below : phone 
       (λ differs. other-stays other (record (phone_at old other) { link = option_map held_link (phone_at old other).link }) differs)
   doing-moves (Done other packets) = stays (phone_at old phone) (phone_at old phone) older refl so_far
 
-  act-moves : (fault : Option SimFault) (act : Act)
-      → Moves (phone_at old phone) (phone_at (if_accepted fault (after_act old act) old) phone) [] [] (if if_accepted fault (is_connect_of phone act) false then [] else older)
+  act-moves : (fault : Option SimFault) (act : SimulatedAct)
+      → Moves (phone_at old phone) (phone_at (if_accepted fault (simulated_after_act old act) old) phone) [] [] (if if_accepted fault (is_connect_of phone act) false then [] else older)
   act-moves None act = doing-moves act
   act-moves (Some fault) act = stays (phone_at old phone) (phone_at old phone) older refl so_far
 
@@ -147,7 +147,7 @@ module _ (phone : ℕ) (old : Simulated) (older : List Fragment) (below : phone 
       (λ now e. leaves (phone_at old phone) now older (ap (λ (p : Phone). p.link) e) (ap (λ (p : Phone). p.heard) e))
       (λ differs. other-stays other (record (phone_at old other) { link = None; ended = Some reason }) differs)
 
-  answer-moves : (asked : Asked) → Moves (phone_at old phone) (phone_at (after_answer old asked) phone) [] [] older
+  answer-moves : (asked : Asked) → Moves (phone_at old phone) (phone_at (simulated_after_answer old asked) phone) [] [] older
   answer-moves (Status code) = stays (phone_at old phone) (phone_at old phone) older refl so_far
   answer-moves ReadBufferSize = stays (phone_at old phone) (phone_at old phone) older refl so_far
   answer-moves LeReadBufferSize = stays (phone_at old phone) (phone_at old phone) older refl so_far
@@ -189,22 +189,22 @@ module _ (phone : ℕ) (old : Simulated) (older : List Fragment) (below : phone 
   packet-moves None taken = host-moves taken
   packet-moves (Some fault) taken = stays (phone_at old phone) (phone_at old phone) older refl so_far
 
-  hears-moves : (other : ℕ) → Moves (phone_at old phone) (put other (after_hearing (phone_at old other)))
+  hears-moves : (other : ℕ) → Moves (phone_at old phone) (put other (phone_after_hearing (phone_at old other)))
       (if other == phone then take 1 (phone_at old phone).heard else []) [] older
   hears-moves other = pick (other == phone) refl
     where
-      pick : (b : Bool) → (other == phone) ≡ b → Moves (phone_at old phone) (put other (after_hearing (phone_at old other)))
+      pick : (b : Bool) → (other == phone) ≡ b → Moves (phone_at old phone) (put other (phone_after_hearing (phone_at old other)))
           (if b then take 1 (phone_at old phone).heard else []) [] older
       pick true e =
           let is : other ≡ phone = eqb-true other phone e in
-          let now : put other (after_hearing (phone_at old other)) ≡ after_hearing (phone_at old phone) =
-          ap (λ (n : ℕ). put n (after_hearing (phone_at old n))) is ∙ own (after_hearing (phone_at old phone)) in
+          let now : put other (phone_after_hearing (phone_at old other)) ≡ phone_after_hearing (phone_at old phone) =
+          ap (λ (n : ℕ). put n (phone_after_hearing (phone_at old n))) is ∙ own (phone_after_hearing (phone_at old phone)) in
           record {
             heard = ap (λ (p : Phone). take 1 (phone_at old phone).heard ++ p.heard) now
                 ∙ take-append-drop 1 (phone_at old phone).heard ∙ sym (append-nil (phone_at old phone).heard);
             behind = subst (λ (p : Phone). IsBehind p.link older) (sym now) so_far;
           }
-      pick false e = other-stays other (after_hearing (phone_at old other)) (eqb-false other phone e)
+      pick false e = other-stays other (phone_after_hearing (phone_at old other)) (eqb-false other phone e)
 
   tells-moves : (other : ℕ) → Moves (phone_at old phone) (put other (after_telling (phone_at old other))) [] [] older
   tells-moves other =
@@ -215,7 +215,7 @@ module _ (phone : ℕ) (old : Simulated) (older : List Fragment) (below : phone 
       })
       (λ differs. other-stays other (after_telling (phone_at old other)) differs)
 
-  call-moves : (call : Call) → Moves (phone_at old phone) (phone_at (after_call old call) phone) (frames_heard_by old phone call)
+  call-moves : (call : SimulatedCall) → Moves (phone_at old phone) (phone_at (after_call old call) phone) (frames_heard_by old phone call)
       (frames_by (handed_by old phone call) older) (if connects old phone call then [] else option_to_list (handed_by old phone call) ++ older)
   call-moves (Acts act) = act-moves (act_fault old act) act
   call-moves (Takes octets) = packet-moves (host_fault old (host_packet_of octets)) (host_packet_of octets)
@@ -224,7 +224,7 @@ module _ (phone : ℕ) (old : Simulated) (older : List Fragment) (below : phone 
   call-moves (Tells other) = tells-moves other
 
 -- there are always 8 phones
-doing-count : (old : Simulated) (act : Act) → length (after_doing old act).phones ≡ length old.phones
+doing-count : (old : Simulated) (act : SimulatedAct) → length (simulated_after_doing old act).phones ≡ length old.phones
 doing-count old (Connect phone peer) = length-set old.phones phone (record (phone_at old phone) { link = Some new_link })
 doing-count old (Drop phone) = length-set old.phones phone (record (phone_at old phone) { link = None })
 doing-count old (Encrypt phone random_number diversifier) = refl
@@ -237,7 +237,7 @@ end-count : (old : Simulated) (found : Option ℕ) (reason : ℕ) → length (wi
 end-count old None reason = refl
 end-count old (Some phone) reason = length-set old.phones phone (record (phone_at old phone) { link = None; ended = Some reason })
 
-answer-count : (old : Simulated) (asked : Asked) → length (after_answer old asked).phones ≡ length old.phones
+answer-count : (old : Simulated) (asked : Asked) → length (simulated_after_answer old asked).phones ≡ length old.phones
 answer-count old (Status code) = refl
 answer-count old ReadBufferSize = refl
 answer-count old LeReadBufferSize = refl
@@ -261,34 +261,34 @@ accepted-count : (fault : Option SimFault) (old new : Simulated) → length new.
 accepted-count None old new e = e
 accepted-count (Some fault) old new e = refl
 
-call-count : (old : Simulated) (call : Call) → length (after_call old call).phones ≡ length old.phones
-call-count old (Acts act) = accepted-count (act_fault old act) old (after_act old act) (doing-count old act)
+call-count : (old : Simulated) (call : SimulatedCall) → length (after_call old call).phones ≡ length old.phones
+call-count old (Acts act) = accepted-count (act_fault old act) old (simulated_after_act old act) (doing-count old act)
 call-count old (Takes octets) =
     accepted-count (host_fault old (host_packet_of octets)) old (after_host old (host_packet_of octets)) (host-count old (host_packet_of octets))
 call-count old Gives = refl
-call-count old (Hears phone) = length-set old.phones phone (after_hearing (phone_at old phone))
+call-count old (Hears phone) = length-set old.phones phone (phone_after_hearing (phone_at old phone))
 call-count old (Tells phone) = length-set old.phones phone (after_telling (phone_at old phone))
 
-all-count : (config : SimConfig) (calls : List Call) → length (after config calls).phones ≡ 8
+all-count : (config : SimConfig) (calls : List SimulatedCall) → length (after_calls config calls).phones ≡ 8
 all-count config [] = refl
-all-count config (call ∷ earlier) = call-count (after config earlier) call ∙ all-count config earlier
+all-count config (call ∷ earlier) = call-count (after_calls config earlier) call ∙ all-count config earlier
 
 none-behind : (phone : ℕ) → phone < 8 → (link : Option Link) → link ≡ None → IsBehind link []
 none-behind phone below link e = subst (λ (l : Option Link). IsBehind l []) (sym e) tt
 
-record Follows (config : SimConfig) (phone : ℕ) (calls : List Call) : Type 0 where
-  heard : frames_heard_in config phone calls ++ (phone_at (after config calls) phone).heard ≡ frames_for config phone calls
-  behind : IsBehind (phone_at (after config calls) phone).link (fragments_for config phone calls)
+record Follows (config : SimConfig) (phone : ℕ) (calls : List SimulatedCall) : Type 0 where
+  heard : frames_heard_in config phone calls ++ (phone_at (after_calls config calls) phone).heard ≡ frames_for config phone calls
+  behind : IsBehind (phone_at (after_calls config calls) phone).link (fragments_for config phone calls)
 
-follows : (config : SimConfig) (phone : ℕ) (calls : List Call) → phone < 8 → Follows config phone calls
+follows : (config : SimConfig) (phone : ℕ) (calls : List SimulatedCall) → phone < 8 → Follows config phone calls
 follows config phone [] below =
-    let absent-first : slice_index_or (after config []).phones phone absent ≡ absent = get_or-replicate 8 phone absent absent below in
+    let absent-first : slice_index_or (after_calls config []).phones phone absent_phone ≡ absent_phone = get_or-replicate 8 phone absent_phone absent_phone below in
     record {
       heard = ap (λ (p : Phone). p.heard) absent-first;
-      behind = none-behind phone below (phone_at (after config []) phone).link (ap (λ (p : Phone). p.link) absent-first);
+      behind = none-behind phone below (phone_at (after_calls config []) phone).link (ap (λ (p : Phone). p.link) absent-first);
     }
 follows config phone (call ∷ earlier) below =
-    let old : Simulated = after config earlier in
+    let old : Simulated = after_calls config earlier in
     let before = follows config phone earlier below in
     let inside : phone < length old.phones = omega (arith, below, all-count config earlier) in
     let moves = call-moves phone old (fragments_for config phone earlier) inside before.behind call in

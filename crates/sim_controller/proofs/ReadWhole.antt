@@ -7,14 +7,14 @@ use Rattle.octets.specs.Number.{from_two}
 use Rattle.le_h4.specs.Packet.{Packet, AclPacket, EventPacket, FirstPacket, first_of, acl_packet, with_data}
 use Rattle.le_h4.proofs.Firsts.{with_data-whole}
 use Rattle.le_hci.specs.Event.{Reported, DisconnectionComplete, EncryptionChange, CommandComplete, CommandStatus, NumberOfCompletedPackets, ConnectionComplete, LongTermKeyRequest}
-use Rattle.le_hci.specs.EventPacket.{packet, code_of, fields_of, HasFields, report_read}
+use Rattle.le_hci.specs.EventPacket.{event_packet, event_code, fields_of, HasFields, report_read}
 use Rattle.le_hci.specs.declared.event.BadEvent.{BadEvent}
 use Rattle.le_hci.specs.declared.event.CompletedPackets.{CompletedPackets}
 use Rattle.le_hci.proofs.SentEvents.{is_read}
 use Rattle.std.proofs.lemmas.Bool.{ltb-true}
 use Rattle.std.proofs.lemmas.List.Elements.{All-nil, All-cons}
 use Rattle.le_acl.specs.Fragment.{Fragment, Beginning, Continuation}
-use Rattle.le_acl.specs.Packets.{pieces, fragments_of_pieces, frame_of}
+use Rattle.le_acl.specs.Packets.{pieces, fragments_of_pieces, frame_octets}
 use Rattle.sim_controller.specs.declared.command.Asked.{Asked}
 use Rattle.sim_controller.specs.declared.command.Asked.TheVariants.{Status, ReadBufferSize, LeReadBufferSize, Advertise, Disconnect, GiveKey, RefuseKey}
 use Rattle.sim_controller.specs.declared.config.SimConfig.{SimConfig}
@@ -22,19 +22,19 @@ use Rattle.sim_controller.specs.declared.fault.SimFault.{SimFault}
 use Rattle.le_hci.specs.declared.reason.TheConstants.{REMOTE_USER_TERMINATED}
 use Rattle.sim_controller.specs.declared.told.Told.{Told}
 use Rattle.sim_controller.specs.declared.told.Told.TheVariants as told
-use Rattle.sim_controller.specs.Acts.{Act, Connect, Drop, Encrypt, Clear, Send, Hold, Done, told_of_act, act_fault}
-use Rattle.sim_controller.specs.Answers.{here_or_none, phone_here, answer_to, end_by_host, encryption_on, events_after, host_fault}
+use Rattle.sim_controller.specs.Acts.{SimulatedAct, Connect, Drop, Encrypt, Clear, Send, Hold, Done, told_of_act, act_fault}
+use Rattle.sim_controller.specs.Answers.{here_or_none, phone_here, answer_to_command, end_by_host, encryption_on, events_after, host_fault}
 use Rattle.sim_controller.specs.Calls.{Acts, Takes, Gives, Hears, Tells, if_accepted, told_of_data, told_of_host, IsFit, ReportsItself, IsReadWhole, TellsWhatIsRead}
 use Rattle.sim_controller.specs.Frames.{told_fragment, told_frame}
 use Rattle.sim_controller.specs.FromHost as host
 use Rattle.sim_controller.specs.FromHost.{Taken, host_packet_of}
-use Rattle.sim_controller.specs.Phone.{Phone, absent, is_held}
+use Rattle.sim_controller.specs.Phone.{Phone, absent_phone, is_held}
 use Rattle.sim_controller.specs.Phones.{handle_of_phone, phone_with}
 use Rattle.sim_controller.specs.Simulated.{Simulated, phone_at}
-use Rattle.sim_controller.specs.Told.{Event, Data, event_octets, octets_of}
+use Rattle.sim_controller.specs.Told.{Event, Data, event_octets, sent_octets}
 
 -- an event is read whole
-event-first : (code : ℕ) (parameters : List ℕ) → first_of (event_octets code parameters) ≡ FirstPacket (EventPacket (packet code parameters)) []
+event-first : (code : ℕ) (parameters : List ℕ) → first_of (event_octets code parameters) ≡ FirstPacket (EventPacket (event_packet code parameters)) []
 event-first code parameters =
     let read : List ℕ → Packet = λ octets. EventPacket (code ∷ length parameters ∷ octets) in
     with_data-whole read (length parameters) parameters (omega arith)
@@ -46,7 +46,7 @@ restored n = omega arith
 
 -- and so are data
 data-first : (handle boundary : ℕ) (octets : List ℕ) → handle < 4096 → boundary < 4
-    → first_of (octets_of (Data handle boundary octets)) ≡ FirstPacket (AclPacket handle boundary 0 octets) []
+    → first_of (sent_octets (Data handle boundary octets)) ≡ FirstPacket (AclPacket handle boundary 0 octets) []
 data-first handle boundary octets small flag =
     let field : ℕ = handle + 4096 * boundary in
     let low : field % 4096 ≡ handle = omega arith in
@@ -64,7 +64,7 @@ data-first handle boundary octets small flag =
 event-read : (sent : Reported) → HasFields sent [] → report_read sent ≡ sent → ReportsItself (Event sent)
 event-read sent fields same =
     let ok : Reported → Result Reported BadEvent = λ report. Ok report in
-    is_read (packet (code_of sent) (fields_of sent)) sent [] fields (ap (packet (code_of sent)) (append-nil (fields_of sent)))
+    is_read (event_packet (event_code sent) (fields_of sent)) sent [] fields (ap (event_packet (event_code sent)) (append-nil (fields_of sent)))
     ∙ ap ok same
 
 -- the handle of a phone has 12 bits
@@ -86,7 +86,7 @@ IsFitTold (told.CompletedPackets phone packets) = phone < 8
 IsFitTold (told.Beginning phone octets) = phone < 8
 IsFitTold (told.Continuation phone octets) = phone < 8
 
-told-read : (packet : Told) → IsFitTold packet → IsReadWhole packet
+told-read : (event_packet : Told) → IsFitTold event_packet → IsReadWhole event_packet
 told-read (told.CommandComplete code parameters) fit = record {
   first = event-first 0x0E (fields_of (CommandComplete 1 code parameters.items));
   event = event-read (CommandComplete 1 code parameters.items) refl refl;
@@ -138,8 +138,8 @@ told-read (told.Continuation phone octets) fit = record {
 none : All IsReadWhole []
 none = All-nil IsReadWhole
 
-one : (packet : Told) → IsFitTold packet → All IsReadWhole (packet ∷ [])
-one packet fit = All-cons IsReadWhole packet [] (told-read packet fit) none
+one : (event_packet : Told) → IsFitTold event_packet → All IsReadWhole (event_packet ∷ [])
+one event_packet fit = All-cons IsReadWhole event_packet [] (told-read event_packet fit) none
 
 -- the acts
 fragment-read : (phone : ℕ) (fragment : Fragment) → phone < 8 → IsReadWhole (told_fragment phone fragment)
@@ -156,12 +156,12 @@ frame-read : (phone cut : ℕ) (frame : List ℕ) → phone < 8 → All IsReadWh
 unfolding told_frame
 frame-read phone cut frame below = fragments-read phone (fragments_of_pieces (pieces cut frame)) below
 
-act-read : (config : SimConfig) (act : Act) → IsFit act → All IsReadWhole (told_of_act config act)
+act-read : (config : SimConfig) (act : SimulatedAct) → IsFit act → All IsReadWhole (told_of_act config act)
 act-read config (Connect phone peer) fit = one (told.ConnectionComplete phone peer) fit
 act-read config (Drop phone) fit = one (told.DisconnectionComplete phone REMOTE_USER_TERMINATED) fit
 act-read config (Encrypt phone random_number diversifier) fit = one (told.LongTermKeyRequest phone random_number diversifier) fit
 act-read config (Clear phone) fit = one (told.EncryptionChange phone 0x00) fit
-act-read config (Send phone channel payload) fit = frame-read phone config.cut (frame_of (channel, payload)) fit
+act-read config (Send phone channel payload) fit = frame-read phone config.cut (frame_octets (channel, payload)) fit
 act-read config (Hold phone) fit = none
 act-read config (Done phone packets) fit = one (told.CompletedPackets phone packets) fit
 
@@ -179,7 +179,7 @@ phone-below handle phone e = below-by (nat_le 64 handle) (nat_lt handle 72) hand
 here-by : (phones : List Phone) (found : Option ℕ) (phone : ℕ) → ((other : ℕ) → found ≡ Some other → other < 8)
     → option_and_then (here_or_none phones) found ≡ Some phone → phone < 8
 here-by phones None phone below e = absurd cc
-here-by phones (Some other) phone below e = pick (is_some (slice_index_or phones other absent).link) e
+here-by phones (Some other) phone below e = pick (is_some (slice_index_or phones other absent_phone).link) e
   where
     pick : (here : Bool) → (if here then Some other else None) ≡ Some phone → phone < 8
     pick true e = let is : other ≡ phone = cc in omega (arith, below other refl, is)
@@ -203,7 +203,7 @@ events-read phones (Disconnect handle reason) =
 events-read phones (GiveKey handle) = event-reads encryption_on (λ phone below. below) (phone_here phones handle) (here-below phones handle)
 events-read phones (RefuseKey handle) = none
 
-answer-fit : (config : SimConfig) (asked : Asked) → IsFitTold (answer_to config asked)
+answer-fit : (config : SimConfig) (asked : Asked) → IsFitTold (answer_to_command config asked)
 answer-fit config (Status code) = tt
 answer-fit config ReadBufferSize = tt
 answer-fit config LeReadBufferSize = tt
@@ -223,8 +223,8 @@ data-read old (Some phone) below = held-read (is_held (phone_at old phone).link)
 host-read : (old : Simulated) (taken : Option Taken) → All IsReadWhole (told_of_host old taken)
 host-read old None = none
 host-read old (Some (host.Command asked)) =
-    All-cons IsReadWhole (answer_to old.config asked) (events_after old.phones asked)
-    (told-read (answer_to old.config asked) (answer-fit old.config asked)) (events-read old.phones asked)
+    All-cons IsReadWhole (answer_to_command old.config asked) (events_after old.phones asked)
+    (told-read (answer_to_command old.config asked) (answer-fit old.config asked)) (events-read old.phones asked)
 host-read old (Some (host.Data handle fragment)) = data-read old (phone_here old.phones handle) (here-below old.phones handle)
 
 all-accepted : (fault : Option SimFault) (packets : List Told) → All IsReadWhole packets → All IsReadWhole (if_accepted fault packets [])

@@ -3,7 +3,7 @@ use Rattle.std.specs.Prelude.{ℕ, Bool, true, false, ◌&&◌, not, if◌then�
 use Rattle.std.specs.Option.{option_map}
 use Rattle.octets.specs.Number.{Octets}
 use Rattle.le_hci.specs.declared.peer.Peer.{Peer}
-use Rattle.le_acl.specs.Packets.{frame_of}
+use Rattle.le_acl.specs.Packets.{frame_octets}
 use Rattle.sim_controller.specs.declared.act.PhoneAct.{PhoneAct}
 use Rattle.sim_controller.specs.declared.act.PhoneAct.TheVariants as variant
 use Rattle.sim_controller.specs.declared.config.SimConfig.{SimConfig}
@@ -17,16 +17,16 @@ use Rattle.sim_controller.specs.Phone.{new_link, held_link}
 use Rattle.sim_controller.specs.Simulated.{Simulated, phone_at, is_here, with_phone, with_told, is_too_much, IsDone}
 
 -- what a phone does, without where its payload lies
-pub data Act : Type 0 where
-  Connect : (phone : ℕ) (peer : Peer) → Act
-  Drop : (phone : ℕ) → Act
-  Encrypt : (phone : ℕ) (random_number : Octets) (diversifier : ℕ) → Act
-  Clear : (phone : ℕ) → Act
-  Send : (phone channel : ℕ) (payload : Octets) → Act
-  Hold : (phone : ℕ) → Act
-  Done : (phone packets : ℕ) → Act
+pub data SimulatedAct : Type 0 where
+  Connect : (phone : ℕ) (peer : Peer) → SimulatedAct
+  Drop : (phone : ℕ) → SimulatedAct
+  Encrypt : (phone : ℕ) (random_number : Octets) (diversifier : ℕ) → SimulatedAct
+  Clear : (phone : ℕ) → SimulatedAct
+  Send : (phone channel : ℕ) (payload : Octets) → SimulatedAct
+  Hold : (phone : ℕ) → SimulatedAct
+  Done : (phone packets : ℕ) → SimulatedAct
 
-abbrev pub act_of : PhoneAct → Act
+abbrev pub act_of : PhoneAct → SimulatedAct
 act_of (variant.Connect phone peer) = Connect phone peer
 act_of (variant.Drop phone) = Drop phone
 act_of (variant.Encrypt phone random_number diversifier) = Encrypt phone random_number diversifier
@@ -36,7 +36,7 @@ act_of (variant.Hold phone) = Hold phone
 act_of (variant.Done phone packets) = Done phone packets
 
 -- whose act it is, and what it sends
-abbrev pub phone_in : Act → ℕ
+abbrev pub phone_in : SimulatedAct → ℕ
 phone_in (Connect phone peer) = phone
 phone_in (Drop phone) = phone
 phone_in (Encrypt phone random_number diversifier) = phone
@@ -45,21 +45,21 @@ phone_in (Send phone channel payload) = phone
 phone_in (Hold phone) = phone
 phone_in (Done phone packets) = phone
 
-abbrev pub payload_in : Act → Octets
+abbrev pub payload_in : SimulatedAct → Octets
 payload_in (Send phone channel payload) = payload
 payload_in _ = []
 
 -- what the host is told of an act
-abbrev pub told_of_act : SimConfig → Act → List Told
+abbrev pub told_of_act : SimConfig → SimulatedAct → List Told
 told_of_act config (Connect phone peer) = told.ConnectionComplete phone peer ∷ []
 told_of_act config (Drop phone) = told.DisconnectionComplete phone REMOTE_USER_TERMINATED ∷ []
 told_of_act config (Encrypt phone random_number diversifier) = told.LongTermKeyRequest phone random_number diversifier ∷ []
 told_of_act config (Clear phone) = told.EncryptionChange phone 0x00 ∷ []
-told_of_act config (Send phone channel payload) = told_frame phone config.cut (frame_of (channel, payload))
+told_of_act config (Send phone channel payload) = told_frame phone config.cut (frame_octets (channel, payload))
 told_of_act config (Hold phone) = []
 told_of_act config (Done phone packets) = told.CompletedPackets phone packets ∷ []
 
-abbrev pub is_connect : Act → Bool
+abbrev pub is_connect : SimulatedAct → Bool
 is_connect (Connect phone peer) = true
 is_connect _ = false
 
@@ -67,7 +67,7 @@ is_connect _ = false
 abbrev pub act_faults : List SimFault
 act_faults = NotHere ∷ AlreadyHere ∷ NotAdvertising ∷ Full ∷ []
 
-abbrev pub act_breaks : Simulated → Act → SimFault → Bool
+abbrev pub act_breaks : Simulated → SimulatedAct → SimFault → Bool
 act_breaks old act NotHere = not (is_connect act) && not (is_here old (phone_in act))
 act_breaks old act AlreadyHere = is_connect act && is_here old (phone_in act)
 act_breaks old act NotAdvertising = is_connect act && not old.advertising
@@ -75,7 +75,7 @@ act_breaks old act Full = is_too_much old (told_of_act old.config act)
 act_breaks old act BadPacket = false
 act_breaks old act OutOfMemory = false
 
-abbrev pub act_fault : Simulated → Act → Option SimFault
+abbrev pub act_fault : Simulated → SimulatedAct → Option SimFault
 act_fault old act = find (act_breaks old act) act_faults
 
 -- the same of an act that has the host told something and changes nothing besides
@@ -84,18 +84,18 @@ telling_fault old phone packets =
     if not (is_here old phone) then Some NotHere else if is_too_much old packets then Some Full else None
 
 -- what an act changes besides
-abbrev pub after_doing : Simulated → Act → Simulated
-after_doing old (Connect phone peer) =
+abbrev pub simulated_after_doing : Simulated → SimulatedAct → Simulated
+simulated_after_doing old (Connect phone peer) =
     record (with_phone old phone (record (phone_at old phone) { link = Some new_link })) { advertising = false }
-after_doing old (Drop phone) = with_phone old phone (record (phone_at old phone) { link = None })
-after_doing old (Hold phone) =
+simulated_after_doing old (Drop phone) = with_phone old phone (record (phone_at old phone) { link = None })
+simulated_after_doing old (Hold phone) =
     with_phone old phone (record (phone_at old phone) { link = option_map held_link (phone_at old phone).link })
-after_doing old _ = old
+simulated_after_doing old _ = old
 
 -- after an act that no fault refuses
-abbrev pub after_act : Simulated → Act → Simulated
-after_act old act = with_told (after_doing old act) (told_of_act old.config act)
+abbrev pub simulated_after_act : Simulated → SimulatedAct → Simulated
+simulated_after_act old act = with_told (simulated_after_doing old act) (told_of_act old.config act)
 
 -- a call does an act
-abbrev pub Does : Act → Simulated → Simulated → Result (Unit {0}) SimFault → Type 0
-Does act old new result = IsDone (act_fault old act) (after_act old act) old new result
+abbrev pub DoesAct : SimulatedAct → Simulated → Simulated → Result (Unit {0}) SimFault → Type 0
+DoesAct act old new result = IsDone (act_fault old act) (simulated_after_act old act) old new result

@@ -13,13 +13,13 @@ use Rattle.le_hci.specs.declared.reason.TheConstants.{LOCAL_HOST_TERMINATED}
 use Rattle.sim_controller.specs.declared.told.Told.{Told}
 use Rattle.sim_controller.specs.declared.told.Told.TheVariants as told
 use Rattle.sim_controller.specs.FromHost.{Taken, Command, Data}
-use Rattle.sim_controller.specs.Phone.{Phone, absent, assembled_in, with_assembly, hears_too_much, is_held}
+use Rattle.sim_controller.specs.Phone.{Phone, absent_phone, assembled_in, with_assembly, hears_too_much, is_held}
 use Rattle.sim_controller.specs.Phones.{phone_with}
 use Rattle.sim_controller.specs.Simulated.{Simulated, phone_at, with_phone, with_told, is_too_much}
 
 -- the phone that is here and whose connection has a handle
 abbrev pub here_or_none : List Phone → ℕ → Option ℕ
-here_or_none phones phone = if is_some (slice_index_or phones phone absent).link then Some phone else None
+here_or_none phones phone = if is_some (slice_index_or phones phone absent_phone).link then Some phone else None
 
 abbrev pub phone_here : List Phone → ℕ → Option ℕ
 phone_here phones handle = option_and_then (here_or_none phones) (phone_with handle)
@@ -37,14 +37,14 @@ abbrev pub all_buffers : SimConfig → Octets
 all_buffers config = two_octets config.acl_len ++ 0 ∷ two_octets config.packets ++ two_octets 0
 
 -- the answer to a command, whether its phone is here or not
-abbrev pub answer_to : SimConfig → Asked → Told
-answer_to config (Status code) = completion code []
-answer_to config ReadBufferSize = completion opcode.READ_BUFFER_SIZE (all_buffers config)
-answer_to config LeReadBufferSize = completion opcode.LE_READ_BUFFER_SIZE (le_buffers config)
-answer_to config (Advertise enable) = completion opcode.LE_SET_ADVERTISE_ENABLE []
-answer_to config (Disconnect handle reason) = told.CommandStatus opcode.DISCONNECT
-answer_to config (GiveKey handle) = completion opcode.LE_LONG_TERM_KEY_REQUEST_REPLY (two_octets handle)
-answer_to config (RefuseKey handle) = completion opcode.LE_LONG_TERM_KEY_REQUEST_NEGATIVE_REPLY (two_octets handle)
+abbrev pub answer_to_command : SimConfig → Asked → Told
+answer_to_command config (Status code) = completion code []
+answer_to_command config ReadBufferSize = completion opcode.READ_BUFFER_SIZE (all_buffers config)
+answer_to_command config LeReadBufferSize = completion opcode.LE_READ_BUFFER_SIZE (le_buffers config)
+answer_to_command config (Advertise enable) = completion opcode.LE_SET_ADVERTISE_ENABLE []
+answer_to_command config (Disconnect handle reason) = told.CommandStatus opcode.DISCONNECT
+answer_to_command config (GiveKey handle) = completion opcode.LE_LONG_TERM_KEY_REQUEST_REPLY (two_octets handle)
+answer_to_command config (RefuseKey handle) = completion opcode.LE_LONG_TERM_KEY_REQUEST_NEGATIVE_REPLY (two_octets handle)
 
 abbrev pub end_by_host : ℕ → Told
 end_by_host phone = told.DisconnectionComplete phone LOCAL_HOST_TERMINATED
@@ -60,23 +60,23 @@ events_after phones (GiveKey handle) = option_to_list (option_map encryption_on 
 events_after phones _ = []
 
 abbrev pub answers : Simulated → Asked → List Told
-answers old asked = answer_to old.config asked ∷ events_after old.phones asked
+answers old asked = answer_to_command old.config asked ∷ events_after old.phones asked
 
 -- what a command changes besides
 abbrev pub with_end : Simulated → Option ℕ → ℕ → Simulated
 with_end old None reason = old
 with_end old (Some phone) reason = with_phone old phone (record (phone_at old phone) { link = None; ended = Some reason })
 
-abbrev pub after_answer : Simulated → Asked → Simulated
-after_answer old (Advertise enable) = record old { advertising = enable }
-after_answer old (Disconnect handle reason) = with_end old (phone_here old.phones handle) reason
-after_answer old _ = old
+abbrev pub simulated_after_answer : Simulated → Asked → Simulated
+simulated_after_answer old (Advertise enable) = record old { advertising = enable }
+simulated_after_answer old (Disconnect handle reason) = with_end old (phone_here old.phones handle) reason
+simulated_after_answer old _ = old
 
 abbrev pub command_fault : Simulated → Asked → Option SimFault
 command_fault old asked = if is_too_much old (answers old asked) then Some Full else None
 
 abbrev pub after_command : Simulated → Asked → Simulated
-after_command old asked = with_told (after_answer old asked) (answers old asked)
+after_command old asked = with_told (simulated_after_answer old asked) (answers old asked)
 
 -- a packet for a phone is completed, unless its packets are held
 abbrev pub completions_for : Simulated → ℕ → List Told

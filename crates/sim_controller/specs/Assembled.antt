@@ -1,7 +1,7 @@
 -- What the fragments of a frame have come to, as le_acl says it.
 use Rattle.std.specs.Prelude.{Some, None}
 use Rattle.octets.specs.Number.{Octets}
-use Rattle.le_acl.specs.Reassembler.{Assembly, nothing}
+use Rattle.le_acl.specs.Reassembler.{Assembly, no_assembly}
 use Rattle.sim_controller.specs.declared.assembly.Assembled.{Assembled}
 use Rattle.sim_controller.specs.declared.assembly.Assembled.TheVariants.{Nothing, Unfinished, Frame}
 use Rattle.sim_controller.specs.declared.assembly.State.{State}
@@ -14,11 +14,11 @@ abbrev pub frame_with : Octets → Assembly
 frame_with octets = record { unfinished = None; frame = Some octets }
 
 abbrev pub assembly : Assembled → Assembly
-assembly Nothing = nothing
+assembly Nothing = no_assembly
 assembly (Unfinished octets) = unfinished_with octets.items
 assembly (Frame octets) = frame_with octets.items
 
 abbrev pub assembly_by : State → Octets → Assembly
 assembly_by Short octets = unfinished_with octets
 assembly_by Whole octets = frame_with octets
-assembly_by Long octets = nothing
+assembly_by Long octets = no_assembly

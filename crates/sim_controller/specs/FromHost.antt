@@ -47,8 +47,8 @@ refuse_key_by (low ∷ high ∷ []) = Some (RefuseKey (from_two low high))
 refuse_key_by _ = None
 
 -- what a command with these parameters asks, where it is one of the twelve that the controller knows
-unfoldable pub asked_by : ℕ → Octets → Option Asked
-asked_by code parameters =
+unfoldable pub asked_by_command : ℕ → Octets → Option Asked
+asked_by_command code parameters =
     if code == opcode.RESET then status_if (length parameters == 0) code
     else if code == opcode.SET_EVENT_MASK then status_if (length parameters == 8) code
     else if code == opcode.LE_SET_EVENT_MASK then status_if (length parameters == 8) code
@@ -65,7 +65,7 @@ asked_by code parameters =
 
 abbrev pub command_in : Octets → Option Asked
 command_in (low ∷ high ∷ size ∷ parameters) =
-    if length parameters == size then asked_by (from_two low high) parameters else None
+    if length parameters == size then asked_by_command (from_two low high) parameters else None
 command_in _ = None
 
 -- data by the packet boundary and broadcast flags, the upper four bits: 00 begins a frame and 01 continues one, and

@@ -5,9 +5,9 @@ use Rattle.octets.specs.Number.{Octets}
 use Rattle.le_acl.specs.Fragment.{Fragment}
 use Rattle.le_acl.specs.Frame.{frame_at}
 use Rattle.sim_controller.specs.declared.config.SimConfig.{SimConfig}
-use Rattle.sim_controller.specs.Acts.{Act, Connect, act_fault}
+use Rattle.sim_controller.specs.Acts.{SimulatedAct, Connect, act_fault}
 use Rattle.sim_controller.specs.Answers.{phone_here, host_fault}
-use Rattle.sim_controller.specs.Calls.{Call, Acts, Takes, Gives, Hears, Tells, if_accepted, after}
+use Rattle.sim_controller.specs.Calls.{SimulatedCall, Acts, Takes, Gives, Hears, Tells, if_accepted, after_calls}
 use Rattle.sim_controller.specs.FromHost.{Taken, Command, Data, host_packet_of}
 use Rattle.sim_controller.specs.Simulated.{Simulated, phone_at}
 
@@ -22,7 +22,7 @@ fragment_in old phone (Some (Command asked)) = None
 fragment_in old phone (Some (Data handle fragment)) = fragment_to phone fragment (phone_here old.phones handle)
 
 -- the fragment that a call hands in for a phone
-abbrev pub handed_by : Simulated → ℕ → Call → Option Fragment
+abbrev pub handed_by : Simulated → ℕ → SimulatedCall → Option Fragment
 handed_by old phone (Acts act) = None
 handed_by old phone (Takes octets) = if_accepted (host_fault old (host_packet_of octets)) (fragment_in old phone (host_packet_of octets)) None
 handed_by old phone Gives = None
@@ -30,41 +30,41 @@ handed_by old phone (Hears other) = None
 handed_by old phone (Tells other) = None
 
 -- whether a call connects a phone
-abbrev pub is_connect_of : ℕ → Act → Bool
+abbrev pub is_connect_of : ℕ → SimulatedAct → Bool
 is_connect_of phone (Connect other peer) = other == phone
 is_connect_of phone _ = false
 
-abbrev pub connects : Simulated → ℕ → Call → Bool
+abbrev pub connects : Simulated → ℕ → SimulatedCall → Bool
 connects old phone (Acts act) = if_accepted (act_fault old act) (is_connect_of phone act) false
 connects old phone _ = false
 
 -- the fragments that were handed in for a phone since it connected, the newest first
-abbrev pub fragments_for : SimConfig → ℕ → List Call → List Fragment
+abbrev pub fragments_for : SimConfig → ℕ → List SimulatedCall → List Fragment
 fragments_for config phone [] = []
 fragments_for config phone (call ∷ earlier) =
-    if connects (after config earlier) phone call then []
-    else option_to_list (handed_by (after config earlier) phone call) ++ fragments_for config phone earlier
+    if connects (after_calls config earlier) phone call then []
+    else option_to_list (handed_by (after_calls config earlier) phone call) ++ fragments_for config phone earlier
 
 -- the frames that all fragments for a phone make, each with those before it since the phone connected
 abbrev pub frames_by : Option Fragment → List Fragment → List Octets
 frames_by None older = []
 frames_by (Some fragment) older = option_to_list (frame_at (fragment ∷ older))
 
-abbrev pub frames_for : SimConfig → ℕ → List Call → List Octets
+abbrev pub frames_for : SimConfig → ℕ → List SimulatedCall → List Octets
 frames_for config phone [] = []
 frames_for config phone (call ∷ earlier) =
-    frames_for config phone earlier ++ frames_by (handed_by (after config earlier) phone call) (fragments_for config phone earlier)
+    frames_for config phone earlier ++ frames_by (handed_by (after_calls config earlier) phone call) (fragments_for config phone earlier)
 
 -- the frames that a phone heard
-abbrev pub frames_heard_by : Simulated → ℕ → Call → List Octets
+abbrev pub frames_heard_by : Simulated → ℕ → SimulatedCall → List Octets
 frames_heard_by old phone (Hears other) = if other == phone then take 1 (phone_at old phone).heard else []
 frames_heard_by old phone _ = []
 
-abbrev pub frames_heard_in : SimConfig → ℕ → List Call → List Octets
+abbrev pub frames_heard_in : SimConfig → ℕ → List SimulatedCall → List Octets
 frames_heard_in config phone [] = []
-frames_heard_in config phone (call ∷ earlier) = frames_heard_in config phone earlier ++ frames_heard_by (after config earlier) phone call
+frames_heard_in config phone (call ∷ earlier) = frames_heard_in config phone earlier ++ frames_heard_by (after_calls config earlier) phone call
 
 -- what a phone heard, and then what waits to be heard, are the frames of the data that were handed in, in their order
 abbrev pub HearsItsFrames : SimConfig → Type 0
-HearsItsFrames config = (phone : ℕ) (calls : List Call) → phone < 8
-    → frames_heard_in config phone calls ++ (phone_at (after config calls) phone).heard ≡ frames_for config phone calls
+HearsItsFrames config = (phone : ℕ) (calls : List SimulatedCall) → phone < 8
+    → frames_heard_in config phone calls ++ (phone_at (after_calls config calls) phone).heard ≡ frames_for config phone calls

@@ -18,8 +18,8 @@ pub record Phone : Type 0 where
   pub ended : Option ℕ
 
 -- a phone that never was here
-abbrev pub absent : Phone
-absent = record { link = None; heard = []; ended = None }
+abbrev pub absent_phone : Phone
+absent_phone = record { link = None; heard = []; ended = None }
 
 abbrev pub new_link : Link
 new_link = record { held = false; unfinished = None }
@@ -60,8 +60,8 @@ abbrev pub hears_too_much : Phone → Assembly → Bool
 hears_too_much phone assembly = nat_lt MAX_FRAMES (length phone.heard + length (option_to_list assembly.frame))
 
 -- once its first frame is heard, or none, and once the reason is told, or none
-abbrev pub after_hearing : Phone → Phone
-after_hearing old = record old { heard = drop 1 old.heard }
+abbrev pub phone_after_hearing : Phone → Phone
+phone_after_hearing old = record old { heard = drop 1 old.heard }
 
 abbrev pub after_telling : Phone → Phone
 after_telling old = record old { ended = None }

@@ -9,14 +9,14 @@ use Rattle.sim_controller.specs.declared.phone.Link.{Link}
 use Rattle.sim_controller.specs.declared.phone.TheConstants.{MAX_FRAMES}
 
 -- the octets of an array
-abbrev pub octets_in : ArrayVec ℕ → Octets
-octets_in array = array.items
+abbrev pub array_octets : ArrayVec ℕ → Octets
+array_octets array = array.items
 
 abbrev pub link_of : Link → model.Link
-link_of link = record { held = link.held; unfinished = option_map octets_in link.unfinished }
+link_of link = record { held = link.held; unfinished = option_map array_octets link.unfinished }
 
 abbrev pub phone_of : Option Link → List (ArrayVec ℕ) → Option ℕ → model.Phone
-phone_of link heard ended = record { link = option_map link_of link; heard = map octets_in heard; ended = ended }
+phone_of link heard ended = record { link = option_map link_of link; heard = map array_octets heard; ended = ended }
 
 -- there is room for so many frames, and there are no more
 pub record IsPhone (heard : Buffer (ArrayVec ℕ)) : Type 0 where

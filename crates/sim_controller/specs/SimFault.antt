@@ -3,10 +3,10 @@ use Rattle.std.specs.Prelude.{ℕ}
 use Rattle.sim_controller.specs.declared.fault.SimFault.{SimFault}
 use Rattle.sim_controller.specs.declared.fault.SimFault.TheVariants.{NotHere, AlreadyHere, NotAdvertising, Full, BadPacket, OutOfMemory}
 
-abbrev pub number_of : SimFault → ℕ
-number_of NotHere = 1
-number_of AlreadyHere = 2
-number_of NotAdvertising = 3
-number_of Full = 4
-number_of BadPacket = 5
-number_of OutOfMemory = 6
+abbrev pub sim_fault_number : SimFault → ℕ
+sim_fault_number NotHere = 1
+sim_fault_number AlreadyHere = 2
+sim_fault_number NotAdvertising = 3
+sim_fault_number Full = 4
+sim_fault_number BadPacket = 5
+sim_fault_number OutOfMemory = 6

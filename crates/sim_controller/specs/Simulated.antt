@@ -4,7 +4,7 @@ use Rattle.circular_buffer.specs.Buffer.{Buffer}
 use Rattle.sim_controller.specs.declared.config.SimConfig.{SimConfig}
 use Rattle.sim_controller.specs.declared.fault.SimFault.{SimFault}
 use Rattle.sim_controller.specs.declared.told.Told.{Told}
-use Rattle.sim_controller.specs.Phone.{Phone, absent}
+use Rattle.sim_controller.specs.Phone.{Phone, absent_phone}
 
 -- how it is configured, whether it advertises, the packets that wait for the host, and the phones by their numbers
 pub record Simulated : Type 0 where
@@ -14,11 +14,11 @@ pub record Simulated : Type 0 where
   pub phones : List Phone
 
 -- nothing is asked or told yet, and no phone is here
-abbrev pub at_start : SimConfig → Simulated
-at_start config = record { config = config; advertising = false; waiting = []; phones = replicate 8 absent }
+abbrev pub simulated_at_start : SimConfig → Simulated
+simulated_at_start config = record { config = config; advertising = false; waiting = []; phones = replicate 8 absent_phone }
 
 abbrev pub phone_at : Simulated → ℕ → Phone
-phone_at old phone = slice_index_or old.phones phone absent
+phone_at old phone = slice_index_or old.phones phone absent_phone
 
 abbrev pub is_here : Simulated → ℕ → Bool
 is_here old phone = is_some (phone_at old phone).link

@@ -4,7 +4,7 @@ use Rattle.octets.specs.Number.{Octets, two_octets}
 use Rattle.le_h4.specs.Packet.{Packet, AclPacket, EventPacket}
 use Rattle.le_hci.specs.declared.peer.Peer.{Peer}
 use Rattle.le_hci.specs.Event.{Reported, DisconnectionComplete, EncryptionChange, CommandComplete, CommandStatus, NumberOfCompletedPackets, ConnectionComplete, LongTermKeyRequest}
-use Rattle.le_hci.specs.EventPacket.{packet, code_of, fields_of}
+use Rattle.le_hci.specs.EventPacket.{event_packet, event_code, fields_of}
 use Rattle.sim_controller.specs.Phones.{handle_of_phone}
 use Rattle.sim_controller.specs.declared.told.Told.{Told}
 use Rattle.sim_controller.specs.declared.told.Told.TheVariants as variant
@@ -38,15 +38,15 @@ sent_of (variant.Continuation phone octets) = Data (handle_of_phone phone) 1 oct
 
 -- an event packet behind its indicator
 abbrev pub event_octets : ℕ → Octets → Octets
-event_octets code parameters = 0x04 ∷ packet code parameters
+event_octets code parameters = 0x04 ∷ event_packet code parameters
 
 -- the octets of a packet
-abbrev pub octets_of : Sent → Octets
-octets_of (Event report) = event_octets (code_of report) (fields_of report)
-octets_of (Data handle boundary octets) =
+abbrev pub sent_octets : Sent → Octets
+sent_octets (Event report) = event_octets (event_code report) (fields_of report)
+sent_octets (Data handle boundary octets) =
     0x02 ∷ two_octets (handle + 2 ^ 12 * boundary) ++ two_octets (length octets) ++ octets
 
 -- and the packet that they are to a host
-abbrev pub packet_of : Sent → Packet
-packet_of (Event report) = EventPacket (packet (code_of report) (fields_of report))
-packet_of (Data handle boundary octets) = AclPacket handle boundary 0 octets
+abbrev pub sent_packet : Sent → Packet
+sent_packet (Event report) = EventPacket (event_packet (event_code report) (fields_of report))
+sent_packet (Data handle boundary octets) = AclPacket handle boundary 0 octets

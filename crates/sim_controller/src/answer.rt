@@ -1,6 +1,6 @@
 ghost use Rattle.std.specs.Prelude.{◌≡◌, ◌<◌, ◌∷◌, length};
 ghost use Rattle.octets.specs.Number.{two_octets};
-ghost use Rattle.sim_controller.specs.Answers.{completion, answer_to};
+ghost use Rattle.sim_controller.specs.Answers.{completion, answer_to_command};
 
 use crate::command::Asked;
 use crate::config::SimConfig;
@@ -13,7 +13,7 @@ const SUCCESS: u8 = 0x00;
 
 /// The answer to a command, whether its phone is connected or not.
 pub(crate) fn answer_to(config: &SimConfig, asked: Asked) -> Told
-    ensures { result ≡ answer_to config.now asked }
+    ensures { result ≡ answer_to_command config.now asked }
 {
     match asked {
         Asked::Status { opcode } => completion(opcode, &[]),

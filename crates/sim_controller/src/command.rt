@@ -1,6 +1,6 @@
 ghost use Rattle.std.specs.Prelude.{◌≡◌, if◌then◌else◌, Some, None};
 ghost use Rattle.std.specs.Option.{option_map};
-ghost use Rattle.sim_controller.specs.FromHost.{host_packet_of, taken_of, asked_by, command_in, data_in};
+ghost use Rattle.sim_controller.specs.FromHost.{host_packet_of, taken_of, asked_by_command, command_in, data_in};
 
 use le_acl::boundary::{CONTINUATION, FIRST_NOT_FLUSHED};
 use le_h4::indicator;
@@ -65,9 +65,9 @@ fn read_command(octets: &[u8]) -> Option<Asked>
 }
 
 /// What a command with these parameters asks, where they are those of the command.
-#[tactic(auto, unfolding(crate::specs::FromHost::asked_by))]
+#[tactic(auto, unfolding(crate::specs::FromHost::asked_by_command))]
 fn read_asked(opcode: u16, parameters: &[u8]) -> Option<Asked>
-    ensures { result ≡ asked_by opcode parameters.now }
+    ensures { result ≡ asked_by_command opcode parameters.now }
 {
     match opcode {
         opcode::RESET => status_if(parameters.is_empty(), opcode),

@@ -1,5 +1,5 @@
 ghost use Rattle.std.specs.Prelude.{◌≡◌};
-ghost use Rattle.sim_controller.specs.SimFault.{number_of};
+ghost use Rattle.sim_controller.specs.SimFault.{sim_fault_number};
 
 /// Why an act of a phone or a packet of the host is refused. Of several, the first applies. What is
 /// refused changes nothing.
@@ -22,7 +22,7 @@ pub enum SimFault {
 impl SimFault {
     /// The number by which the fault is told, from 1.
     pub fn number(self) -> u8
-        ensures { result ≡ number_of self }
+        ensures { result ≡ sim_fault_number self }
     {
         match self {
             SimFault::NotHere => 1,

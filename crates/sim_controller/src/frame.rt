@@ -1,6 +1,6 @@
 ghost use Rattle.std.specs.Prelude.{◌≡◌, ◌+◌, ◌<◌, ◌≤◌, ◌↔◌, ◌++◌, length, take, drop, IsOk, OnOk, OnErr, IfErr};
 ghost use Rattle.circular_buffer.specs.Buffer.{buffer};
-ghost use Rattle.le_acl.specs.Packets.{frame_of};
+ghost use Rattle.le_acl.specs.Packets.{frame_octets};
 ghost use Rattle.sim_controller.specs.Frames.{told_frame, told_others};
 ghost use Rattle.octets.specs.declared.pdu.TheConstants.{MAX_PDU};
 
@@ -15,7 +15,7 @@ use le_acl::MAX_FRAME;
 /// payload. (Core 5.0, Vol 3 Part A, 3.1)
 pub(crate) fn frame_of(cid: u16, payload: &[u8]) -> ArrayVec<u8, MAX_FRAME>
     requires { length payload.now ≤ MAX_PDU }
-    ensures { result.items ≡ frame_of (cid, payload.now) }
+    ensures { result.items ≡ frame_octets (cid, payload.now) }
 {
     let [size_low, size_high] = (payload.len() as u16).to_le_bytes();
     let [low, high] = cid.to_le_bytes();

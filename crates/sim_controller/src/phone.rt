@@ -3,7 +3,7 @@ ghost use Rattle.std.specs.Bool.{OnTrue, OnFalse};
 ghost use Rattle.std.specs.Option.{option_map};
 ghost use Rattle.sim_controller.specs.Assembled.{assembly};
 ghost use Rattle.sim_controller.specs.FromHost.{fragment_that};
-ghost use Rattle.sim_controller.specs.Phone.{absent, new_link, assembled_in, with_assembly, hears_too_much, held_link, is_held};
+ghost use Rattle.sim_controller.specs.Phone.{absent_phone, new_link, assembled_in, with_assembly, hears_too_much, held_link, is_held};
 
 use crate::assembly::{Assembled, assemble};
 use arrayvec::ArrayVec;
@@ -50,7 +50,7 @@ impl Model for Phone {
 impl Phone {
     /// A phone that is not connected, with room for all that it may hear.
     pub(crate) fn new(alloc: Global) -> Result<Phone, AllocError>
-        ensures { IfOk result (λ phone. phone ≡ absent) }
+        ensures { IfOk result (λ phone. phone ≡ absent_phone) }
     {
         Ok(Phone {
             link: None,

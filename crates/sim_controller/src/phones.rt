@@ -2,7 +2,7 @@
 
 ghost use Rattle.std.specs.Prelude.{◌≡◌, ◌<◌, length, replicate, IfSome, IfOk};
 ghost use Rattle.sim_controller.specs.Answers.{phone_here};
-ghost use Rattle.sim_controller.specs.Phone.{absent};
+ghost use Rattle.sim_controller.specs.Phone.{absent_phone};
 
 use crate::handle::{PHONES, phone_with};
 use crate::phone::Phone;
@@ -10,7 +10,7 @@ use std::alloc::{AllocError, Global};
 
 /// 8 phones that are not connected, with room for all that they may hear.
 pub(crate) fn absent_phones(alloc: Global) -> Result<Vec<Phone>, AllocError>
-    ensures { IfOk result (λ phones. phones.items ≡ replicate 8 absent) }
+    ensures { IfOk result (λ phones. phones.items ≡ replicate 8 absent_phone) }
 {
     let mut phones = Vec::with_capacity(alloc, usize::from(PHONES))?;
     for _ in 0..PHONES {

@@ -1,14 +1,14 @@
 ghost use Rattle.std.specs.Prelude.{◌≡◌, ◌<◌, ◌≤◌, [], ◌∷◌, length, drop, slice_get, Some, IfOk, IfErr, OnOk, OnErr};
 ghost use Rattle.std.specs.Bool.{OnTrue, OnFalse};
 ghost use Rattle.std.specs.Option.{option_map};
-ghost use Rattle.sim_controller.specs.Acts.{Act, act_of, phone_in, payload_in, act_fault, telling_fault, after_act, Does};
+ghost use Rattle.sim_controller.specs.Acts.{SimulatedAct, act_of, phone_in, payload_in, act_fault, telling_fault, simulated_after_act, DoesAct};
 ghost use Rattle.sim_controller.specs.Answers.{command_fault, after_command, data_fault, after_data, host_fault, after_host};
 ghost use Rattle.sim_controller.specs.Calls.{GivesInOrder, TellsWhatIsRead};
 ghost use Rattle.sim_controller.specs.FromHost.{host_packet_of, fragment_that};
 ghost use Rattle.sim_controller.specs.Hearing.{HearsItsFrames};
-ghost use Rattle.sim_controller.specs.Phone.{after_hearing, after_telling};
-ghost use Rattle.sim_controller.specs.Simulated.{at_start, phone_at, with_phone, with_told, refusal, IsDone};
-ghost use Rattle.sim_controller.specs.Told.{octets_of, sent_of};
+ghost use Rattle.sim_controller.specs.Phone.{phone_after_hearing, after_telling};
+ghost use Rattle.sim_controller.specs.Simulated.{simulated_at_start, phone_at, with_phone, with_told, refusal, IsDone};
+ghost use Rattle.sim_controller.specs.Told.{sent_octets, sent_of};
 ghost use Rattle.octets.specs.declared.pdu.TheConstants.{MAX_PDU};
 
 use crate::act::PhoneAct;
@@ -58,7 +58,7 @@ impl Sim {
     pub fn new(alloc: Global, config: SimConfig) -> Result<Sim, SimFault>
         requires cut_least { 1 ≤ config.cut }
         requires cut_most { config.cut ≤ 251 }
-        ensures start { IfOk result (λ sim. sim ≡ at_start config) }
+        ensures start { IfOk result (λ sim. sim ≡ simulated_at_start config) }
         ensures fault { IfErr result (λ fault. fault ≡ SimFault.OutOfMemory) }
         // The same whatever is done with it.
         ensures in_order { GivesInOrder config }
@@ -71,7 +71,7 @@ impl Sim {
     fn with_room(alloc: Global, config: SimConfig) -> Result<Sim, AllocError>
         requires cut_least { 1 ≤ config.cut }
         requires cut_most { config.cut ≤ 251 }
-        ensures { IfOk result (λ sim. sim ≡ at_start config) }
+        ensures { IfOk result (λ sim. sim ≡ simulated_at_start config) }
     {
         Ok(Sim {
             config,
@@ -86,7 +86,7 @@ impl Sim {
         requires phone { phone_in (act_of act) < 8 }
         requires payload { length (payload_in (act_of act)) ≤ MAX_PDU }
         ensures exact { result ≡ refusal (act_fault self.old (act_of act.entry)) }
-        ensures done { OnOk result (self.new ≡ after_act self.old (act_of act.entry)) }
+        ensures done { OnOk result (self.new ≡ simulated_after_act self.old (act_of act.entry)) }
         ensures unchanged { OnErr result (self.new ≡ self.old) }
     {
         match act {
@@ -112,7 +112,7 @@ impl Sim {
 
     fn connect(&mut self, phone: u8, peer: Peer) -> Result<(), SimFault>
         requires { phone < 8 }
-        ensures { Does (Act.Connect phone peer) self.old self.new result }
+        ensures { DoesAct (SimulatedAct.Connect phone peer) self.old self.new result }
     {
         if self.phones[usize::from(phone)].is_here() {
             return Err(SimFault::AlreadyHere);
@@ -128,7 +128,7 @@ impl Sim {
 
     fn leave(&mut self, phone: u8) -> Result<(), SimFault>
         requires { phone < 8 }
-        ensures { Does (Act.Drop phone) self.old self.new result }
+        ensures { DoesAct (SimulatedAct.Drop phone) self.old self.new result }
     {
         if !self.phones[usize::from(phone)].is_here() {
             return Err(SimFault::NotHere);
@@ -159,7 +159,7 @@ impl Sim {
     fn send(&mut self, phone: u8, cid: u16, payload: &[u8]) -> Result<(), SimFault>
         requires phone { phone < 8 }
         requires payload { length payload.now ≤ MAX_PDU }
-        ensures { Does (Act.Send phone cid payload.now) self.old self.new result }
+        ensures { DoesAct (SimulatedAct.Send phone cid payload.now) self.old self.new result }
     {
         if !self.phones[usize::from(phone)].is_here() {
             return Err(SimFault::NotHere);
@@ -171,7 +171,7 @@ impl Sim {
 
     fn hold(&mut self, phone: u8) -> Result<(), SimFault>
         requires { phone < 8 }
-        ensures { Does (Act.Hold phone) self.old self.new result }
+        ensures { DoesAct (SimulatedAct.Hold phone) self.old self.new result }
     {
         if !self.phones[usize::from(phone)].is_here() {
             return Err(SimFault::NotHere);
@@ -218,7 +218,7 @@ impl Sim {
     /// Writes the first packet that waits for the host in place of what `out` holds. There is none,
     /// and nothing changes, where it answers `false`.
     pub fn next_to_host(&mut self, out: &mut PacketOctets) -> bool
-        ensures packet { OnTrue result (option_map (λ told. octets_of (sent_of told))
+        ensures packet { OnTrue result (option_map (λ told. sent_octets (sent_of told))
             (slice_get self.old.waiting 0) ≡ Some out.new.items) }
         ensures none { OnFalse result (self.old.waiting ≡ []) }
         ensures out_unchanged { OnFalse result (out.new.items ≡ out.old.items) }
@@ -260,7 +260,8 @@ impl Sim {
     fn take_data(&mut self, phone: u8, begins: bool, octets: &[u8]) -> Result<(), SimFault>
         requires { phone < 8 }
         ensures { let fragment = fragment_that begins octets.now in
-            IsDone (data_fault self.old (Some phone) fragment) (after_data self.old (Some phone) fragment) self.old self.new result }
+            IsDone (data_fault self.old (Some phone) fragment)
+            (after_data self.old (Some phone) fragment) self.old self.new result }
     {
         let assembled = self.phones[usize::from(phone)].assemble(begins, octets);
         if self.phones[usize::from(phone)].hears_too_much(&assembled) {
@@ -288,7 +289,7 @@ impl Sim {
         ensures out_unchanged { OnFalse result (out.new.items ≡ out.old.items) }
         ensures within { length (phone_at self.old phone).heard ≤ 16 }
         ensures after { self.new
-            ≡ with_phone self.old phone (after_hearing (phone_at self.old phone)) }
+            ≡ with_phone self.old phone (phone_after_hearing (phone_at self.old phone)) }
     {
         self.phones[usize::from(phone)].hear(out)
     }

@@ -1,5 +1,5 @@
 ghost use Rattle.std.specs.Prelude.{◌≡◌, ◌+◌, ◌≤◌, ◌++◌, length};
-ghost use Rattle.sim_controller.specs.Told.{event_octets, octets_of, sent_of, connection_sent, key_request_sent};
+ghost use Rattle.sim_controller.specs.Told.{event_octets, sent_octets, sent_of, connection_sent, key_request_sent};
 
 use crate::handle::handle_of;
 use arrayvec::ArrayVec;
@@ -78,7 +78,7 @@ const CLOCK_ACCURACY: u8 = 0x00;
 impl Told {
     /// Writes the packet in place of what `out` holds.
     pub(crate) fn write(&self, out: &mut PacketOctets)
-        ensures { out.new.items ≡ octets_of (sent_of self.now) }
+        ensures { out.new.items ≡ sent_octets (sent_of self.now) }
     {
         match self {
             Told::CommandComplete { opcode, parameters } => {
@@ -153,7 +153,7 @@ fn write_event(code: u8, first: &[u8], others: &[u8], out: &mut PacketOctets)
 
 /// Connection Complete: Core 5.0, Vol 2 Part E, 7.7.65.1.
 fn write_connection(phone: u8, peer: &Peer, out: &mut PacketOctets)
-    ensures { out.new.items ≡ octets_of (connection_sent phone peer.now) }
+    ensures { out.new.items ≡ sent_octets (connection_sent phone peer.now) }
 {
     let [low, high] = handle_of(phone).to_le_bytes();
     let [interval_low, interval_high] = INTERVAL.to_le_bytes();
@@ -185,7 +185,7 @@ fn write_connection(phone: u8, peer: &Peer, out: &mut PacketOctets)
 
 /// Long Term Key Request: Core 5.0, Vol 2 Part E, 7.7.65.5.
 fn write_key_request(phone: u8, rand: &[u8; 8], ediv: u16, out: &mut PacketOctets)
-    ensures { out.new.items ≡ octets_of (key_request_sent phone rand.now ediv) }
+    ensures { out.new.items ≡ sent_octets (key_request_sent phone rand.now ediv) }
 {
     let [low, high] = handle_of(phone).to_le_bytes();
     let [ediv_low, ediv_high] = ediv.to_le_bytes();

@@ -46,11 +46,11 @@ has_shape Integers value = all_of is_integer (as_array value)
 has_shape Tables value = all_of is_table (as_array value)
 
 -- whether a value is one that the keys list: a key that is not among them lists none
-abbrev pub is_listed : Keys → Octets → Data → Bool
-is_listed [] key value = false
-is_listed (listed ∷ keys) key value = if same_key listed.0 key then has_shape listed.1 value else is_listed keys key value
+abbrev pub is_listed_by : Keys → Octets → Data → Bool
+is_listed_by [] key value = false
+is_listed_by (listed ∷ keys) key value = if same_key listed.0 key then has_shape listed.1 value else is_listed_by keys key value
 
 -- whether all that a table has is listed
 abbrev pub is_shaped : Keys → Members → Bool
 is_shaped keys no_members = true
-is_shaped keys (member key value rest) = is_listed keys key value && is_shaped keys rest
+is_shaped keys (member key value rest) = is_listed_by keys key value && is_shaped keys rest

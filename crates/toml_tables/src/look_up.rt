@@ -59,7 +59,8 @@ pub fn items<'a>(table: &'a Table, key: &str) -> &'a [Value]
 
 /// The table at the key: `None` where there is no value, or one of another type.
 pub fn table<'a>(table: &'a Table, key: &str) -> Option<&'a Table>
-    ensures { option_map (λ t. table_view t.now) result ≡ table_at key.now (table_view table.now) }
+    ensures { option_map (λ t. table_view t.now) result
+        ≡ table_at key.now (table_view table.now) }
 {
     get(table, key)?.as_table()
 }

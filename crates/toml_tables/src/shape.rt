@@ -1,7 +1,7 @@
 ghost use Rattle.std.specs.Prelude.{◌≡◌};
 ghost use Rattle.std.specs.List.{list_all};
 ghost use Rattle.toml.specs.View.{view, table_view};
-ghost use Rattle.toml_tables.specs.Shape.{keys_view, is_text, is_integer, is_table, has_shape, is_listed, is_shaped};
+ghost use Rattle.toml_tables.specs.Shape.{keys_view, is_text, is_integer, is_table, has_shape, is_listed_by, is_shaped};
 
 use toml::{Table, Value};
 
@@ -49,7 +49,7 @@ pub fn is_shaped(table: &Table, keys: &[Key]) -> bool
 /// Whether the keys list this one, with the type of its value.
 #[tactic(auto, using(std::proofs::lemmas::Grind::common_steps, crate::proofs::Views::same_keys))]
 fn is_listed(keys: &[Key], name: &str, value: &Value) -> bool
-    ensures { result ≡ is_listed (keys_view keys.now) name.now (view value.now) }
+    ensures { result ≡ is_listed_by (keys_view keys.now) name.now (view value.now) }
 {
     'keys: for key in keys {
         if key.name == name {

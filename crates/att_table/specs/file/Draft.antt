@@ -3,7 +3,7 @@ use Rattle.std.specs.Prelude.{◌≡◌, ℕ, ◌<◌, ◌≤◌, List, [], ◌�
 use Rattle.att_numbers.specs.Types.{Handle}
 use Rattle.att_attributes.specs.declared.attr.Attr.{Attr}
 use Rattle.att_attributes.specs.Attributes.{configurations_of}
-use Rattle.att_table.specs.Table.{octets_of}
+use Rattle.att_table.specs.Table.{value_octets}
 use Rattle.att_table.specs.file.Limits.{is_within}
 
 -- each attribute has a handle from 1 to the last one
@@ -14,6 +14,6 @@ HaveHandlesTo last (attr ∷ rest) = (0 < attr.handle) × (attr.handle ≤ last)
 -- its counts are those of its attributes, which are within the limits and have their handles
 pub record IsCounted (attributes : List Attr) (configurations octets : ℕ) : Type 0 where
   pub counted_configurations : configurations ≡ configurations_of attributes
-  pub counted_octets : octets ≡ octets_of attributes
+  pub counted_octets : octets ≡ value_octets attributes
   pub within : IsTrue (is_within (length attributes) configurations octets)
   pub handles : HaveHandlesTo (length attributes) attributes

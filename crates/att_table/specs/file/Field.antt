@@ -43,9 +43,9 @@ property_named word =
 abbrev pub both_of : Properties → Properties → Properties
 both_of some others = record { 0 = bit_or some.0 others.0 }
 
-abbrev pub all_of : List Properties → Properties
-all_of [] = record { 0 = 0 }
-all_of (first ∷ rest) = both_of first (all_of rest)
+abbrev pub all_properties : List Properties → Properties
+all_properties [] = record { 0 = 0 }
+all_properties (first ∷ rest) = both_of first (all_properties rest)
 
 -- whether all of these, or any of these, are among some properties
 abbrev pub has_all : Properties → Properties → Bool
@@ -55,7 +55,7 @@ abbrev pub has_any : Properties → Properties → Bool
 has_any properties these = not (bit_and properties.0 these.0 == 0)
 
 -- the key size that a need asks for: from 7 to 16 octets, or none
-abbrev pub key_size_of : Option ℤ → Result (Option ℕ) TableFault
-key_size_of None = Ok None
-key_size_of (Some (pos size)) = if nat_le 7 size && nat_le size 16 then Ok (Some size) else Err BadSecurity
-key_size_of (Some (negsuc _)) = Err BadSecurity
+abbrev pub key_size_asked : Option ℤ → Result (Option ℕ) TableFault
+key_size_asked None = Ok None
+key_size_asked (Some (pos size)) = if nat_le 7 size && nat_le size 16 then Ok (Some size) else Err BadSecurity
+key_size_asked (Some (negsuc _)) = Err BadSecurity

@@ -11,25 +11,25 @@ use Rattle.att_table.specs.declared.file.placed.Placed.{Placed}
 use Rattle.att_table.specs.declared.table_fault.TableKey.TheVariants.{Uuid, Properties as PropertiesName, Value}
 use Rattle.att_table.specs.declared.table_fault.TableFault.{TableFault}
 use Rattle.att_table.specs.declared.table_fault.TableFault.TheVariants.{Missing, BadUuid, BadProperty, Shape}
-use Rattle.att_table.specs.file.Field.{value_of, largest_of, property_named, both_of, all_of, has_all}
+use Rattle.att_table.specs.file.Field.{value_of, largest_of, property_named, both_of, all_properties, has_all}
 use Rattle.att_table.specs.file.Needs.{need_at}
 use Rattle.att_table.specs.file.TypeText.{type_named, is_type_of_value}
 
 -- the type at `uuid`, and that of a value, which is none of those that only the table itself gives
-abbrev pub type_at : Members → Result AttributeType TableFault
-type_at members = do
+abbrev pub attribute_type_in : Members → Result AttributeType TableFault
+attribute_type_in members = do
   text ← require (text_at (codes "uuid") members) (Missing Uuid)
   require (type_named text) BadUuid
 
 abbrev pub value_type_at : Members → Result AttributeType TableFault
 value_type_at members = do
-  kind ← type_at members
+  kind ← attribute_type_in members
   _ ← unless (is_type_of_value kind) BadUuid
   Ok kind
 
 -- the properties that the words name, each one of those that are allowed
 abbrev pub no_properties : Properties
-no_properties = all_of []
+no_properties = all_properties []
 
 abbrev pub property_step : Properties → Properties → Data → Result Properties TableFault
 property_step allowed properties value = do

@@ -3,8 +3,8 @@ use Rattle.std.specs.Prelude.{[], ◌∷◌, codes}
 use Rattle.toml_tables.specs.Shape.{Keys}
 use Rattle.toml_tables.specs.declared.shape.Shape.TheVariants.{Text, Boolean, Integer, Table, Texts, Integers, Tables}
 
-abbrev pub root_keys : Keys
-root_keys = (codes "service", Tables) ∷ []
+abbrev pub table_file_keys : Keys
+table_file_keys = (codes "service", Tables) ∷ []
 
 abbrev pub service_keys : Keys
 service_keys =

@@ -17,9 +17,9 @@ use Rattle.att_attributes.specs.declared.attr.Role.TheVariants.{Value as ValueRo
 use Rattle.att_table.specs.declared.table_fault.TableKey.TheVariants.{Service}
 use Rattle.att_table.specs.declared.table_fault.TableFault.{TableFault}
 use Rattle.att_table.specs.declared.table_fault.TableFault.TheVariants.{NotToml, Missing, BadProperty, BadInclude, Shape}
-use Rattle.att_table.specs.file.Field.{all_of, has_any}
-use Rattle.att_table.specs.file.Fields.{type_at, placed_of}
-use Rattle.att_table.specs.file.Keys.{root_keys, service_keys, characteristic_keys, descriptor_keys}
+use Rattle.att_table.specs.file.Field.{all_properties, has_any}
+use Rattle.att_table.specs.file.Fields.{attribute_type_in, placed_of}
+use Rattle.att_table.specs.file.Keys.{table_file_keys, service_keys, characteristic_keys, descriptor_keys}
 use Rattle.att_table.specs.file.Needs.{need_at, no_need}
 use Rattle.att_table.specs.file.Placed.{next_handle, add, declare}
 use Rattle.att_table.specs.file.Service.{earlier_service, include_value}
@@ -27,7 +27,7 @@ use Rattle.att_table.specs.Table.{Contents}
 
 -- what may be done with a descriptor, and with a client configuration, at most: reading and writing
 abbrev pub read_and_write : Properties
-read_and_write = all_of (READ ∷ WRITE ∷ [])
+read_and_write = all_properties (READ ∷ WRITE ∷ [])
 
 -- a descriptor
 abbrev pub descriptor_step : Contents → Data → Result Contents TableFault
@@ -39,7 +39,7 @@ descriptor_step table value = do
 
 -- what writing the client configuration needs, which only a value that notifies or indicates has
 abbrev pub is_announced : Properties → Bool
-is_announced properties = has_any properties (all_of (NOTIFY ∷ INDICATE ∷ []))
+is_announced properties = has_any properties (all_properties (NOTIFY ∷ INDICATE ∷ []))
 
 abbrev pub config_at : Properties → Members → Result Need TableFault
 config_at properties members = do
@@ -73,7 +73,7 @@ characterize table attr value need = do
   configure valued attr.guard.properties need
 
 abbrev pub any_property : Properties
-any_property = all_of (READ ∷ WRITE_WITHOUT_RESPONSE ∷ WRITE ∷ NOTIFY ∷ INDICATE ∷ [])
+any_property = all_properties (READ ∷ WRITE_WITHOUT_RESPONSE ∷ WRITE ∷ NOTIFY ∷ INDICATE ∷ [])
 
 abbrev pub characteristic_step : Contents → Data → Result Contents TableFault
 characteristic_step table value = do
@@ -99,7 +99,7 @@ abbrev pub service_step : Contents → Data → Result Contents TableFault
 service_step table value = do
   members ← require (as_table value) Shape
   _ ← unless (is_shaped service_keys members) Shape
-  kind ← type_at members
+  kind ← attribute_type_in members
   declared ← declare table (service_type_at members) (type_octets kind)
   included ← each include_step declared (items_at (codes "include") members)
   each characteristic_step included (items_at (codes "characteristic") members)
@@ -110,7 +110,7 @@ no_attributes = record { attributes = []; values = [] }
 
 abbrev pub table_of : Members → Result Contents TableFault
 table_of members = do
-  _ ← unless (is_shaped root_keys members) Shape
+  _ ← unless (is_shaped table_file_keys members) Shape
   services ← require (array_at (codes "service") members) (Missing Service)
   each service_step no_attributes services
 

@@ -37,7 +37,8 @@ impl Model for Draft {
 
     ghost view = { λ draft. draft.table };
 
-    ghost invariant = { λ draft. IsCounted draft.table.attributes draft.configurations draft.octets };
+    ghost invariant = { λ draft. IsCounted draft.table.attributes draft.configurations
+        draft.octets };
 }
 
 impl Draft {

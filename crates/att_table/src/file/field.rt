@@ -5,7 +5,7 @@ ghost use Rattle.std.specs.Char.{is_ascii_hexdigit};
 ghost use Rattle.std.specs.List.{list_all};
 ghost use Rattle.std.specs.Result.{result_map_both};
 ghost use Rattle.hex.specs.Hex.{decode_of};
-ghost use Rattle.att_table.specs.file.Field.{value_of, largest_of, property_named, key_size_of};
+ghost use Rattle.att_table.specs.file.Field.{value_of, largest_of, property_named, key_size_asked};
 
 use crate::table_fault::TableFault;
 use arrayvec::ArrayVec;
@@ -15,7 +15,8 @@ use att_policy::Properties;
 /// The value that a text writes, two hexadecimal digits an octet: `BadHex` where it is not an even
 /// number of digits, or else `TooLong` where it has more than `MAX_VALUE` octets.
 pub fn read_value(text: &str) -> Result<ArrayVec<u8, MAX_VALUE>, TableFault>
-    ensures { result_map_both (λ octets. octets.items) (λ fault. fault) result ≡ value_of text.now }
+    ensures { result_map_both (λ octets. octets.items) (λ fault. fault) result
+        ≡ value_of text.now }
 {
     if !is_hex(text) {
         return Err(TableFault::BadHex);
@@ -80,7 +81,7 @@ pub fn read_property(word: &str) -> Option<Properties>
 
 /// The key size that a need asks for, in octets: `BadSecurity` unless it is from 7 to 16.
 pub fn key_size(size: Option<i64>) -> Result<Option<u8>, TableFault>
-    ensures { result ≡ key_size_of size }
+    ensures { result ≡ key_size_asked size }
 {
     let Some(size) = size else {
         return Ok(None);

@@ -2,7 +2,7 @@
 
 ghost use Rattle.std.specs.Prelude.{◌≡◌, option_map};
 ghost use Rattle.toml.specs.View.{table_view};
-ghost use Rattle.att_table.specs.file.Needs.{need_of, need_read, need_at};
+ghost use Rattle.att_table.specs.file.Needs.{need_in, need_read, need_at};
 
 use crate::file::{field, keys};
 use crate::table_fault::TableFault;
@@ -29,7 +29,7 @@ pub fn read_need(table: Option<&Table>) -> Result<Need, TableFault>
 
 /// The needs that a table writes.
 fn read_written(table: &Table) -> Result<Need, TableFault>
-    ensures { result ≡ need_of (table_view table.now) }
+    ensures { result ≡ need_in (table_view table.now) }
 {
     if !toml_tables::is_shaped(table, &keys::NEED) {
         return Err(TableFault::BadSecurity);

@@ -5,7 +5,7 @@ ghost use Rattle.std.specs.Prelude.{◌≡◌, ◌≤◌, true, length, IfOk};
 ghost use Rattle.std.specs.Result.{result_map_both};
 ghost use Rattle.toml.specs.View.{view, items_view, table_view};
 ghost use Rattle.toml_tables.specs.Reading.{each};
-ghost use Rattle.att_table.specs.file.Fields.{type_at, value_type_at, no_properties, property_step, properties_at, value_read_at, placed_of, placed_view};
+ghost use Rattle.att_table.specs.file.Fields.{attribute_type_in, value_type_at, no_properties, property_step, properties_at, value_read_at, placed_of, placed_view};
 
 use crate::file::{field, needs, type_text};
 use crate::table_fault::{TableFault, TableKey};
@@ -27,7 +27,7 @@ pub struct Placed {
 
 /// The type at `uuid`.
 pub fn read_type(table: &Table) -> Result<u128, TableFault>
-    ensures { result ≡ type_at (table_view table.now) }
+    ensures { result ≡ attribute_type_in (table_view table.now) }
 {
     let uuid = toml_tables::text(table, "uuid").ok_or(TableFault::Missing(TableKey::Uuid))?;
     type_text::read_type(uuid).ok_or(TableFault::BadUuid)
@@ -104,7 +104,8 @@ pub fn read_placed(
     ensures fits { IfOk result (λ placed. length placed.value.items ≤ placed.attr.largest) }
     ensures largest { IfOk result (λ placed. placed.attr.largest ≤ MAX_VALUE) }
     ensures exact { IfOk result
-        (λ placed. placed.attr.fixed ≡ true → length placed.value.items ≡ placed.attr.largest) }
+        (λ placed. placed.attr.fixed ≡ true → length placed.value.items
+        ≡ placed.attr.largest) }
     ensures role { IfOk result (λ placed. placed.attr.role ≡ role) }
 {
     let kind = read_value_type(table)?;

@@ -8,14 +8,14 @@ use Rattle.att_attributes.specs.declared.attr.Attr.{Attr}
 use Rattle.att_attributes.specs.Attributes.{attribute_at, is_value}
 use Rattle.att_table.specs.Changer.{changer_of}
 use Rattle.att_table.specs.Table.{Contents}
-use Rattle.gatt_host.proofs.meaning.Leads.{IsAny, event_led}
-use Rattle.gatt_host.proofs.standing.Names.{knows_the_same}
+use Rattle.gatt_host.proofs.meaning.Refining.{IsAny, event_led}
+use Rattle.gatt_host.proofs.refinement.Names.{knows_the_same}
 use Rattle.gatt_host.specs.Asked.{call_happening, replacement_happening}
-use Rattle.gatt_host.specs.Held.{Held}
+use Rattle.gatt_host.specs.ServerState.{ServerState}
 use Rattle.gatt_host.specs.Meaning.{Frames, context_in, frames_after, IsAfter}
 use Rattle.gatt_host.specs.Notices.{last_notices}
-use Rattle.gatt_host.specs.Standing.{IsDrainedIn, StandsIn}
-use Rattle.gatt_host.specs.Stands.{place_of}
+use Rattle.gatt_host.specs.RunRefinement.{IsDrainedIn, ServerRefinesRun}
+use Rattle.gatt_host.specs.StateRefinement.{place_of_connection}
 use Rattle.gatt_host.specs.Telling.{noticed_in}
 use Rattle.gatt_laws.proofs.Meant.{MeantIfAny, call_meant, replacement_meant}
 use Rattle.gatt_laws.proofs.Renaming.{calls_mean_the_same, replacements_mean_the_same}
@@ -28,7 +28,7 @@ use Rattle.gatt_laws.specs.machine.Calls.{call_meaning, same_changer, replacemen
 use Rattle.gatt_laws.specs.machine.Calls.{replacement_meaning}
 use Rattle.gatt_laws.specs.machine.Context.{Context, context_of}
 use Rattle.gatt_laws.specs.machine.Event.{Ordinal, Event, Happening, Update, Tick, Replaced}
-use Rattle.gatt_laws.specs.machine.Input.{Course, after_result, refusal_in}
+use Rattle.gatt_laws.specs.machine.Input.{Run, after_result, refusal_in}
 use Rattle.gatt_laws.specs.machine.State.{State, out}
 use Rattle.gatt_slots.specs.Slots.{Place}
 use Rattle.octets.specs.Number.{Octets}
@@ -86,33 +86,33 @@ replacement-leaves context table =
     [ true ↦ λ frames. refl | false ↦ tt ]
 
 -- where what is asked leads a host, and what is told of it
-pub record Led (course : Course) (new : Held) (frames : Frames) (result : Result Event Refused) :
+pub record Led (run : Run) (new : ServerState) (frames : Frames) (result : Result Event Refused) :
     Type 0 where
-  pub stands : StandsIn (after_result course result) course.gone new frames
-  pub told : last_notices new ≡ noticed_in course.intake.state result
+  pub refines : ServerRefinesRun (after_result run result) run.sent new frames
+  pub told : last_notices new ≡ noticed_in run.intake.state result
 
-module _ (course : Course) (held new : Held) (frames : Frames) (is : IsDrainedIn course held frames)
+module _ (run : Run) (server new : ServerState) (frames : Frames) (is : IsDrainedIn run server frames)
   where
     abbrev state : State
-    state = course.intake.state
+    state = run.intake.state
 
     abbrev Holds : Result (Happening Place) Refused → Type 0
-    Holds result = IsOkAnd result (λ happening. IsAfter happening held new)
+    Holds result = IsOkAnd result (λ happening. IsAfter happening server new)
 
     by-result : (result : Result Event Refused) → MeantIfAny IsAny state result
-        → LeavesFrames (renamed_if (place_of state) result)
-        → Holds (renamed_if (place_of state) result) → Led course new frames result
+        → LeavesFrames (renamed_if (place_of_connection state) result)
+        → Holds (renamed_if (place_of_connection state) result) → Led run new frames result
     by-result (Ok event) meant leaves after =
         let led =
-        event_led state held new course.intake.fragments frames frames event is.sound is.stands
+        event_led state server new run.intake.fragments frames frames event is.sound is.refines
         is.together meant after (leaves frames) in
         record {
-          stands = record {
+          refines = record {
             owed = out state event;
             all = refl;
             sound = led.sound;
-            stands =
-                led.stands;
+            refines =
+                led.refines;
             together = led.together;
           };
           told = led.told;
@@ -120,9 +120,9 @@ module _ (course : Course) (held new : Held) (frames : Frames) (is : IsDrainedIn
     by-result (Err refused) meant leaves after = absurd after
 
     asked-led : (result : Result Event Refused) (happening : Result (Happening Place) Refused)
-        → happening ≡ renamed_if (place_of state) result
+        → happening ≡ renamed_if (place_of_connection state) result
         → MeantIfAny IsAny state result → LeavesFrames happening → Holds happening
-        → Led course new frames result
+        → Led run new frames result
     asked-led result happening same meant leaves after =
         by-result result meant (subst LeavesFrames same leaves) (subst Holds same after)
 
@@ -143,59 +143,59 @@ same-error : (names : Ordinal → Place) (result : Result Event Refused) (refuse
 same-error names (Ok event) refused is = cc is
 same-error names (Err why) refused is = let same : why ≡ refused = cc is in ap Err same
 
-module _ (course : Course) (held : Held) (frames : Frames) (is : IsDrainedIn course held frames)
+module _ (run : Run) (server : ServerState) (frames : Frames) (is : IsDrainedIn run server frames)
   where
     abbrev before : State
-    before = course.intake.state
+    before = run.intake.state
 
     same-call : (call : Call)
-        → call_happening held call ≡ renamed_if (place_of before) (call_event before call)
+        → call_happening server call ≡ renamed_if (place_of_connection before) (call_event before call)
     same-call call =
-        calls_mean_the_same Ordinal Place (place_of before) (context_of before) (context_in held)
-        (knows_the_same before held is.sound is.stands) call
+        calls_mean_the_same Ordinal Place (place_of_connection before) (context_of before) (context_in server)
+        (knows_the_same before server is.sound is.refines) call
 
-    same-table : (table : Contents) → replacement_happening held table ≡ renamed_if (place_of before)
+    same-table : (table : Contents) → replacement_happening server table ≡ renamed_if (place_of_connection before)
         (replacement_event before table)
     same-table table =
-        replacements_mean_the_same Ordinal Place (place_of before) (context_of before)
-        (context_in held) (knows_the_same before held is.sound is.stands) table
+        replacements_mean_the_same Ordinal Place (place_of_connection before) (context_of before)
+        (context_in server) (knows_the_same before server is.sound is.refines) table
 
-    pub call_led : (new : Held) (call : Call)
-        → IsOkAnd (call_happening held call) (λ happening. IsAfter happening held new)
-        → Led course new frames (call_event before call)
+    pub call_led : (new : ServerState) (call : Call)
+        → IsOkAnd (call_happening server call) (λ happening. IsAfter happening server new)
+        → Led run new frames (call_event before call)
     call_led new call after =
-        asked-led course held new frames is (call_event before call) (call_happening held call)
+        asked-led run server new frames is (call_event before call) (call_happening server call)
         (same-call call) (call_meant IsAny before call)
-        (call-leaves (context_in held) call) after
+        (call-leaves (context_in server) call) after
 
-    pub table_led : (new : Held) (table : Contents)
-        → IsOkAnd (replacement_happening held table) (λ happening. IsAfter happening held new)
-        → Led course new frames (replacement_event before table)
+    pub table_led : (new : ServerState) (table : Contents)
+        → IsOkAnd (replacement_happening server table) (λ happening. IsAfter happening server new)
+        → Led run new frames (replacement_event before table)
     table_led new table after =
-        asked-led course held new frames is (replacement_event before table)
-        (replacement_happening held table) (same-table table)
-        (replacement_meant IsAny before table tt) (replacement-leaves (context_in held) table) after
+        asked-led run server new frames is (replacement_event before table)
+        (replacement_happening server table) (same-table table)
+        (replacement_meant IsAny before table tt) (replacement-leaves (context_in server) table) after
 
     -- it is refused for the same reason
-    pub call_is_refused : (call : Call) (refused : Refused) → call_happening held call ≡ Err refused
+    pub call_is_refused : (call : Call) (refused : Refused) → call_happening server call ≡ Err refused
         → call_event before call ≡ Err refused
     call_is_refused call refused is =
-        same-error (place_of before) (call_event before call) refused (sym (same-call call) ∙ is)
+        same-error (place_of_connection before) (call_event before call) refused (sym (same-call call) ∙ is)
 
-    pub table_is_refused : (table : Contents) (refused : Refused) → replacement_happening held table
+    pub table_is_refused : (table : Contents) (refused : Refused) → replacement_happening server table
         ≡ Err refused → replacement_event before table ≡ Err refused
     table_is_refused table refused is =
-        same-error (place_of before) (replacement_event before table) refused (sym (same-table table)
+        same-error (place_of_connection before) (replacement_event before table) refused (sym (same-table table)
         ∙ is)
 
     pub call_refusal_same : (call : Call) → refusal_in None (call_event before call)
-        ≡ refusal_in None (call_happening held call)
+        ≡ refusal_in None (call_happening server call)
     call_refusal_same call =
-        same-refusal (place_of before) (call_event before call) (call_happening held call)
+        same-refusal (place_of_connection before) (call_event before call) (call_happening server call)
         (same-call call)
 
     pub table_refusal_same : (table : Contents) → refusal_in None (replacement_event before table)
-        ≡ refusal_in None (replacement_happening held table)
+        ≡ refusal_in None (replacement_happening server table)
     table_refusal_same table =
-        same-refusal (place_of before) (replacement_event before table)
-        (replacement_happening held table) (same-table table)
+        same-refusal (place_of_connection before) (replacement_event before table)
+        (replacement_happening server table) (same-table table)

@@ -1,6 +1,6 @@
 -- What an event leaves of a state: it stays sound, and has as many slots.
 use Rattle.std.proofs.Common.{◌≡◌, Some, None, refl}
-use Rattle.gatt_host.specs.Stands.{IsSound}
+use Rattle.gatt_host.specs.StateRefinement.{IsSound}
 use Rattle.gatt_laws.proofs.Placed.{stays_placed}
 use Rattle.gatt_laws.proofs.Queued.{IsKept, stays-kept}
 use Rattle.gatt_laws.specs.laws.Possible.{Possible}
@@ -10,18 +10,18 @@ use Rattle.gatt_laws.specs.machine.State.{State, change_of, step}
 pub stays_sound : (state : State) (event : Event) → Possible (λ table. Unit) state event
     → IsSound state → IsSound (step state event)
 stays_sound state event possible sound =
-    let kept : IsKept (step state event) =
+    let slot_state : IsKept (step state event) =
     stays-kept state event possible (record { settled = sound.settled; queued = sound.queued })
     in
     record {
-      settled = kept.settled;
-      queued = kept.queued;
+      settled = slot_state.settled;
+      queued = slot_state.queued;
       placed =
           stays_placed state event possible sound.placed;
     }
 
 -- how many slots a host was opened with does not change
-pub rooms_stay : (state : State) (event : Event) → (step state event).room.slots ≡ state.room.slots
+pub rooms_stay : (state : State) (event : Event) → (step state event).shared.slots ≡ state.shared.slots
 unfolding step change_of
 rooms_stay state (Credit allowed opcode status (Some init)) = refl
 rooms_stay state (Credit allowed opcode status None) = refl

@@ -6,45 +6,45 @@ use Rattle.std.proofs.lemmas.Bool.{eq-eqb}
 use Rattle.std.proofs.lemmas.List.{get_or-set_same, get_or-set_other, length-set}
 use Rattle.gatt_host.proofs.meaning.Staying.{rooms_stay}
 use Rattle.gatt_host.proofs.owing.Nexts.{clash}
-use Rattle.gatt_host.proofs.standing.ForAll.{each_length}
-use Rattle.gatt_host.proofs.standing.Holding.{Holds, holds, some-is, were_open}
-use Rattle.gatt_host.specs.Held.{Held}
+use Rattle.gatt_host.proofs.refinement.ForAll.{each_length}
+use Rattle.gatt_host.proofs.refinement.Holding.{Holds, holds, some-is, were_open}
+use Rattle.gatt_host.specs.ServerState.{ServerState}
 use Rattle.gatt_host.specs.Meaning.{Frames, once_heard}
-use Rattle.gatt_host.specs.Owing.{all_given, slot_held}
-use Rattle.gatt_host.specs.Standing.{IsPutTogether}
-use Rattle.gatt_host.specs.Stands.{IsSound, Stands, place_among, slots_for as slots_opened}
+use Rattle.gatt_host.specs.Owing.{all_given, slot_state_handed}
+use Rattle.gatt_host.specs.RunRefinement.{IsPutTogether}
+use Rattle.gatt_host.specs.StateRefinement.{IsSound, RefinesState, place_among, slots_told}
 use Rattle.gatt_laws.specs.machine.Controller.{Slots, has_free, is_ready, with_freed, with_taken}
 use Rattle.gatt_laws.specs.machine.Event.{Ordinal, Own, Event, Connected, Gone, Of, Credit}
 use Rattle.gatt_laws.specs.machine.Packets.{Fragments}
 use Rattle.gatt_laws.specs.laws.Settled.{has_slot}
-use Rattle.gatt_laws.specs.machine.State.{State, change_of, slots_for, step}
-use Rattle.gatt_slots.proofs.parts.Places.{position_step}
-use Rattle.gatt_slots.specs.Kept.{Kept}
+use Rattle.gatt_laws.specs.machine.State.{State, change_of, slots_when_ready, step}
+use Rattle.gatt_slots.proofs.states.Places.{position_step}
+use Rattle.gatt_slots.specs.SlotState.{SlotState}
 use Rattle.gatt_slots.specs.Slots.{place_free}
 use Rattle.le_acl.specs.Fragment.{Fragment}
-use Rattle.le_acl.specs.Reassembler.{nothing, assembly_after}
+use Rattle.le_acl.specs.Reassembler.{no_assembly, assembly_after}
 use Rattle.le_hci.specs.declared.buffers.Buffers.{Buffers}
 use Rattle.le_hci.specs.declared.init.Init.{Init}
 use Rattle.le_hci.specs.declared.init.Init.TheVariants.{Ready}
 use Rattle.le_hci.specs.declared.peer.Peer.{Peer}
 
 -- no more slots are opened than a host was opened with
-within : (slots : ℕ) (told : Option Buffers) → slots_opened slots told ≤ slots
+within : (slots : ℕ) (told : Option Buffers) → slots_told slots told ≤ slots
 within slots None = omega arith
 within slots (Some buffers) = omega arith
 
-pub few_slots : (state : State) (held : Held) → IsSound state → Stands state [] held → length state.slots ≤ state.room.slots
-few_slots state held sound stands = by (is_ready state.controller) refl
+pub few_slots : (state : State) (server : ServerState) → IsSound state → RefinesState state [] server → length state.slots ≤ state.shared.slots
+few_slots state server sound refines = by (is_ready state.controller) refl
   where
-    is : Holds state (all_given state) held
-    is = holds state held stands
+    is : Holds state (all_given state) server
+    is = holds state server refines
 
-    by : (ready : Bool) → is_ready state.controller ≡ ready → length state.slots ≤ state.room.slots
+    by : (ready : Bool) → is_ready state.controller ≡ ready → length state.slots ≤ state.shared.slots
     by true ready =
-        let count : length state.slots ≡ slots_opened state.room.slots state.room.told =
-        sym (each_length (slot_held state (all_given state)) state.slots)
-        ∙ sym (ap (λ (slots : List (Option Kept)). length slots) (were_open state (all_given state) held is ready)) ∙ is.ready ready in
-        omega (arith, count, within state.room.slots state.room.told)
+        let count : length state.slots ≡ slots_told state.shared.slots state.shared.buffers =
+        sym (each_length (slot_state_handed state (all_given state)) state.slots)
+        ∙ sym (ap (λ (slots : List (Option SlotState)). length slots) (were_open state (all_given state) server is ready)) ∙ is.ready ready in
+        omega (arith, count, within state.shared.slots state.shared.buffers)
     by false early =
         let none : length state.slots ≡ 0 = ap (λ (slots : Slots). length slots) (sound.settled.early early) in
         omega (arith, none)
@@ -80,7 +80,7 @@ none-there (suc count) zero other there = clash (ap (λ (slot : Option Ordinal).
 none-there (suc count) (suc place) other there = none-there count place other there
 
 opened-before : (count : ℕ) (init : Init) (slots : Slots) (place : ℕ) (other : Ordinal)
-    → slice_get (slots_for count init slots) place ≡ Some (Some other) → slice_get slots place ≡ Some (Some other)
+    → slice_get (slots_when_ready count init slots) place ≡ Some (Some other) → slice_get slots place ≡ Some (Some other)
 opened-before count (Ready told packets) slots place other there = absurd (none-there _ place other there)
 opened-before count init slots place other there = there
 
@@ -94,7 +94,7 @@ unfolding step change_of
 keeps_or_frees state (Of own (Connected handle peer)) other = absurd (clash (sym other))
 keeps_or_frees state (Of own Gone) other = record { there = λ place ordinal is. freed-before own state.slots place ordinal is; next = refl }
 keeps_or_frees state (Credit allowed opcode status (Some init)) other =
-    record { there = λ place ordinal is. opened-before state.room.slots init state.slots place ordinal is; next = refl }
+    record { there = λ place ordinal is. opened-before state.shared.slots init state.slots place ordinal is; next = refl }
 keeps_or_frees state (Credit allowed opcode status None) other = record { there = λ place ordinal is. is; next = refl }
 keeps_or_frees state event other = record { there = λ place ordinal is. is; next = refl }
 
@@ -105,7 +105,7 @@ together_then state event fragments frames other is =
     record {
       there = λ place ordinal at. is.there place ordinal (keeps.there place ordinal at);
       fresh = λ ordinal later. is.fresh ordinal (subst (λ (next : Ordinal). next ≤ ordinal) keeps.next later);
-      room = subst (λ (count : ℕ). count ≤ length frames) (sym (rooms_stay state event)) is.room;
+      shared = subst (λ (count : ℕ). count ≤ length frames) (sym (rooms_stay state event)) is.shared;
     }
 
 -- the first slot that is free
@@ -124,10 +124,10 @@ or-true : (one other : Bool) → other ≡ true → (one || other) ≡ true
 or-true true other is = refl
 or-true false other is = is
 
-module _ (keep : Option Ordinal → Option Kept) (free : keep None ≡ None) where
-  if-there : (slot : Option Kept) (place : Option ℕ) → is_some slot ≡ true → (if is_none slot then Some 0 else place) ≡ place
+module _ (keep : Option Ordinal → Option SlotState) (free : keep None ≡ None) where
+  if-there : (slot : Option SlotState) (place : Option ℕ) → is_some slot ≡ true → (if is_none slot then Some 0 else place) ≡ place
   if-there None place there = absurd (clash there)
-  if-there (Some kept) place there = refl
+  if-there (Some slot_state) place there = refl
 
   pub finds_free : (slots : Slots) → has_free slots ≡ true
       → ((other : Ordinal) → has_slot other slots ≡ true → is_some (keep (Some other)) ≡ true)
@@ -136,7 +136,7 @@ module _ (keep : Option Ordinal → Option Kept) (free : keep None ≡ None) whe
   finds_free [] has there = absurd (clash has)
   finds_free (None ∷ slots) has there =
       position_step is_none (keep None) (map keep slots)
-      ∙ ap (λ (slot : Option Kept). if is_none slot then Some 0 else option_map suc (place_free (map keep slots))) free
+      ∙ ap (λ (slot : Option SlotState). if is_none slot then Some 0 else option_map suc (place_free (map keep slots))) free
   finds_free (Some first ∷ slots) has there =
       position_step is_none (keep (Some first)) (map keep slots)
       ∙ if-there (keep (Some first)) (option_map suc (place_free (map keep slots)))
@@ -179,24 +179,24 @@ came-or-was next (Some first ∷ slots) (suc place) other there = elim (came-or-
 ]
 
 -- a connection comes, and begins with nothing
-pub together_coming : (state : State) (held : Held) (fragments : Fragments) (frames : Frames) (handle : ℕ) (peer : Peer)
-    → IsSound state → Stands state [] held → has_free state.slots ≡ true → IsPutTogether state fragments frames
-    → IsPutTogether (step state (Of state.next (Connected handle peer))) fragments (set frames (first_free state.slots) nothing)
+pub together_coming : (state : State) (server : ServerState) (fragments : Fragments) (frames : Frames) (handle : ℕ) (peer : Peer)
+    → IsSound state → RefinesState state [] server → has_free state.slots ≡ true → IsPutTogether state fragments frames
+    → IsPutTogether (step state (Of state.next (Connected handle peer))) fragments (set frames (first_free state.slots) no_assembly)
 unfolding step change_of
-together_coming state held fragments frames handle peer sound stands free is = record {
+together_coming state server fragments frames handle peer sound refines free is = record {
   there = λ place ordinal there. read place ordinal (came-or-was state.next state.slots place ordinal there);
   fresh = λ ordinal later. is.fresh ordinal (omega (arith, later));
-  room = omega (arith, is.room, length-set frames (first_free state.slots) nothing);
+  shared = omega (arith, is.shared, length-set frames (first_free state.slots) no_assembly);
 }
   where
     inside : first_free state.slots < length frames
-    inside = omega (arith, free-within state.slots free, few_slots state held sound stands, is.room)
+    inside = omega (arith, free-within state.slots free, few_slots state server sound refines, is.shared)
 
     read : (place : ℕ) (ordinal : Ordinal) → CameOrWas state.next state.slots place ordinal
-        → get_or (set frames (first_free state.slots) nothing) place nothing ≡ once_heard (assembly_after (fragments ordinal))
+        → get_or (set frames (first_free state.slots) no_assembly) place no_assembly ≡ once_heard (assembly_after (fragments ordinal))
     read place ordinal (inl came) =
-        ap (λ (at : ℕ). get_or (set frames (first_free state.slots) nothing) at nothing) came.0
-        ∙ get_or-set_same frames (first_free state.slots) nothing nothing inside
+        ap (λ (at : ℕ). get_or (set frames (first_free state.slots) no_assembly) at no_assembly) came.0
+        ∙ get_or-set_same frames (first_free state.slots) no_assembly no_assembly inside
         ∙ sym (ap (λ (own : Ordinal). once_heard (assembly_after (fragments own))) came.1
         ∙ ap (λ (none : List Fragment). once_heard (assembly_after none)) (is.fresh state.next (omega arith)))
-    read place ordinal (inr was) = get_or-set_other frames (first_free state.slots) place nothing nothing was.0 ∙ is.there place ordinal was.1
+    read place ordinal (inr was) = get_or-set_other frames (first_free state.slots) place no_assembly no_assembly was.0 ∙ is.there place ordinal was.1

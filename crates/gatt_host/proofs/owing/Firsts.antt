@@ -7,10 +7,10 @@ use Rattle.std.proofs.lemmas.Option.{slice_get-get_or}
 use Rattle.std.proofs.lemmas.Iterator.Adapters.{position_from-zero}
 use Rattle.std.proofs.lemmas.List.Quantifiers.{position-Some}
 use Rattle.std.proofs.Math.ListN.{set}
-use Rattle.gatt_host.specs.GoingOut.{with_first, command_in, packet_in}
-use Rattle.gatt_slots.specs.Commands.{command_due, gives, packet_of, has_command}
-use Rattle.gatt_slots.specs.Kept.{Kept}
-use Rattle.gatt_slots.specs.Slots.{kept_at, slots_at}
+use Rattle.gatt_host.specs.GoingOut.{with_first, first_slot_command, first_slot_packet}
+use Rattle.gatt_slots.specs.Commands.{command_due, gives, slot_packet, has_command}
+use Rattle.gatt_slots.specs.SlotState.{SlotState}
+use Rattle.gatt_slots.specs.Slots.{slot_state_at, slots_at}
 use Rattle.le_hci.specs.Command.{Commanded}
 
 module _ {A : Type 0} (test : A → Bool) where
@@ -34,11 +34,11 @@ module _ {A : Type 0} (test : A → Bool) where
   none-passes xs none = none-from 0 xs (sym (position_from-zero test xs) ∙ none)
 
   pub none_changed : (change : A → A) (xs : List A) → position test xs ≡ None → with_first test change xs ≡ xs
-  none_changed change xs none = kept xs (none-passes xs none)
+  none_changed change xs none = slot_state xs (none-passes xs none)
     where
-      kept : (xs : List A) → NonePasses xs → with_first test change xs ≡ xs
-      kept [] none = refl
-      kept (x ∷ xs) none = rw none.0 (ap (λ later. x ∷ later) (kept xs none.1))
+      slot_state : (xs : List A) → NonePasses xs → with_first test change xs ≡ xs
+      slot_state [] none = refl
+      slot_state (x ∷ xs) none = rw none.0 (ap (λ later. x ∷ later) (slot_state xs none.1))
 
   -- the place of the first
   record IsFirstAt (xs : List A) (place : ℕ) (d : A) : Type 0 where
@@ -68,19 +68,19 @@ module _ {A : Type 0} (test : A → Bool) where
   first_passes xs place d is = (first-at xs place d is).passes
 
 -- the first packet
-packet-at : (slots : List (Option Kept)) (place : ℕ) (d : Option Kept) → IsFirstAt gives slots place d → packet_in slots ≡ option_and_then packet_of (get_or slots place d)
+packet-at : (slots : List (Option SlotState)) (place : ℕ) (d : Option SlotState) → IsFirstAt gives slots place d → first_slot_packet slots ≡ option_and_then slot_packet (get_or slots place d)
 packet-at [] place d is = absurd (omega (arith, is.within))
 packet-at (slot ∷ slots) zero d is = rw is.passes refl
 packet-at (slot ∷ slots) (suc place) d is = rw (is.before 0 (omega arith)) (packet-at slots place d (later-at gives slot slots place d is))
 
-pub first_packet : (slots : List (Option Kept)) (place : ℕ) (d : Option Kept) → position gives slots ≡ Some place
-    → packet_in slots ≡ option_and_then packet_of (get_or slots place d)
+pub first_packet : (slots : List (Option SlotState)) (place : ℕ) (d : Option SlotState) → position gives slots ≡ Some place
+    → first_slot_packet slots ≡ option_and_then slot_packet (get_or slots place d)
 first_packet slots place d is = packet-at slots place d (first-at gives slots place d is)
 
-pub no_packet : (slots : List (Option Kept)) → position gives slots ≡ None → packet_in slots ≡ None
+pub no_packet : (slots : List (Option SlotState)) → position gives slots ≡ None → first_slot_packet slots ≡ None
 no_packet slots none = empty slots (none-passes gives slots none)
   where
-    empty : (slots : List (Option Kept)) → NonePasses gives slots → packet_in slots ≡ None
+    empty : (slots : List (Option SlotState)) → NonePasses gives slots → first_slot_packet slots ≡ None
     empty [] none = refl
     empty (slot ∷ slots) none = rw none.0 (empty slots none.1)
 
@@ -93,44 +93,44 @@ none-first : (due other : Option Commanded) → is_some due ≡ false → option
 none-first (Some command) other is = cc is
 none-first None other is = refl
 
-command-at : (slots : List (Option Kept)) (place : ℕ) (d : Option Kept) → IsFirstAt has_command slots place d → command_in slots ≡ command_due (get_or slots place d)
+command-at : (slots : List (Option SlotState)) (place : ℕ) (d : Option SlotState) → IsFirstAt has_command slots place d → first_slot_command slots ≡ command_due (get_or slots place d)
 command-at [] place d is = absurd (omega (arith, is.within))
-command-at (slot ∷ slots) zero d is = some-first (command_due slot) (command_in slots) is.passes
+command-at (slot ∷ slots) zero d is = some-first (command_due slot) (first_slot_command slots) is.passes
 command-at (slot ∷ slots) (suc place) d is =
-    none-first (command_due slot) (command_in slots) (is.before 0 (omega arith)) ∙ command-at slots place d (later-at has_command slot slots place d is)
+    none-first (command_due slot) (first_slot_command slots) (is.before 0 (omega arith)) ∙ command-at slots place d (later-at has_command slot slots place d is)
 
-pub first_command : (slots : List (Option Kept)) (place : ℕ) (d : Option Kept) → position has_command slots ≡ Some place
-    → command_in slots ≡ command_due (get_or slots place d)
+pub first_command : (slots : List (Option SlotState)) (place : ℕ) (d : Option SlotState) → position has_command slots ≡ Some place
+    → first_slot_command slots ≡ command_due (get_or slots place d)
 first_command slots place d is = command-at slots place d (first-at has_command slots place d is)
 
-pub no_command : (slots : List (Option Kept)) → position has_command slots ≡ None → command_in slots ≡ None
+pub no_command : (slots : List (Option SlotState)) → position has_command slots ≡ None → first_slot_command slots ≡ None
 no_command slots none = empty slots (none-passes has_command slots none)
   where
-    empty : (slots : List (Option Kept)) → NonePasses has_command slots → command_in slots ≡ None
+    empty : (slots : List (Option SlotState)) → NonePasses has_command slots → first_slot_command slots ≡ None
     empty [] none = refl
-    empty (slot ∷ slots) none = none-first (command_due slot) (command_in slots) none.0 ∙ empty slots none.1
+    empty (slot ∷ slots) none = none-first (command_due slot) (first_slot_command slots) none.0 ∙ empty slots none.1
 
 -- what is found at the first place that passes
-module _ (test : Option Kept → Bool) (slots found : List (Option Kept)) (same : found ≡ slots) (place : ℕ) (at : position test slots ≡ Some place) where
-  pub found_at : kept_at found place ≡ get_or slots place None
+module _ (test : Option SlotState → Bool) (slots found : List (Option SlotState)) (same : found ≡ slots) (place : ℕ) (at : position test slots ≡ Some place) where
+  pub found_at : slot_state_at found place ≡ get_or slots place None
   found_at =
-      ap (λ (slots : List (Option Kept)). kept_at slots place) same
-      ∙ ap (λ (it : Option (Option Kept)). option_map_or (λ (slot : Option Kept). slot) it None) (slice_get-get_or slots place None (position-Some test slots place None at).0)
+      ap (λ (slots : List (Option SlotState)). slot_state_at slots place) same
+      ∙ ap (λ (it : Option (Option SlotState)). option_map_or (λ (slot : Option SlotState). slot) it None) (slice_get-get_or slots place None (position-Some test slots place None at).0)
 
-  pub found_passes : test (kept_at found place) ≡ true
+  pub found_passes : test (slot_state_at found place) ≡ true
   found_passes = ap test found_at ∙ first_passes test slots place None at
 
-  pub found_changed : (change : Kept → Kept) → slots_at place change found ≡ with_first test (option_map change) slots
+  pub found_changed : (change : SlotState → SlotState) → slots_at place change found ≡ with_first test (option_map change) slots
   found_changed change =
-      ap (λ (slots : List (Option Kept)). slots_at place change slots) same
-      ∙ ap (λ (it : Option (Option Kept)). option_map_or (λ (slot : Option Kept). set slots place (option_map change slot)) it slots)
+      ap (λ (slots : List (Option SlotState)). slots_at place change slots) same
+      ∙ ap (λ (it : Option (Option SlotState)). option_map_or (λ (slot : Option SlotState). set slots place (option_map change slot)) it slots)
       (slice_get-get_or slots place None (position-Some test slots place None at).0)
       ∙ sym (first_changed test (option_map change) slots place None at)
 
 -- some slot has a command where there is a first one
-pub any_command : (slots : List (Option Kept)) → list_any has_command slots ≡ is_some (command_in slots)
+pub any_command : (slots : List (Option SlotState)) → list_any has_command slots ≡ is_some (first_slot_command slots)
 any_command [] = refl
-any_command (slot ∷ slots) = ap (λ rest. has_command slot || rest) (any_command slots) ∙ either (command_due slot) (command_in slots)
+any_command (slot ∷ slots) = ap (λ rest. has_command slot || rest) (any_command slots) ∙ either (command_due slot) (first_slot_command slots)
   where
     either : (due other : Option Commanded) → (is_some due || is_some other) ≡ is_some (option_or due other)
     either (Some command) other = refl

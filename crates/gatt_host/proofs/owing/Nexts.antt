@@ -5,9 +5,9 @@ use Rattle.std.specs.Bool.{OnFalse}
 use Rattle.std.specs.Option.{option_map, option_map_or, option_or}
 use Rattle.std.proofs.lemmas.Bool.{OnFalse_at}
 use Rattle.gatt_laws.specs.machine.Controller.{Controller, controller_after}
-use Rattle.gatt_host.specs.GoingOut.{init_command, command_in, has_room, enabling_command, command_next, controller_then, next_out, packet_in}
+use Rattle.gatt_host.specs.GoingOut.{init_command, first_slot_command, has_free_slot, enabling_command, command_next, controller_then, next_out, first_slot_packet}
 use Rattle.gatt_laws.specs.machine.State.{command_octets}
-use Rattle.gatt_slots.specs.Kept.{Kept}
+use Rattle.gatt_slots.specs.SlotState.{SlotState}
 use Rattle.le_hci.specs.Command.{Commanded, LeSetAdvertiseEnable}
 
 pub is_none_where : {A : Type 0} (found : Option A) → is_some found ≡ false → found ≡ None
@@ -29,21 +29,21 @@ there_where None has = absurd (clash has)
 pub some_of : {A : Type 0} (x y : A) → Some x ≡ Some y → x ≡ y
 some_of x y e = cc e
 
-module _ (controller : Controller) (slots : List (Option Kept)) where
+module _ (controller : Controller) (slots : List (Option SlotState)) where
   abbrev Is : Option Commanded → Type 0
   Is found = command_next controller slots ≡ found
 
   pub takes_none : nat_lt 0 controller.credit ≡ false → Is None
-  takes_none takes = λ i. if takes i then option_or (init_command controller) (option_or (command_in slots) (enabling_command controller slots)) else None
+  takes_none takes = λ i. if takes i then option_or (init_command controller) (option_or (first_slot_command slots) (enabling_command controller slots)) else None
 
   pub takes_init : (command : Commanded) → nat_lt 0 controller.credit ≡ true → init_command controller ≡ Some command → Is (Some command)
-  takes_init command takes init = λ i. if takes i then option_or (init i) (option_or (command_in slots) (enabling_command controller slots)) else None
+  takes_init command takes init = λ i. if takes i then option_or (init i) (option_or (first_slot_command slots) (enabling_command controller slots)) else None
 
-  pub takes_slot : (command : Commanded) → nat_lt 0 controller.credit ≡ true → init_command controller ≡ None → command_in slots ≡ Some command → Is (Some command)
+  pub takes_slot : (command : Commanded) → nat_lt 0 controller.credit ≡ true → init_command controller ≡ None → first_slot_command slots ≡ Some command → Is (Some command)
   takes_slot command takes init slot = λ i. if takes i then option_or (init i) (option_or (slot i) (enabling_command controller slots)) else None
 
-  pub takes_enabling : (due : Bool) → nat_lt 0 controller.credit ≡ true → init_command controller ≡ None → command_in slots ≡ None
-      → (has_room slots && not controller.advertising && not controller.refused) ≡ due → Is (if due then Some LeSetAdvertiseEnable else None)
+  pub takes_enabling : (due : Bool) → nat_lt 0 controller.credit ≡ true → init_command controller ≡ None → first_slot_command slots ≡ None
+      → (has_free_slot slots && not controller.advertising && not controller.refused) ≡ due → Is (if due then Some LeSetAdvertiseEnable else None)
   takes_enabling due takes init slot is = λ i. if takes i then option_or (init i) (option_or (slot i) (if is i then Some LeSetAdvertiseEnable else None)) else None
 
   pub then_controller : (found : Option Commanded) → Is found → controller_then controller slots ≡ option_map_or (λ command. controller_after controller (command ∷ [])) found controller
@@ -54,10 +54,10 @@ enabling_some true = refl
 enabling_some false = refl
 
 -- what goes out where no command does
-pub packet_next : (controller : Controller) (slots : List (Option Kept)) → command_next controller slots ≡ None → next_out controller slots ≡ packet_in slots
-packet_next controller slots none = ap (λ due. option_or (option_map command_octets due) (packet_in slots)) none
+pub packet_next : (controller : Controller) (slots : List (Option SlotState)) → command_next controller slots ≡ None → next_out controller slots ≡ first_slot_packet slots
+packet_next controller slots none = ap (λ due. option_or (option_map command_octets due) (first_slot_packet slots)) none
 
-pub no_command_next : (controller : Controller) (slots : List (Option Kept)) (goes : Bool) → goes ≡ is_some (command_next controller slots) → goes ≡ false
+pub no_command_next : (controller : Controller) (slots : List (Option SlotState)) (goes : Bool) → goes ≡ is_some (command_next controller slots) → goes ≡ false
     → command_next controller slots ≡ None
 no_command_next controller slots goes is stays = is_none_where (command_next controller slots) (sym is ∙ stays)
 

@@ -8,38 +8,38 @@ use Rattle.gatt_host.proofs.commands.Commands.{Facts}
 use Rattle.gatt_host.proofs.commands.CommandsFirst.{Quiet, CommandGoes, NoneGoes, commanding}
 use Rattle.gatt_host.proofs.owing.Nexts.{is_none_where, packet_next, then_controller, there_where}
 use Rattle.gatt_host.proofs.packets.Packets.{NoPacket, APacket, NonePacket, OnePacket, search_packets, with_handed}
-use Rattle.gatt_host.specs.GoingOut.{with_first, command_next, packet_in, next_out, is_drained, controller_then, slots_commanded, slots_then}
-use Rattle.gatt_host.specs.Owing.{Handed, IsPartway, slots_held, slot_left, left_of, all_given, IsOwing, IsDone, OwesTheRest, GivesTheFirst, GoesOn, HandsOutWhatIsOwed, IsDrainedWhereNothingGoesOut}
+use Rattle.gatt_host.specs.GoingOut.{with_first, command_next, first_slot_packet, next_out, is_drained, controller_then, slots_commanded, slots_then}
+use Rattle.gatt_host.specs.Owing.{Handed, IsPartway, slot_states_handed, slot_left, left_of, all_given, IsOwing, IsAllSent, OwesTheRest, SendsTheFirst, SendsTheNext, HandsOutWhatIsOwed, IsDrainedWhereNothingGoesOut}
 use Rattle.gatt_laws.specs.machine.Controller.{Controller}
 use Rattle.gatt_laws.specs.machine.Event.{Ordinal}
 use Rattle.gatt_laws.specs.machine.State.{State, command_octets, with_commands_sent}
-use Rattle.gatt_slots.specs.Commands.{gives, without_packet}
-use Rattle.gatt_slots.specs.Kept.{Kept}
+use Rattle.gatt_slots.specs.Commands.{gives, slot_without_packet}
+use Rattle.gatt_slots.specs.SlotState.{SlotState}
 use Rattle.le_hci.specs.Command.{Commanded}
 use Rattle.octets.specs.Number.{Octets}
 
 module _ (state : State) (handed : Handed) (facts : Facts state handed) where
   abbrev Goes : Option Octets → Type 0
-  Goes found = GoesOn (with_commands_sent state) (left_of state handed) state.controller (slots_held state handed) found
+  Goes found = SendsTheNext (with_commands_sent state) (left_of state handed) state.controller (slot_states_handed state handed) found
 
   -- a command
-  command-out : (command : Commanded) → command_next state.controller (slots_held state handed) ≡ Some command
-      → next_out state.controller (slots_held state handed) ≡ Some (command_octets command)
-  command-out command next = ap (λ due. option_or (option_map command_octets due) (packet_in (slots_held state handed))) next
+  command-out : (command : Commanded) → command_next state.controller (slot_states_handed state handed) ≡ Some command
+      → next_out state.controller (slot_states_handed state handed) ≡ Some (command_octets command)
+  command-out command next = ap (λ due. option_or (option_map command_octets due) (first_slot_packet (slot_states_handed state handed))) next
 
   -- no command
-  packet-out : Quiet state handed facts → (found : Option Octets) → packet_in (slots_held state handed) ≡ found → next_out state.controller (slots_held state handed) ≡ found
-  packet-out quiet found is = packet_next state.controller (slots_held state handed) quiet.next ∙ is
+  packet-out : Quiet state handed facts → (found : Option Octets) → first_slot_packet (slot_states_handed state handed) ≡ found → next_out state.controller (slot_states_handed state handed) ≡ found
+  packet-out quiet found is = packet_next state.controller (slot_states_handed state handed) quiet.next ∙ is
 
-  done : Quiet state handed facts → NonePacket state handed state.slots → IsDone (with_commands_sent state) (left_of state handed) state.controller (slots_held state handed)
+  done : Quiet state handed facts → NonePacket state handed state.slots → IsAllSent (with_commands_sent state) (left_of state handed) state.controller (slot_states_handed state handed)
   done quiet none = record {
     none = λ i. map command_octets (quiet.none i) ++ none.left i;
     controller_is = sym (ap (λ (at : State). at.controller) quiet.still);
-    slots_are = none.held ∙ sym (ap (λ (at : State). slots_held at (all_given at)) quiet.still);
+    slots_are = none.server ∙ sym (ap (λ (at : State). slot_states_handed at (all_given at)) quiet.still);
   }
 
   packet-goes : Quiet state handed facts → (first : OnePacket state handed state.slots)
-      → GivesTheFirst (with_commands_sent state) (left_of state handed) state.controller (slots_held state handed) first.octets
+      → SendsTheFirst (with_commands_sent state) (left_of state handed) state.controller (slot_states_handed state handed) first.octets
   packet-goes quiet first =
       let new : Handed = with_handed state handed first.ordinal in
       let later = flat_map (slot_left state new) state.slots in
@@ -55,20 +55,20 @@ module _ (state : State) (handed : Handed) (facts : Facts state handed) where
           placed = facts.placed;
           partway = λ ordinal has.
               elim (ordinal == first.ordinal) as (λ (is : Bool). (ordinal == first.ordinal) ≡ is
-              → IsPartway state.room (state.parts ordinal) (if is then handed first.ordinal + 1 else handed ordinal)) [
+              → IsPartway state.shared (state.connections ordinal) (if is then handed first.ordinal + 1 else handed ordinal)) [
                 | true ↦ λ is.
-                    subst (λ (at : Ordinal). IsPartway state.room (state.parts at) (handed first.ordinal + 1)) (sym (eqb-true ordinal first.ordinal is)) first.way
+                    subst (λ (at : Ordinal). IsPartway state.shared (state.connections at) (handed first.ordinal + 1)) (sym (eqb-true ordinal first.ordinal is)) first.way
                 | false ↦ λ differs. facts.partway ordinal has
               ] refl;
           arrives = refl;
           owes = refl;
-          controller_is = then_controller state.controller (slots_held state handed) None quiet.next;
-          slots_are = (λ i. if is_some (quiet.next i) then slots_commanded state.controller (slots_held state handed)
-              else with_first gives (option_map without_packet) (slots_held state handed)) ∙ first.held;
+          controller_is = then_controller state.controller (slot_states_handed state handed) None quiet.next;
+          slots_are = (λ i. if is_some (quiet.next i) then slots_commanded state.controller (slot_states_handed state handed)
+              else with_first gives (option_map slot_without_packet) (slot_states_handed state handed)) ∙ first.server;
         };
       }
 
-  goes-on : Goes (next_out state.controller (slots_held state handed))
+  goes-on : Goes (next_out state.controller (slot_states_handed state handed))
   goes-on = elim (commanding state handed facts) [
     | CommandGoes command next first ↦ subst Goes (sym (command-out command next)) first
     | NoneGoes quiet ↦ elim (search_packets state handed state.next state.slots facts.settled.slots facts.placed.there facts.partway) [
@@ -78,37 +78,37 @@ module _ (state : State) (handed : Handed) (facts : Facts state handed) where
   ]
 
   -- whether anything goes out
-  drained-by : (next : Option Commanded) (any : Bool) (found : Option Octets) → command_next state.controller (slots_held state handed) ≡ next
-      → list_any gives (slots_held state handed) ≡ any → next_out state.controller (slots_held state handed) ≡ found → (is_none next && not any) ≡ is_none found
-      → is_drained state.controller (slots_held state handed) ≡ is_none (next_out state.controller (slots_held state handed))
+  drained-by : (next : Option Commanded) (any : Bool) (found : Option Octets) → command_next state.controller (slot_states_handed state handed) ≡ next
+      → list_any gives (slot_states_handed state handed) ≡ any → next_out state.controller (slot_states_handed state handed) ≡ found → (is_none next && not any) ≡ is_none found
+      → is_drained state.controller (slot_states_handed state handed) ≡ is_none (next_out state.controller (slot_states_handed state handed))
   drained-by next any found commands packets out same = (λ i. is_none (commands i) && not (packets i)) ∙ same ∙ sym (ap is_none out)
 
-  drained : is_drained state.controller (slots_held state handed) ≡ is_none (next_out state.controller (slots_held state handed))
+  drained : is_drained state.controller (slot_states_handed state handed) ≡ is_none (next_out state.controller (slot_states_handed state handed))
   drained = elim (commanding state handed facts) [
-    | CommandGoes command next first ↦ drained-by (Some command) (list_any gives (slots_held state handed)) (Some (command_octets command)) next refl (command-out command next) refl
+    | CommandGoes command next first ↦ drained-by (Some command) (list_any gives (slot_states_handed state handed)) (Some (command_octets command)) next refl (command-out command next) refl
     | NoneGoes quiet ↦ elim (search_packets state handed state.next state.slots facts.settled.slots facts.placed.there facts.partway) [
       | NoPacket none ↦ drained-by None false None quiet.next none.any (packet-out quiet None none.none) refl
       | APacket first ↦ drained-by None true (Some first.octets) quiet.next first.any (packet-out quiet (Some first.octets) first.found) refl
     ]
   ]
 
-facts-of : (final : State) (owed : List Octets) (controller : Controller) (slots : List (Option Kept)) (owing : IsOwing final owed controller slots) → Facts owing.state owing.handed
+facts-of : (final : State) (owed : List Octets) (controller : Controller) (slots : List (Option SlotState)) (owing : IsOwing final owed controller slots) → Facts owing.state owing.handed
 facts-of final owed controller slots owing = record { settled = owing.settled; placed = owing.placed; partway = owing.partway }
 
 pub hands_out_what_is_owed : HandsOutWhatIsOwed
 hands_out_what_is_owed final owed controller slots owing =
     let state : State = owing.state in
-    let held = slots_held state owing.handed in
+    let server = slot_states_handed state owing.handed in
     let left = left_of state owing.handed in
-    let at_state : GoesOn (with_commands_sent state) left state.controller held (next_out state.controller held) =
+    let at_state : SendsTheNext (with_commands_sent state) left state.controller server (next_out state.controller server) =
     goes-on state owing.handed (facts-of final owed controller slots owing) in
-    let with_slots : GoesOn (with_commands_sent state) left state.controller slots (next_out state.controller slots) =
-    subst (λ kept. GoesOn (with_commands_sent state) left state.controller kept (next_out state.controller kept)) (sym owing.slots_are) at_state in
-    let with_controller : GoesOn (with_commands_sent state) left controller slots (next_out controller slots) =
-    subst (λ told. GoesOn (with_commands_sent state) left told slots (next_out told slots)) (sym owing.controller_is) with_slots in
-    let with_owed : GoesOn (with_commands_sent state) owed controller slots (next_out controller slots) =
-    subst (λ octets. GoesOn (with_commands_sent state) octets controller slots (next_out controller slots)) (sym owing.owes) with_controller in
-    subst (λ end. GoesOn end owed controller slots (next_out controller slots)) owing.arrives with_owed
+    let with_slots : SendsTheNext (with_commands_sent state) left state.controller slots (next_out state.controller slots) =
+    subst (λ slot_state. SendsTheNext (with_commands_sent state) left state.controller slot_state (next_out state.controller slot_state)) (sym owing.slots_are) at_state in
+    let with_controller : SendsTheNext (with_commands_sent state) left controller slots (next_out controller slots) =
+    subst (λ told. SendsTheNext (with_commands_sent state) left told slots (next_out told slots)) (sym owing.controller_is) with_slots in
+    let with_owed : SendsTheNext (with_commands_sent state) owed controller slots (next_out controller slots) =
+    subst (λ octets. SendsTheNext (with_commands_sent state) octets controller slots (next_out controller slots)) (sym owing.owes) with_controller in
+    subst (λ end. SendsTheNext end owed controller slots (next_out controller slots)) owing.arrives with_owed
 
 pub is_drained_where_nothing_goes_out : IsDrainedWhereNothingGoesOut
 is_drained_where_nothing_goes_out final owed controller slots owing =
@@ -116,22 +116,22 @@ is_drained_where_nothing_goes_out final owed controller slots owing =
     (λ i. is_drained (owing.controller_is i) (owing.slots_are i)) ∙ now ∙ sym (λ i. is_none (next_out (owing.controller_is i) (owing.slots_are i)))
 
 -- the same by what is so afterwards
-pub rest_is_owed : (final : State) (owed : List Octets) (octets : Octets) (old new : Controller) (before after : List (Option Kept)) → IsOwing final owed old before
+pub rest_is_owed : (final : State) (owed : List Octets) (octets : Octets) (old new : Controller) (before after : List (Option SlotState)) → IsOwing final owed old before
     → next_out old before ≡ Some octets → new ≡ controller_then old before → after ≡ slots_then old before → OwesTheRest final owed octets new after
 rest_is_owed final owed octets old new before after owing goes controllers slots =
     let first : OwesTheRest final owed octets (controller_then old before) (slots_then old before) =
-    subst (GoesOn final owed old before) goes (hands_out_what_is_owed final owed old before owing) in
+    subst (SendsTheNext final owed old before) goes (hands_out_what_is_owed final owed old before owing) in
     record {
       others = first.others;
       first = first.first;
       owing = subst (λ told. IsOwing final first.others told after) (sym controllers)
-          (subst (λ held. IsOwing final first.others (controller_then old before) held) (sym slots) first.owing);
+          (subst (λ server. IsOwing final first.others (controller_then old before) server) (sym slots) first.owing);
     }
 
-pub none_is_owed : (final : State) (owed : List Octets) (controller : Controller) (slots : List (Option Kept)) → IsOwing final owed controller slots
-    → is_some (next_out controller slots) ≡ false → IsDone final owed controller slots
+pub none_is_owed : (final : State) (owed : List Octets) (controller : Controller) (slots : List (Option SlotState)) → IsOwing final owed controller slots
+    → is_some (next_out controller slots) ≡ false → IsAllSent final owed controller slots
 none_is_owed final owed controller slots owing none =
-    subst (GoesOn final owed controller slots) (is_none_where (next_out controller slots) none) (hands_out_what_is_owed final owed controller slots owing)
+    subst (SendsTheNext final owed controller slots) (is_none_where (next_out controller slots) none) (hands_out_what_is_owed final owed controller slots owing)
 
 some-where : {A : Type 0} (found : Option A) → is_none found ≡ false → is_some found ≡ true
 some-where (Some x) is = refl
@@ -141,19 +141,19 @@ none-where : {A : Type 0} (found : Option A) → is_none found ≡ true → is_s
 none-where None is = refl
 none-where (Some x) is = sym is
 
-pub drained_is_done : (final : State) (owed : List Octets) (controller : Controller) (slots : List (Option Kept)) → IsOwing final owed controller slots
-    → is_drained controller slots ≡ true → IsDone final owed controller slots
+pub drained_is_done : (final : State) (owed : List Octets) (controller : Controller) (slots : List (Option SlotState)) → IsOwing final owed controller slots
+    → is_drained controller slots ≡ true → IsAllSent final owed controller slots
 drained_is_done final owed controller slots owing is =
     none_is_owed final owed controller slots owing
     (none-where (next_out controller slots) (sym (is_drained_where_nothing_goes_out final owed controller slots owing) ∙ is))
 
-pub some_is_owed : (final : State) (owed : List Octets) (controller : Controller) (slots : List (Option Kept)) → IsOwing final owed controller slots
+pub some_is_owed : (final : State) (owed : List Octets) (controller : Controller) (slots : List (Option SlotState)) → IsOwing final owed controller slots
     → is_drained controller slots ≡ false → owed ≢ []
 some_is_owed final owed controller slots owing is =
     let found = there_where (next_out controller slots)
     (some-where (next_out controller slots) (sym (is_drained_where_nothing_goes_out final owed controller slots owing) ∙ is)) in
-    let first : GoesOn final owed controller slots (Some found.x) =
-    subst (GoesOn final owed controller slots) found.is (hands_out_what_is_owed final owed controller slots owing) in
+    let first : SendsTheNext final owed controller slots (Some found.x) =
+    subst (SendsTheNext final owed controller slots) found.is (hands_out_what_is_owed final owed controller slots owing) in
     λ none. some-none (sym first.first ∙ none)
   where
     some-none : {A : Type 0} {x : A} {xs : List A} → x ∷ xs ≡ [] → ⊥

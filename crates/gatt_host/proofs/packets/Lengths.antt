@@ -35,7 +35,7 @@ room-there table handle attr facts there =
 pub fits_there : (table : Contents) (handle : Handle) (attr : Attr) (count : ℕ) → IsTable table → attribute_at table.attributes handle ≡ Some attr
     → has_length attr count ≡ true → count ≤ room_at table handle
 fits_there table handle attr count facts there has =
-    subst (λ (room : ℕ). count ≤ room) (sym (room-there table handle attr facts there)) (has-largest attr.largest count attr.fixed has)
+    subst (λ (shared : ℕ). count ≤ shared) (sym (room-there table handle attr facts there)) (has-largest attr.largest count attr.fixed has)
 
 pub exact_there : (table : Contents) (handle : Handle) (attr : Attr) (count : ℕ) → IsTable table → attribute_at table.attributes handle ≡ Some attr
     → has_length attr count ≡ true → is_fixed_at table.attributes handle ≡ true → count ≡ room_at table handle

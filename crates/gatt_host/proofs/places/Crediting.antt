@@ -1,7 +1,7 @@
 -- An answer to a command that means a credit is taken in as one.
 use Rattle.std.proofs.Common.{◌≡◌, ℕ, Option, Result, Ok, sym, subst}
 use Rattle.std.specs.Prelude.{IsOkAnd}
-use Rattle.gatt_host.specs.Held.{Held, after_credit}
+use Rattle.gatt_host.specs.ServerState.{ServerState, server_after_command_complete}
 use Rattle.gatt_host.specs.Meaning.{IsAfter}
 use Rattle.gatt_laws.specs.machine.Event.{Happening, Credit}
 use Rattle.gatt_laws.specs.machine.Packets.{Fault}
@@ -9,9 +9,9 @@ use Rattle.gatt_slots.specs.Slots.{Place}
 use Rattle.le_hci.specs.declared.init.Init.{Init}
 
 pub credited : (result : Result (Happening Place) Fault) (allowed opcode : ℕ) (status : Option ℕ)
-    (following : Option Init) (old new : Held)
+    (following : Option Init) (old new : ServerState)
     → result ≡ Ok (Credit allowed opcode status following)
-    → new ≡ after_credit allowed opcode status following old
+    → new ≡ server_after_command_complete allowed opcode status following old
     → IsOkAnd result (λ happening. IsAfter happening old new)
 credited result allowed opcode status following old new means after =
     subst (λ (result : Result (Happening Place) Fault). IsOkAnd result

@@ -16,127 +16,127 @@ use Rattle.gatt_laws.proofs.Settled.{none_next, settled_before_commands}
 use Rattle.gatt_laws.specs.machine.Controller.{Slots}
 use Rattle.gatt_laws.specs.machine.Event.{Ordinal, Own, Event, Connected, Gone, Encrypted, Refreshed, Asks, Signals, Of, Completed, Credit, Replaced}
 use Rattle.gatt_laws.specs.machine.Heard.{after_hearing}
-use Rattle.gatt_laws.specs.machine.Part.{Part, come, is_live, is_there, key_of, mtu_of, with_pdus, after_ending}
+use Rattle.gatt_laws.specs.machine.ConnectionState.{ConnectionState, fresh_connection, is_live, is_there, key_of, connection_mtu, with_pdus, after_ending}
 use Rattle.gatt_laws.specs.laws.Possible.{Possible}
 use Rattle.gatt_laws.specs.laws.Queued.{IsWithinBounds, HasBoundedQueues}
-use Rattle.gatt_laws.specs.machine.Room.{Room, share_of, size_of}
+use Rattle.gatt_laws.specs.machine.SharedState.{SharedState, quota_of, fragment_size_of}
 use Rattle.gatt_laws.specs.laws.Settled.{has_slot, IsSettled}
 use Rattle.gatt_laws.specs.machine.Start.{before_first_command}
-use Rattle.gatt_laws.specs.machine.State.{State, Change, slots_after, with_completed, after_completed, part_replaced, change_of, before_commands, commands_out, slot_out, step, out}
-use Rattle.gatt_laws.specs.machine.Turn.{turn_to, served, is_full, request_turn, after_channel, channel_answer, with_step, lost_encryption, live_turn, turn_of, remote_user_terminated, authentication_failure}
+use Rattle.gatt_laws.specs.machine.State.{State, Change, slots_after, with_packets_completed, after_packets_completed, connection_after_replacement, change_of, before_commands, commands_out, slot_out, step, out}
+use Rattle.gatt_laws.specs.machine.Effect.{effect_on_connection, served, is_full, request_effect, after_other_channel, channel_answer, with_step, lost_encryption, live_effect, effect_of, remote_user_terminated, authentication_failure}
 use Rattle.gatt_subs.specs.Indications.{after_replacement}
 use Rattle.le_acl.specs.History.{packets_allowed}
 use Rattle.le_security.specs.Link.{Step, Encryption, Refresh}
 use Rattle.octets.specs.Number.{Octets}
 
 -- before its end an event gives nothing
-abbrev Same : Part → Part → Type 0
+abbrev Same : ConnectionState → ConnectionState → Type 0
 Same old new = new.given ≡ old.given
 
-request-same : (room : Room) (bond : Row) (owed : Bool) (part : Part) (pdu : Octets) → Same part (request_turn room bond owed part pdu).part
-request-same room bond owed part pdu =
-    let asked = request_of pdu (mtu_of room part) in
-    elim (is_due asked && is_full room part) as
-    (λ (full : Bool). Same part (if full then turn_to room bond owed (after_ending part remote_user_terminated) else served room bond owed part pdu asked).part) [ true ↦ refl | false ↦ refl ]
+request-same : (shared : SharedState) (bond : Row) (owed : Bool) (connection : ConnectionState) (pdu : Octets) → Same connection (request_effect shared bond owed connection pdu).connection
+request-same shared bond owed connection pdu =
+    let asked = request_of pdu (connection_mtu shared connection) in
+    elim (is_due asked && is_full shared connection) as
+    (λ (full : Bool). Same connection (if full then effect_on_connection shared bond owed (after_ending connection remote_user_terminated) else served shared bond owed connection pdu asked).connection) [ true ↦ refl | false ↦ refl ]
 
-channel-same : (room : Room) (part : Part) (channel : ℕ) (answer : Option Octets) → Same part (after_channel room part channel answer)
-channel-same room part channel None = refl
-channel-same room part channel (Some answer) =
-    elim (is_full room part) as (λ (full : Bool). Same part (if full then after_ending part remote_user_terminated else with_pdus part ((channel, answer) ∷ []))) [ true ↦ refl | false ↦ refl ]
+channel-same : (shared : SharedState) (connection : ConnectionState) (channel : ℕ) (answer : Option Octets) → Same connection (after_other_channel shared connection channel answer)
+channel-same shared connection channel None = refl
+channel-same shared connection channel (Some answer) =
+    elim (is_full shared connection) as (λ (full : Bool). Same connection (if full then after_ending connection remote_user_terminated else with_pdus connection ((channel, answer) ∷ []))) [ true ↦ refl | false ↦ refl ]
 
-link-same : (part : Part) (step : Step) (lost : Bool) → Same part (if lost then after_ending (with_step part step) authentication_failure else with_step part step)
-link-same part step true = refl
-link-same part step false = refl
+link-same : (connection : ConnectionState) (step : Step) (lost : Bool) → Same connection (if lost then after_ending (with_step connection step) authentication_failure else with_step connection step)
+link-same connection step true = refl
+link-same connection step false = refl
 
-live-same : (room : Room) (bond : Row) (owed : Bool) (part : Part) (own : Own) → Same part (live_turn room bond owed part own).part
-unfolding live_turn
-live-same room bond owed part (Asks pdu) = request-same room bond owed part pdu
-live-same room bond owed part (Signals channel payload) = channel-same room part channel (channel_answer channel payload)
-live-same room bond owed part (Encrypted status enabled) =
-    link-same part (Encryption status enabled) (lost_encryption (key_of part) (key_of (with_step part (Encryption status enabled))))
-live-same room bond owed part (Refreshed status) = link-same part (Refresh status) (lost_encryption (key_of part) (key_of (with_step part (Refresh status))))
-live-same room bond owed part own = refl
+live-same : (shared : SharedState) (bond : Row) (owed : Bool) (connection : ConnectionState) (own : Own) → Same connection (live_effect shared bond owed connection own).connection
+unfolding live_effect
+live-same shared bond owed connection (Asks pdu) = request-same shared bond owed connection pdu
+live-same shared bond owed connection (Signals channel payload) = channel-same shared connection channel (channel_answer channel payload)
+live-same shared bond owed connection (Encrypted status enabled) =
+    link-same connection (Encryption status enabled) (lost_encryption (key_of connection) (key_of (with_step connection (Encryption status enabled))))
+live-same shared bond owed connection (Refreshed status) = link-same connection (Refresh status) (lost_encryption (key_of connection) (key_of (with_step connection (Refresh status))))
+live-same shared bond owed connection own = refl
 
-if-live : (room : Room) (bond : Row) (owed : Bool) (part : Part) (own : Own) (live : Bool)
-    → Same part (if live then live_turn room bond owed part own else turn_to room bond owed part).part
-if-live room bond owed part own true = live-same room bond owed part own
-if-live room bond owed part own false = refl
+if-live : (shared : SharedState) (bond : Row) (owed : Bool) (connection : ConnectionState) (own : Own) (live : Bool)
+    → Same connection (if live then live_effect shared bond owed connection own else effect_on_connection shared bond owed connection).connection
+if-live shared bond owed connection own true = live-same shared bond owed connection own
+if-live shared bond owed connection own false = refl
 
 -- who comes was given nothing, and who goes has no slot
 own-same : (state : State) (at : Ordinal) (own : Own) → IsSettled state → Possible (λ table. Unit) state (Of at own) → has_slot at (slots_after own at state.slots) ≡ true
-    → Same (state.parts at) (turn_of state.room (state.bonds (state.parts at).peer) (state.owed (state.parts at).peer) (state.parts at) own).part
+    → Same (state.connections at) (effect_of state.shared (state.bonds (state.connections at).peer) (state.owed (state.connections at).peer) (state.connections at) own).connection
 own-same state at (Connected handle peer) settled may has =
     let lacks : has_slot at state.slots ≡ false =
     ap (λ (one : Ordinal). has_slot one state.slots) may.next ∙ none_next state.next state.next state.slots (omega arith) settled.slots in
-    let none : 0 ≡ (state.parts at).given = sym (ap (λ (part : Part). part.given) (settled.gone at lacks)) in
-    elim (is_there (state.parts at).mark) as (λ (there : Bool). Same (state.parts at) (if there then state.parts at else come handle peer)) [ true ↦ refl | false ↦ none ]
+    let none : 0 ≡ (state.connections at).given = sym (ap (λ (connection : ConnectionState). connection.given) (settled.gone at lacks)) in
+    elim (is_there (state.connections at).mark) as (λ (there : Bool). Same (state.connections at) (if there then state.connections at else fresh_connection handle peer)) [ true ↦ refl | false ↦ none ]
 own-same state at Gone settled may has = absurd (clash (sym (freed_lacks at state.slots) ∙ has))
-own-same state at own settled may has = if-live _ _ _ (state.parts at) own (is_live (state.parts at).mark)
+own-same state at own settled may has = if-live _ _ _ (state.connections at) own (is_live (state.connections at).mark)
 
-completed-same : (ordinal : Ordinal) (entries : List (Ordinal × ℕ)) (part : Part) → Same part (after_completed ordinal entries part)
-completed-same ordinal [] part = refl
-completed-same ordinal (entry ∷ entries) part =
-    completed-same ordinal entries (if entry.0 == ordinal then with_completed part entry.1 else part)
-    ∙ elim (entry.0 == ordinal) as (λ (own : Bool). Same part (if own then with_completed part entry.1 else part)) [ true ↦ refl | false ↦ refl ]
+completed-same : (ordinal : Ordinal) (entries : List (Ordinal × ℕ)) (connection : ConnectionState) → Same connection (after_packets_completed ordinal entries connection)
+completed-same ordinal [] connection = refl
+completed-same ordinal (entry ∷ entries) connection =
+    completed-same ordinal entries (if entry.0 == ordinal then with_packets_completed connection entry.1 else connection)
+    ∙ elim (entry.0 == ordinal) as (λ (own : Bool). Same connection (if own then with_packets_completed connection entry.1 else connection)) [ true ↦ refl | false ↦ refl ]
 
-replaced-same : (old new : Contents) (part : Part) → Same part (part_replaced old new part)
-replaced-same old new part =
-    elim (is_live part.mark) as (λ (live : Bool). Same part (record (if live then record part { said = Dropped ∷ part.said; pending = after_replacement part.pending } else part) { row = kept_row old.attributes new.attributes part.row })) [
+replaced-same : (old new : Contents) (connection : ConnectionState) → Same connection (connection_after_replacement old new connection)
+replaced-same old new connection =
+    elim (is_live connection.mark) as (λ (live : Bool). Same connection (record (if live then record connection { said = Dropped ∷ connection.said; pending = after_replacement connection.pending } else connection) { row = kept_row old.attributes new.attributes connection.row })) [
       | true ↦ refl
       | false ↦ refl
     ]
 
 pub change-same : (state : State) (event : Event) → Possible (λ table. Unit) state event → IsSettled state → (ordinal : Ordinal)
-    → has_slot ordinal (change_of state event).state.slots ≡ true → Same (state.parts ordinal) ((change_of state event).state.parts ordinal)
+    → has_slot ordinal (change_of state event).state.slots ≡ true → Same (state.connections ordinal) ((change_of state event).state.connections ordinal)
 unfolding change_of
 change-same state (Of at own) possible settled ordinal has =
-    let turn = turn_of state.room (state.bonds (state.parts at).peer) (state.owed (state.parts at).peer) (state.parts at) own in
-    elim (ordinal == at) as (λ (same : Bool). (ordinal == at) ≡ same → Same (state.parts ordinal) (if same then turn.part else state.parts ordinal)) [
+    let effect = effect_of state.shared (state.bonds (state.connections at).peer) (state.owed (state.connections at).peer) (state.connections at) own in
+    elim (ordinal == at) as (λ (same : Bool). (ordinal == at) ≡ same → Same (state.connections ordinal) (if same then effect.connection else state.connections ordinal)) [
       | true ↦ λ same.
           own-same state at own settled possible (subst (λ (one : Ordinal). has_slot one (slots_after own at state.slots) ≡ true) (eqb-true ordinal at same) has)
-          ∙ sym (ap (λ (one : Ordinal). (state.parts one).given) (eqb-true ordinal at same))
+          ∙ sym (ap (λ (one : Ordinal). (state.connections one).given) (eqb-true ordinal at same))
       | false ↦ λ differs. refl
     ] refl
-change-same state (Completed entries) possible settled ordinal has = completed-same ordinal entries (state.parts ordinal)
+change-same state (Completed entries) possible settled ordinal has = completed-same ordinal entries (state.connections ordinal)
 change-same state (Credit allowed opcode status (Some init)) possible settled ordinal has = refl
 change-same state (Credit allowed opcode status None) possible settled ordinal has = refl
-change-same state (Replaced table) possible settled ordinal has = replaced-same state.room.table table (state.parts ordinal)
+change-same state (Replaced table) possible settled ordinal has = replaced-same state.shared.table table (state.connections ordinal)
 change-same state event possible settled ordinal has = refl
 
 -- at its end it gives what may be given
-given-partway : (room : Room) (part : Part) (handed : ℕ) (live : Bool) → is_live part.mark ≡ live → part.given ≡ handed
-    → IsWithinBounds (share_of room.slots room.told) (size_of room.told) part
-    → IsPartway room (if live then record part { given = packets_allowed (share_of room.slots room.told) (size_of room.told) part.pdus part.done } else part) handed
-given-partway room part handed true is same within = record {
+given-partway : (shared : SharedState) (connection : ConnectionState) (handed : ℕ) (live : Bool) → is_live connection.mark ≡ live → connection.given ≡ handed
+    → IsWithinBounds (quota_of shared.slots shared.buffers) (fragment_size_of shared.buffers) connection
+    → IsPartway shared (if live then record connection { given = packets_allowed (quota_of shared.slots shared.buffers) (fragment_size_of shared.buffers) connection.pdus connection.done } else connection) handed
+given-partway shared connection handed true is same within = record {
   serving = λ live. refl;
   most = λ live. omega (arith, within.given, within.within, same);
   done = omega (arith, within.done, same);
   others = λ other. cc (is, other);
 }
-given-partway room part handed false is same within = record {
+given-partway shared connection handed false is same within = record {
   serving = λ live. cc (is, live);
   most = λ live. omega (arith, same);
   done = omega (arith, within.done, same);
   others = λ other. sym same;
 }
 
-heard-same : (room : Room) (bond : Row) (handles : List Handle) (part : Part) → (after_hearing room bond handles part).given ≡ part.given
+heard-same : (shared : SharedState) (bond : Row) (handles : List Handle) (connection : ConnectionState) → (after_hearing shared bond handles connection).given ≡ connection.given
 unfolding after_hearing
-heard-same room bond handles part = refl
+heard-same shared bond handles connection = refl
 
 event-partway : (state : State) (event : Event) → Possible (λ table. Unit) state event → IsSettled state → HasBoundedQueues state → (ordinal : Ordinal)
     → has_slot ordinal (before_commands state event).slots ≡ true
-    → IsPartway (before_commands state event).room ((before_commands state event).parts ordinal) ((state.parts ordinal).given)
+    → IsPartway (before_commands state event).shared ((before_commands state event).connections ordinal) ((state.connections ordinal).given)
 event-partway state event possible settled queued ordinal has =
     let change : Change = change_of state event in
-    let room : Room = change.state.room in
-    let part : Part = change.state.parts ordinal in
-    let bond : Row = change.state.bonds part.peer in
-    let heard : Part = after_hearing room bond (change.raised ordinal) part in
+    let shared : SharedState = change.state.shared in
+    let connection : ConnectionState = change.state.connections ordinal in
+    let bond : Row = change.state.bonds connection.peer in
+    let heard : ConnectionState = after_hearing shared bond (change.to_notify ordinal) connection in
     let within = change-queued state event possible (record { settled = settled; queued = queued }) ordinal in
-    given-partway room heard (state.parts ordinal).given (is_live heard.mark) refl
-    (heard-same room bond (change.raised ordinal) part ∙ change-same state event possible settled ordinal has)
-    (heard-within (share_of room.slots room.told) (size_of room.told) room refl refl bond (change.raised ordinal) part within)
+    given-partway shared heard (state.connections ordinal).given (is_live heard.mark) refl
+    (heard-same shared bond (change.to_notify ordinal) connection ∙ change-same state event possible settled ordinal has)
+    (heard-within (quota_of shared.slots shared.buffers) (fragment_size_of shared.buffers) shared refl refl bond (change.to_notify ordinal) connection within)
 
 slots-out : (old new : State) (slots : Slots) → flat_map (slot_out old new) slots ≡ flat_map (slot_left new (all_given old)) slots
 slots-out old new [] = refl

@@ -11,7 +11,7 @@ use Rattle.gatt_laws.specs.machine.Packets.{Fault, InitFailed, answered, followi
 use Rattle.le_hci.specs.declared.init.Init.{Init}
 use Rattle.le_hci.specs.declared.init.InitFault.{InitFault}
 use Rattle.le_hci.specs.declared.init.InitFault.TheVariants.{Refused}
-use Rattle.le_hci.specs.Init.{handed_back, next_by, opcode_awaited, outcome_by, outcome_of}
+use Rattle.le_hci.specs.Init.{handed_back, next_by, opcode_awaited, outcome_by, init_outcome}
 use Rattle.octets.specs.Number.{Octets}
 
 right-of : (left right : Bool) → (left && right) ≡ true → right ≡ true
@@ -34,7 +34,7 @@ leads-to (Some awaited) state opcode status is other =
 pub stops_where_refused : (controller : Controller) (status allowed opcode : ℕ) → is_awaited controller opcode ≡ true → (status == 0) ≡ false
     → stop_of (status_event controller status allowed opcode) ≡ Some (stop.Init (Refused opcode status))
 stops_where_refused controller status allowed opcode is other =
-    let leads : Result (Option Init) Fault = following_of (outcome_of controller.init (status ∷ [])) in
+    let leads : Result (Option Init) Fault = following_of (init_outcome controller.init (status ∷ [])) in
     ap (λ (awaits : Bool). stop_of (answered allowed opcode (Some status) (if awaits && not (status == 0) then leads else Ok None))) is
     ∙ ap (λ (zero : Bool). stop_of (answered allowed opcode (Some status) (if not zero then leads else Ok None))) other
     ∙ ap (λ (result : Result (Option Init) Fault). stop_of (answered allowed opcode (Some status) result))

@@ -2,7 +2,7 @@
 use Rattle.std.specs.Prelude.{ℕ, ◌+◌, false, List, [], ◌∷◌, ◌++◌, length, map, drop, replicate, None}
 use Rattle.att_table.specs.Table.{Contents}
 use Rattle.gatt_laws.specs.machine.Calls.{UpdateCall, AuthorizeCall, DisconnectCall, TickCall}
-use Rattle.gatt_laws.specs.machine.Input.{Item, AnOctet, ACall, course}
+use Rattle.gatt_laws.specs.machine.Input.{Item, AnOctet, ACall, run}
 use Rattle.gatt_laws.specs.machine.Start.{Start}
 use Rattle.gatt_laws.proofs.examples.Tables.{keys}
 use Rattle.le_hci.specs.declared.peer.Peer.{Peer}
@@ -87,7 +87,7 @@ tick time = ACall (TickCall time) ∷ []
 -- Seven commands initialise the controller
 abbrev pub sent_to : Contents → ℕ → ℕ → Peer → List Item → List Octets
 sent_to table slots packets peer items =
-    drop 7 (course (host table slots) (stream (initialised packets ++ connected peer) ++ items)).gone
+    drop 7 (run (host table slots) (stream (initialised packets ++ connected peer) ++ items)).sent
 
 -- advertising is enabled for a slot that is free
 abbrev pub enable : Octets

@@ -15,13 +15,13 @@ use Rattle.gatt_laws.specs.machine.Calls.{AuthorizeCall}
 use Rattle.gatt_laws.specs.machine.Controller.{commands_due}
 use Rattle.gatt_laws.specs.machine.Event.{Event, Of, Completed, Credit, Update, Tick, Replaced, Nothing}
 use Rattle.gatt_laws.specs.machine.Heard.{after_hearing}
-use Rattle.gatt_laws.specs.machine.Input.{after_items, Item, AnOctet, APacket, ACall, ATable, TheEnd, Course, after_item, at_start, course}
+use Rattle.gatt_laws.specs.machine.Input.{after_items, Item, AnOctet, APacket, ACall, ATable, TheEnd, Run, after_item, run_at_start, run}
 use Rattle.gatt_laws.specs.machine.ItemEvents.{event_at}
-use Rattle.gatt_laws.specs.laws.NothingCrosses.{is_replaced, IsTableToo, ItemsAgree, hidden_while, Agree, InputsAgree, SparedIf, SparedIn, given_by}
+use Rattle.gatt_laws.specs.laws.NothingCrosses.{is_replaced, IsTableToo, ItemsAgree, hidden_while, Agree, InputsAgree, SparedIf, SparedIn, packets_given_by}
 use Rattle.gatt_laws.specs.machine.Packets.{packet_event}
 use Rattle.gatt_laws.specs.laws.Possible.{AllTables}
 use Rattle.gatt_laws.specs.machine.State.{State, step, change_of, out}
-use Rattle.gatt_laws.specs.machine.Turn.{live_turn}
+use Rattle.gatt_laws.specs.machine.Effect.{live_effect}
 use Rattle.gatt_laws.specs.laws.TwoWorlds.{finds_no_room}
 use Rattle.le_acl.specs.Frame.{frame_at}
 use Rattle.le_acl.specs.Packets.{pieces}
@@ -73,30 +73,30 @@ abbrev of_phone : List Octets
 of_phone =
     (0x02 ∷ 0x40 ∷ 0x00 ∷ frame (0x13 ∷ [])) ∷ (0x02 ∷ 0x40 ∷ 0x00 ∷ frame (0x01 ∷ 0x0A ∷ 0x03 ∷ 0x00 ∷ 0x08 ∷ [])) ∷ []
 
-given_to_phone : given_by phone 0 (at_start (host (safe 0) 2)) played ≡ of_phone
-unfolding after_item packet_event step change_of live_turn after_hearing commands_due out frame_at form_of pieces after_entries value_answer
+given_to_phone : packets_given_by phone 0 (run_at_start (host (safe 0) 2)) played ≡ of_phone
+unfolding after_item packet_event step change_of live_effect after_hearing commands_due out frame_at form_of pieces after_entries value_answer
 given_to_phone = refl
 
-given_to_other : given_by tablet 1 (at_start (host (safe 7) 2)) played
+given_to_other : packets_given_by tablet 1 (run_at_start (host (safe 7) 2)) played
     ≡ (0x02 ∷ 0x41 ∷ 0x00 ∷ frame (0x17 ∷ 0x03 ∷ 0x00 ∷ 0x01 ∷ 0x00 ∷ 0x41 ∷ [])) ∷ (0x02 ∷ 0x41 ∷ 0x00 ∷ frame (0x19 ∷ []))
     ∷ (0x02 ∷ 0x41 ∷ 0x00 ∷ frame (0x0B ∷ 0x07 ∷ 0x41 ∷ [])) ∷ []
-unfolding after_item packet_event step change_of live_turn after_hearing commands_due out frame_at form_of pieces after_entries value_answer
+unfolding after_item packet_event step change_of live_effect after_hearing commands_due out frame_at form_of pieces after_entries value_answer
 given_to_other = refl
 
 -- the first phone may know of it at no moment
-secret : hidden_while phone (at_start (host (safe 0) 2)) played 3 ≡ true
-unfolding after_item packet_event step change_of live_turn after_hearing commands_due out frame_at form_of pieces after_entries value_answer
+secret : hidden_while phone (run_at_start (host (safe 0) 2)) played 3 ≡ true
+unfolding after_item packet_event step change_of live_effect after_hearing commands_due out frame_at form_of pieces after_entries value_answer
 secret = refl
 
 -- Whether the others are spared can be tested.
 
 is_spared : Peer → State → Option Event → Bool
-is_spared peer state (Some (Of ordinal own)) = is_of peer (state.parts ordinal) || not (finds_no_room state.room (state.parts ordinal) own)
+is_spared peer state (Some (Of ordinal own)) = is_of peer (state.connections ordinal) || not (finds_no_room state.shared (state.connections ordinal) own)
 is_spared peer state event = true
 
-are_spared : Peer → Course → List Item → Bool
-are_spared peer course [] = true
-are_spared peer course (item ∷ items) = is_spared peer course.intake.state (event_at course.intake item) && are_spared peer (after_item course item) items
+are_spared : Peer → Run → List Item → Bool
+are_spared peer run [] = true
+are_spared peer run (item ∷ items) = is_spared peer run.intake.state (event_at run.intake item) && are_spared peer (after_item run item) items
 
 first-true : (one other : Bool) → (one && other) ≡ true → one ≡ true
 first-true true other is = refl
@@ -114,7 +114,7 @@ or-not true other is none = cc none
 spared-one : (peer : Peer) (state : State) (event : Option Event) → is_spared peer state event ≡ true → SparedIf peer state event
 unfolding is_spared
 spared-one peer state None is = tt
-spared-one peer state (Some (Of ordinal own)) is = or-not (is_of peer (state.parts ordinal)) (finds_no_room state.room (state.parts ordinal) own) is
+spared-one peer state (Some (Of ordinal own)) is = or-not (is_of peer (state.connections ordinal)) (finds_no_room state.shared (state.connections ordinal) own) is
 spared-one peer state (Some (Completed entries)) is = tt
 spared-one peer state (Some (Credit allowed opcode status following)) is = tt
 spared-one peer state (Some (Update handle value)) is = tt
@@ -122,12 +122,12 @@ spared-one peer state (Some (Tick time)) is = tt
 spared-one peer state (Some (Replaced table)) is = tt
 spared-one peer state (Some Nothing) is = tt
 
-spared-all : (peer : Peer) (course : Course) (items : List Item) → are_spared peer course items ≡ true → SparedIn peer course items
+spared-all : (peer : Peer) (run : Run) (items : List Item) → are_spared peer run items ≡ true → SparedIn peer run items
 unfolding are_spared
-spared-all peer course [] is = tt
-spared-all peer course (item ∷ items) is = (
-  spared-one peer course.intake.state (event_at course.intake item) (first-true (is_spared peer course.intake.state (event_at course.intake item)) _ is),
-  spared-all peer (after_item course item) items (second-true (is_spared peer course.intake.state (event_at course.intake item)) _ is),
+spared-all peer run [] is = tt
+spared-all peer run (item ∷ items) is = (
+  spared-one peer run.intake.state (event_at run.intake item) (first-true (is_spared peer run.intake.state (event_at run.intake item)) _ is),
+  spared-all peer (after_item run item) items (second-true (is_spared peer run.intake.state (event_at run.intake item)) _ is),
 )
 
 -- no table is replaced here
@@ -136,14 +136,14 @@ no_table [] = true
 no_table (ATable table ∷ items) = false
 no_table (item ∷ items) = no_table items
 
-same-input : (peer : Peer) (course : Course) (items : List Item) → no_table items ≡ true → InputsAgree peer course items items
+same-input : (peer : Peer) (run : Run) (items : List Item) → no_table items ≡ true → InputsAgree peer run items items
 unfolding no_table
-same-input peer course [] none = tt
-same-input peer course (AnOctet octet ∷ items) none = (refl, same-input peer (after_item course (AnOctet octet)) items none)
-same-input peer course (APacket packet ∷ items) none = (refl, same-input peer (after_item course (APacket packet)) items none)
-same-input peer course (ACall call ∷ items) none = (refl, same-input peer (after_item course (ACall call)) items none)
-same-input peer course (ATable table ∷ items) none = cc none
-same-input peer course (TheEnd ∷ items) none = (refl, same-input peer (after_item course TheEnd) items none)
+same-input peer run [] none = tt
+same-input peer run (AnOctet octet ∷ items) none = (refl, same-input peer (after_item run (AnOctet octet)) items none)
+same-input peer run (APacket packet ∷ items) none = (refl, same-input peer (after_item run (APacket packet)) items none)
+same-input peer run (ACall call ∷ items) none = (refl, same-input peer (after_item run (ACall call)) items none)
+same-input peer run (ATable table ∷ items) none = cc none
+same-input peer run (TheEnd ∷ items) none = (refl, same-input peer (after_item run TheEnd) items none)
 
 all-tables : (items : List Item) → no_table items ≡ true → AllTables HasHandles items
 unfolding no_table
@@ -162,7 +162,7 @@ hidden-there hidden is shown = cc (sym (ap (λ (h : Bool). h && not false) is) �
 agree : (octet : ℕ) → Agree phone (host (safe 0) 2) (host (safe octet) 2) played played
 unfolding no_table
 agree octet =
-    let hidden : Handle → Bool = hidden_while phone (at_start (host (safe 0) 2)) played in
+    let hidden : Handle → Bool = hidden_while phone (run_at_start (host (safe 0) 2)) played in
     let values = (safe 0).values in
     record {
       starts = record {
@@ -173,19 +173,19 @@ agree octet =
         };
         rest = refl;
       };
-      inputs = same-input phone (at_start (host (safe 0) 2)) played refl;
+      inputs = same-input phone (run_at_start (host (safe 0) 2)) played refl;
     }
 
-spared : (octet : ℕ) → are_spared phone (at_start (host (safe octet) 2)) played ≡ true
-unfolding are_spared is_spared after_item packet_event step change_of live_turn after_hearing commands_due out frame_at form_of pieces after_entries value_answer
+spared : (octet : ℕ) → are_spared phone (run_at_start (host (safe octet) 2)) played ≡ true
+unfolding are_spared is_spared after_item packet_event step change_of live_effect after_hearing commands_due out frame_at form_of pieces after_entries value_answer
 spared octet = refl
 
 -- and the phone is given the same
-no_secret_told : (octet : ℕ) → given_by phone 0 (at_start (host (safe octet) 2)) played ≡ of_phone
+no_secret_told : (octet : ℕ) → packets_given_by phone 0 (run_at_start (host (safe octet) 2)) played ≡ of_phone
 unfolding no_table
 no_secret_told octet =
     sym (crosses_nowhere phone (host (safe 0) 2) (host (safe octet) 2) played played (refl, (refl, (refl, (refl, tt)))) (all-tables played refl) (agree octet)
-    (spared-all phone (at_start (host (safe 0) 2)) played (spared 0)) (spared-all phone (at_start (host (safe octet) 2)) played (spared octet)) 0)
+    (spared-all phone (run_at_start (host (safe 0) 2)) played (spared 0)) (spared-all phone (run_at_start (host (safe octet) 2)) played (spared octet)) 0)
     ∙ given_to_phone
 
 -- The same of a table that replaces another.
@@ -215,45 +215,45 @@ behind =
 abbrev replaced_by : ℕ → List Item
 replaced_by octet = before ++ ATable (fence octet) ∷ behind
 
-abbrev at_fence : Course
-at_fence = at_start (host (fence 0) 2)
+abbrev at_fence : Run
+at_fence = run_at_start (host (fence 0) 2)
 
-new_to_phone : given_by phone 0 at_fence (replaced_by 1)
+new_to_phone : packets_given_by phone 0 at_fence (replaced_by 1)
     ≡ (0x02 ∷ 0x40 ∷ 0x00 ∷ frame (0x13 ∷ [])) ∷ (0x02 ∷ 0x40 ∷ 0x00 ∷ frame (0x01 ∷ 0x0A ∷ 0x07 ∷ 0x00 ∷ 0x08 ∷ [])) ∷ []
-unfolding after_item packet_event step change_of live_turn after_hearing commands_due out frame_at form_of pieces after_entries value_answer
+unfolding after_item packet_event step change_of live_effect after_hearing commands_due out frame_at form_of pieces after_entries value_answer
 new_to_phone = refl
 
-new_to_other : given_by tablet 1 at_fence (replaced_by 9)
+new_to_other : packets_given_by tablet 1 at_fence (replaced_by 9)
     ≡ (0x02 ∷ 0x41 ∷ 0x00 ∷ frame (0x17 ∷ 0x07 ∷ 0x00 ∷ 0x01 ∷ 0x00 ∷ 0x41 ∷ [])) ∷ (0x02 ∷ 0x41 ∷ 0x00 ∷ frame (0x19 ∷ []))
     ∷ (0x02 ∷ 0x41 ∷ 0x00 ∷ frame (0x0B ∷ 0x09 ∷ 0x41 ∷ [])) ∷ []
-unfolding after_item packet_event step change_of live_turn after_hearing commands_due out frame_at form_of pieces after_entries value_answer
+unfolding after_item packet_event step change_of live_effect after_hearing commands_due out frame_at form_of pieces after_entries value_answer
 new_to_other = refl
 
-abbrev after_replacement : Course
+abbrev after_replacement : Run
 after_replacement = after_item (after_items at_fence before) (ATable (fence 1))
 
 new_secret : hidden_while phone after_replacement behind 7 ≡ true
-unfolding after_item packet_event step change_of live_turn after_hearing commands_due out frame_at form_of pieces after_entries value_answer
+unfolding after_item packet_event step change_of live_effect after_hearing commands_due out frame_at form_of pieces after_entries value_answer
 new_secret = refl
 
 table-stands : is_replaced (after_items at_fence before).intake (ATable (fence 1)) ≡ true
-unfolding after_item packet_event step change_of live_turn after_hearing commands_due out frame_at form_of pieces after_entries value_answer
+unfolding after_item packet_event step change_of live_effect after_hearing commands_due out frame_at form_of pieces after_entries value_answer
 table-stands = refl
 
 new-spared : (octet : ℕ) → are_spared phone at_fence (replaced_by octet) ≡ true
-unfolding are_spared is_spared after_item packet_event step change_of live_turn after_hearing commands_due out frame_at form_of pieces after_entries value_answer
+unfolding are_spared is_spared after_item packet_event step change_of live_effect after_hearing commands_due out frame_at form_of pieces after_entries value_answer
 new-spared octet = refl
 
 -- the same items before others
-same-before : (peer : Peer) (course : Course) (items rest others : List Item) → no_table items ≡ true → InputsAgree peer (after_items course items) rest others
-    → InputsAgree peer course (items ++ rest) (items ++ others)
+same-before : (peer : Peer) (run : Run) (items rest others : List Item) → no_table items ≡ true → InputsAgree peer (after_items run items) rest others
+    → InputsAgree peer run (items ++ rest) (items ++ others)
 unfolding no_table
-same-before peer course [] rest others none later = later
-same-before peer course (AnOctet octet ∷ items) rest others none later = (refl, same-before peer (after_item course (AnOctet octet)) items rest others none later)
-same-before peer course (APacket packet ∷ items) rest others none later = (refl, same-before peer (after_item course (APacket packet)) items rest others none later)
-same-before peer course (ACall call ∷ items) rest others none later = (refl, same-before peer (after_item course (ACall call)) items rest others none later)
-same-before peer course (ATable table ∷ items) rest others none later = cc none
-same-before peer course (TheEnd ∷ items) rest others none later = (refl, same-before peer (after_item course TheEnd) items rest others none later)
+same-before peer run [] rest others none later = later
+same-before peer run (AnOctet octet ∷ items) rest others none later = (refl, same-before peer (after_item run (AnOctet octet)) items rest others none later)
+same-before peer run (APacket packet ∷ items) rest others none later = (refl, same-before peer (after_item run (APacket packet)) items rest others none later)
+same-before peer run (ACall call ∷ items) rest others none later = (refl, same-before peer (after_item run (ACall call)) items rest others none later)
+same-before peer run (ATable table ∷ items) rest others none later = cc none
+same-before peer run (TheEnd ∷ items) rest others none later = (refl, same-before peer (after_item run TheEnd) items rest others none later)
 
 tables-before : (items rest : List Item) → no_table items ≡ true → AllTables HasHandles rest → AllTables HasHandles (items ++ rest)
 unfolding no_table
@@ -296,7 +296,7 @@ new-agree octet = record {
       (items-agree octet (is_replaced (after_items at_fence before).intake (ATable (fence 1))) table-stands, same-input phone after_replacement behind refl);
 }
 
-no_new_secret_told : (octet : ℕ) → given_by phone 0 at_fence (replaced_by octet)
+no_new_secret_told : (octet : ℕ) → packets_given_by phone 0 at_fence (replaced_by octet)
     ≡ (0x02 ∷ 0x40 ∷ 0x00 ∷ frame (0x13 ∷ [])) ∷ (0x02 ∷ 0x40 ∷ 0x00 ∷ frame (0x01 ∷ 0x0A ∷ 0x07 ∷ 0x00 ∷ 0x08 ∷ [])) ∷ []
 unfolding no_table
 no_new_secret_told octet =

@@ -10,8 +10,8 @@ use Rattle.att_writes.specs.SameBut.{SameBut}
 use Rattle.gatt_conn.specs.Answer.{Question}
 use Rattle.gatt_conn.specs.Transcript.{Said, Answered, Dropped}
 use Rattle.gatt_laws.specs.machine.Event.{Ordinal}
-use Rattle.gatt_laws.specs.machine.Part.{Part, is_live, row_of, standing_of}
-use Rattle.gatt_laws.specs.machine.Room.{Room, Bonds}
+use Rattle.gatt_laws.specs.machine.ConnectionState.{ConnectionState, is_live, row_in_force, standing_of}
+use Rattle.gatt_laws.specs.machine.SharedState.{SharedState, Bonds}
 use Rattle.gatt_laws.specs.machine.State.{State, with_values}
 use Rattle.gatt_subs.specs.Hearing.{may_hear_at}
 use Rattle.gatt_subs.specs.Indications.{no_indications}
@@ -29,7 +29,7 @@ is_reading (Ok (ReadMultipleRequest handles)) = true
 is_reading (Ok (ReadByGroupTypeRequest first last type)) = true
 is_reading (Ok (ExchangeMtuRequest client_rx_mtu)) = false
 is_reading (Ok (WriteRequest handle value)) = false
-is_reading (Ok (PrepareWriteRequest handle offset part)) = false
+is_reading (Ok (PrepareWriteRequest handle offset connection)) = false
 is_reading (Ok (ExecuteWriteRequest flags)) = false
 is_reading (Ok ConfirmationPdu) = false
 is_reading (Ok (WriteCommandPdu handle value)) = false
@@ -42,9 +42,9 @@ without_reading Dropped = Dropped
 
 -- a connection without its PDUs, and what of them is given and done; without answers to requests that read; and without its
 -- indications
-abbrev pub erased : Part → Part
-erased part = record part {
-  said = map without_reading part.said;
+abbrev pub erased : ConnectionState → ConnectionState
+erased connection = record connection {
+  said = map without_reading connection.said;
   pending = no_indications;
   pdus = [];
   given = 0;
@@ -52,18 +52,18 @@ erased part = record part {
 }
 
 -- a connection is one of this peer
-abbrev pub is_of : Peer → Part → Bool
-is_of peer part = same_peer part.peer peer
+abbrev pub is_of : Peer → ConnectionState → Bool
+is_of peer connection = same_peer connection.peer peer
 
 -- in both states these are the same: all that connections share but hidden octets, whatever is configured, what the peer is
 -- owed, its connections, and all others but for what is erased
 pub record Alike (peer : Peer) (hidden : Handle → Bool) (one other : State) : Type 0 where
-  pub room : with_values one.room other.room.table.values ≡ other.room
-  pub values : SameBut hidden one.room.table.values other.room.table.values
+  pub shared : with_values one.shared other.shared.table.values ≡ other.shared
+  pub values : SameBut hidden one.shared.table.values other.shared.table.values
   pub bonds : one.bonds ≡ other.bonds
   pub owed : one.owed peer ≡ other.owed peer
-  pub own : (ordinal : Ordinal) → is_of peer (one.parts ordinal) ≡ true → one.parts ordinal ≡ other.parts ordinal
-  pub others : (ordinal : Ordinal) → erased (one.parts ordinal) ≡ erased (other.parts ordinal)
+  pub own : (ordinal : Ordinal) → is_of peer (one.connections ordinal) ≡ true → one.connections ordinal ≡ other.connections ordinal
+  pub others : (ordinal : Ordinal) → erased (one.connections ordinal) ≡ erased (other.connections ordinal)
   pub slots : one.slots ≡ other.slots
   pub next : one.next ≡ other.next
   pub controller : one.controller ≡ other.controller
@@ -78,10 +78,10 @@ pub record MayNotKnow (attributes : List Attr) (row : Row) (standing : Standing)
   pub unheard : may_hear_at attributes row standing handle ≡ false
 
 -- what is hidden no connection of the peer that serves may know
-abbrev pub HidesFrom : Peer → (Handle → Bool) → Room → Bonds → Part → Type 0
-HidesFrom peer hidden room bonds part =
-    is_live part.mark ≡ true → is_of peer part ≡ true → (handle : Handle) → hidden handle ≡ true →
-    MayNotKnow room.table.attributes (row_of (bonds part.peer) part) (standing_of room part) handle
+abbrev pub HidesFrom : Peer → (Handle → Bool) → SharedState → Bonds → ConnectionState → Type 0
+HidesFrom peer hidden shared bonds connection =
+    is_live connection.mark ≡ true → is_of peer connection ≡ true → (handle : Handle) → hidden handle ≡ true →
+    MayNotKnow shared.table.attributes (row_in_force (bonds connection.peer) connection) (standing_of shared connection) handle
 
 abbrev pub Hides : Peer → (Handle → Bool) → State → Type 0
-Hides peer hidden state = (ordinal : Ordinal) → HidesFrom peer hidden state.room state.bonds (state.parts ordinal)
+Hides peer hidden state = (ordinal : Ordinal) → HidesFrom peer hidden state.shared state.bonds (state.connections ordinal)

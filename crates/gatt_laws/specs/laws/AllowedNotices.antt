@@ -10,11 +10,11 @@ use Rattle.gatt_conn.specs.Answer.{answer_to}
 use Rattle.gatt_laws.specs.machine.Event.{Ordinal, Own, Asks, Event, Of}
 use Rattle.gatt_laws.specs.laws.Headline.{MayUse}
 use Rattle.gatt_laws.specs.machine.Notice.{Notice, Written, Configured, noticed}
-use Rattle.gatt_laws.specs.laws.OwnWrites.{row_in}
-use Rattle.gatt_laws.specs.machine.Part.{is_live, mtu_of, standing_of, connection_of}
+use Rattle.gatt_laws.specs.laws.OwnWrites.{row_of_connection}
+use Rattle.gatt_laws.specs.machine.ConnectionState.{is_live, connection_mtu, standing_of, bearer_of}
 use Rattle.gatt_laws.specs.laws.Silence.{is_for_all}
 use Rattle.gatt_laws.specs.machine.State.{State}
-use Rattle.gatt_laws.specs.machine.Turn.{is_full}
+use Rattle.gatt_laws.specs.machine.Effect.{is_full}
 use Rattle.octets.specs.Number.{Octets}
 
 -- a Write Request, an execution or a Write Command
@@ -26,12 +26,12 @@ is_writing Command = true
 -- a connection of this handle serves, and may write there, in the way in which it asks to
 pub record MayWrite (state : State) (handle : ℕ) (attribute : Handle) : Type 0 where
   pub ordinal : Ordinal
-  pub serves : is_live (state.parts ordinal).mark ≡ true
-  pub named : (state.parts ordinal).handle ≡ handle
+  pub serves : is_live (state.connections ordinal).mark ≡ true
+  pub named : (state.connections ordinal).handle ≡ handle
   pub access : Access
   pub writes : is_writing access ≡ true
-  pub may : MayUse access state.room.table.attributes
-      (standing_of state.room (state.parts ordinal)) attribute
+  pub may : MayUse access state.shared.table.attributes
+      (standing_of state.shared (state.connections ordinal)) attribute
 
 abbrev pub WasAllowed : State → Notice → Type 0
 WasAllowed state (Written handle attribute) = MayWrite state handle attribute
@@ -47,20 +47,20 @@ TellsWhatWasAllowed = (state : State) (event : Event) →
 abbrev pub TellsNoRefusals : Type 0
 TellsNoRefusals = (state : State) (ordinal : Ordinal) (pdu : Octets)
     (request : Opcode) (handle : Handle) (code : Code) →
-    let part = state.parts ordinal in
-    is_full state.room part ≡ false
-    → answer_to state.room.table (row_in state ordinal) (connection_of state.room part)
-    (request_of pdu (mtu_of state.room part)) ≡ Some (ErrorResponse request handle code)
+    let connection = state.connections ordinal in
+    is_full state.shared connection ≡ false
+    → answer_to state.shared.table (row_of_connection state ordinal) (bearer_of state.shared connection)
+    (request_of pdu (connection_mtu state.shared connection)) ≡ Some (ErrorResponse request handle code)
     → noticed state (Of ordinal (Asks pdu)) ≡ []
 
 -- nor of a PDU that is ignored
 abbrev pub TellsNothingIgnored : Type 0
 TellsNothingIgnored = (state : State) (ordinal : Ordinal) (pdu : Octets) →
-    request_of pdu (mtu_of state.room (state.parts ordinal)) ≡ Err Ignored
+    request_of pdu (connection_mtu state.shared (state.connections ordinal)) ≡ Err Ignored
     → noticed state (Of ordinal (Asks pdu)) ≡ []
 
 -- nor of what happens to a connection that does not serve, but for coming and going
 abbrev pub TellsOnlyOfTheLive : Type 0
 TellsOnlyOfTheLive = (state : State) (ordinal : Ordinal) (own : Own) →
-    is_live (state.parts ordinal).mark ≡ false → is_for_all own ≡ false
+    is_live (state.connections ordinal).mark ≡ false → is_for_all own ≡ false
     → noticed state (Of ordinal own) ≡ []

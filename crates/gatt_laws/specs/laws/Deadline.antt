@@ -11,7 +11,7 @@ use Rattle.gatt_subs.specs.Indications.{Milliseconds}
 -- of the connection of a slot
 abbrev pub slot_deadline : State → Option Ordinal → Option Milliseconds
 slot_deadline state None = None
-slot_deadline state (Some ordinal) = deadline_of (state.parts ordinal).pending
+slot_deadline state (Some ordinal) = deadline_of (state.connections ordinal).pending
 
 -- and the least of all: none where nothing is unconfirmed
 abbrev pub deadline : State → Option Milliseconds

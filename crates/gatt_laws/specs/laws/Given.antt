@@ -2,9 +2,9 @@
 use Rattle.std.specs.Prelude.{◌≡◌, true, List, [], ◌∷◌, ◌++◌, map, take, Option, Some, None}
 use Rattle.std.specs.List.{flat_map}
 use Rattle.gatt_laws.specs.machine.Event.{Ordinal, Event}
-use Rattle.gatt_laws.specs.machine.Input.{Item, course}
-use Rattle.gatt_laws.specs.machine.Part.{Part, is_there}
-use Rattle.gatt_laws.specs.machine.Room.{size_of}
+use Rattle.gatt_laws.specs.machine.Input.{Item, run}
+use Rattle.gatt_laws.specs.machine.ConnectionState.{ConnectionState, is_there}
+use Rattle.gatt_laws.specs.machine.SharedState.{fragment_size_of}
 use Rattle.gatt_laws.specs.laws.Runs.{events_of}
 use Rattle.gatt_laws.specs.machine.Start.{Start, state_at}
 use Rattle.gatt_laws.specs.machine.State.{State, before_commands, commands_out, out, slot_out, step}
@@ -17,12 +17,12 @@ use Rattle.octets.specs.Number.{Octets}
 abbrev pub packets_at : Ordinal → State → Event → List Octets
 packets_at ordinal state event = slot_out state (before_commands state event) (Some ordinal)
 
-abbrev pub packets_in : Ordinal → State → List Event → List Octets
-packets_in ordinal state [] = []
-packets_in ordinal state (event ∷ events) = packets_at ordinal state event ++ packets_in ordinal (step state event) events
+abbrev pub packets_given_in_order : Ordinal → State → List Event → List Octets
+packets_given_in_order ordinal state [] = []
+packets_given_in_order ordinal state (event ∷ events) = packets_at ordinal state event ++ packets_given_in_order ordinal (step state event) events
 
 abbrev pub packets_to : Ordinal → Start → List Item → List Octets
-packets_to ordinal start input = packets_in ordinal (state_at start) (events_of start input)
+packets_to ordinal start input = packets_given_in_order ordinal (state_at start) (events_of start input)
 
 -- an event brings out commands, and then what it gives to each connection that has a slot
 abbrev pub packets_by_slot : State → Event → Option Ordinal → List Octets
@@ -35,12 +35,12 @@ BringsWhatItGives = (state : State) (event : Event) →
     out state event ≡ commands_out new ++ flat_map (packets_by_slot state event) new.slots
 
 -- the packets of what was queued, as many as count as given
-abbrev pub packets_given_by_now : Option Buffers → Part → List Octets
-packets_given_by_now told part = map (acl_octets part.handle) (take part.given (packets_of (size_of told) part.pdus))
+abbrev pub packets_given_by_now : Option Buffers → ConnectionState → List Octets
+packets_given_by_now told connection = map (acl_octets connection.handle) (take connection.given (packets_of (fragment_size_of told) connection.pdus))
 
 -- the packets that were given to a connection that is there are these
 abbrev pub IsGivenTheFront : Type 0
 IsGivenTheFront = (start : Start) (ordinal : Ordinal) (input : List Item) →
-    let state : State = (course start input).intake.state in
-    is_there (state.parts ordinal).mark ≡ true
-    → packets_to ordinal start input ≡ packets_given_by_now state.room.told (state.parts ordinal)
+    let state : State = (run start input).intake.state in
+    is_there (state.connections ordinal).mark ≡ true
+    → packets_to ordinal start input ≡ packets_given_by_now state.shared.buffers (state.connections ordinal)

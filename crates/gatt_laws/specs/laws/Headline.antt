@@ -13,7 +13,7 @@ use Rattle.att_attributes.specs.Attributes.{guard_at}
 use Rattle.att_table.specs.Table.{Contents}
 use Rattle.att_writes.specs.Applied.{stored_in}
 use Rattle.gatt_conn.specs.Answer.{Question, response_to, answer_to, writing_asked, stored_by, handles_by, conn_after}
-use Rattle.gatt_conn.specs.Connection.{Connection}
+use Rattle.gatt_conn.specs.Connection.{Bearer}
 use Rattle.gatt_conn.specs.Transcript.{asks_execution}
 
 -- each of some handles is so
@@ -26,9 +26,9 @@ abbrev pub MayUse : Access → List Attr → Standing → Handle → Type 0
 MayUse access attributes standing handle = IsPermitted access (guard_at attributes handle) standing
 
 -- the handle whose value an element of a response has, or tells to be equal to one that the client named
-abbrev pub handle_in : Element → Handle
-handle_in (OfAttribute handle octets) = handle
-handle_in (OfGroup first last value) = first
+abbrev pub element_handle : Element → Handle
+element_handle (OfAttribute handle octets) = handle
+element_handle (OfGroup first last value) = first
 
 -- the handles that a request names, where its response has their values and no handles
 abbrev pub handles_asked : Asked → List Handle
@@ -41,7 +41,7 @@ handles_asked (FindByTypeValueRequest first last type value) = []
 handles_asked (ReadByTypeRequest first last type) = []
 handles_asked (ReadByGroupTypeRequest first last type) = []
 handles_asked (WriteRequest handle value) = []
-handles_asked (PrepareWriteRequest handle offset part) = []
+handles_asked (PrepareWriteRequest handle offset connection) = []
 handles_asked (ExecuteWriteRequest flags) = []
 handles_asked ConfirmationPdu = []
 handles_asked (WriteCommandPdu handle value) = []
@@ -49,35 +49,35 @@ handles_asked (WriteCommandPdu handle value) = []
 -- the handles of the values that a response has
 abbrev pub handles_sent : Asked → Response → List Handle
 handles_sent asked (ReadResponse value) = handles_asked asked
-handles_sent asked (ReadBlobResponse part) = handles_asked asked
+handles_sent asked (ReadBlobResponse connection) = handles_asked asked
 handles_sent asked (ReadMultipleResponse values) = handles_asked asked
-handles_sent asked (FindByTypeValueResponse groups) = map handle_in groups
-handles_sent asked (ReadByTypeResponse size values) = map handle_in values
-handles_sent asked (ReadByGroupTypeResponse size groups) = map handle_in groups
+handles_sent asked (FindByTypeValueResponse groups) = map element_handle groups
+handles_sent asked (ReadByTypeResponse size values) = map element_handle values
+handles_sent asked (ReadByGroupTypeResponse size groups) = map element_handle groups
 handles_sent asked (ErrorResponse request handle code) = []
 handles_sent asked (ExchangeMtuResponse server_rx_mtu) = []
 handles_sent asked (FindInformationResponse format types) = []
 handles_sent asked WriteResponse = []
-handles_sent asked (PrepareWriteResponse handle offset part) = []
+handles_sent asked (PrepareWriteResponse handle offset connection) = []
 handles_sent asked ExecuteWriteResponse = []
 handles_sent asked (HandleValueNotification handle value) = []
 handles_sent asked (HandleValueIndication handle value) = []
 
 -- each value that is sent is one that the client may then read
 abbrev pub SendsWhatMayBeRead : Type 0
-SendsWhatMayBeRead = (table : Contents) (row : Row) (conn : Connection) (asked : Asked) →
+SendsWhatMayBeRead = (table : Contents) (row : Row) (conn : Bearer) (asked : Asked) →
     IfSome (response_to table row conn asked)
     (λ response. Each (MayUse Read table.attributes conn.standing) (handles_sent asked response))
 
 -- each handle that is written is one that the client may then write, in the way in which it asks to
 abbrev pub WritesWhatMayBeWritten : Type 0
-WritesWhatMayBeWritten = (table : Contents) (row : Row) (conn : Connection) (asked : Question) →
+WritesWhatMayBeWritten = (table : Contents) (row : Row) (conn : Bearer) (asked : Question) →
     IfSome (writing_asked conn.queue asked)
     (λ writing. Each (MayUse writing.access table.attributes conn.standing) (handles_by table row conn asked))
 
 -- a refusal changes no value, no configuration and no ATT_MTU, and of what is prepared only an execution leaves nothing
 abbrev pub RefusalsChangeNothing : Type 0
-RefusalsChangeNothing = (table : Contents) (row : Row) (conn : Connection) (asked : Question) (request : Opcode) (handle : Handle) (code : Code) →
+RefusalsChangeNothing = (table : Contents) (row : Row) (conn : Bearer) (asked : Question) (request : Opcode) (handle : Handle) (code : Code) →
     answer_to table row conn asked ≡ Some (ErrorResponse request handle code) →
     (stored_by table row conn asked ≡ stored_in table row)
     × (conn_after table.attributes conn asked ≡ (if asks_execution asked then record conn { queue = [] } else conn))

@@ -10,14 +10,14 @@ use Rattle.att_table.specs.Table.{Contents}
 use Rattle.att_writes.specs.SameBut.{SameBut}
 use Rattle.gatt_laws.specs.laws.Alike.{is_of, may_read_at}
 use Rattle.gatt_laws.specs.machine.Event.{Ordinal, Event}
-use Rattle.gatt_laws.specs.machine.Input.{Item, ATable, Intake, Course, after_item, at_start, course}
+use Rattle.gatt_laws.specs.machine.Input.{Item, ATable, Intake, Run, after_item, run_at_start, run}
 use Rattle.gatt_laws.specs.machine.ItemEvents.{event_at}
-use Rattle.gatt_laws.specs.machine.Part.{is_live, row_of, standing_of}
+use Rattle.gatt_laws.specs.machine.ConnectionState.{is_live, row_in_force, standing_of}
 use Rattle.gatt_laws.specs.laws.Possible.{AllTables}
 use Rattle.gatt_laws.specs.machine.Start.{Start}
 use Rattle.gatt_laws.specs.machine.State.{State}
 use Rattle.gatt_laws.specs.laws.Runs.{events_in}
-use Rattle.gatt_laws.specs.laws.TwoWorlds.{Spared, given_in}
+use Rattle.gatt_laws.specs.laws.TwoWorlds.{Spared, packets_given_in}
 use Rattle.gatt_subs.specs.Hearing.{may_hear_at}
 use Rattle.le_hci.specs.declared.peer.Peer.{Peer}
 use Rattle.octets.specs.Number.{Octets}
@@ -25,18 +25,18 @@ use Rattle.octets.specs.Number.{Octets}
 -- a connection of the peer serves, and may read the value at a handle or hear of it
 abbrev pub knows : Peer → State → Handle → Ordinal → Bool
 knows peer state handle ordinal =
-    let part = state.parts ordinal in
-    let attributes = state.room.table.attributes in
-    let standing = standing_of state.room part in
-    let row = row_of (state.bonds part.peer) part in
-    is_live part.mark && (is_of peer part && (may_read_at attributes standing handle || may_hear_at attributes row standing handle))
+    let connection = state.connections ordinal in
+    let attributes = state.shared.table.attributes in
+    let standing = standing_of state.shared connection in
+    let row = row_in_force (state.bonds connection.peer) connection in
+    is_live connection.mark && (is_of peer connection && (may_read_at attributes standing handle || may_hear_at attributes row standing handle))
 
 abbrev pub knows_in : Peer → State → Handle → Option Ordinal → Bool
 knows_in peer state handle None = false
 knows_in peer state handle (Some ordinal) = knows peer state handle ordinal
 
-abbrev pub is_known : Peer → State → Handle → Bool
-is_known peer state handle = list_any (knows_in peer state handle) state.slots
+abbrev pub is_value_known : Peer → State → Handle → Bool
+is_value_known peer state handle = list_any (knows_in peer state handle) state.slots
 
 -- a table that is handed in stands from then on
 abbrev pub is_replaced : Intake → Item → Bool
@@ -44,15 +44,15 @@ is_replaced intake (ATable table) = is_some (event_at intake (ATable table))
 is_replaced intake item = false
 
 -- a connection of the peer knows it at some moment while the table stands that stands now
-abbrev pub known_while : Peer → Course → List Item → Handle → Bool
-known_while peer course [] handle = is_known peer course.intake.state handle
-known_while peer course (item ∷ items) handle =
-    is_known peer course.intake.state handle
-    || (if is_replaced course.intake item then false else known_while peer (after_item course item) items handle)
+abbrev pub known_while : Peer → Run → List Item → Handle → Bool
+known_while peer run [] handle = is_value_known peer run.intake.state handle
+known_while peer run (item ∷ items) handle =
+    is_value_known peer run.intake.state handle
+    || (if is_replaced run.intake item then false else known_while peer (after_item run item) items handle)
 
 -- what no connection of the peer may know at any moment while that table stands
-abbrev pub hidden_while : Peer → Course → List Item → Handle → Bool
-hidden_while peer course items handle = not (known_while peer course items handle)
+abbrev pub hidden_while : Peer → Run → List Item → Handle → Bool
+hidden_while peer run items handle = not (known_while peer run items handle)
 
 -- tables agree but for the octets of what is hidden. Values that name services are the same: no characteristic value and no
 -- descriptor is one
@@ -74,42 +74,42 @@ abbrev pub ItemsAgree : (Handle → Bool) → Bool → Item → Item → Type 0
 ItemsAgree hidden true (ATable table) its = IsTableToo hidden table its
 ItemsAgree hidden replaced item its = item ≡ its
 
-abbrev pub InputsAgree : Peer → Course → List Item → List Item → Type 0
-InputsAgree peer course [] [] = Unit
-InputsAgree peer course (item ∷ items) [] = ⊥
-InputsAgree peer course [] (its ∷ others) = ⊥
-InputsAgree peer course (item ∷ items) (its ∷ others) =
-    ItemsAgree (hidden_while peer (after_item course item) items) (is_replaced course.intake item) item its
-    × InputsAgree peer (after_item course item) items others
+abbrev pub InputsAgree : Peer → Run → List Item → List Item → Type 0
+InputsAgree peer run [] [] = Unit
+InputsAgree peer run (item ∷ items) [] = ⊥
+InputsAgree peer run [] (its ∷ others) = ⊥
+InputsAgree peer run (item ∷ items) (its ∷ others) =
+    ItemsAgree (hidden_while peer (after_item run item) items) (is_replaced run.intake item) item its
+    × InputsAgree peer (after_item run item) items others
 
 -- two starts and inputs agree for a peer: what is hidden follows from the first of them alone
 pub record Agree (peer : Peer) (one other : Start) (input its : List Item) : Type 0 where
-  pub starts : StartsAgree (hidden_while peer (at_start one) input) one other
-  pub inputs : InputsAgree peer (at_start one) input its
+  pub starts : StartsAgree (hidden_while peer (run_at_start one) input) one other
+  pub inputs : InputsAgree peer (run_at_start one) input its
 
 -- no connection of another peer is ended for want of room
 abbrev pub SparedIf : Peer → State → Option Event → Type 0
 SparedIf peer state None = Unit
 SparedIf peer state (Some event) = Spared peer state event
 
-abbrev pub SparedIn : Peer → Course → List Item → Type 0
-SparedIn peer course [] = Unit
-SparedIn peer course (item ∷ items) =
-    SparedIf peer course.intake.state (event_at course.intake item) × SparedIn peer (after_item course item) items
+abbrev pub SparedIn : Peer → Run → List Item → Type 0
+SparedIn peer run [] = Unit
+SparedIn peer run (item ∷ items) =
+    SparedIf peer run.intake.state (event_at run.intake item) × SparedIn peer (after_item run item) items
 
 -- the packets that are given to a connection while it is one of the peer, by the events of items
-abbrev pub given_by : Peer → Ordinal → Course → List Item → List Octets
-given_by peer ordinal course items = given_in peer ordinal course.intake.state (events_in course items)
+abbrev pub packets_given_by : Peer → Ordinal → Run → List Item → List Octets
+packets_given_by peer ordinal run items = packets_given_in peer ordinal run.intake.state (events_in run items)
 
 -- whatever is hidden from a peer, its connections are given the same
 abbrev pub NothingCrosses : Type 0
 NothingCrosses = (peer : Peer) (one other : Start) (input its : List Item) → IsTable one.table → AllTables IsTable input →
-    Agree peer one other input its → SparedIn peer (at_start one) input → SparedIn peer (at_start other) its →
-    (ordinal : Ordinal) → given_by peer ordinal (at_start one) input ≡ given_by peer ordinal (at_start other) its
+    Agree peer one other input its → SparedIn peer (run_at_start one) input → SparedIn peer (run_at_start other) its →
+    (ordinal : Ordinal) → packets_given_by peer ordinal (run_at_start one) input ≡ packets_given_by peer ordinal (run_at_start other) its
 
 -- and are the same at the end, with all that is queued for them
 abbrev pub LeavesConnectionsTheSame : Type 0
 LeavesConnectionsTheSame = (peer : Peer) (one other : Start) (input its : List Item) → IsTable one.table → AllTables IsTable input →
-    Agree peer one other input its → SparedIn peer (at_start one) input → SparedIn peer (at_start other) its →
-    (ordinal : Ordinal) → is_of peer ((course one input).intake.state.parts ordinal) ≡ true →
-    (course one input).intake.state.parts ordinal ≡ (course other its).intake.state.parts ordinal
+    Agree peer one other input its → SparedIn peer (run_at_start one) input → SparedIn peer (run_at_start other) its →
+    (ordinal : Ordinal) → is_of peer ((run one input).intake.state.connections ordinal) ≡ true →
+    (run one input).intake.state.connections ordinal ≡ (run other its).intake.state.connections ordinal

@@ -6,7 +6,7 @@ use Rattle.std.specs.Option.{option_map_or}
 use Rattle.att_numbers.specs.Types.{Handle}
 use Rattle.att_table.specs.Table.{value_at}
 use Rattle.gatt_laws.specs.machine.Event.{Event, Update, Replaced}
-use Rattle.gatt_laws.specs.machine.Input.{Item, Course, after_item, at_start, course}
+use Rattle.gatt_laws.specs.machine.Input.{Item, Run, after_item, run_at_start, run}
 use Rattle.gatt_laws.specs.machine.ItemEvents.{event_at}
 use Rattle.gatt_laws.specs.machine.Notice.{Notice, Written, noticed, notices_of}
 use Rattle.gatt_laws.specs.laws.Possible.{Possible}
@@ -33,34 +33,34 @@ abbrev pub TellsEachValue : Type 0
 TellsEachValue = (state : State) (event : Event) (attribute : Handle) → 0 < attribute
     → Possible (λ table. Unit) state event
     → sets_value attribute event ≡ false → is_value_told attribute (noticed state event) ≡ false
-    → value_at (step state event).room.table.values attribute
-    ≡ value_at state.room.table.values attribute
+    → value_at (step state event).shared.table.values attribute
+    ≡ value_at state.shared.table.values attribute
 
 -- The values, as a listener knows them: those of the table at first, and then each that it sets or
 -- is told of, as it is then.
-abbrev pub Known : Type 0
-Known = Handle → Octets
+abbrev pub KnownValues : Type 0
+KnownValues = Handle → Octets
 
-abbrev pub values_in : Course → Known
-values_in course attribute = value_at course.intake.state.room.table.values attribute
+abbrev pub values_in : Run → KnownValues
+values_in run attribute = value_at run.intake.state.shared.table.values attribute
 
-abbrev pub is_known_anew : Course → Item → Handle → Bool
-is_known_anew course item attribute =
-    option_map_or (sets_value attribute) (event_at course.intake item) false
-    || is_value_told attribute (notices_of course item)
+abbrev pub is_known_anew : Run → Item → Handle → Bool
+is_known_anew run item attribute =
+    option_map_or (sets_value attribute) (event_at run.intake item) false
+    || is_value_told attribute (notices_of run item)
 
-abbrev pub known_after : Course → Known → Item → Known
-known_after course known item attribute =
-    if is_known_anew course item attribute
-    then values_in (after_item course item) attribute else known attribute
+abbrev pub known_after : Run → KnownValues → Item → KnownValues
+known_after run known item attribute =
+    if is_known_anew run item attribute
+    then values_in (after_item run item) attribute else known attribute
 
-abbrev pub known_in : Course → Known → List Item → Known
-known_in course known [] = known
-known_in course known (item ∷ items) =
-    known_in (after_item course item) (known_after course known item) items
+abbrev pub known_in : Run → KnownValues → List Item → KnownValues
+known_in run known [] = known
+known_in run known (item ∷ items) =
+    known_in (after_item run item) (known_after run known item) items
 
 -- a listener knows each value
 abbrev pub KnowsTheValues : Type 0
 KnowsTheValues = (start : Start) (input : List Item) (attribute : Handle) → 0 < attribute
-    → known_in (at_start start) (value_at start.table.values) input attribute
-    ≡ values_in (course start input) attribute
+    → known_in (run_at_start start) (value_at start.table.values) input attribute
+    ≡ values_in (run start input) attribute

@@ -6,4 +6,4 @@ use Rattle.gatt_laws.specs.machine.State.{State, step}
 -- what happens to one connection leaves the prepared writes and the ATT_MTU of every other
 abbrev pub LeavesOthersPrepared : Type 0
 LeavesOthersPrepared = (state : State) (ordinal other : Ordinal) (own : Own) → (other == ordinal) ≡ false →
-    ((step state (Of ordinal own)).parts other).said ≡ (state.parts other).said
+    ((step state (Of ordinal own)).connections other).said ≡ (state.connections other).said

@@ -11,50 +11,50 @@ use Rattle.gatt_laws.specs.machine.Controller.{Slots, has_free, is_ready}
 use Rattle.gatt_laws.specs.machine.Event.{Ordinal, Own, Event, Connected, Gone, Of, Completed}
 use Rattle.gatt_laws.specs.machine.Event.{Credit, Update, Tick, Replaced, Nothing}
 use Rattle.gatt_laws.specs.machine.Input.{Item, AnOctet, APacket, ACall, ATable, TheEnd}
-use Rattle.gatt_laws.specs.machine.Part.{is_live}
+use Rattle.gatt_laws.specs.machine.ConnectionState.{is_live}
 use Rattle.gatt_laws.specs.machine.State.{State}
 use Rattle.octets.specs.Number.{Octets}
 
 -- a connection that comes is the next one, and a slot is free for it
-pub record MayCome (state : State) (ordinal : Ordinal) : Type 0 where
+pub record MayConnect (state : State) (ordinal : Ordinal) : Type 0 where
   pub next : ordinal ≡ state.next
   pub free : has_free state.slots ≡ true
 
-abbrev pub OwnMayCome : State → Ordinal → Own → Type 0
-OwnMayCome state ordinal (Connected handle peer) = MayCome state ordinal
-OwnMayCome state ordinal own = Unit
+abbrev pub OwnIsPossible : State → Ordinal → Own → Type 0
+OwnIsPossible state ordinal (Connected handle peer) = MayConnect state ordinal
+OwnIsPossible state ordinal own = Unit
 
 -- a value that is written is there, and has a length that it may have
 pub record MayBeUpdated (state : State) (handle : Handle) (value : Octets) : Type 0 where
   pub attr : Attr
-  pub there : attribute_at state.room.table.attributes handle ≡ Some attr
+  pub there : attribute_at state.shared.table.attributes handle ≡ Some attr
   pub fits : has_length attr (length value) ≡ true
 
 -- a state of initialisation follows only before the controller is initialised, and what is so of
 -- each table that is handed in is so of the one that replaces another
 abbrev pub Possible : (Contents → Type 0) → State → Event → Type 0
-Possible Fine state (Of ordinal own) = OwnMayCome state ordinal own
+Possible Fine state (Of ordinal own) = OwnIsPossible state ordinal own
 Possible Fine state (Completed entries) = Unit
 Possible Fine state (Credit allowed opcode status (Some init)) = is_ready state.controller ≡ false
 Possible Fine state (Credit allowed opcode status None) = Unit
 Possible Fine state (Update handle value) = MayBeUpdated state handle value
-Possible Fine state (Tick time) = state.room.time ≤ time
+Possible Fine state (Tick time) = state.shared.time ≤ time
 Possible Fine state (Replaced table) = Fine table
 Possible Fine state Nothing = Unit
 
 -- An event that is meant is more than possible. A connection that comes has a handle that is not in
 -- use; one that goes has a slot; and what else happens to a connection happens while it serves.
 -- Packets are completed of connections that have slots, once the controller is initialised.
-pub record ComesUnusedNext (state : State) (ordinal : Ordinal) (handle : ℕ) : Type 0 where
-  pub may : MayCome state ordinal
+pub record ConnectsUnusedNext (state : State) (ordinal : Ordinal) (handle : ℕ) : Type 0 where
+  pub may : MayConnect state ordinal
   pub unused : holding state handle ≡ None
 
 pub record ServesInASlot (state : State) (ordinal : Ordinal) : Type 0 where
   pub has : has_slot ordinal state.slots ≡ true
-  pub live : is_live (state.parts ordinal).mark ≡ true
+  pub live : is_live (state.connections ordinal).mark ≡ true
 
 abbrev pub OwnIsMeant : State → Ordinal → Own → Type 0
-OwnIsMeant state ordinal (Connected handle peer) = ComesUnusedNext state ordinal handle
+OwnIsMeant state ordinal (Connected handle peer) = ConnectsUnusedNext state ordinal handle
 OwnIsMeant state ordinal Gone = has_slot ordinal state.slots ≡ true
 OwnIsMeant state ordinal own = ServesInASlot state ordinal
 

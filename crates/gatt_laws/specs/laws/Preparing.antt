@@ -8,19 +8,19 @@ use Rattle.att_attributes.specs.declared.attr.Attr.{Attr}
 use Rattle.att_table.specs.Table.{Contents}
 use Rattle.att_writes.specs.Entry.{Entry}
 use Rattle.gatt_conn.specs.Answer.{conn_after}
-use Rattle.gatt_conn.specs.Connection.{Connection, mtu_between}
+use Rattle.gatt_conn.specs.Connection.{Bearer, mtu_between}
 use Rattle.gatt_conn.specs.Transcript.{first_exchange, exchange_asked}
 use Rattle.gatt_laws.specs.machine.Event.{Ordinal, Own, Event, Connected, Gone, KeyAsked, Encrypted, Refreshed, Asks, Authorized, Of, Tick, Replaced}
-use Rattle.gatt_laws.specs.machine.Part.{Mark, Absent, Live, Ending, Part, absent, is_live, is_there, prepared_of}
-use Rattle.gatt_laws.specs.machine.Room.{Room}
-use Rattle.gatt_laws.specs.machine.Input.{Item, course}
+use Rattle.gatt_laws.specs.machine.ConnectionState.{Mark, Absent, Live, Ending, ConnectionState, no_connection, is_live, is_there, prepared_of}
+use Rattle.gatt_laws.specs.machine.SharedState.{SharedState}
+use Rattle.gatt_laws.specs.machine.Input.{Item, run}
 use Rattle.gatt_laws.specs.laws.Runs.{events_of}
 use Rattle.gatt_laws.specs.machine.Start.{Start, state_at}
 use Rattle.gatt_laws.specs.machine.State.{State, step}
 use Rattle.le_hci.specs.declared.peer.Peer.{Peer}
 use Rattle.le_security.specs.declared.entry.Entry.{Entry as KeyEntry}
 use Rattle.le_security.specs.declared.entry.Key.{Key}
-use Rattle.le_security.specs.Keys.{answer_of, is_known}
+use Rattle.le_security.specs.Keys.{key_asked_for, is_known}
 use Rattle.le_security.specs.Link.{Step, Request, Encryption, Refresh, key_after}
 use Rattle.octets.specs.Number.{Octets}
 use Rattle.att_pdu.specs.declared.pdu_buf.TheConstants.{MIN_MTU}
@@ -40,22 +40,22 @@ pub record Preparing : Type 0 where
   pub exchange : Option Mtu
   pub queue : List Entry
 
-abbrev pub preparing : Room → Part → Preparing
-preparing room part = record {
-  attributes = room.table.attributes;
-  keys = room.keys;
-  rx_mtu = room.rx_mtu;
-  time = room.time;
-  mark = part.mark;
-  peer = part.peer;
-  until = part.until;
-  steps = part.steps;
-  exchange = first_exchange part.said;
-  queue = prepared_of part;
+abbrev pub preparing : SharedState → ConnectionState → Preparing
+preparing shared connection = record {
+  attributes = shared.table.attributes;
+  keys = shared.keys;
+  rx_mtu = shared.rx_mtu;
+  time = shared.time;
+  mark = connection.mark;
+  peer = connection.peer;
+  until = connection.until;
+  steps = connection.steps;
+  exchange = first_exchange connection.said;
+  queue = prepared_of connection;
 }
 
 abbrev pub preparing_in : State → Ordinal → Preparing
-preparing_in state ordinal = preparing state.room (state.parts ordinal)
+preparing_in state ordinal = preparing state.shared (state.connections ordinal)
 
 -- what concerns one connection: what happens to it, the time, and that the table is replaced
 pub data Concern : Type 0 where
@@ -70,7 +70,7 @@ concern_of ordinal (Replaced table) = Some (Changes table)
 concern_of ordinal event = None
 
 -- the connection as the server sees it
-abbrev pub preparing_connection : Preparing → Connection
+abbrev pub preparing_connection : Preparing → Bearer
 preparing_connection old = record {
   standing = record { key = key_after old.steps; key_known = is_known old.keys old.peer; until = old.until; now = old.time };
   mtu = option_map_or (λ client_rx_mtu. mtu_between client_rx_mtu old.rx_mtu) old.exchange MIN_MTU;
@@ -86,15 +86,15 @@ after_asking old pdu =
     let asked = request_of pdu conn.mtu in
     record old { exchange = option_or old.exchange (exchange_asked asked); queue = (conn_after old.attributes conn asked).queue }
 
-abbrev pub after_step : Preparing → Step → Preparing
-after_step old step = record old { steps = step ∷ old.steps }
+abbrev pub preparing_after_step : Preparing → Step → Preparing
+preparing_after_step old step = record old { steps = step ∷ old.steps }
 
 abbrev pub while_serving : Preparing → Own → Preparing
 while_serving old (Asks pdu) = after_asking old pdu
 while_serving old (KeyAsked random_number diversifier) =
-    after_step old (Request (option_map (λ (key : Key). key.facts) (answer_of old.keys old.peer random_number diversifier)))
-while_serving old (Encrypted status enabled) = after_step old (Encryption status enabled)
-while_serving old (Refreshed status) = after_step old (Refresh status)
+    preparing_after_step old (Request (option_map (λ (key : Key). key.facts) (key_asked_for old.keys old.peer random_number diversifier)))
+while_serving old (Encrypted status enabled) = preparing_after_step old (Encryption status enabled)
+while_serving old (Refreshed status) = preparing_after_step old (Refresh status)
 while_serving old (Authorized until) = record old { until = until }
 while_serving old own = old
 
@@ -102,13 +102,13 @@ while_serving old own = old
 abbrev pub prepares_nothing : Preparing → Mark → Peer → Preparing
 prepares_nothing old mark peer = record old { mark = mark; peer = peer; until = 0; steps = []; exchange = None; queue = [] }
 
-abbrev pub after_own : Preparing → Own → Preparing
-after_own old (Connected handle peer) = if is_there old.mark then old else prepares_nothing old Live peer
-after_own old Gone = prepares_nothing old Absent absent.peer
-after_own old own = if is_live old.mark then while_serving old own else old
+abbrev pub preparing_after_own : Preparing → Own → Preparing
+preparing_after_own old (Connected handle peer) = if is_there old.mark then old else prepares_nothing old Live peer
+preparing_after_own old Gone = prepares_nothing old Absent no_connection.peer
+preparing_after_own old own = if is_live old.mark then while_serving old own else old
 
 unfoldable pub after_concern : Preparing → Concern → Preparing
-after_concern old (Happens own) = after_own old own
+after_concern old (Happens own) = preparing_after_own old own
 after_concern old (Told time) = record old { time = time }
 after_concern old (Changes table) = record old { attributes = table.attributes; queue = if is_live old.mark then [] else old.queue }
 
@@ -123,7 +123,7 @@ is_ending Live = false
 is_ending Ending = true
 
 abbrev pub is_ended : State → Ordinal → Bool
-is_ended state ordinal = is_ending (state.parts ordinal).mark
+is_ended state ordinal = is_ending (state.connections ordinal).mark
 
 -- while it is not ended, an event changes what decides its prepared writes only so far as it concerns it
 abbrev pub PreparesByItself : Type 0
@@ -146,4 +146,4 @@ abbrev pub PreparesTheSame : Type 0
 PreparesTheSame = (start : Start) (one other : Ordinal) (input another : List Item)
     → concerns_of one (events_of start input) ≡ concerns_of other (events_of start another)
     → IsNeverEnded one (state_at start) (events_of start input) → IsNeverEnded other (state_at start) (events_of start another)
-    → prepared_of ((course start input).intake.state.parts one) ≡ prepared_of ((course start another).intake.state.parts other)
+    → prepared_of ((run start input).intake.state.connections one) ≡ prepared_of ((run start another).intake.state.connections other)

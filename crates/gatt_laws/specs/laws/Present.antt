@@ -4,7 +4,7 @@ use Rattle.std.specs.Option.{option_map}
 use Rattle.gatt_laws.specs.machine.Context.{holding}
 use Rattle.gatt_laws.specs.machine.Event as event
 use Rattle.gatt_laws.specs.machine.Event.{Ordinal, Event, Of}
-use Rattle.gatt_laws.specs.machine.Input.{Item, course}
+use Rattle.gatt_laws.specs.machine.Input.{Item, run}
 use Rattle.gatt_laws.specs.machine.Notice.{Notice, Connected, Disconnected, noticed, all_notices}
 use Rattle.gatt_laws.specs.laws.Placed.{IsPlaced}
 use Rattle.gatt_laws.specs.laws.Possible.{Possible}
@@ -34,23 +34,23 @@ nobody_present handle = None
 
 -- the peer of the connection of a handle that has a slot
 abbrev pub peers_in : State → Present
-peers_in state handle = option_map (λ ordinal. (state.parts ordinal).peer) (holding state handle)
+peers_in state handle = option_map (λ ordinal. (state.connections ordinal).peer) (holding state handle)
 
 -- a listener knows who has a slot, by its handle, and with which peer
 abbrev pub KnowsWhoIsThere : Type 0
 KnowsWhoIsThere = (start : Start) (input : List Item) (handle : ℕ) →
     present_in nobody_present (all_notices start input) handle
-    ≡ peers_in (course start input).intake.state handle
+    ≡ peers_in (run start input).intake.state handle
 
 -- no two connections that have a slot have one handle
 abbrev pub HasOneHandleEach : State → Type 0
 HasOneHandleEach state = (one other : Ordinal) → has_slot one state.slots ≡ true
     → has_slot other state.slots ≡ true
-    → (state.parts one).handle ≡ (state.parts other).handle → one ≡ other
+    → (state.connections one).handle ≡ (state.connections other).handle → one ≡ other
 
 abbrev pub AlwaysHasOneHandleEach : Type 0
 AlwaysHasOneHandleEach = (start : Start) (input : List Item) →
-    HasOneHandleEach (course start input).intake.state
+    HasOneHandleEach (run start input).intake.state
 
 -- what the state knows of who is there
 pub record IsKnowing (state : State) : Type 0 where
@@ -59,12 +59,12 @@ pub record IsKnowing (state : State) : Type 0 where
   pub handles : HasOneHandleEach state
 
 -- a connection that comes has a handle that is not in use
-abbrev pub ComesUnused : State → Event → Type 0
-ComesUnused state (Of ordinal (event.Connected handle peer)) = holding state handle ≡ None
-ComesUnused state event = Unit
+abbrev pub ConnectsUnused : State → Event → Type 0
+ConnectsUnused state (Of ordinal (event.Connected handle peer)) = holding state handle ≡ None
+ConnectsUnused state event = Unit
 
 -- at each event that may come, who is there afterwards is who was there, by what is told
 abbrev pub TellsWhoIsThere : Type 0
 TellsWhoIsThere = (state : State) (event : Event) (handle : ℕ) → IsKnowing state
-    → Possible (λ table. Unit) state event → ComesUnused state event
+    → Possible (λ table. Unit) state event → ConnectsUnused state event
     → present_in (peers_in state) (noticed state event) handle ≡ peers_in (step state event) handle

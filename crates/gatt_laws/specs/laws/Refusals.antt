@@ -5,7 +5,7 @@ use Rattle.att_numbers.specs.Types.{Handle, Opcode, Code, Row}
 use Rattle.att_pdu.specs.Request.{Asked, ExchangeMtuRequest, FindInformationRequest, FindByTypeValueRequest, ReadByTypeRequest, ReadRequest, ReadBlobRequest, ReadMultipleRequest, ReadByGroupTypeRequest, WriteRequest, PrepareWriteRequest, ExecuteWriteRequest, ConfirmationPdu, WriteCommandPdu}
 use Rattle.att_pdu.specs.Response.{ErrorResponse}
 use Rattle.att_pdu.specs.declared.uuid.Uuid.{Uuid}
-use Rattle.att_pdu.specs.Uuid.{number_of}
+use Rattle.att_pdu.specs.Uuid.{uuid_number}
 use Rattle.att_policy.specs.declared.policy.Access.{Access}
 use Rattle.att_policy.specs.declared.policy.Access.TheVariants.{Read, Write}
 use Rattle.att_policy.specs.declared.policy.Rule.{Rule}
@@ -18,9 +18,9 @@ use Rattle.att_attributes.specs.OfType.{handles_of_type}
 use Rattle.att_table.specs.Table.{Contents, value_at}
 use Rattle.att_writes.specs.Applied.{Stored, after_entries}
 use Rattle.att_writes.specs.Entry.{Entry}
-use Rattle.att_writes.specs.Fault.{fault_of}
+use Rattle.att_writes.specs.Fault.{entry_fault}
 use Rattle.gatt_conn.specs.Answer.{response_to}
-use Rattle.gatt_conn.specs.Connection.{Connection}
+use Rattle.gatt_conn.specs.Connection.{Bearer}
 use Rattle.gatt_laws.specs.laws.Headline.{Each, MayUse}
 
 -- a request that names one attribute: its opcode, the handle, and how it would use it
@@ -33,7 +33,7 @@ abbrev pub named_by : Asked → Option Named
 named_by (ReadRequest handle) = Some (record { request = READ_REQUEST; handle = handle; access = Read })
 named_by (ReadBlobRequest handle offset) = Some (record { request = READ_BLOB_REQUEST; handle = handle; access = Read })
 named_by (WriteRequest handle value) = Some (record { request = WRITE_REQUEST; handle = handle; access = Write })
-named_by (PrepareWriteRequest handle offset part) = Some (record { request = PREPARE_WRITE_REQUEST; handle = handle; access = Write })
+named_by (PrepareWriteRequest handle offset connection) = Some (record { request = PREPARE_WRITE_REQUEST; handle = handle; access = Write })
 named_by (ExchangeMtuRequest client_rx_mtu) = None
 named_by (FindInformationRequest first last) = None
 named_by (FindByTypeValueRequest first last type value) = None
@@ -46,16 +46,16 @@ named_by (WriteCommandPdu handle value) = None
 
 -- it is refused with its handle by the code of the first rule that is broken
 abbrev pub RefusesByTheFirstBrokenRule : Type 0
-RefusesByTheFirstBrokenRule = (table : Contents) (row : Row) (conn : Connection) (asked : Asked) (rule : Rule) →
+RefusesByTheFirstBrokenRule = (table : Contents) (row : Row) (conn : Bearer) (asked : Asked) (rule : Rule) →
     IfSome (named_by asked) (λ named.
     first_broken_rule_of named.access (guard_at table.attributes named.handle) conn.standing ≡ Some rule →
     response_to table row conn asked ≡ Some (ErrorResponse named.request named.handle (code_of named.access conn.standing rule)))
 
 -- a list of values is refused with its first attribute, where the client may not read that
 abbrev pub RefusesTheFirstListed : Type 0
-RefusesTheFirstListed = (table : Contents) (row : Row) (conn : Connection) (first last : Handle) (type : Uuid) (handle : Handle) (rest : List Handle) (rule : Rule) →
+RefusesTheFirstListed = (table : Contents) (row : Row) (conn : Bearer) (first last : Handle) (type : Uuid) (handle : Handle) (rest : List Handle) (rule : Rule) →
     range_refusal first last ≡ None →
-    handles_of_type table.attributes (number_of type) first last ≡ handle ∷ rest →
+    handles_of_type table.attributes (uuid_number type) first last ≡ handle ∷ rest →
     first_broken_rule_of Read (guard_at table.attributes handle) conn.standing ≡ Some rule →
     response_to table row conn (ReadByTypeRequest first last type)
     ≡ Some (ErrorResponse READ_BY_TYPE_REQUEST handle (code_of Read conn.standing rule))
@@ -63,7 +63,7 @@ RefusesTheFirstListed = (table : Contents) (row : Row) (conn : Connection) (firs
 -- several values are refused with the first handle of the request that is, and prepared writes with the first that is
 -- refused against what those before it leave
 abbrev pub RefusesTheFirstHandle : Type 0
-RefusesTheFirstHandle = (table : Contents) (row : Row) (conn : Connection) (before after : List Handle) (handle : Handle) (rule : Rule) →
+RefusesTheFirstHandle = (table : Contents) (row : Row) (conn : Bearer) (before after : List Handle) (handle : Handle) (rule : Rule) →
     Each (MayUse Read table.attributes conn.standing) before →
     first_broken_rule_of Read (guard_at table.attributes handle) conn.standing ≡ Some rule →
     response_to table row conn (ReadMultipleRequest (before ++ handle ∷ after))
@@ -72,5 +72,5 @@ RefusesTheFirstHandle = (table : Contents) (row : Row) (conn : Connection) (befo
 abbrev pub RefusesTheFirstEntry : Type 0
 RefusesTheFirstEntry = (access : Access) (attributes : List Attr) (standing : Standing) (stored by : Stored) (before after : List Entry) (entry : Entry) (code : Code) →
     after_entries access attributes standing stored before ≡ Ok by →
-    fault_of access attributes standing (length (value_at by.values entry.handle)) entry ≡ Some code →
+    entry_fault access attributes standing (length (value_at by.values entry.handle)) entry ≡ Some code →
     after_entries access attributes standing stored (before ++ entry ∷ after) ≡ Err (record { handle = entry.handle; code = code })

@@ -5,7 +5,7 @@ use Rattle.att_numbers.specs.Types.{Handle}
 use Rattle.att_table.specs.ConfigRow.{bits_at}
 use Rattle.gatt_laws.specs.machine.Event.{Ordinal, Event, Of, Replaced}
 use Rattle.gatt_laws.specs.machine.Notice.{Notice, Disconnected, Secured, Unsecured, Configured, noticed}
-use Rattle.gatt_laws.specs.machine.Part.{is_there, key_of}
+use Rattle.gatt_laws.specs.machine.ConnectionState.{is_there, key_of}
 use Rattle.gatt_laws.specs.laws.Silence.{is_for_all}
 use Rattle.gatt_laws.specs.machine.State.{State, step}
 use Rattle.le_hci.specs.declared.peer.Peer.{Peer}
@@ -25,27 +25,27 @@ is_replacement (Replaced table) = true
 is_replacement event = false
 
 -- a connection comes or goes
-abbrev pub is_coming_or_going : Ordinal → Event → Bool
-is_coming_or_going ordinal (Of other own) = (ordinal == other) && is_for_all own
-is_coming_or_going ordinal event = false
+abbrev pub is_connection_or_disconnection : Ordinal → Event → Bool
+is_connection_or_disconnection ordinal (Of other own) = (ordinal == other) && is_for_all own
+is_connection_or_disconnection ordinal event = false
 
 -- its own row is what it was, where no configuration of it is told while that row is in force
 abbrev pub TellsEachOwnRow : Type 0
 TellsEachOwnRow = (state : State) (event : Event) (ordinal : Ordinal) (attribute : Handle) →
-    let part = state.parts ordinal in
-    is_replacement event ≡ false → is_coming_or_going ordinal event ≡ false
-    → (is_some (key_of part) ≡ false
-    → is_bits_told part.handle attribute (noticed state event) ≡ false)
-    → bits_at ((step state event).parts ordinal).row attribute ≡ bits_at part.row attribute
+    let connection = state.connections ordinal in
+    is_replacement event ≡ false → is_connection_or_disconnection ordinal event ≡ false
+    → (is_some (key_of connection) ≡ false
+    → is_bits_told connection.handle attribute (noticed state event) ≡ false)
+    → bits_at ((step state event).connections ordinal).row attribute ≡ bits_at connection.row attribute
 
 -- the row of a peer's bond is what it was, where no configuration is told of a connection of this
 -- peer while that row is in force
 abbrev pub TellsEachBond : Type 0
 TellsEachBond = (state : State) (event : Event) (peer : Peer) (attribute : Handle) →
     is_replacement event ≡ false
-    → ((ordinal : Ordinal) → same_peer peer (state.parts ordinal).peer ≡ true
-    → is_some (key_of (state.parts ordinal)) ≡ true
-    → is_bits_told (state.parts ordinal).handle attribute (noticed state event) ≡ false)
+    → ((ordinal : Ordinal) → same_peer peer (state.connections ordinal).peer ≡ true
+    → is_some (key_of (state.connections ordinal)) ≡ true
+    → is_bits_told (state.connections ordinal).handle attribute (noticed state event) ≡ false)
     → bits_at ((step state event).bonds peer) attribute ≡ bits_at (state.bonds peer) attribute
 
 -- it is told that a connection of this handle is secured, or no more, or gone
@@ -58,6 +58,6 @@ tells_key handle notice = false
 -- the facts of the key of a link are what they were, where nothing of that is told
 abbrev pub TellsEachKey : Type 0
 TellsEachKey = (state : State) (event : Event) (ordinal : Ordinal) →
-    let part = state.parts ordinal in
-    is_there part.mark ≡ true → list_any (tells_key part.handle) (noticed state event) ≡ false
-    → key_of ((step state event).parts ordinal) ≡ key_of part
+    let connection = state.connections ordinal in
+    is_there connection.mark ≡ true → list_any (tells_key connection.handle) (noticed state event) ≡ false
+    → key_of ((step state event).connections ordinal) ≡ key_of connection

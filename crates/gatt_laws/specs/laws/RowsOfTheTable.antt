@@ -2,14 +2,14 @@
 use Rattle.std.specs.Prelude.{List}
 use Rattle.att_table.specs.ConfigRow.{IsRowOf}
 use Rattle.gatt_laws.specs.machine.Event.{Ordinal, Event}
-use Rattle.gatt_laws.specs.machine.Input.{Item, course}
+use Rattle.gatt_laws.specs.machine.Input.{Item, run}
 use Rattle.gatt_laws.specs.machine.Start.{Start}
 use Rattle.gatt_laws.specs.machine.State.{State, step}
 use Rattle.le_hci.specs.declared.peer.Peer.{Peer}
 
 pub record HasRowsOfItsTable (state : State) : Type 0 where
-  pub bonds : (peer : Peer) → IsRowOf state.room.table.attributes (state.bonds peer)
-  pub own : (ordinal : Ordinal) → IsRowOf state.room.table.attributes (state.parts ordinal).row
+  pub bonds : (peer : Peer) → IsRowOf state.shared.table.attributes (state.bonds peer)
+  pub own : (ordinal : Ordinal) → IsRowOf state.shared.table.attributes (state.connections ordinal).row
 
 -- each event keeps it so
 abbrev pub KeepsRowsOfItsTable : Type 0
@@ -18,4 +18,4 @@ KeepsRowsOfItsTable = (state : State) (event : Event) → HasRowsOfItsTable stat
 -- and each state has such rows, where a host is opened with rows that were fitted to its table
 abbrev pub AlwaysHasRowsOfItsTable : Type 0
 AlwaysHasRowsOfItsTable = (start : Start) (input : List Item) →
-    ((peer : Peer) → IsRowOf start.table.attributes (start.bonds peer)) → HasRowsOfItsTable (course start input).intake.state
+    ((peer : Peer) → IsRowOf start.table.attributes (start.bonds peer)) → HasRowsOfItsTable (run start input).intake.state

@@ -4,7 +4,7 @@ use Rattle.std.specs.Option.{option_to_list}
 use Rattle.att_table.specs.Table.{Contents}
 use Rattle.gatt_laws.specs.laws.Possible.{Possible, AllTables}
 use Rattle.gatt_laws.specs.machine.Event.{Event}
-use Rattle.gatt_laws.specs.machine.Input.{Item, Course, after_item, at_start, course}
+use Rattle.gatt_laws.specs.machine.Input.{Item, Run, after_item, run_at_start, run}
 use Rattle.gatt_laws.specs.machine.ItemEvents.{event_at}
 use Rattle.gatt_laws.specs.machine.Start.{Start, first_out, state_at}
 use Rattle.gatt_laws.specs.machine.State.{State, out, step}
@@ -16,27 +16,27 @@ after_events state [] = state
 after_events state (event ∷ events) = after_events (step state event) events
 
 -- the events that items of an input mean, after a fault none
-abbrev pub events_in : Course → List Item → List Event
-events_in course [] = []
-events_in course (item ∷ items) = option_to_list (event_at course.intake item) ++ events_in (after_item course item) items
+abbrev pub events_in : Run → List Item → List Event
+events_in run [] = []
+events_in run (item ∷ items) = option_to_list (event_at run.intake item) ++ events_in (after_item run item) items
 
 -- the events of an input, from a start
 unfoldable pub events_of : Start → List Item → List Event
-events_of start input = events_in (at_start start) input
+events_of start input = events_in (run_at_start start) input
 
 -- the state to which an input leads is that to which its events lead
-abbrev pub IsWhereEventsLead : Type 0
-IsWhereEventsLead = (start : Start) (input : List Item) →
-    (course start input).intake.state ≡ after_events (state_at start) (events_of start input)
+abbrev pub IsAfterItsEvents : Type 0
+IsAfterItsEvents = (start : Start) (input : List Item) →
+    (run start input).intake.state ≡ after_events (state_at start) (events_of start input)
 
 -- and what has gone out is what goes out at first, and then what they bring, in their order
 abbrev pub out_in : State → List Event → List Octets
 out_in state [] = []
 out_in state (event ∷ events) = out state event ++ out_in (step state event) events
 
-abbrev pub HasGoneByEvents : Type 0
-HasGoneByEvents = (start : Start) (input : List Item) →
-    (course start input).gone ≡ first_out start ++ out_in (state_at start) (events_of start input)
+abbrev pub HasSentByEvents : Type 0
+HasSentByEvents = (start : Start) (input : List Item) →
+    (run start input).sent ≡ first_out start ++ out_in (state_at start) (events_of start input)
 
 -- each of some events may come in the state that those before it lead to
 abbrev pub ArePossible : (Contents → Type 0) → State → List Event → Type 0

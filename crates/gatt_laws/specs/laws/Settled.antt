@@ -3,8 +3,8 @@ use Rattle.std.specs.Prelude.{◌≡◌, ◌<◌, Bool, false, ◌==◌, List, [
 use Rattle.std.specs.List.{list_any}
 use Rattle.gatt_laws.specs.machine.Controller.{Slots, is_ready}
 use Rattle.gatt_laws.specs.machine.Event.{Ordinal}
-use Rattle.gatt_laws.specs.machine.Input.{Item, course}
-use Rattle.gatt_laws.specs.machine.Part.{absent}
+use Rattle.gatt_laws.specs.machine.Input.{Item, run}
+use Rattle.gatt_laws.specs.machine.ConnectionState.{no_connection}
 use Rattle.gatt_laws.specs.machine.Start.{Start}
 use Rattle.gatt_laws.specs.machine.State.{State}
 
@@ -27,7 +27,7 @@ HaveOneSlotEach next (Some ordinal ∷ slots) = (ordinal < next) × (has_slot or
 pub record IsSettled (state : State) : Type 0 where
   pub early : is_ready state.controller ≡ false → state.slots ≡ []
   pub slots : HaveOneSlotEach state.next state.slots
-  pub gone : (ordinal : Ordinal) → has_slot ordinal state.slots ≡ false → state.parts ordinal ≡ absent
+  pub gone : (ordinal : Ordinal) → has_slot ordinal state.slots ≡ false → state.connections ordinal ≡ no_connection
 
 abbrev pub IsAlwaysSettled : Type 0
-IsAlwaysSettled = (start : Start) (input : List Item) → IsSettled (course start input).intake.state
+IsAlwaysSettled = (start : Start) (input : List Item) → IsSettled (run start input).intake.state

@@ -2,16 +2,16 @@
 use Rattle.std.specs.Prelude.{◌≡◌, Bool, true, false, List}
 use Rattle.att_numbers.specs.Types.{Handle, Row}
 use Rattle.gatt_laws.specs.machine.Event.{Ordinal, Own, Event, Connected, Gone}
-use Rattle.gatt_laws.specs.machine.Part.{Part, is_live}
-use Rattle.gatt_laws.specs.machine.Room.{Room, Bonds, share_of, size_of}
+use Rattle.gatt_laws.specs.machine.ConnectionState.{ConnectionState, is_live}
+use Rattle.gatt_laws.specs.machine.SharedState.{SharedState, Bonds, quota_of, fragment_size_of}
 use Rattle.gatt_laws.specs.machine.State.{State, finished, step}
-use Rattle.gatt_laws.specs.machine.Turn.{turn_to, turn_of}
+use Rattle.gatt_laws.specs.machine.Effect.{effect_on_connection, effect_of}
 use Rattle.le_acl.specs.History.{packets_allowed}
 
 -- nothing is queued and nothing given where a connection is not there, or is ending
 abbrev pub OnlyServesTheLive : Type 0
-OnlyServesTheLive = (room : Room) (bonds : Bonds) (handles : List Handle) (part : Part) →
-    is_live part.mark ≡ false → finished room bonds handles part ≡ part
+OnlyServesTheLive = (shared : SharedState) (bonds : Bonds) (handles : List Handle) (connection : ConnectionState) →
+    is_live connection.mark ≡ false → finished shared bonds handles connection ≡ connection
 
 -- but for coming and going, nothing that happens to it changes anything
 abbrev pub is_for_all : Own → Bool
@@ -20,14 +20,14 @@ is_for_all Gone = true
 is_for_all own = false
 
 abbrev pub OnlyTheLiveAct : Type 0
-OnlyTheLiveAct = (room : Room) (bond : Row) (owed : Bool) (part : Part) (own : Own) →
-    is_live part.mark ≡ false → is_for_all own ≡ false → turn_of room bond owed part own ≡ turn_to room bond owed part
+OnlyTheLiveAct = (shared : SharedState) (bond : Row) (owed : Bool) (connection : ConnectionState) (own : Own) →
+    is_live connection.mark ≡ false → is_for_all own ≡ false → effect_of shared bond owed connection own ≡ effect_on_connection shared bond owed connection
 
 -- a connection that serves was given all that it may be given
-abbrev pub IsAllGiven : Room → Part → Type 0
-IsAllGiven room part =
-    is_live part.mark ≡ true → part.given ≡ packets_allowed (share_of room.slots room.told) (size_of room.told) part.pdus part.done
+abbrev pub IsAllGiven : SharedState → ConnectionState → Type 0
+IsAllGiven shared connection =
+    is_live connection.mark ≡ true → connection.given ≡ packets_allowed (quota_of shared.slots shared.buffers) (fragment_size_of shared.buffers) connection.pdus connection.done
 
 abbrev pub GivesAllThatItMay : Type 0
 GivesAllThatItMay = (state : State) (event : Event) (ordinal : Ordinal) →
-    IsAllGiven (step state event).room ((step state event).parts ordinal)
+    IsAllGiven (step state event).shared ((step state event).connections ordinal)

@@ -4,28 +4,28 @@ use Rattle.att_table.specs.ConfigRow.{bits_at}
 use Rattle.gatt_laws.specs.machine.Event.{Ordinal, Event}
 use Rattle.gatt_laws.specs.machine.Notice.{Notice, Connected, Secured, Unsecured, Configured, Ending}
 use Rattle.gatt_laws.specs.machine.Notice.{noticed}
-use Rattle.gatt_laws.specs.laws.OwnWrites.{row_in}
-use Rattle.gatt_laws.specs.machine.Part.{is_live, key_of}
+use Rattle.gatt_laws.specs.laws.OwnWrites.{row_of_connection}
+use Rattle.gatt_laws.specs.machine.ConnectionState.{is_live, key_of}
 use Rattle.gatt_laws.specs.machine.State.{State, step}
 
 -- it is so of a connection of this handle
 pub record OfOne (state : State) (handle : ℕ) (Holds : Ordinal → Type 0) : Type 0 where
   pub ordinal : Ordinal
-  pub named : (state.parts ordinal).handle ≡ handle
+  pub named : (state.connections ordinal).handle ≡ handle
   pub holds : Holds ordinal
 
 -- it has this peer, or a key of these facts, or none; it has configured these bits in the row that
 -- is in force; or it does not serve any more
 abbrev pub IsSo : State → Notice → Type 0
 IsSo state (Connected handle peer) =
-    OfOne state handle (λ ordinal. (state.parts ordinal).peer ≡ peer)
+    OfOne state handle (λ ordinal. (state.connections ordinal).peer ≡ peer)
 IsSo state (Secured handle facts) =
-    OfOne state handle (λ ordinal. key_of (state.parts ordinal) ≡ Some facts)
-IsSo state (Unsecured handle) = OfOne state handle (λ ordinal. key_of (state.parts ordinal) ≡ None)
+    OfOne state handle (λ ordinal. key_of (state.connections ordinal) ≡ Some facts)
+IsSo state (Unsecured handle) = OfOne state handle (λ ordinal. key_of (state.connections ordinal) ≡ None)
 IsSo state (Configured handle attribute bits) =
-    OfOne state handle (λ ordinal. bits_at (row_in state ordinal) attribute ≡ bits)
+    OfOne state handle (λ ordinal. bits_at (row_of_connection state ordinal) attribute ≡ bits)
 IsSo state (Ending handle reason) =
-    OfOne state handle (λ ordinal. is_live (state.parts ordinal).mark ≡ false)
+    OfOne state handle (λ ordinal. is_live (state.connections ordinal).mark ≡ false)
 IsSo state notice = Unit
 
 -- all that is told of an event is so in the state that it leads to

@@ -9,10 +9,10 @@ use Rattle.att_writes.specs.SameBut.{SameBut}
 use Rattle.gatt_laws.specs.laws.Alike.{is_of, Alike, Hides}
 use Rattle.gatt_laws.specs.laws.Given.{packets_at}
 use Rattle.gatt_laws.specs.machine.Event.{Ordinal, Own, Event, Asks, Signals, Of, Replaced}
-use Rattle.gatt_laws.specs.machine.Part.{Part, is_live, is_there, mtu_of}
-use Rattle.gatt_laws.specs.machine.Room.{Room}
+use Rattle.gatt_laws.specs.machine.ConnectionState.{ConnectionState, is_live, is_there, connection_mtu}
+use Rattle.gatt_laws.specs.machine.SharedState.{SharedState}
 use Rattle.gatt_laws.specs.machine.State.{State, step}
-use Rattle.gatt_laws.specs.machine.Turn.{channel_answer, is_full}
+use Rattle.gatt_laws.specs.machine.Effect.{channel_answer, is_full}
 use Rattle.le_hci.specs.declared.peer.Peer.{Peer}
 use Rattle.octets.specs.Number.{Octets}
 
@@ -34,23 +34,23 @@ Matched hidden following (Replaced table) other = IsReplacedToo following table 
 Matched hidden following event other = (event ≡ other) × (hidden ≡ following)
 
 -- an answer to what happens is due, and there is no room for it
-abbrev pub is_answer_due : Room → Part → Own → Bool
-is_answer_due room part (Asks pdu) = is_due (request_of pdu (mtu_of room part))
-is_answer_due room part (Signals channel payload) = is_some (channel_answer channel payload)
-is_answer_due room part own = false
+abbrev pub is_answer_due : SharedState → ConnectionState → Own → Bool
+is_answer_due shared connection (Asks pdu) = is_due (request_of pdu (connection_mtu shared connection))
+is_answer_due shared connection (Signals channel payload) = is_some (channel_answer channel payload)
+is_answer_due shared connection own = false
 
-abbrev pub finds_no_room : Room → Part → Own → Bool
-finds_no_room room part own = is_live part.mark && (is_answer_due room part own && is_full room part)
+abbrev pub finds_no_room : SharedState → ConnectionState → Own → Bool
+finds_no_room shared connection own = is_live connection.mark && (is_answer_due shared connection own && is_full shared connection)
 
 -- no connection of another peer is ended for want of room
 abbrev pub Spared : Peer → State → Event → Type 0
 Spared peer state (Of ordinal own) =
-    is_of peer (state.parts ordinal) ≡ false → finds_no_room state.room (state.parts ordinal) own ≡ false
+    is_of peer (state.connections ordinal) ≡ false → finds_no_room state.shared (state.connections ordinal) own ≡ false
 Spared peer state event = Unit
 
 -- while a connection is there it is one of the peer
-abbrev pub BelongsTo : Peer → Part → Type 0
-BelongsTo peer part = is_there part.mark ≡ true → is_of peer part ≡ true
+abbrev pub BelongsTo : Peer → ConnectionState → Type 0
+BelongsTo peer connection = is_there connection.mark ≡ true → is_of peer connection ≡ true
 
 -- what happens in both, where no connection of the peer may know what is hidden, before or after, and no connection of another
 -- peer is ended for want of room
@@ -69,33 +69,33 @@ KeepsAlike = (peer : Peer) (hidden : Handle → Bool) (one other : State) (event
 
 abbrev pub GivesTheSame : Type 0
 GivesTheSame = (peer : Peer) (hidden : Handle → Bool) (one other : State) (event its : Event) → Alike peer hidden one other →
-    Agrees peer hidden one other event its → (ordinal : Ordinal) → BelongsTo peer (one.parts ordinal) →
+    Agrees peer hidden one other event its → (ordinal : Ordinal) → BelongsTo peer (one.connections ordinal) →
     packets_at ordinal one event ≡ packets_at ordinal other its
 
 -- nothing is given to a connection that is not there when it happens
 abbrev pub GivesNothingToTheAbsent : Type 0
-GivesNothingToTheAbsent = (state : State) (event : Event) (ordinal : Ordinal) → is_there (state.parts ordinal).mark ≡ false →
+GivesNothingToTheAbsent = (state : State) (event : Event) (ordinal : Ordinal) → is_there (state.connections ordinal).mark ≡ false →
     packets_at ordinal state event ≡ []
 
 -- the packets that are given to a connection while it is one of the peer: at an event, and in a run of events
-abbrev pub given_of : Peer → Ordinal → State → Event → List Octets
-given_of peer ordinal state event = if is_of peer (state.parts ordinal) then packets_at ordinal state event else []
+abbrev pub packets_given_at : Peer → Ordinal → State → Event → List Octets
+packets_given_at peer ordinal state event = if is_of peer (state.connections ordinal) then packets_at ordinal state event else []
 
-abbrev pub given_in : Peer → Ordinal → State → List Event → List Octets
-given_in peer ordinal state [] = []
-given_in peer ordinal state (event ∷ events) = given_of peer ordinal state event ++ given_in peer ordinal (step state event) events
+abbrev pub packets_given_in : Peer → Ordinal → State → List Event → List Octets
+packets_given_in peer ordinal state [] = []
+packets_given_in peer ordinal state (event ∷ events) = packets_given_at peer ordinal state event ++ packets_given_in peer ordinal (step state event) events
 
 -- two runs agree at each of their events; what is hidden stays so until the table is replaced
-abbrev pub Agree : Peer → (Handle → Bool) → State → State → List Event → List Event → Type 0
-Agree peer hidden one other [] [] = Unit
-Agree peer hidden one other (event ∷ events) [] = ⊥
-Agree peer hidden one other [] (its ∷ others) = ⊥
-Agree peer hidden one other (event ∷ events) (its ∷ others) =
+abbrev pub EventsAgree : Peer → (Handle → Bool) → State → State → List Event → List Event → Type 0
+EventsAgree peer hidden one other [] [] = Unit
+EventsAgree peer hidden one other (event ∷ events) [] = ⊥
+EventsAgree peer hidden one other [] (its ∷ others) = ⊥
+EventsAgree peer hidden one other (event ∷ events) (its ∷ others) =
     (agrees : Agrees peer hidden one other event its)
-    × Agree peer agrees.following (step one event) (step other its) events others
+    × EventsAgree peer agrees.following (step one event) (step other its) events others
 
 -- so the connections of the peer are given the same packets in both
 abbrev pub NothingCrossesInARun : Type 0
 NothingCrossesInARun = (peer : Peer) (hidden : Handle → Bool) (one other : State) (events others : List Event) → Alike peer hidden one other →
-    Agree peer hidden one other events others → (ordinal : Ordinal) →
-    given_in peer ordinal one events ≡ given_in peer ordinal other others
+    EventsAgree peer hidden one other events others → (ordinal : Ordinal) →
+    packets_given_in peer ordinal one events ≡ packets_given_in peer ordinal other others

@@ -5,7 +5,7 @@ use Rattle.att_numbers.specs.Types.{Handle}
 use Rattle.att_attributes.specs.declared.attr.Attr.{Attr}
 use Rattle.gatt_laws.specs.machine.Controller.{Controller, Slots, has_free}
 use Rattle.gatt_laws.specs.machine.Event.{Ordinal}
-use Rattle.gatt_laws.specs.machine.Part.{is_live}
+use Rattle.gatt_laws.specs.machine.ConnectionState.{is_live}
 use Rattle.gatt_laws.specs.machine.State.{State}
 
 -- what is known of the controller; the attributes of the table, and the value of it that tells of
@@ -31,19 +31,19 @@ ordinal_where test (Some ordinal ∷ slots) =
 abbrev pub serving : State → ℕ → Option Ordinal
 serving state handle =
     ordinal_where
-    (λ ordinal. is_live (state.parts ordinal).mark && (state.parts ordinal).handle == handle)
+    (λ ordinal. is_live (state.connections ordinal).mark && (state.connections ordinal).handle == handle)
     state.slots
 
 abbrev pub holding : State → ℕ → Option Ordinal
-holding state handle = ordinal_where (λ ordinal. (state.parts ordinal).handle == handle) state.slots
+holding state handle = ordinal_where (λ ordinal. (state.connections ordinal).handle == handle) state.slots
 
 -- of a state, by ordinals
 abbrev pub context_of : State → Context Ordinal
 context_of state = record {
   controller = state.controller;
-  attributes = state.room.table.attributes;
-  changer = state.room.changer;
-  time = state.room.time;
+  attributes = state.shared.table.attributes;
+  changer = state.shared.changer;
+  time = state.shared.time;
   serving = serving state;
   holding = holding state;
   coming = if has_free state.slots then Some state.next else None;

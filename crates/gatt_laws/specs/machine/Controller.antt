@@ -4,7 +4,7 @@ use Rattle.std.specs.Prelude.{ℕ, ◌+◌, ◌-◌, ◌==◌, nat_lt, Bool, ◌
 use Rattle.std.specs.List.{list_any}
 use Rattle.std.specs.Option.{option_to_list}
 use Rattle.gatt_laws.specs.machine.Event.{Ordinal}
-use Rattle.gatt_laws.specs.machine.Part.{Part, KeyReply}
+use Rattle.gatt_laws.specs.machine.ConnectionState.{ConnectionState, KeyReply}
 use Rattle.le_hci.specs.Command.{Commanded, Disconnect, LeSetAdvertiseEnable, LeLongTermKeyRequestReply, LeLongTermKeyRequestNegativeReply, opcode_of}
 use Rattle.le_hci.specs.Init.{command_awaited}
 use Rattle.le_hci.specs.declared.init.Init.{Init}
@@ -53,11 +53,11 @@ abbrev pub disconnect_or : ℕ → Option ℕ → Option Commanded → Option Co
 disconnect_or handle (Some reason) other = Some (Disconnect handle reason)
 disconnect_or handle None other = other
 
-abbrev pub command_for : Part → Option Commanded
-command_for part = disconnect_or part.handle part.reason (reply_due part.handle part.reply)
+abbrev pub command_for : ConnectionState → Option Commanded
+command_for connection = disconnect_or connection.handle connection.reason (reply_due connection.handle connection.reply)
 
 -- the commands that connections wait for, by their slots
-abbrev pub commands_for : (Ordinal → Part) → Slots → List Commanded
+abbrev pub commands_for : (Ordinal → ConnectionState) → Slots → List Commanded
 commands_for parts [] = []
 commands_for parts (None ∷ slots) = commands_for parts slots
 commands_for parts (Some ordinal ∷ slots) = option_to_list (command_for (parts ordinal)) ++ commands_for parts slots
@@ -72,15 +72,15 @@ enabling controller slots =
     if has_free slots && not controller.advertising && not controller.refused then LeSetAdvertiseEnable ∷ [] else []
 
 -- all commands that are due, in their order
-unfoldable pub commands_due : Controller → (Ordinal → Part) → Slots → List Commanded
+unfoldable pub commands_due : Controller → (Ordinal → ConnectionState) → Slots → List Commanded
 commands_due controller parts slots = command_of_init controller ++ commands_for parts slots ++ enabling controller slots
 
 -- those of them that the controller takes
-abbrev pub commands_sent : Controller → (Ordinal → Part) → Slots → List Commanded
+abbrev pub commands_sent : Controller → (Ordinal → ConnectionState) → Slots → List Commanded
 commands_sent controller parts slots = take controller.credit (commands_due controller parts slots)
 
 -- how many commands stand before that of a connection
-abbrev pub count_before : Ordinal → (Ordinal → Part) → Slots → ℕ
+abbrev pub count_before : Ordinal → (Ordinal → ConnectionState) → Slots → ℕ
 count_before ordinal parts [] = 0
 count_before ordinal parts (None ∷ slots) = count_before ordinal parts slots
 count_before ordinal parts (Some other ∷ slots) =
@@ -88,11 +88,11 @@ count_before ordinal parts (Some other ∷ slots) =
     else length (option_to_list (command_for (parts other))) + count_before ordinal parts slots
 
 -- a connection after its command was sent
-abbrev pub without_command : Part → Part
-without_command part =
-    if is_some part.reason then record part { reason = None } else record part { reply = None }
+abbrev pub without_command : ConnectionState → ConnectionState
+without_command connection =
+    if is_some connection.reason then record connection { reason = None } else record connection { reply = None }
 
-abbrev pub after_sending : Controller → (Ordinal → Part) → Slots → Ordinal → Part
+abbrev pub after_sending : Controller → (Ordinal → ConnectionState) → Slots → Ordinal → ConnectionState
 after_sending controller parts slots ordinal =
     if nat_lt (length (command_of_init controller) + count_before ordinal parts slots) controller.credit
     then without_command (parts ordinal) else parts ordinal

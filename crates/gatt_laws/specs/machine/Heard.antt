@@ -1,26 +1,26 @@
--- What a connection hears unasked at an event: what is raised for it, and what is released at the end. When is this
+-- What a connection hears unasked at an event: what is notified to it, and what is indicated at the end. When is this
 -- profile's own, by Core 5.0, Vol 3 Part F, 3.4.7.
 use Rattle.std.specs.Prelude.{ℕ, ◌+◌, List, [], ◌∷◌, ◌++◌, length, map}
 use Rattle.std.specs.Option.{option_to_list}
 use Rattle.att_numbers.specs.Types.{Handle, Row, Values}
 use Rattle.att_pdu.specs.Response.{Response, sent}
 use Rattle.att_attributes.specs.declared.attr.Attr.{Attr}
-use Rattle.gatt_laws.specs.machine.Part.{Part, is_live, standing_of, row_of, mtu_of, backlog_of, with_pdus}
-use Rattle.gatt_laws.specs.machine.Room.{Room}
+use Rattle.gatt_laws.specs.machine.ConnectionState.{ConnectionState, is_live, standing_of, row_in_force, connection_mtu, backlog_of, with_pdus}
+use Rattle.gatt_laws.specs.machine.SharedState.{SharedState}
 use Rattle.gatt_subs.specs.Indications.{Indications}
-use Rattle.gatt_subs.specs.Told.{Hearer, raise_tells, pending_after_raise, release_tells, pending_after_release}
+use Rattle.gatt_subs.specs.Told.{Hearer, notify_tells, pending_after_notify, indicate_tells, pending_after_indicate}
 use Rattle.le_acl.specs.Packets.{Pdu}
 use Rattle.le_l2cap.specs.declared.channel.TheConstants.{ATT}
 
 -- a connection as a hearer, where its peer's bond has this row
-abbrev pub hearer_of : Room → Row → Part → Hearer
-hearer_of room bond part = record {
-  live = is_live part.mark;
-  standing = standing_of room part;
-  row = row_of bond part;
-  mtu = mtu_of room part;
-  backlog = backlog_of room part;
-  pending = part.pending;
+abbrev pub hearer_of : SharedState → Row → ConnectionState → Hearer
+hearer_of shared bond connection = record {
+  live = is_live connection.mark;
+  standing = standing_of shared connection;
+  row = row_in_force bond connection;
+  mtu = connection_mtu shared connection;
+  backlog = backlog_of shared connection;
+  pending = connection.pending;
 }
 
 -- what a hearer is sent, in its order, and its indications then
@@ -28,16 +28,16 @@ pub record Heard : Type 0 where
   pub responses : List Response
   pub pending : Indications
 
-abbrev pub heard_raised : List Attr → Values → Hearer → Handle → Heard
-heard_raised attributes values hearer handle = record {
-  responses = option_to_list (raise_tells attributes values hearer handle);
-  pending = pending_after_raise attributes hearer handle;
+abbrev pub heard_when_notifying : List Attr → Values → Hearer → Handle → Heard
+heard_when_notifying attributes values hearer handle = record {
+  responses = option_to_list (notify_tells attributes values hearer handle);
+  pending = pending_after_notify attributes hearer handle;
 }
 
-abbrev pub heard_released : List Attr → Values → Hearer → ℕ → Heard
-heard_released attributes values hearer now = record {
-  responses = option_to_list (release_tells attributes values hearer);
-  pending = pending_after_release attributes hearer now;
+abbrev pub heard_when_indicating : List Attr → Values → Hearer → ℕ → Heard
+heard_when_indicating attributes values hearer now = record {
+  responses = option_to_list (indicate_tells attributes values hearer);
+  pending = pending_after_indicate attributes hearer now;
 }
 
 -- a hearer after that, and what it was sent before
@@ -47,21 +47,21 @@ hearer_after hearer heard = record hearer { pending = heard.pending; backlog = h
 abbrev pub after_responses : List Response → Heard → Heard
 after_responses first heard = record heard { responses = first ++ heard.responses }
 
--- values are raised in their order, and then what is due is released
+-- values are notified in their order, and then what is due is indicated
 abbrev pub heard_in_turn : List Attr → Values → Hearer → ℕ → List Handle → Heard
-heard_in_turn attributes values hearer now [] = heard_released attributes values hearer now
+heard_in_turn attributes values hearer now [] = heard_when_indicating attributes values hearer now
 heard_in_turn attributes values hearer now (handle ∷ handles) =
-    let first = heard_raised attributes values hearer handle in
+    let first = heard_when_notifying attributes values hearer handle in
     after_responses first.responses (heard_in_turn attributes values (hearer_after hearer first) now handles)
 
 -- a response as a PDU on its channel
 abbrev pub att_pdu : Response → Pdu
 att_pdu response = (ATT, sent response)
 
-abbrev pub with_heard : Part → Heard → Part
-with_heard part heard = record (with_pdus part (map att_pdu heard.responses)) { pending = heard.pending }
+abbrev pub with_heard : ConnectionState → Heard → ConnectionState
+with_heard connection heard = record (with_pdus connection (map att_pdu heard.responses)) { pending = heard.pending }
 
--- a connection after these values are raised for it, and what is due is released
-unfoldable pub after_hearing : Room → Row → List Handle → Part → Part
-after_hearing room bond handles part =
-    with_heard part (heard_in_turn room.table.attributes room.table.values (hearer_of room bond part) room.time handles)
+-- a connection after these values are notified to it, and what is due is indicated
+unfoldable pub after_hearing : SharedState → Row → List Handle → ConnectionState → ConnectionState
+after_hearing shared bond handles connection =
+    with_heard connection (heard_in_turn shared.table.attributes shared.table.values (hearer_of shared bond connection) shared.time handles)

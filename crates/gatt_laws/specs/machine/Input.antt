@@ -27,57 +27,57 @@ pub record Intake : Type 0 where
   pub fault : Option Fault
 
 -- and what has gone out, packet by packet
-pub record Course : Type 0 where
+pub record Run : Type 0 where
   pub intake : Intake
-  pub gone : List Octets
+  pub sent : List Octets
 
-abbrev pub after_event : Course → Event → Course
-after_event course event = record {
-  intake = record course.intake { state = step course.intake.state event };
-  gone = course.gone ++ out course.intake.state event;
+abbrev pub after_event : Run → Event → Run
+after_event run event = record {
+  intake = record run.intake { state = step run.intake.state event };
+  sent = run.sent ++ out run.intake.state event;
 }
 
-abbrev pub after_result : {E : Type 0} → Course → Result Event E → Course
-after_result course (Ok event) = after_event course event
-after_result course (Err refused) = course
+abbrev pub after_result : {E : Type 0} → Run → Result Event E → Run
+after_result run (Ok event) = after_event run event
+after_result run (Err refused) = run
 
-abbrev pub stopped : Course → Fault → Course
-stopped course fault = record course { intake = record course.intake { fault = Some fault } }
+abbrev pub stopped : Run → Fault → Run
+stopped run fault = record run { intake = record run.intake { fault = Some fault } }
 
-abbrev pub packet_taken : Course → Packet → Result Event Fault → Course
-packet_taken course packet (Err fault) = stopped course fault
-packet_taken course packet (Ok event) =
-    let intake = course.intake in
-    after_event (record course {
+abbrev pub packet_taken : Run → Packet → Result Event Fault → Run
+packet_taken run packet (Err fault) = stopped run fault
+packet_taken run packet (Ok event) =
+    let intake = run.intake in
+    after_event (record run {
       intake = record intake { fragments = with_arrival intake.fragments (arrival intake.state packet) };
     }) event
 
-abbrev pub after_packet : Course → Packet → Course
-after_packet course packet =
-    packet_taken course packet (packet_event course.intake.state course.intake.fragments packet)
+abbrev pub after_packet : Run → Packet → Run
+after_packet run packet =
+    packet_taken run packet (packet_event run.intake.state run.intake.fragments packet)
 
 -- a packet that is too long is as if it were not there
-abbrev pub after_whole : Course → Packet → Course
-after_whole course packet = if is_long packet then course else after_packet course packet
+abbrev pub after_whole : Run → Packet → Run
+after_whole run packet = if is_long packet then run else after_packet run packet
 
-abbrev pub with_unfinished : Course → Octets → Course
-with_unfinished course octets = record course { intake = record course.intake { unfinished = octets } }
+abbrev pub with_unfinished : Run → Octets → Run
+with_unfinished run octets = record run { intake = record run.intake { unfinished = octets } }
 
 -- octets that begin with a whole packet, with less than one, or with none
-abbrev pub after_first : Course → Octets → First → Course
-after_first course octets (FirstPacket packet rest) = after_whole (with_unfinished course rest) packet
-after_first course octets NoneYet = with_unfinished course octets
-after_first course octets (NoPacket indicator) = stopped course (Desync indicator)
+abbrev pub run_after_first : Run → Octets → First → Run
+run_after_first run octets (FirstPacket packet rest) = after_whole (with_unfinished run rest) packet
+run_after_first run octets NoneYet = with_unfinished run octets
+run_after_first run octets (NoPacket indicator) = stopped run (Desync indicator)
 
-abbrev pub after_octets : Course → Octets → Course
-after_octets course octets = after_first course octets (first_of octets)
+abbrev pub after_octets : Run → Octets → Run
+after_octets run octets = run_after_first run octets (first_of octets)
 
-abbrev pub taken : Course → Item → Course
-taken course (AnOctet octet) = after_octets course (course.intake.unfinished ++ octet ∷ [])
-taken course (APacket packet) = after_whole course packet
-taken course (ACall call) = after_result course (call_event course.intake.state call)
-taken course (ATable table) = after_result course (replacement_event course.intake.state table)
-taken course TheEnd = with_unfinished course []
+abbrev pub taken : Run → Item → Run
+taken run (AnOctet octet) = after_octets run (run.intake.unfinished ++ octet ∷ [])
+taken run (APacket packet) = after_whole run packet
+taken run (ACall call) = after_result run (call_event run.intake.state call)
+taken run (ATable table) = after_result run (replacement_event run.intake.state table)
+taken run TheEnd = with_unfinished run []
 
 -- why a call is refused, or a table that would replace the one that stands, if it is
 abbrev pub refusal_in : {A : Type 0} → Option Fault → Result A Refused → Option Refused
@@ -92,23 +92,23 @@ abbrev pub replacement_refusal : Intake → Contents → Option Refused
 replacement_refusal intake table = refusal_in intake.fault (replacement_event intake.state table)
 
 -- after a fault nothing changes
-abbrev pub unless_stopped : Option Fault → Course → Course → Course
-unless_stopped (Some fault) course new = course
-unless_stopped None course new = new
+abbrev pub unless_stopped : Option Fault → Run → Run → Run
+unless_stopped (Some fault) run new = run
+unless_stopped None run new = new
 
-unfoldable pub after_item : Course → Item → Course
-after_item course item = unless_stopped course.intake.fault course (taken course item)
+unfoldable pub after_item : Run → Item → Run
+after_item run item = unless_stopped run.intake.fault run (taken run item)
 
-abbrev pub after_items : Course → List Item → Course
-after_items course [] = course
-after_items course (item ∷ items) = after_items (after_item course item) items
+abbrev pub after_items : Run → List Item → Run
+after_items run [] = run
+after_items run (item ∷ items) = after_items (after_item run item) items
 
-abbrev pub at_start : Start → Course
-at_start start = record {
+abbrev pub run_at_start : Start → Run
+run_at_start start = record {
   intake = record { state = state_at start; unfinished = []; fragments = λ ordinal. []; fault = None };
-  gone = first_out start;
+  sent = first_out start;
 }
 
 -- a start and an input lead so far
-unfoldable pub course : Start → List Item → Course
-course start input = after_items (at_start start) input
+unfoldable pub run : Start → List Item → Run
+run start input = after_items (run_at_start start) input

@@ -2,7 +2,7 @@
 use Rattle.std.specs.Prelude.{◌≡◌, is_some, if◌then◌else◌, List, [], ◌∷◌, ◌++◌, Option, Some, None, Result, Ok, Err}
 use Rattle.gatt_laws.specs.machine.Calls.{call_event, replacement_event}
 use Rattle.gatt_laws.specs.machine.Event.{Event}
-use Rattle.gatt_laws.specs.machine.Input.{Item, AnOctet, APacket, ACall, ATable, TheEnd, Intake, Course, after_item}
+use Rattle.gatt_laws.specs.machine.Input.{Item, AnOctet, APacket, ACall, ATable, TheEnd, Intake, Run, after_item}
 use Rattle.gatt_laws.specs.machine.Packets.{Fragments, packet_event}
 use Rattle.gatt_laws.specs.machine.State.{State, out, step}
 use Rattle.le_h4.specs.Division.{is_long}
@@ -43,9 +43,9 @@ out_if state None = []
 out_if state (Some event) = out state event
 
 -- an item makes of the state what its event makes of it, and brings out what that brings
-pub record DoesAs (old new : Course) (event : Option Event) : Type 0 where
+pub record DoesAs (old new : Run) (event : Option Event) : Type 0 where
   pub state : new.intake.state ≡ after_if old.intake.state event
-  pub gone : new.gone ≡ old.gone ++ out_if old.intake.state event
+  pub sent : new.sent ≡ old.sent ++ out_if old.intake.state event
 
 abbrev pub MeansItsEvent : Type 0
-MeansItsEvent = (course : Course) (item : Item) → DoesAs course (after_item course item) (event_at course.intake item)
+MeansItsEvent = (run : Run) (item : Item) → DoesAs run (after_item run item) (event_at run.intake item)

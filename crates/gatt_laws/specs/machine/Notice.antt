@@ -12,13 +12,13 @@ use Rattle.att_table.specs.ConfigRow.{bits_at}
 use Rattle.gatt_conn.specs.Answer.{is_confirmation}
 use Rattle.gatt_laws.specs.machine.Event as event
 use Rattle.gatt_laws.specs.machine.Event.{Ordinal, Own, Encrypted, Refreshed, Asks, Event, Of, Tick}
-use Rattle.gatt_laws.specs.machine.Input.{Item, Course, after_item, at_start}
+use Rattle.gatt_laws.specs.machine.Input.{Item, Run, after_item, run_at_start}
 use Rattle.gatt_laws.specs.machine.ItemEvents.{event_at}
-use Rattle.gatt_laws.specs.machine.Part.{Part, is_live, is_there, key_of, row_of}
-use Rattle.gatt_laws.specs.machine.Room.{Room}
+use Rattle.gatt_laws.specs.machine.ConnectionState.{ConnectionState, is_live, is_there, key_of, row_in_force}
+use Rattle.gatt_laws.specs.machine.SharedState.{SharedState}
 use Rattle.gatt_laws.specs.machine.Start.{Start}
 use Rattle.gatt_laws.specs.machine.State.{State}
-use Rattle.gatt_laws.specs.machine.Turn.{Turn, turn_of, handles_written}
+use Rattle.gatt_laws.specs.machine.Effect.{Effect, effect_of, handles_written}
 use Rattle.gatt_subs.specs.declared.pending.Unconfirmed.{Unconfirmed}
 use Rattle.gatt_subs.specs.Indications.{is_late}
 use Rattle.le_hci.specs.declared.peer.Peer.{Peer}
@@ -69,63 +69,63 @@ confirmation_told handle (Some unconfirmed) =
     if unconfirmed.outdated then [] else Confirmed handle unconfirmed.handle ∷ []
 
 -- a connection that served is ended
-abbrev pub end_told : ℕ → Part → List Notice
+abbrev pub end_told : ℕ → ConnectionState → List Notice
 end_told handle new =
     if is_live new.mark then [] else map (Ending handle) (option_to_list new.reason)
 
 -- what happens to a connection that serves, where its peer's bond has this row, and leaves this
-abbrev pub live_told : Room → Row → Part → Own → Turn → List Notice
-live_told room bond part (Asks pdu) turn =
-    map (write_told room.table.attributes (row_of turn.bond turn.part) part.handle)
-    (handles_written room bond part (Asks pdu))
-    ++ (if is_confirmation pdu then confirmation_told part.handle part.pending.unconfirmed else [])
-live_told room bond part (Encrypted status enabled) turn =
-    link_told part.handle (key_of part) (key_of turn.part)
-live_told room bond part (Refreshed status) turn =
-    link_told part.handle (key_of part) (key_of turn.part)
-live_told room bond part own turn = []
+abbrev pub live_told : SharedState → Row → ConnectionState → Own → Effect → List Notice
+live_told shared bond connection (Asks pdu) effect =
+    map (write_told shared.table.attributes (row_in_force effect.bond effect.connection) connection.handle)
+    (handles_written shared bond connection (Asks pdu))
+    ++ (if is_confirmation pdu then confirmation_told connection.handle connection.pending.unconfirmed else [])
+live_told shared bond connection (Encrypted status enabled) effect =
+    link_told connection.handle (key_of connection) (key_of effect.connection)
+live_told shared bond connection (Refreshed status) effect =
+    link_told connection.handle (key_of connection) (key_of effect.connection)
+live_told shared bond connection own effect = []
 
 -- a connection comes where none is, and goes where one is; all else is for one that serves, and its
 -- end is told last
-abbrev pub own_told : Room → Row → Part → Own → Turn → List Notice
-own_told room bond part (event.Connected handle peer) turn =
-    if is_there part.mark then [] else Connected handle peer ∷ []
-own_told room bond part event.Gone turn =
-    if is_there part.mark then Disconnected part.handle ∷ [] else []
-own_told room bond part own turn =
-    if is_live part.mark
-    then live_told room bond part own turn ++ end_told part.handle turn.part else []
+abbrev pub own_told : SharedState → Row → ConnectionState → Own → Effect → List Notice
+own_told shared bond connection (event.Connected handle peer) effect =
+    if is_there connection.mark then [] else Connected handle peer ∷ []
+own_told shared bond connection event.Gone effect =
+    if is_there connection.mark then Disconnected connection.handle ∷ [] else []
+own_told shared bond connection own effect =
+    if is_live connection.mark
+    then live_told shared bond connection own effect ++ end_told connection.handle effect.connection else []
 
 -- at this time an indication is late
-abbrev pub late_told : ℕ → Part → List Notice
-late_told time part =
-    if option_map_or (is_late time) part.pending.unconfirmed false
-    then TimedOut part.handle ∷ [] else []
+abbrev pub late_told : ℕ → ConnectionState → List Notice
+late_told time connection =
+    if option_map_or (is_late time) connection.pending.unconfirmed false
+    then TimedOut connection.handle ∷ [] else []
 
 -- of the connection of a slot
 abbrev pub slot_told : State → ℕ → Option Ordinal → List Notice
 slot_told state time None = []
-slot_told state time (Some ordinal) = late_told time (state.parts ordinal)
+slot_told state time (Some ordinal) = late_told time (state.connections ordinal)
 
 -- what is told of an event, in its order
 unfoldable pub noticed : State → Event → List Notice
 noticed state (Of ordinal own) =
-    let part = state.parts ordinal in
-    let bond = state.bonds part.peer in
-    own_told state.room bond part own (turn_of state.room bond (state.owed part.peer) part own)
+    let connection = state.connections ordinal in
+    let bond = state.bonds connection.peer in
+    own_told state.shared bond connection own (effect_of state.shared bond (state.owed connection.peer) connection own)
 noticed state (Tick time) = flat_map (slot_told state time) state.slots
 noticed state event = []
 
 -- what is told of an item of the input: what its event tells, and nothing where it means none
-abbrev pub notices_of : Course → Item → List Notice
-notices_of course item =
-    option_map_or (noticed course.intake.state) (event_at course.intake item) []
+abbrev pub notices_of : Run → Item → List Notice
+notices_of run item =
+    option_map_or (noticed run.intake.state) (event_at run.intake item) []
 
 -- and of items, in their order
-abbrev pub notices_in : Course → List Item → List Notice
-notices_in course [] = []
-notices_in course (item ∷ items) =
-    notices_of course item ++ notices_in (after_item course item) items
+abbrev pub notices_in : Run → List Item → List Notice
+notices_in run [] = []
+notices_in run (item ∷ items) =
+    notices_of run item ++ notices_in (after_item run item) items
 
 abbrev pub all_notices : Start → List Item → List Notice
-all_notices start input = notices_in (at_start start) input
+all_notices start input = notices_in (run_at_start start) input

@@ -18,7 +18,7 @@ use Rattle.le_hci.specs.declared.init.InitFault.TheVariants.{Refused, BadBuffers
 use Rattle.le_hci.specs.declared.peer.Peer.{Peer}
 use Rattle.le_hci.specs.Event as event
 use Rattle.le_hci.specs.Event.{Reported, event_of}
-use Rattle.le_hci.specs.Init.{opcode_awaited, outcome_of}
+use Rattle.le_hci.specs.Init.{opcode_awaited, init_outcome}
 use Rattle.le_l2cap.specs.declared.channel.TheConstants.{ATT, LE_SIGNALLING, SECURITY_MANAGER}
 use Rattle.le_l2cap.specs.declared.frame.Skip.{Skip}
 use Rattle.le_l2cap.specs.Frame.{BasicFrame, frame_of}
@@ -63,14 +63,14 @@ status_of (status ∷ values) = Some status
 abbrev pub completed_event : {C : Type 0} → Controller → ℕ → ℕ → Octets → Result (Happening C) Fault
 completed_event controller allowed opcode returned =
     answered allowed opcode (status_of returned)
-    (if is_awaited controller opcode then following_of (outcome_of controller.init returned) else Ok None)
+    (if is_awaited controller opcode then following_of (init_outcome controller.init returned) else Ok None)
 
 -- a status of 0 tells that the command is being carried out
 abbrev pub status_event : {C : Type 0} → Controller → ℕ → ℕ → ℕ → Result (Happening C) Fault
 status_event controller status allowed opcode =
     answered allowed opcode (Some status)
     (if is_awaited controller opcode && not (status == 0)
-    then following_of (outcome_of controller.init (status ∷ [])) else Ok None)
+    then following_of (init_outcome controller.init (status ∷ [])) else Ok None)
 
 -- an event of a connection, if one is found
 abbrev pub own_event : {C : Type 0} → Option C → Own → Happening C
@@ -86,14 +86,14 @@ last_connection_handle = LAST_CONNECTION_HANDLE
 
 -- a connection is accepted where it was made, this side is the peripheral, its handle is one and not in use, and a slot is
 -- free
-abbrev pub coming_event : {C : Type 0} → Context C → ℕ → ℕ → ℕ → Peer → Happening C
-coming_event context status handle role peer =
+abbrev pub connection_complete_event : {C : Type 0} → Context C → ℕ → ℕ → ℕ → Peer → Happening C
+connection_complete_event context status handle role peer =
     if (status == 0) && (role == peripheral) && nat_le handle last_connection_handle && is_none (context.holding handle)
     then own_event context.coming (Connected handle peer) else Nothing
 
 -- packets are completed of the connections of handles that are found: an entry of any other counts for nothing
-abbrev pub completed_entries : {C : Type 0} → (ℕ → Option C) → List CompletedPackets → List (C × ℕ)
-completed_entries found entries =
+abbrev pub entries_of_connections : {C : Type 0} → (ℕ → Option C) → List CompletedPackets → List (C × ℕ)
+entries_of_connections found entries =
     flat_map (λ (entry : CompletedPackets). option_to_list (option_map (λ connection. (connection, entry.packets)) (found entry.handle))) entries
 
 -- what is reported of connections
@@ -104,9 +104,9 @@ connection_event context (event.EncryptionChange status handle enabled) =
     own_event (context.serving handle) (Encrypted status enabled)
 connection_event context (event.EncryptionKeyRefreshComplete status handle) =
     own_event (context.serving handle) (Refreshed status)
-connection_event context (event.NumberOfCompletedPackets entries) = Completed (completed_entries context.holding entries)
+connection_event context (event.NumberOfCompletedPackets entries) = Completed (entries_of_connections context.holding entries)
 connection_event context (event.ConnectionComplete status handle role peer interval latency timeout clock_accuracy) =
-    coming_event context status handle role peer
+    connection_complete_event context status handle role peer
 connection_event context (event.LongTermKeyRequest handle random_number diversifier) =
     own_event (context.serving handle) (KeyAsked random_number diversifier)
 connection_event context _ = Nothing

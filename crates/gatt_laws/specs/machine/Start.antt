@@ -6,8 +6,8 @@ use Rattle.att_numbers.specs.Types.{Mtu}
 use Rattle.att_table.specs.Changer.{changer_of}
 use Rattle.att_table.specs.Table.{Contents}
 use Rattle.gatt_laws.specs.machine.Controller.{Controller}
-use Rattle.gatt_laws.specs.machine.Part.{absent}
-use Rattle.gatt_laws.specs.machine.Room.{Room, Bonds, Owed}
+use Rattle.gatt_laws.specs.machine.ConnectionState.{no_connection}
+use Rattle.gatt_laws.specs.machine.SharedState.{SharedState, Bonds, ServiceChangedPending}
 use Rattle.gatt_laws.specs.machine.State.{State, with_commands_sent, commands_out}
 use Rattle.le_hci.specs.Init.{first_state}
 use Rattle.le_security.specs.declared.entry.Entry.{Entry}
@@ -21,7 +21,7 @@ pub record Start : Type 0 where
   pub table : Contents
   pub keys : List Entry
   pub bonds : Bonds
-  pub owed : Owed
+  pub owed : ServiceChangedPending
   pub slots : ℕ
   pub rx_mtu : Mtu
   pub address : Option Octets
@@ -46,23 +46,23 @@ new_controller start = record {
   refused = false;
 }
 
-abbrev pub new_room : Start → Room
-new_room start = record {
+abbrev pub new_shared_state : Start → SharedState
+new_shared_state start = record {
   table = start.table;
   changer = changer_of start.table;
   keys = start.keys;
   slots = start.slots;
   rx_mtu = start.rx_mtu;
   time = 0;
-  told = None;
+  buffers = None;
 }
 
 abbrev pub before_first_command : Start → State
 before_first_command start = record {
-  room = new_room start;
+  shared = new_shared_state start;
   bonds = start.bonds;
   owed = start.owed;
-  parts = λ ordinal. absent;
+  connections = λ ordinal. no_connection;
   slots = [];
   next = 0;
   controller = new_controller start;

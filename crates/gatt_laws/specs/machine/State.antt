@@ -10,14 +10,14 @@ use Rattle.gatt_conn.specs.Transcript.{Dropped}
 use Rattle.gatt_laws.specs.machine.Controller.{Controller, Slots, is_ready, with_taken, with_freed, commands_sent, after_sending, controller_after}
 use Rattle.gatt_laws.specs.machine.Event.{Ordinal, Own, Event, Connected, Gone, Of, Completed, Credit, Update, Tick, Replaced, Nothing}
 use Rattle.gatt_laws.specs.machine.Heard.{after_hearing}
-use Rattle.gatt_laws.specs.machine.Part.{Part, is_live, after_giving}
-use Rattle.gatt_laws.specs.machine.Room.{Room, Bonds, Owed, size_of}
-use Rattle.gatt_laws.specs.machine.Turn.{Turn, turn_of}
+use Rattle.gatt_laws.specs.machine.ConnectionState.{ConnectionState, is_live, after_giving}
+use Rattle.gatt_laws.specs.machine.SharedState.{SharedState, Bonds, ServiceChangedPending, fragment_size_of}
+use Rattle.gatt_laws.specs.machine.Effect.{Effect, effect_of}
 use Rattle.gatt_subs.specs.Fit.{wants_changes}
 use Rattle.gatt_subs.specs.Indications.{after_tick, after_replacement}
 use Rattle.le_acl.specs.Outgoing.{acl_octets}
 use Rattle.le_acl.specs.Packets.{packets_of}
-use Rattle.le_acl.specs.Shares.{usable}
+use Rattle.le_acl.specs.Quotas.{usable}
 use Rattle.le_hci.specs.Command.{Commanded, LeSetAdvertiseEnable, opcode_of, packet_of}
 use Rattle.le_hci.specs.InitTold.{told_in}
 use Rattle.le_hci.specs.declared.init.Init.{Init}
@@ -30,24 +30,24 @@ use Rattle.le_h4.specs.declared.indicator.TheConstants.{COMMAND}
 -- what all connections share; what each peer has configured and is owed; each connection, by its ordinal; the slots, and
 -- the ordinal that comes next; and the controller
 pub record State : Type 0 where
-  pub room : Room
+  pub shared : SharedState
   pub bonds : Bonds
-  pub owed : Owed
-  pub parts : Ordinal → Part
+  pub owed : ServiceChangedPending
+  pub connections : Ordinal → ConnectionState
   pub slots : Slots
   pub next : Ordinal
   pub controller : Controller
 
--- an event as it is before its end: the state, and the values that it raises for each connection
+-- an event as it is before its end: the state, and the values that it notifies for each connection
 pub record Change : Type 0 where
   pub state : State
-  pub raised : Ordinal → List Handle
+  pub to_notify : Ordinal → List Handle
 
-abbrev pub none_raised : Ordinal → List Handle
-none_raised ordinal = []
+abbrev pub none_to_notify : Ordinal → List Handle
+none_to_notify ordinal = []
 
-abbrev pub all_raised : List Handle → Ordinal → List Handle
-all_raised handles ordinal = handles
+abbrev pub all_to_notify : List Handle → Ordinal → List Handle
+all_to_notify handles ordinal = handles
 
 -- To one connection.
 
@@ -57,8 +57,8 @@ at_peer peer new old other = if same_peer other peer then new else old other
 abbrev pub at_ordinal : {A : Type 0} → Ordinal → A → (Ordinal → A) → Ordinal → A
 at_ordinal ordinal new old other = if other == ordinal then new else old other
 
-abbrev pub with_values : Room → Values → Room
-with_values room values = record room { table = record room.table { values = values } }
+abbrev pub with_values : SharedState → Values → SharedState
+with_values shared values = record shared { table = record shared.table { values = values } }
 
 -- a connection that comes takes a slot, and the controller stops advertising; one that goes frees its slot, and enabling
 -- may be tried again
@@ -71,62 +71,62 @@ abbrev pub next_after : Own → Ordinal → Ordinal
 next_after (Connected handle peer) next = next + 1
 next_after own next = next
 
-abbrev pub told_of : Own → Controller → Controller
-told_of (Connected handle peer) controller = record controller { advertising = false }
-told_of Gone controller = record controller { refused = false }
-told_of own controller = controller
+abbrev pub advertising_after : Own → Controller → Controller
+advertising_after (Connected handle peer) controller = record controller { advertising = false }
+advertising_after Gone controller = record controller { refused = false }
+advertising_after own controller = controller
 
-abbrev pub after_turn : State → Ordinal → Own → Turn → Change
-after_turn state ordinal own turn =
-    let peer = (state.parts ordinal).peer in
+abbrev pub after_effect : State → Ordinal → Own → Effect → Change
+after_effect state ordinal own effect =
+    let peer = (state.connections ordinal).peer in
     record {
       state = record {
-        room = with_values state.room turn.values;
-        bonds = at_peer peer turn.bond state.bonds;
-        owed = at_peer peer turn.owed state.owed;
-        parts = at_ordinal ordinal turn.part state.parts;
+        shared = with_values state.shared effect.values;
+        bonds = at_peer peer effect.bond state.bonds;
+        owed = at_peer peer effect.owed state.owed;
+        connections = at_ordinal ordinal effect.connection state.connections;
         slots = slots_after own ordinal state.slots;
         next = next_after own state.next;
-        controller = told_of own state.controller;
+        controller = advertising_after own state.controller;
       };
-      raised = at_ordinal ordinal turn.raised_here (all_raised turn.raised);
+      to_notify = at_ordinal ordinal effect.to_notify_here (all_to_notify effect.to_notify);
     }
 
 abbrev pub own_change : State → Ordinal → Own → Change
 own_change state ordinal own =
-    let part = state.parts ordinal in
-    after_turn state ordinal own (turn_of state.room (state.bonds part.peer) (state.owed part.peer) part own)
+    let connection = state.connections ordinal in
+    after_effect state ordinal own (effect_of state.shared (state.bonds connection.peer) (state.owed connection.peer) connection own)
 
 -- Packets are completed.
 
 -- a count is cut to the packets that were given and are not completed
-abbrev pub with_completed : Part → ℕ → Part
-with_completed part count = record part { done = part.done + min count (part.given - part.done) }
+abbrev pub with_packets_completed : ConnectionState → ℕ → ConnectionState
+with_packets_completed connection count = record connection { done = connection.done + min count (connection.given - connection.done) }
 
-abbrev pub after_completed : Ordinal → List (Ordinal × ℕ) → Part → Part
-after_completed ordinal [] part = part
-after_completed ordinal (entry ∷ entries) part =
-    after_completed ordinal entries (if entry.0 == ordinal then with_completed part entry.1 else part)
+abbrev pub after_packets_completed : Ordinal → List (Ordinal × ℕ) → ConnectionState → ConnectionState
+after_packets_completed ordinal [] connection = connection
+after_packets_completed ordinal (entry ∷ entries) connection =
+    after_packets_completed ordinal entries (if entry.0 == ordinal then with_packets_completed connection entry.1 else connection)
 
 -- A command is answered.
 
 -- the slots, once the controller is initialised
-abbrev pub slots_for : ℕ → Init → Slots → Slots
-slots_for count (Ready length packets) slots = replicate (usable count packets) None
-slots_for count init slots = slots
+abbrev pub slots_when_ready : ℕ → Init → Slots → Slots
+slots_when_ready count (Ready length packets) slots = replicate (usable count packets) None
+slots_when_ready count init slots = slots
 
 -- enabling is refused by any status but 0
 abbrev pub is_refusal : ℕ → Option ℕ → Bool
 is_refusal opcode status =
     opcode == opcode_of LeSetAdvertiseEnable && option_map_or (λ status. not (status == 0)) status false
 
-abbrev pub after_credit : State → ℕ → ℕ → Option ℕ → Option Init → State
-after_credit state allowed opcode status (Some init) = record state {
-  room = record state.room { told = told_in init };
-  slots = slots_for state.room.slots init state.slots;
+abbrev pub after_command_complete : State → ℕ → ℕ → Option ℕ → Option Init → State
+after_command_complete state allowed opcode status (Some init) = record state {
+  shared = record state.shared { buffers = told_in init };
+  slots = slots_when_ready state.shared.slots init state.slots;
   controller = record state.controller { credit = allowed; init = init; awaiting = false };
 }
-after_credit state allowed opcode status None = record state {
+after_command_complete state allowed opcode status None = record state {
   controller =
       if is_ready state.controller && is_refusal opcode status then record state.controller { credit = allowed; advertising = false; refused = true }
       else record state.controller { credit = allowed };
@@ -143,73 +143,73 @@ announced table =
     option_map_or (λ changer. record table { values = with_value table.values changer all_changed }) (changer_of table) table
 
 -- of its row a connection keeps what is of the new table too; what it prepared and what waits for it is dropped
-abbrev pub part_dropped : Part → Part
-part_dropped part =
-    if is_live part.mark
-    then record part { said = Dropped ∷ part.said; pending = after_replacement part.pending }
-    else part
+abbrev pub connection_dropped : ConnectionState → ConnectionState
+connection_dropped connection =
+    if is_live connection.mark
+    then record connection { said = Dropped ∷ connection.said; pending = after_replacement connection.pending }
+    else connection
 
-abbrev pub part_replaced : Contents → Contents → Part → Part
-part_replaced old new part =
-    record (part_dropped part) { row = kept_row old.attributes new.attributes part.row }
+abbrev pub connection_after_replacement : Contents → Contents → ConnectionState → ConnectionState
+connection_after_replacement old new connection =
+    record (connection_dropped connection) { row = kept_row old.attributes new.attributes connection.row }
 
 abbrev pub bonds_replaced : Contents → Contents → Bonds → Bonds
 bonds_replaced old new bonds peer = kept_row old.attributes new.attributes (bonds peer)
 
 -- a peer is owed where its row asks for indications of the changer
-abbrev pub owed_by : Option Handle → Bonds → Owed
+abbrev pub owed_by : Option Handle → Bonds → ServiceChangedPending
 owed_by changer bonds peer = wants_changes changer (bonds peer)
 
 abbrev pub after_replaced : State → Contents → State
 after_replaced state table = record state {
-  room = record state.room { table = announced table; changer = changer_of table };
-  bonds = bonds_replaced state.room.table table state.bonds;
-  owed = owed_by (changer_of table) (bonds_replaced state.room.table table state.bonds);
-  parts = λ ordinal. part_replaced state.room.table table (state.parts ordinal);
+  shared = record state.shared { table = announced table; changer = changer_of table };
+  bonds = bonds_replaced state.shared.table table state.bonds;
+  owed = owed_by (changer_of table) (bonds_replaced state.shared.table table state.bonds);
+  connections = λ ordinal. connection_after_replacement state.shared.table table (state.connections ordinal);
 }
 
 -- what each event changes before its end
 unfoldable pub change_of : State → Event → Change
 change_of state (Of ordinal own) = own_change state ordinal own
 change_of state (Completed entries) = record {
-  state = record state { parts = λ ordinal. after_completed ordinal entries (state.parts ordinal) };
-  raised = none_raised;
+  state = record state { connections = λ ordinal. after_packets_completed ordinal entries (state.connections ordinal) };
+  to_notify = none_to_notify;
 }
 change_of state (Credit allowed opcode status following) =
-    record { state = after_credit state allowed opcode status following; raised = none_raised }
+    record { state = after_command_complete state allowed opcode status following; to_notify = none_to_notify }
 change_of state (Update handle value) = record {
-  state = record state { room = with_values state.room (with_value state.room.table.values handle value) };
-  raised = all_raised (handle ∷ []);
+  state = record state { shared = with_values state.shared (with_value state.shared.table.values handle value) };
+  to_notify = all_to_notify (handle ∷ []);
 }
 change_of state (Tick time) = record {
   state = record state {
-    room = record state.room { time = time };
-    parts = λ ordinal. let part = state.parts ordinal in record part { pending = after_tick part.pending time };
+    shared = record state.shared { time = time };
+    connections = λ ordinal. let connection = state.connections ordinal in record connection { pending = after_tick connection.pending time };
   };
-  raised = none_raised;
+  to_notify = none_to_notify;
 }
 change_of state (Replaced table) =
-    record { state = after_replaced state table; raised = all_raised (option_to_list (changer_of table)) }
-change_of state Nothing = record { state = state; raised = none_raised }
+    record { state = after_replaced state table; to_notify = all_to_notify (option_to_list (changer_of table)) }
+change_of state Nothing = record { state = state; to_notify = none_to_notify }
 
--- a connection at the end of an event: it hears what is raised and what is released, and packets are given
-abbrev pub finished : Room → Bonds → List Handle → Part → Part
-finished room bonds handles part = after_giving room (after_hearing room (bonds part.peer) handles part)
+-- a connection at the end of an event: it hears what is notified and what is indicated, and packets are given
+abbrev pub finished : SharedState → Bonds → List Handle → ConnectionState → ConnectionState
+finished shared bonds handles connection = after_giving shared (after_hearing shared (bonds connection.peer) handles connection)
 
-abbrev pub parts_finished : Change → Ordinal → Part
-parts_finished change ordinal =
-    finished change.state.room change.state.bonds (change.raised ordinal) (change.state.parts ordinal)
+abbrev pub connections_finished : Change → Ordinal → ConnectionState
+connections_finished change ordinal =
+    finished change.state.shared change.state.bonds (change.to_notify ordinal) (change.state.connections ordinal)
 
 -- and then the commands go out that the controller takes
 abbrev pub with_commands_sent : State → State
 with_commands_sent state = record state {
-  parts = after_sending state.controller state.parts state.slots;
-  controller = controller_after state.controller (commands_sent state.controller state.parts state.slots);
+  connections = after_sending state.controller state.connections state.slots;
+  controller = controller_after state.controller (commands_sent state.controller state.connections state.slots);
 }
 
 abbrev pub before_commands : State → Event → State
 before_commands state event =
-    let change = change_of state event in record change.state { parts = parts_finished change }
+    let change = change_of state event in record change.state { connections = connections_finished change }
 
 unfoldable pub step : State → Event → State
 step state event = with_commands_sent (before_commands state event)
@@ -220,16 +220,16 @@ abbrev pub command_octets : Commanded → Octets
 command_octets command = COMMAND ∷ packet_of command
 
 abbrev pub commands_out : State → List Octets
-commands_out state = map command_octets (commands_sent state.controller state.parts state.slots)
+commands_out state = map command_octets (commands_sent state.controller state.connections state.slots)
 
 -- the packets that were given to one connection
-abbrev pub packets_given : Room → Part → Part → List Octets
-packets_given room old new =
-    map (acl_octets new.handle) (drop old.given (take new.given (packets_of (size_of room.told) new.pdus)))
+abbrev pub packets_given : SharedState → ConnectionState → ConnectionState → List Octets
+packets_given shared old new =
+    map (acl_octets new.handle) (drop old.given (take new.given (packets_of (fragment_size_of shared.buffers) new.pdus)))
 
 abbrev pub slot_out : State → State → Option Ordinal → List Octets
 slot_out old new None = []
-slot_out old new (Some ordinal) = packets_given new.room (old.parts ordinal) (new.parts ordinal)
+slot_out old new (Some ordinal) = packets_given new.shared (old.connections ordinal) (new.connections ordinal)
 
 -- the commands that the controller takes, and then the packets of the slots in their order
 unfoldable pub out : State → Event → List Octets

@@ -25,11 +25,11 @@ use Rattle.gatt_laws.proofs.examples.Tables.{door, phone}
 use Rattle.gatt_laws.specs.machine.Controller.{commands_due}
 use Rattle.gatt_laws.specs.machine.Event.{Ordinal, Own, Event, Asks, Of}
 use Rattle.gatt_laws.specs.machine.Heard.{after_hearing}
-use Rattle.gatt_laws.specs.machine.Part.{come, prepared_of}
-use Rattle.gatt_laws.specs.machine.Room.{share_of, size_of}
+use Rattle.gatt_laws.specs.machine.ConnectionState.{fresh_connection, prepared_of}
+use Rattle.gatt_laws.specs.machine.SharedState.{quota_of, fragment_size_of}
 use Rattle.gatt_laws.specs.machine.Start.{state_at}
 use Rattle.gatt_laws.specs.machine.State.{State, change_of, step}
-use Rattle.gatt_laws.specs.machine.Turn.{live_turn}
+use Rattle.gatt_laws.specs.machine.Effect.{live_effect}
 use Rattle.att_pdu.specs.Form.{form_of}
 use Rattle.le_acl.specs.History.{packets_allowed}
 use Rattle.le_acl.specs.Packets.{pieces, total}
@@ -102,23 +102,23 @@ an_equality_that_tells hides = equality_differs (hides stranger door other_door 
 
 -- Two connections at the door lock.
 abbrev two : State
-two = record (state_at (host door 2)) { parts = λ ordinal. come ordinal phone; slots = Some 0 ∷ Some 1 ∷ [] }
+two = record (state_at (host door 2)) { connections = λ ordinal. fresh_connection ordinal phone; slots = Some 0 ∷ Some 1 ∷ [] }
 
 -- What a step promises of prepared writes: what happens to one connection leaves those of all others.
 abbrev LeavesPrepared : (State → Event → State) → Type 0
 LeavesPrepared steps = (state : State) (ordinal other : Ordinal) (own : Own) → (other == ordinal) ≡ false
-    → prepared_of ((steps state (Of ordinal own)).parts other) ≡ prepared_of (state.parts other)
+    → prepared_of ((steps state (Of ordinal own)).connections other) ≡ prepared_of (state.connections other)
 
 -- one queue for all
 one_queue : State → Event → State
 one_queue state event =
-    let new = step state event in record new { parts = λ ordinal. record (new.parts ordinal) { said = (new.parts 0).said } }
+    let new = step state event in record new { connections = λ ordinal. record (new.connections ordinal) { said = (new.connections 0).said } }
 
 prepares : Own
 prepares = Asks (0x16 ∷ 0x15 ∷ 0x00 ∷ 0x00 ∷ 0x00 ∷ 0x41 ∷ [])
 
-others_prepared : prepared_of ((one_queue two (Of 0 prepares)).parts 1) ≡ record { handle = 21; offset = 0; part = 0x41 ∷ [] } ∷ []
-unfolding one_queue prepares step change_of live_turn after_hearing commands_due form_of
+others_prepared : prepared_of ((one_queue two (Of 0 prepares)).connections 1) ≡ record { handle = 21; offset = 0; part = 0x41 ∷ [] } ∷ []
+unfolding one_queue prepares step change_of live_effect after_hearing commands_due form_of
 others_prepared = refl
 
 a_queue_of_all : LeavesPrepared one_queue → ⊥
@@ -126,33 +126,33 @@ a_queue_of_all leaves = cc (sym others_prepared ∙ leaves two 0 1 prepares refl
 
 -- What is promised of how many packets a connection is given: it follows from what all share and from the connection itself.
 abbrev GivesByItself : (State → Ordinal → ℕ) → Type 0
-GivesByItself gives = (one other : State) (ordinal : Ordinal) → one.room ≡ other.room → one.parts ordinal ≡ other.parts ordinal
+GivesByItself gives = (one other : State) (ordinal : Ordinal) → one.shared ≡ other.shared → one.connections ordinal ≡ other.connections ordinal
     → gives one ordinal ≡ gives other ordinal
 
 abbrev by_share : State → Ordinal → ℕ
 by_share state ordinal =
-    let part = state.parts ordinal in packets_allowed (share_of state.room.slots state.room.told) (size_of state.room.told) part.pdus part.done
+    let connection = state.connections ordinal in packets_allowed (quota_of state.shared.slots state.shared.buffers) (fragment_size_of state.shared.buffers) connection.pdus connection.done
 
 a_share_of_its_own : GivesByItself by_share
-a_share_of_its_own one other ordinal room part =
-    λ i. packets_allowed (share_of (room i).slots (room i).told) (size_of (room i).told) (part i).pdus (part i).done
+a_share_of_its_own one other ordinal shared connection =
+    λ i. packets_allowed (quota_of (shared i).slots (shared i).buffers) (fragment_size_of (shared i).buffers) (connection i).pdus (connection i).done
 
 -- one pool of credit
 abbrev held_by : State → Ordinal → Option Ordinal → ℕ
 held_by state ordinal None = 0
-held_by state ordinal (Some other) = if other == ordinal then 0 else (state.parts other).given - (state.parts other).done
+held_by state ordinal (Some other) = if other == ordinal then 0 else (state.connections other).given - (state.connections other).done
 
 abbrev from_a_pool : State → Ordinal → ℕ
 from_a_pool state ordinal =
-    let part = state.parts ordinal in
-    min (total (size_of state.room.told) part.pdus)
-    (part.done + (option_map_or (λ (buffers : Buffers). buffers.packets) state.room.told 0 - sum_by (held_by state ordinal) state.slots))
+    let connection = state.connections ordinal in
+    min (total (fragment_size_of state.shared.buffers) connection.pdus)
+    (connection.done + (option_map_or (λ (buffers : Buffers). buffers.packets) state.shared.buffers 0 - sum_by (held_by state ordinal) state.slots))
 
 -- a controller that takes two packets: the other connection has none of them, or both
 abbrev holding : ℕ → State
 holding given = record two {
-  room = record two.room { told = Some (record { length = 27; packets = 2 }) };
-  parts = λ ordinal. if ordinal == 0 then record (come 0 phone) { pdus = (4, 0x13 ∷ []) ∷ [] } else record (come 1 phone) { given = given };
+  shared = record two.shared { buffers = Some (record { length = 27; packets = 2 }) };
+  connections = λ ordinal. if ordinal == 0 then record (fresh_connection 0 phone) { pdus = (4, 0x13 ∷ []) ∷ [] } else record (fresh_connection 1 phone) { given = given };
 }
 
 pool_differs : from_a_pool (holding 0) 0 ≡ from_a_pool (holding 2) 0 → ⊥

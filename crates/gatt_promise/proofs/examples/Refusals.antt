@@ -10,31 +10,31 @@ use Rattle.att_reads.specs.Answer.{value_answer}
 use Rattle.att_table.specs.Table.{Contents}
 use Rattle.att_writes.specs.Applied.{after_entries}
 use Rattle.gatt_conn.specs.Answer.{Question, answer_to}
-use Rattle.gatt_conn.specs.Connection.{Connection, new_connection}
+use Rattle.gatt_conn.specs.Connection.{Bearer, new_connection}
 use Rattle.gatt_laws.proofs.examples.Tables.{door, phone, table_of, declaration, value_of, configuration, guard, authorized, no_need}
 use Rattle.att_pdu.specs.Form.{form_of}
 use Rattle.gatt_laws.proofs.examples.Runs.{host}
 use Rattle.gatt_laws.specs.machine.Controller.{commands_due}
 use Rattle.gatt_laws.specs.machine.Event.{Ordinal, Event, Asks, Of}
 use Rattle.gatt_laws.specs.machine.Heard.{after_hearing, att_pdu}
-use Rattle.gatt_laws.specs.machine.Part.{come, mtu_of}
+use Rattle.gatt_laws.specs.machine.ConnectionState.{fresh_connection, connection_mtu}
 use Rattle.gatt_laws.specs.machine.Start.{state_at}
 use Rattle.gatt_laws.specs.machine.State.{State, change_of, step}
-use Rattle.gatt_laws.specs.machine.Turn.{live_turn}
+use Rattle.gatt_laws.specs.machine.Effect.{live_effect}
 use Rattle.gatt_subs.specs.Indications.{is_waiting}
 use Rattle.gatt_subs.specs.Told.{notification_of, indication_of}
 use Rattle.le_acl.specs.Packets.{Pdu, pieces}
-use Rattle.gatt_promise.specs.Gained.{Gains, TellsOnly, answers, kept_queue, picked}
+use Rattle.gatt_promise.specs.Gained.{Gains, TellsOnly, answers_at, kept_queue, picked}
 use Rattle.gatt_promise.specs.FirstCase.{IsByTheFirstCase}
 
 abbrev Answering : Type 0
-Answering = Contents → Row → Connection → Question → Option Response
+Answering = Contents → Row → Bearer → Question → Option Response
 
 -- a client that nobody knows, and one that is authorized up to a moment that is past
-abbrev unknown : Connection
+abbrev unknown : Bearer
 unknown = new_connection 247
 
-abbrev late : Connection
+abbrev late : Bearer
 late = record unknown { standing = record { key = None; key_known = false; until = 5; now = 10 } }
 
 -- every Read is refused, also one that is permitted
@@ -95,31 +95,31 @@ ended = refl
 -- One PDU more at each request.
 
 abbrev two : State
-two = record (state_at (host door 2)) { parts = λ ordinal. come ordinal phone; slots = Some 0 ∷ Some 1 ∷ [] }
+two = record (state_at (host door 2)) { connections = λ ordinal. fresh_connection ordinal phone; slots = Some 0 ∷ Some 1 ∷ [] }
 
 reads : Event
 reads = Of 0 (Asks (0x0A ∷ 0x03 ∷ 0x00 ∷ []))
 
 abbrev twice : State → State
-twice state = record state { parts = λ ordinal. let part = state.parts ordinal in record part { pdus = part.pdus ++ part.pdus } }
+twice state = record state { connections = λ ordinal. let connection = state.connections ordinal in record connection { pdus = connection.pdus ++ connection.pdus } }
 
 none-picked : (picks : List Bool) → picked picks [] ≡ []
 none-picked [] = refl
 none-picked (pick ∷ picks) = refl
 
 none-indicated : (state : State) (ordinal : Ordinal) (told : List Response) (indicated : Option Handle)
-    → told ≡ [] ++ option_to_list (option_map (λ handle. indication_of state.room.table.values handle (mtu_of state.room (state.parts ordinal))) indicated)
+    → told ≡ [] ++ option_to_list (option_map (λ handle. indication_of state.shared.table.values handle (connection_mtu state.shared (state.connections ordinal))) indicated)
     → IfSome indicated (λ handle. (is_waiting [] handle || is_waiting [] handle) ≡ true) → told ≡ []
 none-indicated state ordinal told None is due = is
 none-indicated state ordinal told (Some handle) is due = cc due
 
--- where nothing is raised and nothing waits, nothing is told
+-- where nothing is notified and nothing waits, nothing is told
 none-told : (state : State) (ordinal : Ordinal) (told : List Response) → TellsOnly state ordinal [] [] told → told ≡ []
 none-told state ordinal told only =
     none-indicated state ordinal told only.indicated
     (only.is ∙ ap (λ (handles : List Handle).
-    map (λ handle. notification_of state.room.table.values handle (mtu_of state.room (state.parts ordinal))) handles
-    ++ option_to_list (option_map (λ handle. indication_of state.room.table.values handle (mtu_of state.room (state.parts ordinal))) only.indicated))
+    map (λ handle. notification_of state.shared.table.values handle (connection_mtu state.shared (state.connections ordinal))) handles
+    ++ option_to_list (option_map (λ handle. indication_of state.shared.table.values handle (connection_mtu state.shared (state.connections ordinal))) only.indicated))
     (none-picked only.picks))
     only.due
 
@@ -127,8 +127,8 @@ no-two : {one other only : Pdu} → one ∷ other ∷ [] ≡ only ∷ [] → ⊥
 no-two is = cc is
 
 more_than_one : (told : List Response) → told ≡ []
-    → ((twice (step two reads)).parts 0).pdus ≡ kept_queue two 0 reads ++ (answers two 0 reads ++ map att_pdu told) → ⊥
-unfolding reads step change_of live_turn after_hearing commands_due form_of value_answer pieces
+    → ((twice (step two reads)).connections 0).pdus ≡ kept_queue two 0 reads ++ (answers_at two 0 reads ++ map att_pdu told) → ⊥
+unfolding reads step change_of live_effect after_hearing commands_due form_of value_answer pieces
 more_than_one [] none is = no-two is
 more_than_one (response ∷ told) none is = cc none
 

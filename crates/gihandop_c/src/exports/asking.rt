@@ -3,12 +3,12 @@
 ghost use Rattle.std.specs.Prelude.{◌≡◌, ◌≢◌, ◌+◌, ◌<◌, ◌∷◌, [], IfSome, IsSome, None, Ok, Err};
 ghost use Rattle.att_table.specs.declared.table_fault.TableFault.{TableFault};
 ghost use Rattle.att_table.specs.Table.{Contents};
-ghost use Rattle.att_table.specs.TableFault.{number_of as number_of_table_fault};
+ghost use Rattle.att_table.specs.TableFault.{table_fault_number};
 ghost use Rattle.gatt_host.specs.Asked.{call_of};
 ghost use Rattle.gatt_laws.specs.machine.Calls.{AuthorizeCall, DisconnectCall, TickCall, UpdateCall};
 ghost use Rattle.gatt_laws.specs.machine.Input.{ACall, ATable};
-ghost use Rattle.gihandop_c.specs.Boundary.{AnswersCall, AnswersTable, HostFallsSilent, HostLeads, HostTellsItem};
-ghost use Rattle.gihandop_c.specs.Files.{table_in};
+ghost use Rattle.gihandop_c.specs.Boundary.{AnswersCall, AnswersTable, HostFallsSilent, HostRefines, HostTellsItem};
+ghost use Rattle.gihandop_c.specs.Files.{table_given};
 ghost use Rattle.gihandop_c.specs.Opening.{IsNotOfMemory};
 ghost use Rattle.gihandop_c.specs.Statuses.{WaitsForOutput};
 ghost use Rattle.gihandop_c.specs.declared.status.TheConstants.{BAD_TABLE, CLOSED, DONE, HAS_STOPPED, OUTPUT_OWED};
@@ -22,7 +22,7 @@ use std::alloc::Global;
 fn ask(host: &mut HostPointer, call: App<'_>) -> u32
     ensures closed { host.old.host ≡ None → result ≡ CLOSED }
     ensures takes { result ≢ OUTPUT_OWED
-        → HostLeads (ACall (call_of call.entry) ∷ []) [] host.old.host host.new.host }
+        → HostRefines (ACall (call_of call.entry) ∷ []) [] host.old.host host.new.host }
     ensures tells { result ≢ OUTPUT_OWED
         → HostTellsItem (ACall (call_of call.entry)) host.old.host host.new.host }
     ensures answers { result ≢ OUTPUT_OWED
@@ -45,7 +45,8 @@ fn ask(host: &mut HostPointer, call: App<'_>) -> u32
 pub extern "C" fn gh_update(host: &mut HostPointer, handle: u16, value: &[u8]) -> u32
     ensures closed { host.old.host ≡ None → result ≡ CLOSED }
     ensures takes { result ≢ OUTPUT_OWED
-        → HostLeads (ACall (UpdateCall handle value.now) ∷ []) [] host.old.host host.new.host }
+        → HostRefines (ACall (UpdateCall handle value.now) ∷ []) [] host.old.host
+        host.new.host }
     ensures tells { result ≢ OUTPUT_OWED
         → HostTellsItem (ACall (UpdateCall handle value.now)) host.old.host host.new.host }
     ensures answers { result ≢ OUTPUT_OWED
@@ -66,7 +67,8 @@ pub extern "C" fn gh_update(host: &mut HostPointer, handle: u16, value: &[u8]) -
 pub extern "C" fn gh_authorize(host: &mut HostPointer, connection: u16, until: u64) -> u32
     ensures closed { host.old.host ≡ None → result ≡ CLOSED }
     ensures takes { result ≢ OUTPUT_OWED
-        → HostLeads (ACall (AuthorizeCall connection until) ∷ []) [] host.old.host host.new.host }
+        → HostRefines (ACall (AuthorizeCall connection until) ∷ []) [] host.old.host
+        host.new.host }
     ensures tells { result ≢ OUTPUT_OWED
         → HostTellsItem (ACall (AuthorizeCall connection until)) host.old.host host.new.host }
     ensures answers { result ≢ OUTPUT_OWED
@@ -86,7 +88,7 @@ pub extern "C" fn gh_authorize(host: &mut HostPointer, connection: u16, until: u
 pub extern "C" fn gh_disconnect(host: &mut HostPointer, connection: u16) -> u32
     ensures closed { host.old.host ≡ None → result ≡ CLOSED }
     ensures takes { result ≢ OUTPUT_OWED
-        → HostLeads (ACall (DisconnectCall connection) ∷ []) [] host.old.host host.new.host }
+        → HostRefines (ACall (DisconnectCall connection) ∷ []) [] host.old.host host.new.host }
     ensures tells { result ≢ OUTPUT_OWED
         → HostTellsItem (ACall (DisconnectCall connection)) host.old.host host.new.host }
     ensures answers { result ≢ OUTPUT_OWED
@@ -106,7 +108,7 @@ pub extern "C" fn gh_disconnect(host: &mut HostPointer, connection: u16) -> u32
 pub extern "C" fn gh_tick(host: &mut HostPointer, time: u64) -> u32
     ensures closed { host.old.host ≡ None → result ≡ CLOSED }
     ensures takes { result ≢ OUTPUT_OWED
-        → HostLeads (ACall (TickCall time) ∷ []) [] host.old.host host.new.host }
+        → HostRefines (ACall (TickCall time) ∷ []) [] host.old.host host.new.host }
     ensures tells { result ≢ OUTPUT_OWED
         → HostTellsItem (ACall (TickCall time)) host.old.host host.new.host }
     ensures answers { result ≢ OUTPUT_OWED
@@ -126,21 +128,21 @@ pub extern "C" fn gh_tick(host: &mut HostPointer, time: u64) -> u32
 #[unsafe(no_mangle)]
 pub extern "C" fn gh_replace(alloc: Global, host: &mut HostPointer, table: &[u8]) -> u32
     ensures closed { host.old.host ≡ None → result ≡ CLOSED }
-    ensures takes { (contents : Contents) → table_in table.now ≡ Ok contents
+    ensures takes { (contents : Contents) → table_given table.now ≡ Ok contents
         → result < BAD_TABLE → result ≢ OUTPUT_OWED
-        → HostLeads (ATable contents ∷ []) [] host.old.host host.new.host }
-    ensures tells { (contents : Contents) → table_in table.now ≡ Ok contents
+        → HostRefines (ATable contents ∷ []) [] host.old.host host.new.host }
+    ensures tells { (contents : Contents) → table_given table.now ≡ Ok contents
         → result < BAD_TABLE → result ≢ OUTPUT_OWED
         → HostTellsItem (ATable contents) host.old.host host.new.host }
-    ensures answers { (contents : Contents) → table_in table.now ≡ Ok contents
+    ensures answers { (contents : Contents) → table_given table.now ≡ Ok contents
         → IsNotOfMemory result → result ≢ OUTPUT_OWED
         → IfSome host.old.host (AnswersTable contents result) }
-    ensures stopped { (contents : Contents) → table_in table.now ≡ Ok contents
+    ensures stopped { (contents : Contents) → table_given table.now ≡ Ok contents
         → IsNotOfMemory result → IfSome host.old.host (λ opened.
         IsSome opened.host.fault → result ≡ HAS_STOPPED) }
-    ensures file { (fault : TableFault) → table_in table.now ≡ Err fault
+    ensures file { (fault : TableFault) → table_given table.now ≡ Err fault
         → IsNotOfMemory result → result ≢ OUTPUT_OWED → IfSome host.old.host (λ opened.
-        result ≡ BAD_TABLE + number_of_table_fault fault) }
+        result ≡ BAD_TABLE + table_fault_number fault) }
     ensures refused { result ≢ DONE → result < BAD_TABLE → result ≢ OUTPUT_OWED
         → HostFallsSilent host.old.host host.new.host }
     ensures owes { IfSome host.old.host (WaitsForOutput result) }

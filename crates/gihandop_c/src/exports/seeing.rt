@@ -3,7 +3,7 @@
 ghost use Rattle.std.specs.Prelude.{◌≡◌, ◌≢◌, ◌≤◌, length, take, IfSome, Some, None};
 ghost use Rattle.att_table.specs.Table.{value_at};
 ghost use Rattle.gatt_slots.specs.Slots.{slots_deadline};
-ghost use Rattle.gatt_subs.specs.RowsText.{text_of};
+ghost use Rattle.gatt_subs.specs.RowsText.{rows_text};
 ghost use Rattle.gihandop_c.specs.Seeing.{connection_at, found_by};
 ghost use Rattle.gihandop_c.specs.Statuses.{connection_status, deadline_status, find_status, if_open, rows_text_status, text_status, value_status};
 ghost use Rattle.gihandop_c.specs.declared.status.TheConstants.{CLOSED, DONE, OUT_OF_MEMORY, SHORT_BUFFER};
@@ -24,10 +24,10 @@ pub extern "C" fn gh_value(
 ) -> u32
     ensures status { result ≡ if_open (value_status handle (length out.old)) host.old.host }
     ensures value { result ≡ DONE → IfSome host.old.host (λ opened.
-        take count.new out.new ≡ value_at opened.host.held.table.values handle) }
+        take count.new out.new ≡ value_at opened.host.server.table.values handle) }
     ensures within { result ≡ DONE → count.new ≤ length out.old }
     ensures needs { result ≡ SHORT_BUFFER → IfSome host.old.host (λ opened.
-        count.new ≡ length (value_at opened.host.held.table.values handle)) }
+        count.new ≡ length (value_at opened.host.server.table.values handle)) }
     ensures none { result ≢ DONE → result ≢ SHORT_BUFFER → count.new ≡ 0 }
     ensures unchanged { host.new.host ≡ host.old.host }
     ensures untouched { result ≢ DONE → out.new ≡ out.old }
@@ -50,7 +50,7 @@ pub extern "C" fn gh_find(
 ) -> u32
     ensures status { result ≡ if_open (find_status service.now characteristic.now) host.old.host }
     ensures found { result ≡ DONE → IfSome host.old.host (λ opened.
-        found_by opened.host.held.table service.now characteristic.now ≡ Some handle.new) }
+        found_by opened.host.server.table service.now characteristic.now ≡ Some handle.new) }
     ensures unchanged { host.new.host ≡ host.old.host }
 {
     *handle = 0;
@@ -86,7 +86,7 @@ pub extern "C" fn gh_connection(
 pub extern "C" fn gh_deadline(host: &mut HostPointer, time: &mut u64) -> u32
     ensures status { result ≡ if_open deadline_status host.old.host }
     ensures deadline { result ≡ DONE → IfSome host.old.host (λ opened.
-        slots_deadline opened.host.held.slots ≡ Some time.new) }
+        slots_deadline opened.host.server.slots ≡ Some time.new) }
     ensures unchanged { host.new.host ≡ host.old.host }
 {
     *time = 0;
@@ -109,10 +109,10 @@ pub extern "C" fn gh_rows_text(
     ensures status { result ≢ OUT_OF_MEMORY
         → result ≡ if_open (rows_text_status (length out.old)) host.old.host }
     ensures rows { result ≡ DONE → IfSome host.old.host (λ opened.
-        take count.new out.new ≡ text_of opened.host.held.rows) }
+        take count.new out.new ≡ rows_text opened.host.server.rows) }
     ensures within { result ≡ DONE → count.new ≤ length out.old }
     ensures needs { result ≡ SHORT_BUFFER → IfSome host.old.host (λ opened.
-        count.new ≡ length (text_of opened.host.held.rows)) }
+        count.new ≡ length (rows_text opened.host.server.rows)) }
     ensures none { result ≢ DONE → result ≢ SHORT_BUFFER → count.new ≡ 0 }
     ensures unchanged { host.new.host ≡ host.old.host }
     ensures untouched { result ≢ DONE → out.new ≡ out.old }

@@ -2,7 +2,7 @@
 
 ghost use Rattle.std.specs.Prelude.{◌≡◌, ◌≢◌, ◌<◌, ◌≤◌, ◌∷◌, [], length, take, IfSome, Some, None};
 ghost use Rattle.gatt_host.specs.Feeding.{octet_items, TakesUpToAPacket};
-ghost use Rattle.gihandop_c.specs.Boundary.{HostLeads, HostStays, HostStaysIfStopped, HostTellsItems, OfTheHost};
+ghost use Rattle.gihandop_c.specs.Boundary.{HostRefines, HostStays, HostStaysIfStopped, HostTellsItems, OfTheHost};
 ghost use Rattle.gihandop_c.specs.Statuses.{if_open, notice_status, out_status, take_status};
 ghost use Rattle.gihandop_c.specs.Telling.{HandsOut};
 ghost use Rattle.gihandop_c.specs.declared.status.TheConstants.{CLOSED, DONE, OUTPUT_OWED, SHORT_BUFFER};
@@ -17,9 +17,10 @@ use crate::{notices, status, stream};
 #[unsafe(no_mangle)]
 pub extern "C" fn gh_take(host: &mut HostPointer, octets: &[u8], used: &mut usize) -> u32
     ensures closed { host.old.host ≡ None → result ≡ CLOSED }
-    ensures takes { HostLeads (octet_items (take used.new octets.now)) []
+    ensures takes { HostRefines (octet_items (take used.new octets.now)) []
         host.old.host host.new.host }
-    ensures tells { result ≢ OUTPUT_OWED → HostTellsItems (octet_items (take used.new octets.now))
+    ensures tells { result ≢ OUTPUT_OWED
+        → HostTellsItems (octet_items (take used.new octets.now))
         host.old.host host.new.host }
     ensures within { used.new ≤ length octets.now }
     ensures up_to { result ≡ DONE → IfSome host.old.host
@@ -47,7 +48,7 @@ pub extern "C" fn gh_take(host: &mut HostPointer, octets: &[u8], used: &mut usiz
 #[unsafe(no_mangle)]
 pub extern "C" fn gh_next_out(host: &mut HostPointer, out: &mut [u8], count: &mut usize) -> u32
     ensures status { result ≡ if_open (out_status (length out.old)) host.old.host }
-    ensures goes { result ≡ DONE → HostLeads [] (take count.new out.new ∷ [])
+    ensures goes { result ≡ DONE → HostRefines [] (take count.new out.new ∷ [])
         host.old.host host.new.host }
     ensures within { result ≡ DONE → count.new ≤ length out.old }
     ensures needs { result ≡ SHORT_BUFFER → count.new ≡ LONGEST_PACKET }

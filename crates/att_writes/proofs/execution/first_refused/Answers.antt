@@ -2,7 +2,7 @@ use Rattle.std.proofs.Common.{◌≡◌, length, take, drop, get_or, refl, sym, 
 use Rattle.att_policy.specs.declared.policy.Access.TheVariants.{Write}
 use Rattle.att_writes.specs.Applied.{stored_in, after_entry}
 use Rattle.att_writes.specs.Entry.{Entry}
-use Rattle.att_writes.specs.Fault.{fault_of}
+use Rattle.att_writes.specs.Fault.{entry_fault}
 use Rattle.att_writes.specs.Queue.{entries_in}
 use Rattle.att_writes.specs.Sizes.{size_after}
 use Rattle.att_writes.proofs.Laid.{no_place, entry_at, part_within, sizes_left}
@@ -30,7 +30,7 @@ returns-in-Some-clause-refused c = λ row.
     let reached = c.loop-index.invariant.reached row in
     let part = c.split_at.ensures.front ∙ ap (λ n. take n c.loop-index.rest.now) c.from.ensures in
     let entry = c.entry.ensures ∙ ap (λ of. record { handle = place.handle; offset = place.offset; part = of }) part in
-    let judged = λ (of : Entry). fault_of Write table.attributes c.args.standing.now (size_after table.attributes table.values of.handle (take i places)) of in
+    let judged = λ (of : Entry). entry_fault Write table.attributes c.args.standing.now (size_after table.attributes table.values of.handle (take i places)) of in
     refused_at Write table.attributes c.args.standing.now (stored_in table row) (entries_in places c.args.octets.now) places i c.loop-index.rest.now reached.0 c.in-Some.code
     c.loop-index-test.true reached.1 (ap judged (sym entry) ∙ sym c.fault_of.ensures.fault ∙ c.in-Some.is)
 
@@ -44,7 +44,7 @@ loop-index-preserved c =
     let part = c.split_at.ensures.front ∙ ap (λ n. take n octets) c.from.ensures in
     let back = c.split_at.ensures.back ∙ ap (λ n. drop n octets) c.from.ensures in
     let entry = c.entry.ensures ∙ ap (λ of. record { handle = place.handle; offset = place.offset; part = of }) part in
-    let judged = λ (of : Entry). fault_of Write table.attributes c.args.standing.now (size_after table.attributes table.values of.handle (take i places)) of in
+    let judged = λ (of : Entry). entry_fault Write table.attributes c.args.standing.now (size_after table.attributes table.values of.handle (take i places)) of in
     let value = c.in_default.ensures.value refl in
     let same : c.entry.result.handle ≡ place.handle = ap (λ (of : Entry). of.handle) c.entry.ensures in
     let within : place.handle ≤ length table.values = omega (arith, value, same) in

@@ -1,7 +1,7 @@
 use Rattle.std.proofs.Common.{◌≡◌, length, drop}
 use Rattle.att_table.specs.ConfigRow.{IsRowOf}
 use Rattle.att_writes.specs.Applied.{stored_in}
-use Rattle.att_writes.specs.Fits.{AllFit, after_all}
+use Rattle.att_writes.specs.Fits.{EntriesFit, after_all}
 use Rattle.att_writes.specs.Queue.{entries_in, sizes_of}
 use Rattle.att_writes.proofs.execution.put_all.Given as goal
 
@@ -14,6 +14,6 @@ invariant-loop-place l =
       sizes : sizes_of (drop l.place-index l.places) ≡ length l.rest;
       attributes : l.table.attributes ≡ l.fn.table.attributes;
       row : IsRowOf l.fn.table.attributes l.row;
-      fits : AllFit l.fn.table.attributes by left;
+      fits : EntriesFit l.fn.table.attributes by left;
       after : after_all l.fn.table.attributes by left ≡ after_all l.fn.table.attributes (stored_in l.fn.table l.fn.row) (entries_in l.places l.octets);
     }

@@ -1,7 +1,7 @@
 use Rattle.std.proofs.Common.{refl, sym, ap, ◌∙◌}
 use Rattle.att_writes.specs.Applied.{stored_in, stored_after}
 use Rattle.att_writes.specs.Entry.{entry_of}
-use Rattle.att_writes.specs.Outcome.{outcome_of}
+use Rattle.att_writes.specs.Outcome.{write_outcome}
 use Rattle.att_writes.proofs.AtOnce.{fits_at_first, refused_at_first}
 use Rattle.att_writes.proofs.writes.write_at_once.Goals as goal
 
@@ -12,7 +12,7 @@ put-requires-clause-fits c =
 
 pub returns-in-Some-clause-outcome : goal.returns-in-Some-clause-outcome
 returns-in-Some-clause-outcome c =
-    ap (outcome_of c.args.opcode)
+    ap (write_outcome c.args.opcode)
     (sym (refused_at_first c.args.access c.args.table.now.attributes c.args.standing.now (stored_in c.args.table.now c.args.row.now) (entry_of c.args.entry) c.in-Some.code
     (sym c.fault_of.ensures.fault ∙ c.in-Some.is)))
 

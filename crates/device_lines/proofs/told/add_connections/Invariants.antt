@@ -8,5 +8,5 @@ use Rattle.device_lines.specs.Told.{connection_lines}
 abbrev pub invariant-loop-connection : goal.invariant-loop-connection
 invariant-loop-connection l = record {
   told : l.text.items ++ flat_map connection_lines l.connection-iterator
-      ≡ l.fn.text.items ++ flat_map connection_lines (connections_in l.fn.host.held.slots);
+      ≡ l.fn.text.items ++ flat_map connection_lines (connections_in l.fn.host.server.slots);
 }

@@ -3,7 +3,7 @@ use Rattle.std.proofs.lemmas.Result.{err_from_is_err_and}
 use Rattle.gatt_commands.proofs.Exchanging.{gives_next, hands_refused}
 use Rattle.gatt_files.specs.declared.fault.ShellFault.{ShellFault}
 use Rattle.gatt_commands.specs.Exchange.{ControllerGives, HostTakes, pair_of}
-use Rattle.gatt_host.specs.Whole.{Whole, all_out}
+use Rattle.gatt_host.specs.HostModel.{HostModel, all_out}
 use Rattle.gatt_commands.proofs.exchange.hand_over.Goals as goal
 
 pub returns-in_err-give_controller-clause-hands : goal.returns-in_err-give_controller-clause-hands
@@ -34,7 +34,7 @@ returns-then-next_to_host-clause-hands c =
       out = out;
       gives = gives;
       takes =
-          subst (λ (host : Whole). HostTakes c.as_slice-then-next_to_host.result.now host c.give_host.new.host) c.if-next_out.ensures.unchanged
+          subst (λ (host : HostModel). HostTakes c.as_slice-then-next_to_host.result.now host c.give_host.new.host) c.if-next_out.ensures.unchanged
           c.in_ok-give_host.ensures.answers;
       noted = c.in_ok-give_host.ensures.noted;
     })

@@ -1,5 +1,5 @@
 use Rattle.std.proofs.Common.{◌≡◌, true, drop}
-use Rattle.gatt_host.specs.Whole.{all_out}
+use Rattle.gatt_host.specs.HostModel.{all_out}
 use Rattle.gatt_commands.specs.Doing.{stage_of}
 use Rattle.gatt_commands.specs.Echo.{lines_left, shown_of}
 use Rattle.gatt_commands.proofs.Running.{HasRun}

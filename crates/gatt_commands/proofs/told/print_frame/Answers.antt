@@ -1,6 +1,6 @@
 use Rattle.std.proofs.Common.{◌++◌, sym, ◌∙◌}
 use Rattle.hex.specs.Hex.{encode_lower}
-use Rattle.le_l2cap.specs.Frame.{contents}
+use Rattle.le_l2cap.specs.Frame.{frame_contents}
 use Rattle.gatt_files.proofs.Fronts.{first_of, four_parts, then_of}
 use Rattle.gatt_commands.proofs.Fronts.{frame_line_front}
 use Rattle.gatt_commands.specs.Lines.{line_feed, sign_of}
@@ -8,7 +8,7 @@ use Rattle.gatt_commands.proofs.told.print_frame.Goals as goal
 
 pub returns-in_err-print-2-clause-front : goal.returns-in_err-print-2-clause-front
 returns-in_err-print-2-clause-front g c =
-    let frame = contents c.in-Ok.frame in
+    let frame = frame_contents c.in-Ok.frame in
     let payload = encode_lower frame.payload in
     frame_line_front c.from_residual-in_err-print-2.result c.args.name.now c.args.octets.now frame (g.W.Write.contents c.args.writer.now) (g.W.Write.contents c.print-2.new.writer)
     (sym c.in-Ok.ensures.exact)
@@ -20,7 +20,7 @@ returns-in_err-print-2-clause-front g c =
 
 pub returns-clause-front : goal.returns-clause-front
 returns-clause-front g c =
-    let frame = contents c.in-Ok.frame in
+    let frame = frame_contents c.in-Ok.frame in
     let payload = encode_lower frame.payload in
     frame_line_front c.print_hex_line.result c.args.name.now c.args.octets.now frame (g.W.Write.contents c.args.writer.now) (g.W.Write.contents c.print_hex_line.new.writer)
     (sym c.in-Ok.ensures.exact)

@@ -6,12 +6,12 @@ use Rattle.gatt_device.proofs.serving.serve_happenings.Goals.{in-Octets+in_ok-fe
 use Rattle.gatt_device.specs.declared.serving.End.TheVariants as end
 use Rattle.gatt_device.specs.Happenings.{Came, Asked}
 use Rattle.gatt_device.specs.Serving.{Known, known}
-use Rattle.gatt_host.proofs.whole.Due.{due_where_out}
-use Rattle.gatt_host.proofs.whole.Feeds.{counts_where_going, going_takes, none_answered, none_before}
-use Rattle.gatt_host.proofs.whole.Hearing.{going_hears}
+use Rattle.gatt_host.proofs.model.Due.{due_where_out}
+use Rattle.gatt_host.proofs.model.Feeds.{counts_where_going, going_takes, none_answered, none_before}
+use Rattle.gatt_host.proofs.model.Hearing.{going_hears}
 use Rattle.gatt_host.specs.Asked.{call_of}
 use Rattle.gatt_host.specs.Feeding.{octet_items}
-use Rattle.gatt_host.specs.Whole.{Whole}
+use Rattle.gatt_host.specs.HostModel.{HostModel}
 use Rattle.gatt_laws.specs.machine.Input.{ACall}
 use Rattle.gatt_laws.specs.machine.Notice.{Notice}
 use Rattle.octets.proofs.Writing.{counts_none}
@@ -26,8 +26,8 @@ returns-in_err-feed-clause-serves g c = λ none.
 
 pub loop-turn-init : goal.loop-turn-init
 loop-turn-init g c =
-    let old : Whole = c.args.host.now in
-    let new : Whole = c.feed.new.host in
+    let old : HostModel = c.args.host.now in
+    let new : HostModel = c.feed.new.host in
     let before : Option Octets = g.W.Sink.contents c.args.out.now in
     let after : Option Octets = g.W.Sink.contents c.feed.new.out in
     let still : new.fault ≡ None = none_answered new.fault c.in_ok-feed.ensures.outcome in
@@ -52,7 +52,7 @@ returns-in_err-feed_to-in-Octets-clause-serves g c = λ none.
     (g.L.Listener.heard c.args.listener.now) (g.L.Listener.heard c.loop-turn.listener) c.loop-turn.invariant.served
     c.from_residual-in_err-feed_to-in-Octets.result c.args.turns stopped.0 (Came c.in-Octets.octets.now) c.feed_to.new.host comes
     (g.W.Sink.contents c.feed_to.new.out) (g.L.Listener.heard c.feed_to.new.listener) stopped.1 (omega (arith, c.loop-turn-test.true)) c.loop-turn.invariant.none
-    (octets_come c.in-Octets.octets.now c.deadline.result c.loop-turn.host between comes c.deadline.ensures.course
+    (octets_come c.in-Octets.octets.now c.deadline.result c.loop-turn.host between comes c.deadline.ensures.run
     c.in-Octets.ensures.octets c.in-Octets.ensures.calls c.in-Octets.ensures.history)
     (c.feed_to.ensures.feeds c.loop-turn.invariant.none) (c.feed_to.ensures.heard c.loop-turn.invariant.none)
 
@@ -67,7 +67,7 @@ returns-in_err-take_call-in-Call-clause-serves g c = λ none.
     (g.L.Listener.heard c.args.listener.now) (g.L.Listener.heard c.loop-turn.listener) c.loop-turn.invariant.served
     c.from_residual-in_err-take_call-in-Call.result c.args.turns stopped.0 (Asked (call_of c.in-Call.call)) c.take_call.new.host comes
     (g.W.Sink.contents c.take_call.new.out) (g.L.Listener.heard c.take_call.new.listener) stopped.1 (omega (arith, c.loop-turn-test.true)) c.loop-turn.invariant.none
-    (call_comes (call_of c.in-Call.call) c.deadline.result c.loop-turn.host between asks comes c.deadline.ensures.course
+    (call_comes (call_of c.in-Call.call) c.deadline.result c.loop-turn.host between asks comes c.deadline.ensures.run
     c.in-Call.ensures.octets c.in-Call.ensures.calls c.in-Call.ensures.history c.take_call.ensures.octets c.take_call.ensures.calls c.take_call.ensures.answer)
     c.take_call.ensures.feeds c.take_call.ensures.heard
 
@@ -79,7 +79,7 @@ returns-in-Ended-clause-serves g c = λ none.
     serves_ended c.loop-turn._turn c.args.host.now c.loop-turn.host come between (g.W.Sink.contents c.args.out.now) (g.W.Sink.contents c.loop-turn.out)
     (g.L.Listener.heard c.args.listener.now) (g.L.Listener.heard c.loop-turn.listener) c.loop-turn.invariant.served
     c.args.turns end.Ended comes c.loop-turn.invariant.none (omega (arith, c.loop-turn-test.true)) c.in-Ended.ensures.octets c.in-Ended.ensures.calls
-    (ended_recorded c.deadline.result c.loop-turn.host between.history comes.history comes.history c.deadline.ensures.course c.in-Ended.ensures.history)
+    (ended_recorded c.deadline.result c.loop-turn.host between.history comes.history comes.history c.deadline.ensures.run c.in-Ended.ensures.history)
 
 pub returns-in-Ended-clause-due : goal.returns-in-Ended-clause-due
 returns-in-Ended-clause-due g c = λ none. due_where_out c.loop-turn.host c.loop-turn.invariant.none c.loop-turn.invariant.drained
@@ -92,15 +92,15 @@ returns-in-Failed-clause-serves g c = λ none.
     serves_ended c.loop-turn._turn c.args.host.now c.loop-turn.host come between (g.W.Sink.contents c.args.out.now) (g.W.Sink.contents c.loop-turn.out)
     (g.L.Listener.heard c.args.listener.now) (g.L.Listener.heard c.loop-turn.listener) c.loop-turn.invariant.served
     c.args.turns end.Failed comes c.loop-turn.invariant.none (omega (arith, c.loop-turn-test.true)) c.in-Failed.ensures.octets c.in-Failed.ensures.calls
-    (failed_recorded c.deadline.result c.loop-turn.host between.history comes.history comes.history c.deadline.ensures.course c.in-Failed.ensures.history)
+    (failed_recorded c.deadline.result c.loop-turn.host between.history comes.history comes.history c.deadline.ensures.run c.in-Failed.ensures.history)
 
 pub returns-in-Failed-clause-due : goal.returns-in-Failed-clause-due
 returns-in-Failed-clause-due g c = λ none. due_where_out c.loop-turn.host c.loop-turn.invariant.none c.loop-turn.invariant.drained
 
 pub loop-turn-preserved : goal.loop-turn-preserved
 loop-turn-preserved g c =
-    let old : Whole = c.args.host.now in
-    let mid : Whole = c.loop-turn.host in
+    let old : HostModel = c.args.host.now in
+    let mid : HostModel = c.loop-turn.host in
     let come : Known = known (g.H.Happenings.octets c.args.happenings.now) (g.H.Happenings.calls c.args.happenings.now) (g.H.Happenings.history c.args.happenings.now) in
     let between : Known = known (g.H.Happenings.octets c.loop-turn.happenings) (g.H.Happenings.calls c.loop-turn.happenings) (g.H.Happenings.history c.loop-turn.happenings) in
     let asks : Known = known (g.H.Happenings.octets c.next.new.self) (g.H.Happenings.calls c.next.new.self) (g.H.Happenings.history c.next.new.self) in
@@ -115,7 +115,7 @@ loop-turn-preserved g c =
     elim c.match-next.branch [
       | in-Octets+in_ok-feed_to-in-Octets w ↦
           let octets : Octets = w.in-Octets.octets.now in
-          let new : Whole = w.feed_to.new.host in
+          let new : HostModel = w.feed_to.new.host in
           let after : Option Octets = g.W.Sink.contents w.feed_to.new.out in
           let hears : Option (List Notice) = g.L.Listener.heard w.feed_to.new.listener in
           let none : new.fault ≡ None = none_answered new.fault w.in_ok-feed_to-in-Octets.ensures.outcome in
@@ -126,7 +126,7 @@ loop-turn-preserved g c =
           (ap g.W.Sink.contents w.out-is) (ap g.L.Listener.heard w.listener-is) (ap g.W.Sink.failures w.out-is)
           (record {
             served = served_more c.loop-turn._turn old mid come between before written heard so_far c.loop-turn.invariant.served (Came octets) new asks after hears
-                (octets_come octets c.deadline.result mid between asks c.deadline.ensures.course
+                (octets_come octets c.deadline.result mid between asks c.deadline.ensures.run
                 w.in-Octets.ensures.octets w.in-Octets.ensures.calls w.in-Octets.ensures.history)
                 (going_takes (octet_items octets) mid new written after new.fault none (w.feed_to.ensures.feeds c.loop-turn.invariant.none))
                 (going_hears (octet_items octets) mid new so_far hears new.fault none (w.feed_to.ensures.heard c.loop-turn.invariant.none));
@@ -135,7 +135,7 @@ loop-turn-preserved g c =
             failures = counts_none _ _ _ c.loop-turn.invariant.failures (counts_where_going new.fault _ _ none (w.feed_to.ensures.failures c.loop-turn.invariant.none));
           })
       | in-Call+in_ok-take_call-in-Call w ↦
-          let new : Whole = w.take_call.new.host in
+          let new : HostModel = w.take_call.new.host in
           let comes : Known = known (g.H.Happenings.octets w.take_call.new.happenings) (g.H.Happenings.calls w.take_call.new.happenings) (g.H.Happenings.history w.take_call.new.happenings) in
           let after : Option Octets = g.W.Sink.contents w.take_call.new.out in
           let hears : Option (List Notice) = g.L.Listener.heard w.take_call.new.listener in
@@ -147,7 +147,7 @@ loop-turn-preserved g c =
           (ap g.W.Sink.contents w.out-is) (ap g.L.Listener.heard w.listener-is) (ap g.W.Sink.failures w.out-is)
           (record {
             served = served_more c.loop-turn._turn old mid come between before written heard so_far c.loop-turn.invariant.served (Asked (call_of w.in-Call.call)) new comes after hears
-                (call_comes (call_of w.in-Call.call) c.deadline.result mid between asks comes c.deadline.ensures.course
+                (call_comes (call_of w.in-Call.call) c.deadline.result mid between asks comes c.deadline.ensures.run
                 w.in-Call.ensures.octets w.in-Call.ensures.calls w.in-Call.ensures.history w.take_call.ensures.octets w.take_call.ensures.calls w.take_call.ensures.answer)
                 (going_takes (ACall (call_of w.in-Call.call) ∷ []) mid new written after new.fault none w.take_call.ensures.feeds)
                 (going_hears (ACall (call_of w.in-Call.call) ∷ []) mid new so_far hears new.fault none w.take_call.ensures.heard);

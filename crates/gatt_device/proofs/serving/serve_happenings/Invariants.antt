@@ -2,7 +2,7 @@ use Rattle.std.proofs.Common.{◌≡◌, ◌≤◌, true, None}
 use Rattle.gatt_device.proofs.serving.serve_happenings.Given as goal
 use Rattle.gatt_device.proofs.Happened.{HasServed}
 use Rattle.gatt_device.specs.Serving.{known}
-use Rattle.gatt_host.specs.Whole.{all_out}
+use Rattle.gatt_host.specs.HostModel.{all_out}
 use Rattle.octets.specs.Stream.{CountsNone}
 
 abbrev pub invariant-loop-turn : goal.invariant-loop-turn

@@ -1,9 +1,9 @@
 use Rattle.std.proofs.Common.{◌≡◌, [], ◌∷◌, Option, None, subst, ◌∙◌}
 use Rattle.gatt_device.proofs.serving.take_call.Goals as goal
 use Rattle.gatt_device.specs.Happenings.{Answered, Records}
-use Rattle.gatt_host.proofs.whole.Driving.{call_feeds}
-use Rattle.gatt_host.proofs.whole.Hearing.{call_heard, listens_then}
-use Rattle.gatt_host.proofs.whole.HearingTurns.{nothing_heard}
+use Rattle.gatt_host.proofs.model.Driving.{call_feeds}
+use Rattle.gatt_host.proofs.model.Hearing.{call_heard, listens_then}
+use Rattle.gatt_host.proofs.model.HearingTurns.{nothing_heard}
 use Rattle.gatt_host.specs.Asked.{call_of}
 use Rattle.gatt_laws.specs.machine.Calls.{Refused}
 use Rattle.gatt_laws.specs.machine.Input.{ACall}
@@ -26,6 +26,6 @@ returns-clause-heard g c =
     c.feed.new.host.fault (c.feed.ensures.feeds going))
 
 pub returns-clause-answer : goal.returns-clause-answer
-returns-clause-answer g c = λ start input gone is.
+returns-clause-answer g c = λ start input sent is.
     subst (λ (refusal : Option Refused). Records (Answered refusal ∷ []) (g.H.Happenings.history c.args.happenings.now) (g.H.Happenings.history c.answered.new.self))
-    (c.app-answer.ensures.refused start input gone is c.requires.none) c.answered.ensures.history
+    (c.app-answer.ensures.refused start input sent is c.requires.none) c.answered.ensures.history

@@ -1,5 +1,5 @@
 use Rattle.gatt_device.proofs.serving.tell.Goals as goal
-use Rattle.gatt_host.proofs.whole.Hearing.{told_one}
+use Rattle.gatt_host.proofs.model.Hearing.{told_one}
 use Rattle.gatt_host.specs.Notices.{notice_of}
 use Rattle.gatt_host.specs.Telling.{notices_told}
 

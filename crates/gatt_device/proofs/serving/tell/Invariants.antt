@@ -1,5 +1,5 @@
 use Rattle.gatt_device.proofs.serving.tell.Given as goal
-use Rattle.gatt_host.proofs.whole.Hearing.{HasToldSome}
+use Rattle.gatt_host.proofs.model.Hearing.{HasToldSome}
 use Rattle.gatt_host.specs.Telling.{notices_told}
 
 abbrev pub invariant-loop-notice : goal.invariant-loop-notice

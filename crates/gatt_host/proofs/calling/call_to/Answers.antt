@@ -1,27 +1,27 @@
 use Rattle.std.proofs.Common.{◌≡◌, List, [], ◌∷◌, Option, None, sym, ap, ◌∙◌}
 use Rattle.gatt_host.proofs.calling.call_to.Goals as goal
-use Rattle.gatt_host.proofs.whole.Calling.{answer_as, call_behind, call_listens, call_refused, error_told, stopped_answers}
-use Rattle.gatt_host.proofs.whole.Driving.{past_fault}
-use Rattle.gatt_host.proofs.whole.Feeds.{fault_answered, none_answered}
-use Rattle.gatt_host.proofs.whole.Hearing.{past_heard}
-use Rattle.gatt_host.proofs.whole.HearingTurns.{nothing_heard}
+use Rattle.gatt_host.proofs.model.Calling.{answer_as, call_behind, call_listens, call_refused, error_told, stopped_answers}
+use Rattle.gatt_host.proofs.model.Driving.{past_fault}
+use Rattle.gatt_host.proofs.model.Feeds.{fault_answered, none_answered}
+use Rattle.gatt_host.proofs.model.Hearing.{past_heard}
+use Rattle.gatt_host.proofs.model.HearingTurns.{nothing_heard}
 use Rattle.gatt_host.specs.Asked.{call_of}
 use Rattle.gatt_host.specs.Calling.{answer_told}
 use Rattle.gatt_host.specs.declared.fault.Fault.TheVariants as told
 use Rattle.gatt_host.specs.declared.host_fault.HostFault.{HostFault}
-use Rattle.gatt_host.specs.Whole.{Whole}
+use Rattle.gatt_host.specs.HostModel.{HostModel}
 use Rattle.gatt_laws.specs.machine.Input.{ACall}
 use Rattle.gatt_laws.specs.machine.Notice.{Notice}
 
 pub returns-in_err-feed-clause-feeds : goal.returns-in_err-feed-clause-feeds
 returns-in_err-feed-clause-feeds g c = λ none.
-    let new : Whole = c.feed.new.host in
+    let new : HostModel = c.feed.new.host in
     past_fault [] (ACall (call_of c.args.call) ∷ []) c.args.host.now new (g.W.Sink.contents c.args.out.now) (g.W.Sink.contents c.feed.new.out) c.in_err-feed.field-0.0
     (fault_answered new.fault c.in_err-feed.field-0.0 c.in_err-feed.ensures.outcome) (c.in_err-feed.ensures.feeding none) (c.feed.ensures.feeds none)
 
 pub returns-in_err-feed-clause-heard : goal.returns-in_err-feed-clause-heard
 returns-in_err-feed-clause-heard g c = λ none.
-    let new : Whole = c.feed.new.host in
+    let new : HostModel = c.feed.new.host in
     let known : Option (List Notice) = g.L.Listener.heard c.args.listener.now in
     past_heard [] (ACall (call_of c.args.call) ∷ []) c.args.host.now new (g.W.Sink.contents c.args.out.now) (g.W.Sink.contents c.feed.new.out) known known c.in_err-feed.field-0.0
     (fault_answered new.fault c.in_err-feed.field-0.0 c.in_err-feed.ensures.outcome) (c.in_err-feed.ensures.feeding none) (c.feed.ensures.feeds none)

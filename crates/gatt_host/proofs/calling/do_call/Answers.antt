@@ -1,31 +1,31 @@
 use Rattle.std.proofs.Common.{[], ◌∷◌, Some, ap, ◌∙◌}
-use Rattle.gatt_host.proofs.whole.Feeds.{fault_answered, none_answered}
-use Rattle.gatt_host.proofs.whole.Hearing.{breaks_heard, call_heard, listens_going}
+use Rattle.gatt_host.proofs.model.Feeds.{fault_answered, none_answered}
+use Rattle.gatt_host.proofs.model.Hearing.{breaks_heard, call_heard, listens_going}
 use Rattle.gatt_host.specs.declared.host_fault.HostFault.{HostFault}
-use Rattle.gatt_host.proofs.whole.Driving.{call_feeds}
+use Rattle.gatt_host.proofs.model.Driving.{call_feeds}
 use Rattle.gatt_host.specs.Asked.{call_of}
-use Rattle.gatt_host.specs.Whole.{Whole}
+use Rattle.gatt_host.specs.HostModel.{HostModel}
 use Rattle.gatt_laws.specs.machine.Input.{ACall}
 use Rattle.gatt_host.proofs.calling.do_call.Goals as goal
 
 pub returns-in_err-write_out-clause-feeds : goal.returns-in_err-write_out-clause-feeds
 returns-in_err-write_out-clause-feeds g c =
-    let new : Whole = c.write_out.new.host in
+    let new : HostModel = c.write_out.new.host in
     call_feeds (ACall (call_of c.args.call)) c.args.host.now c.app-answer.new.self new (g.W.Sink.contents c.args.out.now) (g.W.Sink.contents c.write_out.new.out) new.fault
     (c.app-answer.ensures.takes c.requires.none) c.write_out.ensures.feeds
 
 pub returns-clause-feeds : goal.returns-clause-feeds
 returns-clause-feeds g c =
-    let new : Whole = c.write_out.new.host in
+    let new : HostModel = c.write_out.new.host in
     call_feeds (ACall (call_of c.args.call)) c.args.host.now c.app-answer.new.self new (g.W.Sink.contents c.args.out.now) (g.W.Sink.contents c.write_out.new.out) new.fault
     (c.app-answer.ensures.takes c.requires.none) c.write_out.ensures.feeds
 
 pub returns-clause-refused : goal.returns-clause-refused
-returns-clause-refused g c = λ start input gone is. c.app-answer.ensures.refused start input gone is c.requires.none
+returns-clause-refused g c = λ start input sent is. c.app-answer.ensures.refused start input sent is c.requires.none
 
 pub returns-in_err-write_out-clause-heard : goal.returns-in_err-write_out-clause-heard
 returns-in_err-write_out-clause-heard g c =
-    let new : Whole = c.write_out.new.host in
+    let new : HostModel = c.write_out.new.host in
     breaks_heard (ACall (call_of c.args.call) ∷ []) [] [] c.args.host.now c.app-answer.new.self new (g.W.Sink.contents c.args.out.now) (g.W.Sink.contents c.write_out.new.out)
     (g.L.Listener.heard c.args.listener.now) (g.L.Listener.heard c.tell.new.listener) new.fault
     (fault_answered new.fault c.in_err-write_out.field-0.0 c.in_err-write_out.ensures.fault ∙ ap (λ (why : HostFault). Some why) c.in_err-write_out.ensures.write)
@@ -36,7 +36,7 @@ returns-in_err-write_out-clause-heard g c =
 
 pub returns-clause-heard : goal.returns-clause-heard
 returns-clause-heard g c =
-    let new : Whole = c.write_out.new.host in
+    let new : HostModel = c.write_out.new.host in
     listens_going (ACall (call_of c.args.call) ∷ []) c.args.host.now new (g.L.Listener.heard c.args.listener.now) (g.L.Listener.heard c.tell.new.listener) new.fault
     (none_answered new.fault c.in_ok-write_out.ensures.fault)
     (call_heard (ACall (call_of c.args.call)) c.args.host.now c.app-answer.new.self (g.L.Listener.heard c.args.listener.now) (g.L.Listener.heard c.tell.new.listener)

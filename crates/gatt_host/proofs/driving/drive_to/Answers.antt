@@ -1,13 +1,13 @@
 use Rattle.std.proofs.Common.{◌≡◌, ℕ, ◌≤◌, ◌+◌, List, [], drop, Option, None, refl, sym, subst, arith, ◌∙◌}
 use Rattle.std.proofs.lemmas.List.{drop_all}
 use Rattle.std.specs.Prelude.{if◌then◌else◌}
-use Rattle.gatt_host.proofs.whole.Driving.{HasDriven, driven_counts, driven_more, driven_none, driven_stops, past_fault, no_more, one_more}
-use Rattle.gatt_host.proofs.whole.Due.{due_where_out}
-use Rattle.gatt_host.proofs.whole.Hearing.{going_hears, hears_nothing, past_heard}
-use Rattle.gatt_host.proofs.whole.HearingTurns.{HasDrivenTo, driven_to_all, driven_to_more, driven_to_stops, nothing_heard}
-use Rattle.gatt_host.proofs.whole.Feeds.{counts_where_going, fault_answered, going_takes, none_answered, none_before}
+use Rattle.gatt_host.proofs.model.Driving.{HasDriven, driven_counts, driven_more, driven_none, driven_stops, past_fault, no_more, one_more}
+use Rattle.gatt_host.proofs.model.Due.{due_where_out}
+use Rattle.gatt_host.proofs.model.Hearing.{going_hears, hears_nothing, past_heard}
+use Rattle.gatt_host.proofs.model.HearingTurns.{HasDrivenTo, driven_to_all, driven_to_more, driven_to_stops, nothing_heard}
+use Rattle.gatt_host.proofs.model.Feeds.{counts_where_going, fault_answered, going_takes, none_answered, none_before}
 use Rattle.gatt_host.specs.Feeding.{TakesAll, items_of}
-use Rattle.gatt_host.specs.Whole.{Whole}
+use Rattle.gatt_host.specs.HostModel.{HostModel}
 use Rattle.gatt_laws.specs.machine.Notice.{Notice}
 use Rattle.octets.proofs.Writing.{counts_none}
 use Rattle.octets.specs.Number.{Octets}
@@ -16,7 +16,7 @@ use Rattle.gatt_host.proofs.driving.drive_to.Goals.{then-branch, else-branch}
 
 pub returns-in_err-feed-clause-feeds : goal.returns-in_err-feed-clause-feeds
 returns-in_err-feed-clause-feeds g c = λ none.
-    let new : Whole = c.feed.new.host in
+    let new : HostModel = c.feed.new.host in
     past_fault [] (items_of c.args.inputs.now) c.args.host.now new (g.W.Sink.contents c.args.out.now) (g.W.Sink.contents c.feed.new.out) c.in_err-feed.field-0.0
     (fault_answered new.fault c.in_err-feed.field-0.0 c.in_err-feed.ensures.outcome) (c.in_err-feed.ensures.feeding none) (c.feed.ensures.feeds none)
 
@@ -28,8 +28,8 @@ returns-in_err-take_input-clause-feeds g c = λ none.
 
 pub loop-input-preserved : goal.loop-input-preserved
 loop-input-preserved g c =
-    let mid : Whole = c.loop-input.host in
-    let new : Whole = c.take_input.new.host in
+    let mid : HostModel = c.loop-input.host in
+    let new : HostModel = c.take_input.new.host in
     let count = c.loop-input.refused in
     let refused = c.in_ok-take_input.field-0 in
     let none : new.fault ≡ None = c.in_ok-take_input.ensures.fault in
@@ -73,7 +73,7 @@ returns-clause-due g c = λ none. due_where_out c.loop-input.host c.loop-input.i
 
 pub returns-in_err-feed-clause-heard : goal.returns-in_err-feed-clause-heard
 returns-in_err-feed-clause-heard g c = λ none.
-    let new : Whole = c.feed.new.host in
+    let new : HostModel = c.feed.new.host in
     let known : Option (List Notice) = g.L.Listener.heard c.args.listener.now in
     past_heard [] (items_of c.args.inputs.now) c.args.host.now new (g.W.Sink.contents c.args.out.now) (g.W.Sink.contents c.feed.new.out) known known c.in_err-feed.field-0.0
     (fault_answered new.fault c.in_err-feed.field-0.0 c.in_err-feed.ensures.outcome) (c.in_err-feed.ensures.feeding none) (c.feed.ensures.feeds none)
@@ -94,8 +94,8 @@ returns-clause-heard g c = λ none.
 
 pub loop-input-init : goal.loop-input-init
 loop-input-init g c =
-    let old : Whole = c.args.host.now in
-    let new : Whole = c.feed.new.host in
+    let old : HostModel = c.args.host.now in
+    let new : HostModel = c.feed.new.host in
     let before : Option Octets = g.W.Sink.contents c.args.out.now in
     let after : Option Octets = g.W.Sink.contents c.feed.new.out in
     let known : Option (List Notice) = g.L.Listener.heard c.args.listener.now in

@@ -1,8 +1,8 @@
 use Rattle.std.proofs.Common.{◌≡◌, ◌≤◌, true, None, drop}
 use Rattle.gatt_host.proofs.driving.drive_to.Given as goal
-use Rattle.gatt_host.proofs.whole.Driving.{HasDriven}
-use Rattle.gatt_host.proofs.whole.HearingTurns.{HasDrivenTo}
-use Rattle.gatt_host.specs.Whole.{all_out}
+use Rattle.gatt_host.proofs.model.Driving.{HasDriven}
+use Rattle.gatt_host.proofs.model.HearingTurns.{HasDrivenTo}
+use Rattle.gatt_host.specs.HostModel.{all_out}
 use Rattle.octets.specs.Stream.{CountsNone}
 
 abbrev pub invariant-loop-input : goal.invariant-loop-input

@@ -1,12 +1,12 @@
 use Rattle.std.proofs.Common.{◌≡◌, List, [], Option, Some, None, refl, sym, subst, ap, drop, ◌∙◌}
-use Rattle.gatt_host.proofs.whole.Due.{due_where_held, due_where_out}
-use Rattle.gatt_host.proofs.whole.Feeds.{broken_before, counts_where_going, fault_answered, going_takes, none_answered, taken_breaks, taken_none, taken_silently, taken_stops, taken_then, HasTaken}
-use Rattle.gatt_host.proofs.whole.Hearing.{HasHeard, breaks_heard, heard_all, heard_breaks, heard_none, heard_stops, heard_then, hears_nothing}
-use Rattle.gatt_host.proofs.whole.Items.{leads_nowhere}
+use Rattle.gatt_host.proofs.model.Due.{due_where_held, due_where_out}
+use Rattle.gatt_host.proofs.model.Feeds.{broken_before, counts_where_going, fault_answered, going_takes, none_answered, taken_breaks, taken_none, taken_silently, taken_stops, taken_then, HasTaken}
+use Rattle.gatt_host.proofs.model.Hearing.{HasHeard, breaks_heard, heard_all, heard_breaks, heard_none, heard_stops, heard_then, hears_nothing}
+use Rattle.gatt_host.proofs.model.Items.{leads_nowhere}
 use Rattle.gatt_host.specs.declared.host_fault.HostFault.{HostFault}
-use Rattle.gatt_host.proofs.whole.Serving.{empty_where}
+use Rattle.gatt_host.proofs.model.Serving.{empty_where}
 use Rattle.gatt_host.specs.Feeding.{TakesAll, octet_items}
-use Rattle.gatt_host.specs.Whole.{Whole}
+use Rattle.gatt_host.specs.HostModel.{HostModel}
 use Rattle.gatt_laws.specs.machine.Notice.{Notice}
 use Rattle.octets.proofs.Writing.{counts_none}
 use Rattle.octets.specs.Number.{Octets}
@@ -25,10 +25,10 @@ returns-in_err-used-clause-feeds g c = λ none.
 
 pub loop-rest-preserved : goal.loop-rest-preserved
 loop-rest-preserved g c =
-    let old : Whole = c.args.host.now in
-    let at : Whole = c.loop-rest.host in
-    let mid : Whole = c.take.new.host in
-    let new : Whole = c.write_out-in-loop-rest.new.host in
+    let old : HostModel = c.args.host.now in
+    let at : HostModel = c.loop-rest.host in
+    let mid : HostModel = c.take.new.host in
+    let new : HostModel = c.write_out-in-loop-rest.new.host in
     let used = c.in_ok-used.used in
     let rest : Octets = c.loop-rest.rest.now in
     let before : Option Octets = g.W.Sink.contents c.args.out.now in
@@ -51,9 +51,9 @@ loop-rest-preserved g c =
 
 pub returns-in_err-write_out-2-clause-feeds : goal.returns-in_err-write_out-2-clause-feeds
 returns-in_err-write_out-2-clause-feeds g c = λ none.
-    let old : Whole = c.args.host.now in
-    let mid : Whole = c.take.new.host in
-    let new : Whole = c.write_out-in-loop-rest.new.host in
+    let old : HostModel = c.args.host.now in
+    let mid : HostModel = c.take.new.host in
+    let new : HostModel = c.write_out-in-loop-rest.new.host in
     let used = c.in_ok-used.used in
     let rest : Octets = c.loop-rest.rest.now in
     let before : Option Octets = g.W.Sink.contents c.args.out.now in
@@ -87,7 +87,7 @@ returns-in_err-used-clause-heard g c = λ none.
 
 pub returns-in_err-write_out-2-clause-heard : goal.returns-in_err-write_out-2-clause-heard
 returns-in_err-write_out-2-clause-heard g c = λ none.
-    let new : Whole = c.write_out-in-loop-rest.new.host in
+    let new : HostModel = c.write_out-in-loop-rest.new.host in
     heard_breaks c.args.octets.now c.loop-rest.rest.now c.in_ok-used.used c.args.host.now c.loop-rest.host c.take.new.host new
     (g.W.Sink.contents c.args.out.now) (g.W.Sink.contents c.loop-rest.out) (g.W.Sink.contents c.write_out-in-loop-rest.new.out)
     (g.L.Listener.heard c.args.listener.now) (g.L.Listener.heard c.loop-rest.listener) (g.L.Listener.heard c.tell.new.listener)
@@ -97,8 +97,8 @@ returns-in_err-write_out-2-clause-heard g c = λ none.
 
 pub loop-rest-init : goal.loop-rest-init
 loop-rest-init g c =
-    let old : Whole = c.args.host.now in
-    let new : Whole = c.write_out.new.host in
+    let old : HostModel = c.args.host.now in
+    let new : HostModel = c.write_out.new.host in
     let before : Option Octets = g.W.Sink.contents c.args.out.now in
     let after : Option Octets = g.W.Sink.contents c.write_out.new.out in
     let none : new.fault ≡ None = none_answered new.fault c.in_ok-write_out.ensures.fault in

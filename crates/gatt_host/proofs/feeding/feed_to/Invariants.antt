@@ -1,8 +1,8 @@
 use Rattle.std.proofs.Common.{◌≡◌, true, None, length}
 use Rattle.gatt_host.proofs.feeding.feed_to.Given as goal
-use Rattle.gatt_host.proofs.whole.Feeds.{HasTaken}
-use Rattle.gatt_host.proofs.whole.Hearing.{HasHeard}
-use Rattle.gatt_host.specs.Whole.{all_out}
+use Rattle.gatt_host.proofs.model.Feeds.{HasTaken}
+use Rattle.gatt_host.proofs.model.Hearing.{HasHeard}
+use Rattle.gatt_host.specs.HostModel.{all_out}
 use Rattle.octets.specs.Stream.{CountsNone}
 
 abbrev pub invariant-loop-rest : goal.invariant-loop-rest

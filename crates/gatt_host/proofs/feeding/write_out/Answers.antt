@@ -1,52 +1,52 @@
 use Rattle.std.proofs.Common.{◌≡◌, [], None, Option, refl, sym, subst, ◌∙◌}
-use Rattle.gatt_host.proofs.whole.Due.{due_where_drained, ok_where}
-use Rattle.gatt_host.proofs.whole.Owed.{feeds_from, no_fault_where, reached_fed}
+use Rattle.gatt_host.proofs.model.Due.{due_where_drained, ok_where}
+use Rattle.gatt_host.proofs.model.Owed.{feeds_from, no_fault_where, reached_fed}
 use Rattle.gatt_host.specs.contracts.host.Host.{the_view}
 use Rattle.gatt_host.specs.Feeding.{Feeds}
-use Rattle.gatt_host.specs.Whole.{Whole}
+use Rattle.gatt_host.specs.HostModel.{HostModel}
 use Rattle.octets.specs.Number.{Octets}
 use Rattle.gatt_host.proofs.feeding.write_out.Goals as goal
 
 pub invariant_of-host : goal.invariant_of-host
 invariant_of-host g c =
-    let old : Whole = the_view c.host.inside in
-    let new : Whole = record old { held = c.write_owed-written.new.state; fault = c.err-host-inside.result } in
+    let old : HostModel = the_view c.host.inside in
+    let new : HostModel = record old { server = c.write_owed-written.new.state; fault = c.err-host-inside.result } in
     let before : Option Octets = g.W.Sink.contents c.args.out.now in
     let after : Option Octets = g.W.Sink.contents c.write_owed-written.new.out in
-    let none : old.fault ≡ None = subst (λ (whole : Whole). whole.fault ≡ None) (sym c.host.view_is) c.requires in
+    let none : old.fault ≡ None = subst (λ (host : HostModel). host.fault ≡ None) (sym c.host.view_is) c.requires in
     reached_fed [] old new before after new.fault c.host.invariant
     (feeds_from old new before after _ none c.err-host-inside.ensures.value (c.write_owed-written.ensures.feeds old.frames old.stream) refl refl)
 
 pub returns-then-is_err-clause-feeds : goal.returns-then-is_err-clause-feeds
 returns-then-is_err-clause-feeds g c =
-    let old : Whole = the_view c.host.inside in
-    let new : Whole = record old { held = c.write_owed-written.new.state; fault = c.err-host-inside.result } in
+    let old : HostModel = the_view c.host.inside in
+    let new : HostModel = record old { server = c.write_owed-written.new.state; fault = c.err-host-inside.result } in
     let before : Option Octets = g.W.Sink.contents c.args.out.now in
     let after : Option Octets = g.W.Sink.contents c.write_owed-written.new.out in
-    let none : old.fault ≡ None = subst (λ (whole : Whole). whole.fault ≡ None) (sym c.host.view_is) c.requires in
-    subst (λ (whole : Whole). Feeds [] whole new before after new.fault) c.host.view_is
+    let none : old.fault ≡ None = subst (λ (host : HostModel). host.fault ≡ None) (sym c.host.view_is) c.requires in
+    subst (λ (host : HostModel). Feeds [] host new before after new.fault) c.host.view_is
     (feeds_from old new before after _ none c.err-host-inside.ensures.value (c.write_owed-written.ensures.feeds old.frames old.stream) refl refl)
 
 pub invariant_of-host-else-is_err : goal.invariant_of-host-else-is_err
 invariant_of-host-else-is_err g c =
-    let old : Whole = the_view c.host.inside in
-    let new : Whole = record old { held = c.write_owed-written.new.state } in
+    let old : HostModel = the_view c.host.inside in
+    let new : HostModel = record old { server = c.write_owed-written.new.state } in
     let before : Option Octets = g.W.Sink.contents c.args.out.now in
     let after : Option Octets = g.W.Sink.contents c.write_owed-written.new.out in
-    let none : old.fault ≡ None = subst (λ (whole : Whole). whole.fault ≡ None) (sym c.host.view_is) c.requires in
+    let none : old.fault ≡ None = subst (λ (host : HostModel). host.fault ≡ None) (sym c.host.view_is) c.requires in
     let same = none ∙ sym (no_fault_where c.write_owed-written.result (sym c.is_err.ensures.value ∙ c.if-is_err.false)) in
     reached_fed [] old new before after new.fault c.host.invariant
     (feeds_from old new before after _ none same (c.write_owed-written.ensures.feeds old.frames old.stream) refl refl)
 
 pub returns-else-is_err-clause-feeds : goal.returns-else-is_err-clause-feeds
 returns-else-is_err-clause-feeds g c =
-    let old : Whole = the_view c.host.inside in
-    let new : Whole = record old { held = c.write_owed-written.new.state } in
+    let old : HostModel = the_view c.host.inside in
+    let new : HostModel = record old { server = c.write_owed-written.new.state } in
     let before : Option Octets = g.W.Sink.contents c.args.out.now in
     let after : Option Octets = g.W.Sink.contents c.write_owed-written.new.out in
-    let none : old.fault ≡ None = subst (λ (whole : Whole). whole.fault ≡ None) (sym c.host.view_is) c.requires in
+    let none : old.fault ≡ None = subst (λ (host : HostModel). host.fault ≡ None) (sym c.host.view_is) c.requires in
     let same = none ∙ sym (no_fault_where c.write_owed-written.result (sym c.is_err.ensures.value ∙ c.if-is_err.false)) in
-    subst (λ (whole : Whole). Feeds [] whole new before after new.fault) c.host.view_is
+    subst (λ (host : HostModel). Feeds [] host new before after new.fault) c.host.view_is
     (feeds_from old new before after _ none same (c.write_owed-written.ensures.feeds old.frames old.stream) refl refl)
 
 pub returns-else-is_err-clause-due : goal.returns-else-is_err-clause-due

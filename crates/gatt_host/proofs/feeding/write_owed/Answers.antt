@@ -1,14 +1,14 @@
 use Rattle.std.proofs.Common.{◌≡◌, ◌<◌, true, [], Option, refl, sym, subst, ◌∙◌}
 use Rattle.std.proofs.lemmas.Bool.{OnTrue_at, OnFalse_at}
 use Rattle.std.specs.Io.KnownBytes.{Appends}
-use Rattle.gatt_host.proofs.whole.Feeds.{breaks_off_at, counts_none_at, on_err_at, on_ok_at, takes_packet_more, takes_silently}
-use Rattle.gatt_host.proofs.whole.Fewer.{fewer_out}
-use Rattle.gatt_host.proofs.whole.Items.{leads_nowhere}
-use Rattle.gatt_host.proofs.whole.Owed.{drained_then, held_then, leads_going}
+use Rattle.gatt_host.proofs.model.Feeds.{breaks_off_at, counts_none_at, on_err_at, on_ok_at, takes_packet_more, takes_silently}
+use Rattle.gatt_host.proofs.model.Fewer.{fewer_out}
+use Rattle.gatt_host.proofs.model.Items.{leads_nowhere}
+use Rattle.gatt_host.proofs.model.Owed.{drained_then, held_then, leads_going}
 use Rattle.gatt_host.specs.Credits.{most_out}
 use Rattle.gatt_host.specs.GoingOut.{is_drained}
-use Rattle.gatt_host.specs.Held.{Held, open_slots}
-use Rattle.gatt_host.specs.Whole.{going}
+use Rattle.gatt_host.specs.ServerState.{ServerState, open_slots}
+use Rattle.gatt_host.specs.HostModel.{going}
 use Rattle.octets.proofs.Writing.{counts_none, counts_same}
 use Rattle.octets.specs.Number.{Octets}
 use Rattle.octets.specs.Stream.{WritesFront}
@@ -19,15 +19,15 @@ loop-packet-init g c = record {
   takes = λ frames stream.
       takes_silently [] (going c.args.state.now frames stream) (going c.args.state.now frames stream) (g.W.Sink.contents c.args.out.now)
       (leads_nowhere (going c.args.state.now frames stream) (going c.args.state.now frames stream) refl);
-  held = c.requires;
+  server = c.requires;
   failures = counts_same (g.W.Sink.failures c.args.out.now);
 }
 
 pub returns-then-is_err-clause-feeds : goal.returns-then-is_err-clause-feeds
 returns-then-is_err-clause-feeds g c = λ frames stream.
-    let old : Held = c.args.state.now in
-    let at : Held = c.loop-packet.state in
-    let mid : Held = c.next_out.new.self in
+    let old : ServerState = c.args.state.now in
+    let at : ServerState = c.loop-packet.state in
+    let mid : ServerState = c.next_out.new.self in
     let octets : Octets = c.next_out.new.out in
     let before : Option Octets = g.W.Sink.contents c.args.out.now in
     let between : Option Octets = g.W.Sink.contents c.loop-packet.out in
@@ -41,14 +41,14 @@ returns-then-is_err-clause-feeds g c = λ frames stream.
 
 pub loop-packet-smaller : goal.loop-packet-smaller
 loop-packet-smaller g c =
-    let at : Held = c.loop-packet.state in
-    subst (λ (held : Held). most_out held < most_out at) (sym c.next_out.ensures.after)
+    let at : ServerState = c.loop-packet.state in
+    subst (λ (server : ServerState). most_out server < most_out at) (sym c.next_out.ensures.after)
     (fewer_out at c.next_out.new.out (OnTrue_at c.loop-packet-test.true c.next_out.ensures.octets))
 
 pub loop-packet-preserved : goal.loop-packet-preserved
 loop-packet-preserved g c =
-    let at : Held = c.loop-packet.state in
-    let mid : Held = c.next_out.new.self in
+    let at : ServerState = c.loop-packet.state in
+    let mid : ServerState = c.next_out.new.self in
     let octets : Octets = c.next_out.new.out in
     let between : Option Octets = g.W.Sink.contents c.loop-packet.out in
     let after : Option Octets = g.W.Sink.contents c.write_all.new.sink in
@@ -59,12 +59,12 @@ loop-packet-preserved g c =
           (leads_going at mid octets (OnTrue_at c.loop-packet-test.true c.next_out.ensures.octets) c.next_out.ensures.after frames stream)
           (subst (λ (octets : Octets). Appends between after octets) c.as_slice.ensures.value
           (on_ok_at c.write_all.result (Appends between after c.as_slice.result.now) (sym c.is_err.ensures.value ∙ c.if-is_err.false) c.write_all.ensures.ok));
-      held = held_then at mid octets (OnTrue_at c.loop-packet-test.true c.next_out.ensures.octets) c.next_out.ensures.after c.loop-packet.invariant.held;
+      server = held_then at mid octets (OnTrue_at c.loop-packet-test.true c.next_out.ensures.octets) c.next_out.ensures.after c.loop-packet.invariant.server;
       failures = counts_none _ _ _ c.loop-packet.invariant.failures
           (counts_none_at c.write_all.result _ _ (sym c.is_err.ensures.value ∙ c.if-is_err.false) c.write_all.ensures.failures);
     }
 
 pub returns-clause-out : goal.returns-clause-out
 returns-clause-out g c = λ ok.
-    subst (λ (held : Held). is_drained held.controller (open_slots held) ≡ true) (sym (OnFalse_at c.loop-packet-test.false c.next_out.ensures.unchanged))
-    (drained_then c.loop-packet.state c.loop-packet.invariant.held (sym c.next_out.ensures.goes ∙ c.loop-packet-test.false))
+    subst (λ (server : ServerState). is_drained server.controller (open_slots server) ≡ true) (sym (OnFalse_at c.loop-packet-test.false c.next_out.ensures.unchanged))
+    (drained_then c.loop-packet.state c.loop-packet.invariant.server (sym c.next_out.ensures.goes ∙ c.loop-packet-test.false))

@@ -3,7 +3,7 @@ use Rattle.gatt_host.proofs.feeding.write_owed.Given as goal
 use Rattle.gatt_host.specs.Credits.{most_out}
 use Rattle.gatt_host.specs.Feeding.{TakesAll}
 use Rattle.gatt_host.specs.Meaning.{Frames}
-use Rattle.gatt_host.specs.Whole.{going, IsHeldByOne}
+use Rattle.gatt_host.specs.HostModel.{going, IsStateOfOne}
 use Rattle.le_h4.specs.Deframer.{Deframing}
 use Rattle.octets.specs.Stream.{CountsNone}
 
@@ -11,7 +11,7 @@ abbrev pub invariant-loop-packet : goal.invariant-loop-packet
 invariant-loop-packet g l = record {
   takes : (frames : Frames) (stream : Deframing)
       → TakesAll [] (going l.fn.state frames stream) (going l.state frames stream) (g.W.Sink.contents l.fn.out) (g.W.Sink.contents l.out);
-  held : IsHeldByOne l.state;
+  server : IsStateOfOne l.state;
   failures : CountsNone (g.W.Sink.failures l.fn.out) (g.W.Sink.failures l.out);
 }
 

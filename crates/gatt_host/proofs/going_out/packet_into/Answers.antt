@@ -3,13 +3,13 @@ use Rattle.std.specs.Prelude.{is_some}
 use Rattle.std.specs.Option.{option_and_then, option_map}
 use Rattle.std.proofs.lemmas.Bool.{OnTrue_at}
 use Rattle.gatt_host.proofs.owing.Firsts.{first_packet, found_at, found_changed, found_passes, no_packet, none_changed}
-use Rattle.gatt_slots.specs.Commands.{gives, packet_of, without_packet}
+use Rattle.gatt_slots.specs.Commands.{gives, slot_packet, slot_without_packet}
 use Rattle.gatt_host.proofs.going_out.packet_into.Goals as goal
 
 pub returns-in_default-clause-after : goal.returns-in_default-clause-after
 returns-in_default-clause-after c =
     c.first_that_gives.ensures.unchanged
-    ∙ sym (none_changed gives (option_map without_packet) c.args.slots.now (sym c.first_that_gives.ensures.place ∙ c.in_default.is))
+    ∙ sym (none_changed gives (option_map slot_without_packet) c.args.slots.now (sym c.first_that_gives.ensures.place ∙ c.in_default.is))
 
 pub returns-in_default-clause-goes : goal.returns-in_default-clause-goes
 returns-in_default-clause-goes c = sym (ap is_some (no_packet c.args.slots.now (sym c.first_that_gives.ensures.place ∙ c.in_default.is)))
@@ -33,7 +33,7 @@ returns-clause-octets c =
     let at = sym first.ensures.place ∙ c.in-Some.is in
     same_octets c.next_into.result (λ count. take count c.next_into.new.out) _ _
     (first_packet slots c.in-Some.place _ at
-    ∙ ap (option_and_then packet_of) (sym (found_at gives slots first.new.self first.ensures.unchanged c.in-Some.place at)))
+    ∙ ap (option_and_then slot_packet) (sym (found_at gives slots first.new.self first.ensures.unchanged c.in-Some.place at)))
     c.next_into.ensures.packet
 
 pub returns-clause-goes : goal.returns-clause-goes
@@ -51,4 +51,4 @@ returns-clause-after c =
     let first = c.first_that_gives in
     let at = sym first.ensures.place ∙ c.in-Some.is in
     let is : is_some c.next_into.result ≡ true = c.next_into.ensures.gives ∙ found_passes gives slots first.new.self first.ensures.unchanged c.in-Some.place at in
-    OnTrue_at is c.next_into.ensures.after ∙ found_changed gives slots first.new.self first.ensures.unchanged c.in-Some.place at without_packet
+    OnTrue_at is c.next_into.ensures.after ∙ found_changed gives slots first.new.self first.ensures.unchanged c.in-Some.place at slot_without_packet

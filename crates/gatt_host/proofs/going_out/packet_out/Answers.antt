@@ -3,13 +3,13 @@ use Rattle.std.specs.Prelude.{is_some}
 use Rattle.std.specs.Option.{option_and_then, option_map}
 use Rattle.std.proofs.lemmas.Bool.{OnTrue_at, OnTrue_from}
 use Rattle.gatt_host.proofs.owing.Firsts.{first_packet, found_at, found_changed, found_passes, no_packet, none_changed}
-use Rattle.gatt_slots.specs.Commands.{gives, packet_of, without_packet}
+use Rattle.gatt_slots.specs.Commands.{gives, slot_packet, slot_without_packet}
 use Rattle.gatt_host.proofs.going_out.packet_out.Goals as goal
 
 pub returns-in_default-clause-after : goal.returns-in_default-clause-after
 returns-in_default-clause-after c =
     c.first_that_gives.ensures.unchanged
-    ∙ sym (none_changed gives (option_map without_packet) c.args.slots.now (sym c.first_that_gives.ensures.place ∙ c.in_default.is))
+    ∙ sym (none_changed gives (option_map slot_without_packet) c.args.slots.now (sym c.first_that_gives.ensures.place ∙ c.in_default.is))
 
 pub returns-in_default-clause-goes : goal.returns-in_default-clause-goes
 returns-in_default-clause-goes c = sym (ap is_some (no_packet c.args.slots.now (sym c.first_that_gives.ensures.place ∙ c.in_default.is)))
@@ -22,7 +22,7 @@ returns-clause-goes c =
     let is : c.next_packet.result ≡ true = c.next_packet.ensures.gives ∙ found_passes gives slots first.new.self first.ensures.unchanged c.in-Some.place at in
     is
     ∙ sym (ap is_some (first_packet slots c.in-Some.place _ at
-    ∙ ap (option_and_then packet_of) (sym (found_at gives slots first.new.self first.ensures.unchanged c.in-Some.place at)) ∙ OnTrue_at is c.next_packet.ensures.packet))
+    ∙ ap (option_and_then slot_packet) (sym (found_at gives slots first.new.self first.ensures.unchanged c.in-Some.place at)) ∙ OnTrue_at is c.next_packet.ensures.packet))
 
 pub returns-clause-octets : goal.returns-clause-octets
 returns-clause-octets c =
@@ -31,7 +31,7 @@ returns-clause-octets c =
     let at = sym first.ensures.place ∙ c.in-Some.is in
     OnTrue_from _ _ (λ is.
     first_packet slots c.in-Some.place _ at
-    ∙ ap (option_and_then packet_of) (sym (found_at gives slots first.new.self first.ensures.unchanged c.in-Some.place at)) ∙ OnTrue_at is c.next_packet.ensures.packet)
+    ∙ ap (option_and_then slot_packet) (sym (found_at gives slots first.new.self first.ensures.unchanged c.in-Some.place at)) ∙ OnTrue_at is c.next_packet.ensures.packet)
 
 pub returns-clause-after : goal.returns-clause-after
 returns-clause-after c =
@@ -39,4 +39,4 @@ returns-clause-after c =
     let first = c.first_that_gives in
     let at = sym first.ensures.place ∙ c.in-Some.is in
     let is : c.next_packet.result ≡ true = c.next_packet.ensures.gives ∙ found_passes gives slots first.new.self first.ensures.unchanged c.in-Some.place at in
-    OnTrue_at is c.next_packet.ensures.after ∙ found_changed gives slots first.new.self first.ensures.unchanged c.in-Some.place at without_packet
+    OnTrue_at is c.next_packet.ensures.after ∙ found_changed gives slots first.new.self first.ensures.unchanged c.in-Some.place at slot_without_packet

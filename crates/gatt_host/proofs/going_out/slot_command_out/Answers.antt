@@ -1,7 +1,7 @@
 use Rattle.std.proofs.Common.{ap, sym, ◌∙◌}
 use Rattle.std.specs.Option.{option_map}
 use Rattle.gatt_host.proofs.owing.Firsts.{first_command, found_at, found_changed, found_passes, no_command, none_changed}
-use Rattle.gatt_slots.specs.Commands.{command_due, has_command, without_command}
+use Rattle.gatt_slots.specs.Commands.{command_due, has_command, slot_without_command}
 use Rattle.le_hci.specs.Command.{opcode_of}
 use Rattle.gatt_host.proofs.going_out.slot_command_out.Goals as goal
 
@@ -30,7 +30,7 @@ pub returns-in-Some-clause-after : goal.returns-in-Some-clause-after
 returns-in-Some-clause-after c =
     let first = c.first_with_command in
     c.command_at_out.ensures.after
-    ∙ found_changed has_command c.args.slots.now first.new.self first.ensures.unchanged c.in-Some.place (sym first.ensures.place ∙ c.in-Some.is) without_command
+    ∙ found_changed has_command c.args.slots.now first.new.self first.ensures.unchanged c.in-Some.place (sym first.ensures.place ∙ c.in-Some.is) slot_without_command
 
 pub returns-in-None-clause-opcode : goal.returns-in-None-clause-opcode
 returns-in-None-clause-opcode c = sym (ap (option_map opcode_of) (no_command c.args.slots.now (sym c.first_with_command.ensures.place ∙ c.in-None.is)))
@@ -41,4 +41,4 @@ returns-in-None-clause-octets c = λ command is. cc (no_command c.args.slots.now
 pub returns-in-None-clause-after : goal.returns-in-None-clause-after
 returns-in-None-clause-after c =
     c.first_with_command.ensures.unchanged
-    ∙ sym (none_changed has_command (option_map without_command) c.args.slots.now (sym c.first_with_command.ensures.place ∙ c.in-None.is))
+    ∙ sym (none_changed has_command (option_map slot_without_command) c.args.slots.now (sym c.first_with_command.ensures.place ∙ c.in-None.is))

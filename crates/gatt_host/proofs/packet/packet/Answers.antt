@@ -1,13 +1,13 @@
-use Rattle.gatt_host.proofs.whole.Packets.{packet_leads_or_stops, packet_told, result_not_own}
+use Rattle.gatt_host.proofs.model.Packets.{packet_leads_or_stops, packet_told, result_not_own}
 use Rattle.gatt_host.proofs.packet.packet.Goals as goal
-use Rattle.le_h4.specs.Packet.{seen}
+use Rattle.le_h4.specs.Packet.{packet_of_ref}
 
 pub returns : goal.returns
 returns c = record {
-  leads = packet_leads_or_stops (seen c.args.packet) c.args.state.now c.take_packet.new.state c.args.frames.now c.take_packet.new.frames c.take_packet.result c.requires.drained
+  leads = packet_leads_or_stops (packet_of_ref c.args.packet) c.args.state.now c.take_packet.new.state c.args.frames.now c.take_packet.new.frames c.take_packet.result c.requires.drained
       c.take_packet.ensures.taken c.take_packet.ensures.stops c.take_packet.ensures.unchanged c.take_packet.ensures.frames_unchanged;
-  told = λ ok. packet_told (seen c.args.packet) c.args.state.now c.take_packet.new.state c.args.frames.now c.take_packet.new.frames c.requires.drained
+  told = λ ok. packet_told (packet_of_ref c.args.packet) c.args.state.now c.take_packet.new.state c.args.frames.now c.take_packet.new.frames c.requires.drained
       (c.take_packet.ensures.taken ok);
-  not_own = result_not_own (seen c.args.packet) c.args.state.now c.take_packet.result c.take_packet.ensures.stops;
+  not_own = result_not_own (packet_of_ref c.args.packet) c.args.state.now c.take_packet.result c.take_packet.ensures.stops;
   unchanged = c.take_packet.ensures.unchanged;
 }

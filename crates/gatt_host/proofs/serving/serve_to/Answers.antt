@@ -2,17 +2,17 @@ use Rattle.std.proofs.Common.{◌≡◌, ◌+◌, List, [], Option, None, Some, 
 use Rattle.std.proofs.KnownBytes.{Consumes-nil, Keeps-refl}
 use Rattle.std.proofs.lemmas.Result.{err_from_is_err_and}
 use Rattle.std.specs.Io.KnownBytes.{Consumes}
-use Rattle.gatt_host.proofs.whole.Due.{due_in_silence, due_where_held}
-use Rattle.gatt_host.proofs.whole.Feeds.{counts_where_going, going_takes, none_answered, none_before, takes_none}
-use Rattle.gatt_host.proofs.whole.Hearing.{going_hears}
-use Rattle.gatt_host.proofs.whole.HearingTurns.{breaks_serving, ends_serving, nothing_heard, served_to_more, served_to_none, stops_serving}
-use Rattle.gatt_host.proofs.whole.Serving.{counts_where_none, counts_where_some, empty_where, no_turns, reads_stopped, some_where, kept_where_failed, serves_broken, serves_ended, serves_stopped, served_more, served_none}
+use Rattle.gatt_host.proofs.model.Due.{due_in_silence, due_where_held}
+use Rattle.gatt_host.proofs.model.Feeds.{counts_where_going, going_takes, none_answered, none_before, takes_none}
+use Rattle.gatt_host.proofs.model.Hearing.{going_hears}
+use Rattle.gatt_host.proofs.model.HearingTurns.{breaks_serving, ends_serving, nothing_heard, served_to_more, served_to_none, stops_serving}
+use Rattle.gatt_host.proofs.model.Serving.{counts_where_none, counts_where_some, empty_where, no_turns, reads_stopped, some_where, kept_where_failed, serves_broken, serves_ended, serves_stopped, served_more, served_none}
 use Rattle.gatt_host.specs.declared.host_fault.HostFault.{HostFault}
 use Rattle.gatt_host.specs.declared.host_fault.HostFault.TheVariants as stop
 use Rattle.gatt_host.specs.Feeding.{TakesAll, octet_items}
 use Rattle.gatt_laws.specs.machine.Notice.{Notice}
 use Rattle.octets.specs.Number.{Octets}
-use Rattle.gatt_host.specs.Whole.{Whole}
+use Rattle.gatt_host.specs.HostModel.{HostModel}
 use Rattle.octets.proofs.Writing.{counts_none, counts_one, counts_same, many_more, many_none}
 use Rattle.gatt_host.proofs.serving.serve_to.Goals as goal
 
@@ -62,8 +62,8 @@ returns-in_err-feed_to-clause-reads g c = λ none.
 
 pub loop-turn-preserved : goal.loop-turn-preserved
 loop-turn-preserved g c =
-    let mid : Whole = c.loop-turn.host in
-    let new : Whole = c.feed_to.new.host in
+    let mid : HostModel = c.loop-turn.host in
+    let new : HostModel = c.feed_to.new.host in
     let none : new.fault ≡ None = none_answered new.fault c.in_ok-feed_to.ensures.outcome in
     record {
       served = served_more c.loop-turn.turn c.in-Ok.read.now c.args.host.now mid new
@@ -101,7 +101,7 @@ returns-clause-serves g c = λ none.
 pub returns-in_default-clause-due : goal.returns-in_default-clause-due
 returns-in_default-clause-due g c = λ none.
     due_where_held c.loop-turn.host c.stop.new.host c.stop.new.host.fault c.loop-turn.invariant.none c.loop-turn.invariant.drained
-    (ap (λ (whole : Whole). whole.held) c.stop.ensures.stopped)
+    (ap (λ (host : HostModel). host.server) c.stop.ensures.stopped)
 
 pub returns-then-is_empty-clause-due : goal.returns-then-is_empty-clause-due
 returns-then-is_empty-clause-due g c = λ none.
@@ -111,7 +111,7 @@ returns-then-is_empty-clause-due g c = λ none.
 pub returns-clause-due : goal.returns-clause-due
 returns-clause-due g c = λ none.
     due_where_held c.loop-turn.host c.stop-2.new.host c.stop-2.new.host.fault c.loop-turn.invariant.none c.loop-turn.invariant.drained
-    (ap (λ (whole : Whole). whole.held) c.stop-2.ensures.stopped)
+    (ap (λ (host : HostModel). host.server) c.stop-2.ensures.stopped)
 
 pub returns-in_err-feed-clause-heard : goal.returns-in_err-feed-clause-heard
 returns-in_err-feed-clause-heard g c = λ none.
@@ -127,7 +127,7 @@ returns-in_default-clause-heard g c = λ none.
     stops_serving c.loop-turn.turn c.args.host.now c.loop-turn.host c.stop.new.host
     (g.R.Source.remaining c.args.reader.now) (g.R.Source.remaining c.loop-turn.reader) (g.R.Source.remaining c.read_turn.new.reader)
     (g.W.Sink.contents c.args.writer.now) (g.W.Sink.contents c.loop-turn.writer) (g.L.Listener.heard c.args.listener.now) (g.L.Listener.heard c.loop-turn.listener)
-    (Some stop.Read) (ap (λ (whole : Whole). whole.fault) c.stop.ensures.stopped) refl c.loop-turn.invariant.heard
+    (Some stop.Read) (ap (λ (host : HostModel). host.fault) c.stop.ensures.stopped) refl c.loop-turn.invariant.heard
     (kept_where_failed c.read_turn.result c.in_default.not-Ok c.read_turn.ensures.kept)
 
 pub returns-then-is_empty-clause-heard : goal.returns-then-is_empty-clause-heard
@@ -152,13 +152,13 @@ returns-clause-heard g c = λ none.
     stops_serving c.loop-turn.turn c.args.host.now c.loop-turn.host c.stop-2.new.host
     (g.R.Source.remaining c.args.reader.now) (g.R.Source.remaining c.loop-turn.reader) (g.R.Source.remaining c.loop-turn.reader)
     (g.W.Sink.contents c.args.writer.now) (g.W.Sink.contents c.loop-turn.writer) (g.L.Listener.heard c.args.listener.now) (g.L.Listener.heard c.loop-turn.listener)
-    (Some stop.Turns) (ap (λ (whole : Whole). whole.fault) c.stop-2.ensures.stopped) refl c.loop-turn.invariant.heard
+    (Some stop.Turns) (ap (λ (host : HostModel). host.fault) c.stop-2.ensures.stopped) refl c.loop-turn.invariant.heard
     (Keeps-refl (g.R.Source.remaining c.loop-turn.reader))
 
 pub loop-turn-init : goal.loop-turn-init
 loop-turn-init g c =
-    let old : Whole = c.args.host.now in
-    let new : Whole = c.feed.new.host in
+    let old : HostModel = c.args.host.now in
+    let new : HostModel = c.feed.new.host in
     let remaining : Option Octets = g.R.Source.remaining c.args.reader.now in
     let before : Option Octets = g.W.Sink.contents c.args.writer.now in
     let after : Option Octets = g.W.Sink.contents c.feed.new.out in
@@ -180,7 +180,7 @@ loop-turn-init g c =
 
 pub returns-in_err-feed-clause-serves : goal.returns-in_err-feed-clause-serves
 returns-in_err-feed-clause-serves g c = λ none.
-    let old : Whole = c.args.host.now in
+    let old : HostModel = c.args.host.now in
     let remaining : Option Octets = g.R.Source.remaining c.args.reader.now in
     let before : Option Octets = g.W.Sink.contents c.args.writer.now in
     let stopped = err_from_is_err_and c.from_residual.result c.from_residual.ensures.1 in

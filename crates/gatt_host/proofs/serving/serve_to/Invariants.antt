@@ -1,8 +1,8 @@
 use Rattle.std.proofs.Common.{◌≡◌, ◌≤◌, true, None}
 use Rattle.gatt_host.proofs.serving.serve_to.Given as goal
-use Rattle.gatt_host.proofs.whole.HearingTurns.{HasServedTo}
-use Rattle.gatt_host.proofs.whole.Serving.{HasServed}
-use Rattle.gatt_host.specs.Whole.{all_out}
+use Rattle.gatt_host.proofs.model.HearingTurns.{HasServedTo}
+use Rattle.gatt_host.proofs.model.Serving.{HasServed}
+use Rattle.gatt_host.specs.HostModel.{all_out}
 use Rattle.octets.specs.Stream.{CountsMany, CountsNone}
 
 abbrev pub invariant-loop-turn : goal.invariant-loop-turn

@@ -1,70 +1,70 @@
 use Rattle.std.proofs.Common.{◌≡◌, true, [], None, Some, Ok, Err, refl, sym, subst}
-use Rattle.gatt_host.proofs.whole.Items.{drained_where, leads_from, reached_by, rows_hold}
-use Rattle.gatt_host.proofs.whole.StreamTold.{tells_from, up_to_from}
+use Rattle.gatt_host.proofs.model.Items.{drained_where, leads_from, reached_by, rows_hold}
+use Rattle.gatt_host.proofs.model.StreamTold.{tells_from, up_to_from}
 use Rattle.gatt_host.specs.contracts.host.Host.{the_view}
 use Rattle.gatt_host.specs.Feeding.{TakesUpToAPacket, items_taken}
 use Rattle.gatt_host.specs.Telling.{TellsOfAll}
-use Rattle.gatt_host.specs.Whole.{Leads, Whole, all_out}
+use Rattle.gatt_host.specs.HostModel.{Refines, HostModel, all_out}
 use Rattle.gatt_host.proofs.taking.take.Goals as goal
 
 pub take_in-requires-clause-rows : goal.take_in-requires-clause-rows
 take_in-requires-clause-rows c =
-    let old : Whole = the_view c.host.inside in
-    let out : all_out old ≡ true = subst (λ (whole : Whole). all_out whole ≡ true) (sym c.host.view_is) c.requires.drained in
-    let none : old.fault ≡ None = subst (λ (whole : Whole). whole.fault ≡ None) (sym c.host.view_is) c.requires.no_fault in
+    let old : HostModel = the_view c.host.inside in
+    let out : all_out old ≡ true = subst (λ (host : HostModel). all_out host ≡ true) (sym c.host.view_is) c.requires.drained in
+    let none : old.fault ≡ None = subst (λ (host : HostModel). host.fault ≡ None) (sym c.host.view_is) c.requires.no_fault in
     rows_hold old c.host.invariant (drained_where old none out)
 
 pub returns-in-Ok-clause-leads : goal.returns-in-Ok-clause-leads
 returns-in-Ok-clause-leads c =
-    let old : Whole = the_view c.host.inside in
-    let new : Whole = record old { held = c.take_in.new.state; frames = c.take_in.new.frames; stream = c.take_in.new.deframer } in
-    let none : old.fault ≡ None = subst (λ (whole : Whole). whole.fault ≡ None) (sym c.host.view_is) c.requires.no_fault in
-    subst (λ (whole : Whole). Leads (items_taken c.args.octets.now (Ok c.in-Ok.used)) [] whole new) c.host.view_is
+    let old : HostModel = the_view c.host.inside in
+    let new : HostModel = record old { server = c.take_in.new.state; frames = c.take_in.new.frames; stream = c.take_in.new.deframer } in
+    let none : old.fault ≡ None = subst (λ (host : HostModel). host.fault ≡ None) (sym c.host.view_is) c.requires.no_fault in
+    subst (λ (host : HostModel). Refines (items_taken c.args.octets.now (Ok c.in-Ok.used)) [] host new) c.host.view_is
     (leads_from old new (items_taken c.args.octets.now (Ok c.in-Ok.used)) None none none c.in-Ok.ensures.leads)
 
 pub invariant_of-host-in-Err : goal.invariant_of-host-in-Err
 invariant_of-host-in-Err c =
-    let old : Whole = the_view c.host.inside in
-    let new : Whole = record { held = c.take_in.new.state; frames = c.take_in.new.frames; stream = c.take_in.new.deframer; fault = Some c.in-Err.fault } in
-    let none : old.fault ≡ None = subst (λ (whole : Whole). whole.fault ≡ None) (sym c.host.view_is) c.requires.no_fault in
+    let old : HostModel = the_view c.host.inside in
+    let new : HostModel = record { server = c.take_in.new.state; frames = c.take_in.new.frames; stream = c.take_in.new.deframer; fault = Some c.in-Err.fault } in
+    let none : old.fault ≡ None = subst (λ (host : HostModel). host.fault ≡ None) (sym c.host.view_is) c.requires.no_fault in
     reached_by (items_taken c.args.octets.now (Err c.in-Err.fault)) [] old new c.host.invariant
     (leads_from old new (items_taken c.args.octets.now (Err c.in-Err.fault)) (Some c.in-Err.fault) none refl c.in-Err.ensures.leads)
 
 pub returns-in-Err-clause-leads : goal.returns-in-Err-clause-leads
 returns-in-Err-clause-leads c =
-    let old : Whole = the_view c.host.inside in
-    let new : Whole = record { held = c.take_in.new.state; frames = c.take_in.new.frames; stream = c.take_in.new.deframer; fault = Some c.in-Err.fault } in
-    let none : old.fault ≡ None = subst (λ (whole : Whole). whole.fault ≡ None) (sym c.host.view_is) c.requires.no_fault in
-    subst (λ (whole : Whole). Leads (items_taken c.args.octets.now (Err c.in-Err.fault)) [] whole new) c.host.view_is
+    let old : HostModel = the_view c.host.inside in
+    let new : HostModel = record { server = c.take_in.new.state; frames = c.take_in.new.frames; stream = c.take_in.new.deframer; fault = Some c.in-Err.fault } in
+    let none : old.fault ≡ None = subst (λ (host : HostModel). host.fault ≡ None) (sym c.host.view_is) c.requires.no_fault in
+    subst (λ (host : HostModel). Refines (items_taken c.args.octets.now (Err c.in-Err.fault)) [] host new) c.host.view_is
     (leads_from old new (items_taken c.args.octets.now (Err c.in-Err.fault)) (Some c.in-Err.fault) none refl c.in-Err.ensures.leads)
 
 pub invariant_of-host : goal.invariant_of-host
 invariant_of-host c =
-    let old : Whole = the_view c.host.inside in
-    let new : Whole = record old { held = c.take_in.new.state; frames = c.take_in.new.frames; stream = c.take_in.new.deframer } in
-    let none : old.fault ≡ None = subst (λ (whole : Whole). whole.fault ≡ None) (sym c.host.view_is) c.requires.no_fault in
+    let old : HostModel = the_view c.host.inside in
+    let new : HostModel = record old { server = c.take_in.new.state; frames = c.take_in.new.frames; stream = c.take_in.new.deframer } in
+    let none : old.fault ≡ None = subst (λ (host : HostModel). host.fault ≡ None) (sym c.host.view_is) c.requires.no_fault in
     reached_by (items_taken c.args.octets.now (Ok c.in-Ok.used)) [] old new c.host.invariant
     (leads_from old new (items_taken c.args.octets.now (Ok c.in-Ok.used)) None none none c.in-Ok.ensures.leads)
 
 pub returns-in-Ok-clause-told : goal.returns-in-Ok-clause-told
 returns-in-Ok-clause-told c =
-    let old : Whole = the_view c.host.inside in
-    let new : Whole = record old { held = c.take_in.new.state; frames = c.take_in.new.frames; stream = c.take_in.new.deframer } in
-    let none : old.fault ≡ None = subst (λ (whole : Whole). whole.fault ≡ None) (sym c.host.view_is) c.requires.no_fault in
-    subst (λ (whole : Whole). TellsOfAll (items_taken c.args.octets.now (Ok c.in-Ok.used)) whole new) c.host.view_is
+    let old : HostModel = the_view c.host.inside in
+    let new : HostModel = record old { server = c.take_in.new.state; frames = c.take_in.new.frames; stream = c.take_in.new.deframer } in
+    let none : old.fault ≡ None = subst (λ (host : HostModel). host.fault ≡ None) (sym c.host.view_is) c.requires.no_fault in
+    subst (λ (host : HostModel). TellsOfAll (items_taken c.args.octets.now (Ok c.in-Ok.used)) host new) c.host.view_is
     (tells_from old new (items_taken c.args.octets.now (Ok c.in-Ok.used)) None none none c.in-Ok.ensures.told)
 
 pub returns-in-Ok-clause-up_to : goal.returns-in-Ok-clause-up_to
 returns-in-Ok-clause-up_to c =
-    let old : Whole = the_view c.host.inside in
-    let none : old.fault ≡ None = subst (λ (whole : Whole). whole.fault ≡ None) (sym c.host.view_is) c.requires.no_fault in
-    subst (λ (whole : Whole). TakesUpToAPacket c.args.octets.now c.in-Ok.used whole) c.host.view_is
+    let old : HostModel = the_view c.host.inside in
+    let none : old.fault ≡ None = subst (λ (host : HostModel). host.fault ≡ None) (sym c.host.view_is) c.requires.no_fault in
+    subst (λ (host : HostModel). TakesUpToAPacket c.args.octets.now c.in-Ok.used host) c.host.view_is
     (up_to_from old c.args.octets.now c.in-Ok.used none c.in-Ok.ensures.up_to)
 
 pub returns-in-Err-clause-told : goal.returns-in-Err-clause-told
 returns-in-Err-clause-told c =
-    let old : Whole = the_view c.host.inside in
-    let new : Whole = record { held = c.take_in.new.state; frames = c.take_in.new.frames; stream = c.take_in.new.deframer; fault = Some c.in-Err.fault } in
-    let none : old.fault ≡ None = subst (λ (whole : Whole). whole.fault ≡ None) (sym c.host.view_is) c.requires.no_fault in
-    subst (λ (whole : Whole). TellsOfAll (items_taken c.args.octets.now (Err c.in-Err.fault)) whole new) c.host.view_is
+    let old : HostModel = the_view c.host.inside in
+    let new : HostModel = record { server = c.take_in.new.state; frames = c.take_in.new.frames; stream = c.take_in.new.deframer; fault = Some c.in-Err.fault } in
+    let none : old.fault ≡ None = subst (λ (host : HostModel). host.fault ≡ None) (sym c.host.view_is) c.requires.no_fault in
+    subst (λ (host : HostModel). TellsOfAll (items_taken c.args.octets.now (Err c.in-Err.fault)) host new) c.host.view_is
     (tells_from old new (items_taken c.args.octets.now (Err c.in-Err.fault)) (Some c.in-Err.fault) none refl c.in-Err.ensures.told)

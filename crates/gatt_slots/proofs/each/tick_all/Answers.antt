@@ -2,9 +2,9 @@ use Rattle.std.proofs.Common.{◌<◌, [], Option, length, set, ap, sym, ◌∙�
 use Rattle.std.specs.Option.{option_map, option_map_or, option_to_list}
 use Rattle.std.proofs.lemmas.List.Edits.{map_over_more}
 use Rattle.gatt_slots.proofs.Late.{late_more, late_room}
-use Rattle.gatt_slots.specs.Kept.{Kept}
+use Rattle.gatt_slots.specs.SlotState.{SlotState}
 use Rattle.gatt_slots.specs.Slots.{late_handle}
-use Rattle.gatt_slots.specs.Turn.{after_time}
+use Rattle.gatt_slots.specs.SlotEffects.{after_time}
 use Rattle.gatt_slots.proofs.each.tick_all.Goals as goal
 
 pub loop-place-preserved : goal.loop-place-preserved
@@ -12,12 +12,12 @@ loop-place-preserved c =
     let slots = c.args.slots.now in
     let place = c.loop-place.place in
     let within : place < length slots = omega (arith, c.loop-place-test.true) in (
-      ap (λ (slot : Option Kept). set c.loop-place.slots place slot) (c.tick-handle.ensures.after ∙ ap (λ (slot : Option Kept). option_map (after_time c.args.now) slot) (sym c.index-slots-place.is))
-          ∙ map_over_more (λ (slot : Option Kept). option_map (after_time c.args.now) slot) slots c.loop-place.slots place c.index-slots-place.result within c.loop-place.invariant.0 c.index-slots-place.is,
+      ap (λ (slot : Option SlotState). set c.loop-place.slots place slot) (c.tick-handle.ensures.after ∙ ap (λ (slot : Option SlotState). option_map (after_time c.args.now) slot) (sym c.index-slots-place.is))
+          ∙ map_over_more (λ (slot : Option SlotState). option_map (after_time c.args.now) slot) slots c.loop-place.slots place c.index-slots-place.result within c.loop-place.invariant.0 c.index-slots-place.is,
       c.add.ensures
-          ∙ late_more c.args.now (λ (slot : Option Kept). option_map (after_time c.args.now) slot) slots c.loop-place.slots place c.index-slots-place.result
+          ∙ late_more c.args.now (λ (slot : Option SlotState). option_map (after_time c.args.now) slot) slots c.loop-place.slots place c.index-slots-place.result
           c.loop-place.late.items (option_to_list c.tick-handle.result) within c.loop-place.invariant.0 c.index-slots-place.is c.loop-place.invariant.1
-          (c.tick-handle.ensures.late ∙ ap (λ (slot : Option Kept). option_map_or (late_handle c.args.now) slot []) (sym c.index-slots-place.is)),
+          (c.tick-handle.ensures.late ∙ ap (λ (slot : Option SlotState). option_map_or (late_handle c.args.now) slot []) (sym c.index-slots-place.is)),
     )
 
 pub add-requires : goal.add-requires

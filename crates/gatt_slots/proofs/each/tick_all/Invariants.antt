@@ -1,11 +1,11 @@
 use Rattle.std.proofs.Common.{◌≡◌, ◌++◌, Option, take, drop, map}
 use Rattle.std.specs.Option.{option_map}
-use Rattle.gatt_slots.specs.Kept.{Kept}
+use Rattle.gatt_slots.specs.SlotState.{SlotState}
 use Rattle.gatt_slots.specs.Slots.{late_handles}
-use Rattle.gatt_slots.specs.Turn.{after_time}
+use Rattle.gatt_slots.specs.SlotEffects.{after_time}
 use Rattle.gatt_slots.proofs.each.tick_all.Given as goal
 
 abbrev pub invariant-loop-place : goal.invariant-loop-place
 invariant-loop-place l =
-    (l.slots ≡ map (λ (slot : Option Kept). option_map (after_time l.now) slot) (take l.place l.fn.slots) ++ drop l.place l.fn.slots)
+    (l.slots ≡ map (λ (slot : Option SlotState). option_map (after_time l.now) slot) (take l.place l.fn.slots) ++ drop l.place l.fn.slots)
     × (l.late.items ≡ late_handles l.now (take l.place l.fn.slots))

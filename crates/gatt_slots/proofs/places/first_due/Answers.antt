@@ -1,8 +1,8 @@
 use Rattle.std.proofs.Common.{◌≡◌, ◌<◌, false, length, refl, sym, ap, ◌∙◌, arith}
 use Rattle.gatt_slots.proofs.Covering.{covered_without, first_due, idle_outside, none_covered, none-due, read_at}
 use Rattle.gatt_slots.proofs.Found.{past}
-use Rattle.gatt_slots.specs.Places.{is_due}
-use Rattle.gatt_slots.specs.Slots.{kept_at}
+use Rattle.gatt_slots.specs.Places.{is_slot_due}
+use Rattle.gatt_slots.specs.Slots.{slot_state_at}
 use Rattle.gatt_slots.proofs.places.first_due.Goals.{else-place-slots-via-then-place-slots+else-is_due, else-place-slots-via-else-place-slots}
 use Rattle.gatt_slots.proofs.places.first_due.Goals as goal
 
@@ -12,17 +12,17 @@ returns-then-is_due-clause-place c =
     let place = c.in-Some.place in
     let within : place < length slots = omega (arith, c.if-place-slots.true) in
     sym (first_due c.args.due slots place
-    (ap (is_due c.args.due) (read_at slots place c.index-slots-place.result within c.index-slots-place.is) ∙ sym c.is_due.ensures ∙ c.if-is_due.true)
+    (ap (is_slot_due c.args.due) (read_at slots place c.index-slots-place.result within c.index-slots-place.is) ∙ sym c.is_due.ensures ∙ c.if-is_due.true)
     (λ other less. idle_outside c.args.due c.loop-place.places.bits slots other c.loop-place.invariant (c.in-Some.ensures.first.before other less)))
 
 pub loop-place-preserved : goal.loop-place-preserved
 loop-place-preserved c =
     let slots = c.args.slots.now in
     let place = c.in-Some.place in
-    let idle : is_due c.args.due (kept_at slots place) ≡ false = elim c.else-place-slots.branch [
+    let idle : is_slot_due c.args.due (slot_state_at slots place) ≡ false = elim c.else-place-slots.branch [
       | else-place-slots-via-then-place-slots+else-is_due w ↦
-          ap (is_due c.args.due) (read_at slots place w.index-slots-place.result (omega (arith, w.if-place-slots.true)) w.index-slots-place.is) ∙ sym w.is_due.ensures ∙ w.if-is_due.false
-      | else-place-slots-via-else-place-slots w ↦ ap (is_due c.args.due) (past slots place (omega (arith, w.if-place-slots.false))) ∙ none-due c.args.due
+          ap (is_slot_due c.args.due) (read_at slots place w.index-slots-place.result (omega (arith, w.if-place-slots.true)) w.index-slots-place.is) ∙ sym w.is_due.ensures ∙ w.if-is_due.false
+      | else-place-slots-via-else-place-slots w ↦ ap (is_slot_due c.args.due) (past slots place (omega (arith, w.if-place-slots.false))) ∙ none-due c.args.due
     ] in
     covered_without c.args.due c.loop-place.places.bits c.remove.new.self.bits slots place c.requires.few c.loop-place.invariant idle c.remove.ensures.others
 

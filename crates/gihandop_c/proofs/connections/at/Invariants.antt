@@ -4,5 +4,5 @@ use Rattle.gihandop_c.proofs.connections.at.Given as goal
 
 abbrev pub invariant-loop-connection : goal.invariant-loop-connection
 invariant-loop-connection l = record {
-  there : slice_get (connections_in l.fn.host.held.slots) l.fn.place ≡ slice_get l.connection-iterator l.left;
+  there : slice_get (connections_in l.fn.host.server.slots) l.fn.place ≡ slice_get l.connection-iterator l.left;
 }

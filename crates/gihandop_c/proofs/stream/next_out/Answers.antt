@@ -1,7 +1,7 @@
 use Rattle.std.proofs.Common.{◌≡◌, ℕ, ◌≤◌, Bool, true, false, length, refl, arith}
 use Rattle.std.specs.Prelude.{nat_lt, not, if◌then◌else◌}
 use Rattle.std.proofs.lemmas.Bool.{ltb-true}
-use Rattle.gatt_host.specs.Whole.{all_out}
+use Rattle.gatt_host.specs.HostModel.{all_out}
 use Rattle.gihandop_c.specs.declared.status.TheConstants.{DONE, NOTHING, SHORT_BUFFER}
 use Rattle.gihandop_c.proofs.stream.next_out.Goals as goal
 

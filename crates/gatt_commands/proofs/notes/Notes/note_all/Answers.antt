@@ -9,7 +9,7 @@ pub loop-notice-preserved : goal.loop-notice-preserved
 loop-notice-preserved c = record {
   table = c.in-Some.ensures.steps.2 ∙ c.loop-notice.invariant.table;
   noted =
-      noted_one (notices_told c.args.host.now) c.loop-notice.notice-iterator.notices c.next.new.self.notices c.in-Some.notice c.args.host.now.held.table
+      noted_one (notices_told c.args.host.now) c.loop-notice.notice-iterator.notices c.next.new.self.notices c.in-Some.notice c.args.host.now.server.table
       c.args.self.now c.loop-notice.self c.note.new.self c.loop-notice.invariant.noted c.in-Some.ensures.steps.0
       (subst (λ (table : Contents). HasTheValue table c.in-Some.notice) c.loop-notice.invariant.table c.in-Some.ensures.steps.1) c.note.ensures.notes;
 }

@@ -6,6 +6,6 @@ use Rattle.gatt_commands.proofs.notes.Notes.note_all.Given as goal
 -- all but those that the iterator still has are noted
 abbrev pub invariant-loop-notice : goal.invariant-loop-notice
 invariant-loop-notice l = record {
-  table : l.notice-iterator.table ≡ l.fn.host.held.table;
-  noted : HasNoted (notices_told l.fn.host) l.notice-iterator.notices l.fn.host.held.table l.fn.self l.self;
+  table : l.notice-iterator.table ≡ l.fn.host.server.table;
+  noted : HasNoted (notices_told l.fn.host) l.notice-iterator.notices l.fn.host.server.table l.fn.self l.self;
 }

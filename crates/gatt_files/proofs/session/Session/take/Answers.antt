@@ -1,6 +1,6 @@
 use Rattle.std.proofs.Common.{◌≡◌, ℕ, ◌+◌, ◌<◌, List, [], ◌∷◌, ◌++◌, length, take, drop, get_or, ap, sym, subst, ◌∙◌, arith, append_assoc}
 use Rattle.std.proofs.lemmas.List.{take_more, take-append-drop}
-use Rattle.gatt_files.specs.Session.{StopsAt, BreaksOff}
+use Rattle.gatt_files.specs.Session.{StopsAt, BreaksOffPrinting}
 use Rattle.gatt_files.specs.declared.fault.ShellFault.TheVariants.{NotHex, Unwritten}
 use Rattle.gatt_files.proofs.Sessions.{same_fault, passes_more, stops_after, break_after}
 use Rattle.gatt_files.proofs.session.Session.take.Goals as goal
@@ -24,7 +24,7 @@ pub returns-in_err-take_octet-clause-breaks_off : goal.returns-in_err-take_octet
 returns-in_err-take_octet-clause-breaks_off g c h =
     let said = same_fault c.take_octet.result c.from_residual.result _ Unwritten c.in_err-take_octet.was c.from_residual.ensures.1 h in
     let i = c.loop-octet.octet-index in
-    let P : List ℕ → Type 0 = λ octets. BreaksOff c.args.self.now octets (g.W.Write.contents c.args.writer.now) (g.W.Write.contents c.take_octet.new.writer) in
+    let P : List ℕ → Type 0 = λ octets. BreaksOffPrinting c.args.self.now octets (g.W.Write.contents c.args.writer.now) (g.W.Write.contents c.take_octet.new.writer) in
     subst P (cut_at c.args.octets.now i c.loop-octet-test.true)
     (break_after _ _ _ _ (drop (i + 1) c.args.octets.now) _ _ _ c.loop-octet.invariant.passed (c.take_octet.ensures.breaks_off said))
 

@@ -1,48 +1,48 @@
 use Rattle.std.proofs.Common.{◌≡◌, true, ◌∷◌, [], None, refl, sym, subst, ◌∙◌}
 use Rattle.gatt_host.proofs.owing.Nexts.{is_none_where}
-use Rattle.gatt_host.proofs.whole.Calls.{call_refused, call_told, takes_call}
-use Rattle.gatt_host.proofs.whole.Told.{told_in_course}
-use Rattle.gatt_host.proofs.whole.Items.{reached_by}
+use Rattle.gatt_host.proofs.model.Calls.{call_refused, call_told, takes_call}
+use Rattle.gatt_host.proofs.model.Told.{told_in_course}
+use Rattle.gatt_host.proofs.model.Items.{reached_by}
 use Rattle.gatt_host.specs.Asked.{call_of}
 use Rattle.gatt_host.specs.contracts.host.Host.{the_view}
 use Rattle.gatt_host.specs.Meaning.{IsAfter}
-use Rattle.gatt_host.specs.Whole.{StandsAt, Takes, Whole, all_out}
+use Rattle.gatt_host.specs.HostModel.{RefinesRun, Takes, HostModel, all_out}
 use Rattle.gatt_laws.specs.machine.Calls.{call_event}
-use Rattle.gatt_laws.specs.machine.Input.{ACall, course}
+use Rattle.gatt_laws.specs.machine.Input.{ACall, run}
 use Rattle.gatt_host.proofs.host.Host.app.Goals as goal
 
 pub invariant_of-self : goal.invariant_of-self
 invariant_of-self c =
-    let old : Whole = the_view c.self.inside in
-    let new : Whole = record old { held = c.app.new.self } in
-    let out : all_out old ≡ true = subst (λ (whole : Whole). all_out whole ≡ true) (sym c.self.view_is) c.requires.drained in
+    let old : HostModel = the_view c.self.inside in
+    let new : HostModel = record old { server = c.app.new.self } in
+    let out : all_out old ≡ true = subst (λ (host : HostModel). all_out host ≡ true) (sym c.self.view_is) c.requires.drained in
     reached_by (ACall (call_of c.args.call) ∷ []) [] old new c.self.invariant
     (takes_call (call_of c.args.call) old new (is_none_where old.fault (sym c.is_some.ensures ∙ c.if-is_some.false)) out c.app.result c.app.ensures.after c.app.ensures.refused
     c.app.ensures.silent (record { frames = refl; stream = refl; fault = refl }))
 
 pub returns-clause-takes : goal.returns-clause-takes
 returns-clause-takes c =
-    let old : Whole = the_view c.self.inside in
-    let new : Whole = record old { held = c.app.new.self } in
-    let out : all_out old ≡ true = subst (λ (whole : Whole). all_out whole ≡ true) (sym c.self.view_is) c.requires.drained in
-    subst (λ (whole : Whole). whole.fault ≡ None → Takes (ACall (call_of c.args.call)) whole new) c.self.view_is (λ none.
+    let old : HostModel = the_view c.self.inside in
+    let new : HostModel = record old { server = c.app.new.self } in
+    let out : all_out old ≡ true = subst (λ (host : HostModel). all_out host ≡ true) (sym c.self.view_is) c.requires.drained in
+    subst (λ (host : HostModel). host.fault ≡ None → Takes (ACall (call_of c.args.call)) host new) c.self.view_is (λ none.
     takes_call (call_of c.args.call) old new none out c.app.result c.app.ensures.after c.app.ensures.refused c.app.ensures.silent
     (record { frames = refl; stream = refl; fault = refl }))
 
 pub returns-clause-refused : goal.returns-clause-refused
-returns-clause-refused c = λ start input gone is none.
-    let old : Whole = the_view c.self.inside in
-    let out : all_out old ≡ true = subst (λ (whole : Whole). all_out whole ≡ true) (sym c.self.view_is) c.requires.drained in
-    call_refused (call_of c.args.call) old (λ happening. IsAfter happening old.held c.app.new.self) c.app.result
-    (subst (λ (whole : Whole). whole.fault ≡ None) (sym c.self.view_is) none) out c.app.ensures.after c.app.ensures.refused
-    (course start input) gone (subst (λ (whole : Whole). StandsAt (course start input) gone whole) (sym c.self.view_is) is)
+returns-clause-refused c = λ start input sent is none.
+    let old : HostModel = the_view c.self.inside in
+    let out : all_out old ≡ true = subst (λ (host : HostModel). all_out host ≡ true) (sym c.self.view_is) c.requires.drained in
+    call_refused (call_of c.args.call) old (λ happening. IsAfter happening old.server c.app.new.self) c.app.result
+    (subst (λ (host : HostModel). host.fault ≡ None) (sym c.self.view_is) none) out c.app.ensures.after c.app.ensures.refused
+    (run start input) sent (subst (λ (host : HostModel). RefinesRun (run start input) sent host) (sym c.self.view_is) is)
 
 pub returns-clause-told : goal.returns-clause-told
-returns-clause-told c = λ start input gone is none still.
-    let old : Whole = the_view c.self.inside in
-    let new : Whole = record old { held = c.app.new.self } in
-    let out : all_out old ≡ true = subst (λ (whole : Whole). all_out whole ≡ true) (sym c.self.view_is) c.requires.drained in
-    let going : old.fault ≡ None = subst (λ (whole : Whole). whole.fault ≡ None) (sym c.self.view_is) none in
-    told_in_course (ACall (call_of c.args.call)) (course start input) gone old new going (call_event (course start input).intake.state (call_of c.args.call))
-    refl still (subst (λ (whole : Whole). StandsAt (course start input) gone whole) (sym c.self.view_is) is) (λ stands.
-    call_told (call_of c.args.call) old new going out c.app.result c.app.ensures.after c.app.ensures.refused c.app.ensures.silent (course start input) gone stands)
+returns-clause-told c = λ start input sent is none still.
+    let old : HostModel = the_view c.self.inside in
+    let new : HostModel = record old { server = c.app.new.self } in
+    let out : all_out old ≡ true = subst (λ (host : HostModel). all_out host ≡ true) (sym c.self.view_is) c.requires.drained in
+    let going : old.fault ≡ None = subst (λ (host : HostModel). host.fault ≡ None) (sym c.self.view_is) none in
+    told_in_course (ACall (call_of c.args.call)) (run start input) sent old new going (call_event (run start input).intake.state (call_of c.args.call))
+    refl still (subst (λ (host : HostModel). RefinesRun (run start input) sent host) (sym c.self.view_is) is) (λ refines.
+    call_told (call_of c.args.call) old new going out c.app.result c.app.ensures.after c.app.ensures.refused c.app.ensures.silent (run start input) sent refines)

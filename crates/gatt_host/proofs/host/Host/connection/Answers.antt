@@ -1,6 +1,6 @@
 use Rattle.std.proofs.Common.{◌≡◌, None, ap, sym, ◌∙◌}
 use Rattle.gatt_host.proofs.host.Host.connection.Goals as goal
-use Rattle.gatt_host.proofs.whole.Seen.{found_here, found_later, found_where}
+use Rattle.gatt_host.proofs.model.Seen.{found_here, found_later, found_where}
 use Rattle.gatt_host.specs.Connections.{connection_with}
 
 pub loop-connection-init : goal.loop-connection-init
@@ -13,8 +13,8 @@ returns-then-connection-handle-clause-held c =
     found_here c.args.handle c.in-Some.connection c.loop-connection.connection-iterator c.next.new.self c.in-Some.ensures.steps c.if-connection-handle.true
     ∙ sym c.loop-connection.invariant.left
 
-pub returns-then-connection-handle-clause-course : goal.returns-then-connection-handle-clause-course
-returns-then-connection-handle-clause-course c =
+pub returns-then-connection-handle-clause-run : goal.returns-then-connection-handle-clause-run
+returns-then-connection-handle-clause-run c =
     found_where c.args.handle c.args.self.now _ (returns-then-connection-handle-clause-held c)
 
 pub loop-connection-preserved : goal.loop-connection-preserved
@@ -26,5 +26,5 @@ loop-connection-preserved c = record {
 pub returns-clause-held : goal.returns-clause-held
 returns-clause-held c = sym (c.loop-connection.invariant.left ∙ ap (connection_with c.args.handle) c.in-None.ensures.steps.0)
 
-pub returns-clause-course : goal.returns-clause-course
-returns-clause-course c = found_where c.args.handle c.args.self.now None (returns-clause-held c)
+pub returns-clause-run : goal.returns-clause-run
+returns-clause-run c = found_where c.args.handle c.args.self.now None (returns-clause-held c)

@@ -5,5 +5,5 @@ use Rattle.gatt_slots.specs.Connections.{connections_in}
 
 abbrev pub invariant-loop-connection : goal.invariant-loop-connection
 invariant-loop-connection l = record {
-  left : connection_with l.fn.handle (connections_in l.fn.self.held.slots) ≡ connection_with l.fn.handle l.connection-iterator;
+  left : connection_with l.fn.handle (connections_in l.fn.self.server.slots) ≡ connection_with l.fn.handle l.connection-iterator;
 }

@@ -1,36 +1,36 @@
 use Rattle.std.proofs.Common.{◌≡◌, ◌<◌, ◌∷◌, [], IfSome, take, refl, sym, subst, ◌∙◌}
 use Rattle.std.specs.Prelude.{is_some, not}
 use Rattle.gatt_host.proofs.owing.Nexts.{is_none_where}
-use Rattle.gatt_host.proofs.whole.Fewer.{fewer_into}
-use Rattle.gatt_host.proofs.whole.Out.{goes_into, goes_where_not_out, reached_into}
+use Rattle.gatt_host.proofs.model.Fewer.{fewer_into}
+use Rattle.gatt_host.proofs.model.Out.{goes_into, goes_where_not_out, reached_into}
 use Rattle.gatt_host.specs.contracts.host.Host.{the_view}
 use Rattle.gatt_host.specs.Credits.{most_out}
-use Rattle.gatt_host.specs.Held.{Held}
-use Rattle.gatt_host.specs.Whole.{Leads, Whole, all_out}
+use Rattle.gatt_host.specs.ServerState.{ServerState}
+use Rattle.gatt_host.specs.HostModel.{Refines, HostModel, all_out}
 use Rattle.gatt_host.proofs.host.Host.next_into.Goals as goal
 
 pub invariant_of-self : goal.invariant_of-self
 invariant_of-self c =
-    let old : Whole = the_view c.self.inside in
-    reached_into old (record old { held = c.next_into.new.state }) c.next_into.result c.next_into.new.out c.self.invariant c.next_into.ensures.octets
+    let old : HostModel = the_view c.self.inside in
+    reached_into old (record old { server = c.next_into.new.state }) c.next_into.result c.next_into.new.out c.self.invariant c.next_into.ensures.octets
     c.next_into.ensures.after c.next_into.ensures.unchanged refl refl refl
 
 pub returns-clause-goes : goal.returns-clause-goes
 returns-clause-goes c =
-    let old : Whole = the_view c.self.inside in
-    subst (λ (whole : Whole). is_some c.next_into.result ≡ not (all_out whole)) c.self.view_is
+    let old : HostModel = the_view c.self.inside in
+    subst (λ (host : HostModel). is_some c.next_into.result ≡ not (all_out host)) c.self.view_is
     (c.next_into.ensures.goes ∙ goes_where_not_out old c.self.invariant (is_none_where old.fault (sym c.is_some.ensures ∙ c.if-is_some.false)))
 
 pub returns-clause-leads : goal.returns-clause-leads
 returns-clause-leads c =
-    let old : Whole = the_view c.self.inside in
-    let new : Whole = record old { held = c.next_into.new.state } in
-    subst (λ (whole : Whole). IfSome c.next_into.result (λ count. Leads [] (take count c.next_into.new.out ∷ []) whole new)) c.self.view_is
+    let old : HostModel = the_view c.self.inside in
+    let new : HostModel = record old { server = c.next_into.new.state } in
+    subst (λ (host : HostModel). IfSome c.next_into.result (λ count. Refines [] (take count c.next_into.new.out ∷ []) host new)) c.self.view_is
     (goes_into old new c.next_into.result c.next_into.new.out c.next_into.ensures.octets c.next_into.ensures.after refl refl refl)
 
 pub returns-clause-fewer : goal.returns-clause-fewer
 returns-clause-fewer c = λ some.
-    let old : Whole = the_view c.self.inside in
-    subst (λ (whole : Whole). most_out c.next_into.new.state < most_out whole.held) c.self.view_is
-    (subst (λ (held : Held). most_out held < most_out old.held) (sym c.next_into.ensures.after)
-    (fewer_into old.held c.next_into.result c.next_into.new.out c.next_into.ensures.octets some))
+    let old : HostModel = the_view c.self.inside in
+    subst (λ (host : HostModel). most_out c.next_into.new.state < most_out host.server) c.self.view_is
+    (subst (λ (server : ServerState). most_out server < most_out old.server) (sym c.next_into.ensures.after)
+    (fewer_into old.server c.next_into.result c.next_into.new.out c.next_into.ensures.octets some))

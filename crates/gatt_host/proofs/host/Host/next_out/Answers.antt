@@ -2,36 +2,36 @@ use Rattle.std.proofs.Common.{◌≡◌, ◌<◌, ◌∷◌, [], refl, sym, subs
 use Rattle.std.specs.Prelude.{not}
 use Rattle.std.proofs.lemmas.Bool.{OnTrue_at, OnTrue_from}
 use Rattle.gatt_host.proofs.owing.Nexts.{is_none_where}
-use Rattle.gatt_host.proofs.whole.Fewer.{fewer_out}
-use Rattle.gatt_host.proofs.whole.Out.{goes_out, goes_where_not_out, reached_out}
+use Rattle.gatt_host.proofs.model.Fewer.{fewer_out}
+use Rattle.gatt_host.proofs.model.Out.{goes_out, goes_where_not_out, reached_out}
 use Rattle.gatt_host.specs.contracts.host.Host.{the_view}
 use Rattle.gatt_host.specs.Credits.{most_out}
-use Rattle.gatt_host.specs.Held.{Held}
-use Rattle.gatt_host.specs.Whole.{Leads, Whole, all_out}
+use Rattle.gatt_host.specs.ServerState.{ServerState}
+use Rattle.gatt_host.specs.HostModel.{Refines, HostModel, all_out}
 use Rattle.gatt_host.proofs.host.Host.next_out.Goals as goal
 
 pub invariant_of-self : goal.invariant_of-self
 invariant_of-self c =
-    let old : Whole = the_view c.self.inside in
-    reached_out old (record old { held = c.copy_next.new.state }) c.copy_next.result c.copy_next.new.out.items c.self.invariant c.copy_next.ensures.octets c.copy_next.ensures.after
+    let old : HostModel = the_view c.self.inside in
+    reached_out old (record old { server = c.copy_next.new.state }) c.copy_next.result c.copy_next.new.out.items c.self.invariant c.copy_next.ensures.octets c.copy_next.ensures.after
     c.copy_next.ensures.unchanged refl refl refl
 
 pub returns-clause-goes : goal.returns-clause-goes
 returns-clause-goes c =
-    let old : Whole = the_view c.self.inside in
-    subst (λ (whole : Whole). c.copy_next.result ≡ not (all_out whole)) c.self.view_is
+    let old : HostModel = the_view c.self.inside in
+    subst (λ (host : HostModel). c.copy_next.result ≡ not (all_out host)) c.self.view_is
     (c.copy_next.ensures.goes ∙ goes_where_not_out old c.self.invariant (is_none_where old.fault (sym c.is_some.ensures ∙ c.if-is_some.false)))
 
 pub returns-clause-leads : goal.returns-clause-leads
 returns-clause-leads c = OnTrue_from _ _ (λ goes.
-    let old : Whole = the_view c.self.inside in
-    let new : Whole = record old { held = c.copy_next.new.state } in
-    subst (λ (whole : Whole). Leads [] (c.copy_next.new.out.items ∷ []) whole new) c.self.view_is
+    let old : HostModel = the_view c.self.inside in
+    let new : HostModel = record old { server = c.copy_next.new.state } in
+    subst (λ (host : HostModel). Refines [] (c.copy_next.new.out.items ∷ []) host new) c.self.view_is
     (goes_out old new c.copy_next.new.out.items (OnTrue_at goes c.copy_next.ensures.octets) c.copy_next.ensures.after refl refl refl))
 
 pub returns-clause-fewer : goal.returns-clause-fewer
 returns-clause-fewer c = OnTrue_from _ _ (λ goes.
-    let old : Whole = the_view c.self.inside in
-    subst (λ (whole : Whole). most_out c.copy_next.new.state < most_out whole.held) c.self.view_is
-    (subst (λ (held : Held). most_out held < most_out old.held) (sym c.copy_next.ensures.after)
-    (fewer_out old.held c.copy_next.new.out.items (OnTrue_at goes c.copy_next.ensures.octets))))
+    let old : HostModel = the_view c.self.inside in
+    subst (λ (host : HostModel). most_out c.copy_next.new.state < most_out host.server) c.self.view_is
+    (subst (λ (server : ServerState). most_out server < most_out old.server) (sym c.copy_next.ensures.after)
+    (fewer_out old.server c.copy_next.new.out.items (OnTrue_at goes c.copy_next.ensures.octets))))

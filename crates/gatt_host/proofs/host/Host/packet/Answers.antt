@@ -1,65 +1,65 @@
 use Rattle.std.proofs.Common.{◌≡◌, true, ◌∷◌, [], None, refl, sym, subst, ◌∙◌}
 use Rattle.std.specs.Prelude.{IsOk}
-use Rattle.gatt_host.proofs.whole.Items.{drained_where, none_unless, reached_by, rows_hold}
-use Rattle.gatt_host.proofs.whole.Packets.{passes_long, takes_packet}
-use Rattle.gatt_host.proofs.whole.Told.{long_told, not_long, ok_where, told_in_course}
+use Rattle.gatt_host.proofs.model.Items.{drained_where, none_unless, reached_by, rows_hold}
+use Rattle.gatt_host.proofs.model.Packets.{passes_long, takes_packet}
+use Rattle.gatt_host.proofs.model.Told.{long_told, not_long, ok_where, told_in_course}
 use Rattle.gatt_host.specs.contracts.host.Host.{the_view}
-use Rattle.gatt_host.specs.Whole.{LeadsBy, StandsAt, Takes, Whole, all_out}
-use Rattle.gatt_laws.specs.machine.Input.{APacket, course}
+use Rattle.gatt_host.specs.HostModel.{RefinesPacket, RefinesRun, Takes, HostModel, all_out}
+use Rattle.gatt_laws.specs.machine.Input.{APacket, run}
 use Rattle.gatt_laws.specs.machine.Packets.{packet_event}
-use Rattle.le_h4.specs.Packet.{seen}
+use Rattle.le_h4.specs.Packet.{packet_of_ref}
 use Rattle.gatt_host.proofs.host.Host.packet.Goals as goal
 
 pub packet-taken-requires-clause-rows : goal.packet-taken-requires-clause-rows
 packet-taken-requires-clause-rows c =
-    let old : Whole = the_view c.self.inside in
-    let out : all_out old ≡ true = subst (λ (whole : Whole). all_out whole ≡ true) (sym c.self.view_is) c.requires.drained in
+    let old : HostModel = the_view c.self.inside in
+    let out : all_out old ≡ true = subst (λ (host : HostModel). all_out host ≡ true) (sym c.self.view_is) c.requires.drained in
     rows_hold old c.self.invariant (drained_where old (none_unless old.fault c.in_default.not-Some) out)
 
 pub invariant_of-self-2 : goal.invariant_of-self-2
 invariant_of-self-2 c =
-    let old : Whole = the_view c.self.inside in
-    let new : Whole = record old { held = c.packet-taken.new.state; frames = c.packet-taken.new.frames; fault = c.err-self-inside.result } in
-    reached_by (APacket (seen c.args.packet) ∷ []) [] old new c.self.invariant (takes_packet (seen c.args.packet) old new (sym c.is_long.ensures ∙ c.if-is_long.false) (none_unless old.fault c.in_default.not-Some) refl
-    (subst (LeadsBy (seen c.args.packet) old.held old.frames new.held new.frames) (sym c.err-self-inside.ensures.value) c.packet-taken.ensures.leads))
+    let old : HostModel = the_view c.self.inside in
+    let new : HostModel = record old { server = c.packet-taken.new.state; frames = c.packet-taken.new.frames; fault = c.err-self-inside.result } in
+    reached_by (APacket (packet_of_ref c.args.packet) ∷ []) [] old new c.self.invariant (takes_packet (packet_of_ref c.args.packet) old new (sym c.is_long.ensures ∙ c.if-is_long.false) (none_unless old.fault c.in_default.not-Some) refl
+    (subst (RefinesPacket (packet_of_ref c.args.packet) old.server old.frames new.server new.frames) (sym c.err-self-inside.ensures.value) c.packet-taken.ensures.leads))
 
 pub invariant_of-self : goal.invariant_of-self
 invariant_of-self c =
-    let old : Whole = the_view c.self.inside in
-    let new : Whole = record old { held = c.forget.new.self } in
-    reached_by (APacket (seen c.args.packet) ∷ []) [] old new c.self.invariant
-    (passes_long (seen c.args.packet) old new (sym c.is_long.ensures ∙ c.if-is_long.true) (none_unless old.fault c.in_default.not-Some)
-    (λ i. record old { held = c.forget.ensures i }))
+    let old : HostModel = the_view c.self.inside in
+    let new : HostModel = record old { server = c.forget.new.self } in
+    reached_by (APacket (packet_of_ref c.args.packet) ∷ []) [] old new c.self.invariant
+    (passes_long (packet_of_ref c.args.packet) old new (sym c.is_long.ensures ∙ c.if-is_long.true) (none_unless old.fault c.in_default.not-Some)
+    (λ i. record old { server = c.forget.ensures i }))
 
 pub returns-then-is_long-clause-takes : goal.returns-then-is_long-clause-takes
 returns-then-is_long-clause-takes c =
-    let old : Whole = the_view c.self.inside in
-    let new : Whole = record old { held = c.forget.new.self } in
-    subst (λ (whole : Whole). whole.fault ≡ None → Takes (APacket (seen c.args.packet)) whole new) c.self.view_is (λ none.
-    passes_long (seen c.args.packet) old new (sym c.is_long.ensures ∙ c.if-is_long.true) none (λ i. record old { held = c.forget.ensures i }))
+    let old : HostModel = the_view c.self.inside in
+    let new : HostModel = record old { server = c.forget.new.self } in
+    subst (λ (host : HostModel). host.fault ≡ None → Takes (APacket (packet_of_ref c.args.packet)) host new) c.self.view_is (λ none.
+    passes_long (packet_of_ref c.args.packet) old new (sym c.is_long.ensures ∙ c.if-is_long.true) none (λ i. record old { server = c.forget.ensures i }))
 
 pub returns-then-is_long-clause-told : goal.returns-then-is_long-clause-told
-returns-then-is_long-clause-told c = λ start input gone is none still.
-    let old : Whole = the_view c.self.inside in
-    let new : Whole = record old { held = c.forget.new.self } in
-    long_told (seen c.args.packet) (course start input) old new (sym c.is_long.ensures ∙ c.if-is_long.true) still (λ i. record old { held = c.forget.ensures i })
+returns-then-is_long-clause-told c = λ start input sent is none still.
+    let old : HostModel = the_view c.self.inside in
+    let new : HostModel = record old { server = c.forget.new.self } in
+    long_told (packet_of_ref c.args.packet) (run start input) old new (sym c.is_long.ensures ∙ c.if-is_long.true) still (λ i. record old { server = c.forget.ensures i })
 
 pub returns-clause-takes : goal.returns-clause-takes
 returns-clause-takes c =
-    let old : Whole = the_view c.self.inside in
-    let new : Whole = record old { held = c.packet-taken.new.state; frames = c.packet-taken.new.frames; fault = c.err-self-inside.result } in
-    subst (λ (whole : Whole). whole.fault ≡ None → Takes (APacket (seen c.args.packet)) whole new) c.self.view_is (λ none.
-    takes_packet (seen c.args.packet) old new (sym c.is_long.ensures ∙ c.if-is_long.false) none refl
-    (subst (LeadsBy (seen c.args.packet) old.held old.frames new.held new.frames) (sym c.err-self-inside.ensures.value) c.packet-taken.ensures.leads))
+    let old : HostModel = the_view c.self.inside in
+    let new : HostModel = record old { server = c.packet-taken.new.state; frames = c.packet-taken.new.frames; fault = c.err-self-inside.result } in
+    subst (λ (host : HostModel). host.fault ≡ None → Takes (APacket (packet_of_ref c.args.packet)) host new) c.self.view_is (λ none.
+    takes_packet (packet_of_ref c.args.packet) old new (sym c.is_long.ensures ∙ c.if-is_long.false) none refl
+    (subst (RefinesPacket (packet_of_ref c.args.packet) old.server old.frames new.server new.frames) (sym c.err-self-inside.ensures.value) c.packet-taken.ensures.leads))
 
 pub returns-clause-told : goal.returns-clause-told
-returns-clause-told c = λ start input gone is none still.
-    let old : Whole = the_view c.self.inside in
-    let new : Whole = record old { held = c.packet-taken.new.state; frames = c.packet-taken.new.frames; fault = c.err-self-inside.result } in
-    let going : old.fault ≡ None = subst (λ (whole : Whole). whole.fault ≡ None) (sym c.self.view_is) none in
+returns-clause-told c = λ start input sent is none still.
+    let old : HostModel = the_view c.self.inside in
+    let new : HostModel = record old { server = c.packet-taken.new.state; frames = c.packet-taken.new.frames; fault = c.err-self-inside.result } in
+    let going : old.fault ≡ None = subst (λ (host : HostModel). host.fault ≡ None) (sym c.self.view_is) none in
     let done : IsOk c.packet-taken.result = ok_where c.packet-taken.result (sym c.err-self-inside.ensures.value ∙ still) in
-    told_in_course (APacket (seen c.args.packet)) (course start input) gone old new going
-    (packet_event (course start input).intake.state (course start input).intake.fragments (seen c.args.packet))
-    (not_long (course start input).intake.state (course start input).intake.fragments (seen c.args.packet) (sym c.is_long.ensures ∙ c.if-is_long.false)) still
-    (subst (λ (whole : Whole). StandsAt (course start input) gone whole) (sym c.self.view_is) is) (λ stands.
-    c.packet-taken.ensures.told done (course start input) gone stands)
+    told_in_course (APacket (packet_of_ref c.args.packet)) (run start input) sent old new going
+    (packet_event (run start input).intake.state (run start input).intake.fragments (packet_of_ref c.args.packet))
+    (not_long (run start input).intake.state (run start input).intake.fragments (packet_of_ref c.args.packet) (sym c.is_long.ensures ∙ c.if-is_long.false)) still
+    (subst (λ (host : HostModel). RefinesRun (run start input) sent host) (sym c.self.view_is) is) (λ refines.
+    c.packet-taken.ensures.told done (run start input) sent refines)

@@ -1,42 +1,42 @@
 use Rattle.std.proofs.Common.{◌≡◌, true, ◌∷◌, [], None, refl, sym, subst, ◌∙◌}
 use Rattle.gatt_host.proofs.owing.Nexts.{is_none_where}
-use Rattle.gatt_host.proofs.whole.Calls.{replaced_after, table_told, takes_table}
-use Rattle.gatt_host.proofs.whole.Told.{told_in_course}
-use Rattle.gatt_host.proofs.whole.Items.{reached_by}
+use Rattle.gatt_host.proofs.model.Calls.{replaced_after, table_told, takes_table}
+use Rattle.gatt_host.proofs.model.Told.{told_in_course}
+use Rattle.gatt_host.proofs.model.Items.{reached_by}
 use Rattle.gatt_host.specs.contracts.host.Host.{the_view}
-use Rattle.gatt_host.specs.Whole.{StandsAt, Takes, Whole, all_out}
+use Rattle.gatt_host.specs.HostModel.{RefinesRun, Takes, HostModel, all_out}
 use Rattle.gatt_laws.specs.machine.Calls.{replacement_event}
-use Rattle.gatt_laws.specs.machine.Input.{ATable, course}
+use Rattle.gatt_laws.specs.machine.Input.{ATable, run}
 use Rattle.gatt_host.proofs.host.Host.replace.Goals as goal
 
 pub invariant_of-self : goal.invariant_of-self
 invariant_of-self c =
-    let old : Whole = the_view c.self.inside in
-    let new : Whole = record old { held = c.replace_table.new.self } in
-    let out : all_out old ≡ true = subst (λ (whole : Whole). all_out whole ≡ true) (sym c.self.view_is) c.requires.drained in
+    let old : HostModel = the_view c.self.inside in
+    let new : HostModel = record old { server = c.replace_table.new.self } in
+    let out : all_out old ≡ true = subst (λ (host : HostModel). all_out host ≡ true) (sym c.self.view_is) c.requires.drained in
     reached_by (ATable c.args.table ∷ []) [] old new c.self.invariant
     (takes_table c.args.table old new (is_none_where old.fault (sym c.is_some.ensures ∙ c.if-is_some.false)) out c.replace_table.result
-    (replaced_after c.args.table old.held new.held c.replace_table.result c.replace_table.ensures.after) c.replace_table.ensures.accepted c.replace_table.ensures.refused
+    (replaced_after c.args.table old.server new.server c.replace_table.result c.replace_table.ensures.after) c.replace_table.ensures.accepted c.replace_table.ensures.refused
     c.replace_table.ensures.silent (record { frames = refl; stream = refl; fault = refl }))
 
 pub returns-clause-takes : goal.returns-clause-takes
 returns-clause-takes c =
-    let old : Whole = the_view c.self.inside in
-    let new : Whole = record old { held = c.replace_table.new.self } in
-    let out : all_out old ≡ true = subst (λ (whole : Whole). all_out whole ≡ true) (sym c.self.view_is) c.requires.drained in
-    subst (λ (whole : Whole). whole.fault ≡ None → Takes (ATable c.args.table) whole new) c.self.view_is (λ none.
+    let old : HostModel = the_view c.self.inside in
+    let new : HostModel = record old { server = c.replace_table.new.self } in
+    let out : all_out old ≡ true = subst (λ (host : HostModel). all_out host ≡ true) (sym c.self.view_is) c.requires.drained in
+    subst (λ (host : HostModel). host.fault ≡ None → Takes (ATable c.args.table) host new) c.self.view_is (λ none.
     takes_table c.args.table old new none out c.replace_table.result
-    (replaced_after c.args.table old.held new.held c.replace_table.result c.replace_table.ensures.after) c.replace_table.ensures.accepted c.replace_table.ensures.refused
+    (replaced_after c.args.table old.server new.server c.replace_table.result c.replace_table.ensures.after) c.replace_table.ensures.accepted c.replace_table.ensures.refused
     c.replace_table.ensures.silent (record { frames = refl; stream = refl; fault = refl }))
 
 pub returns-clause-told : goal.returns-clause-told
-returns-clause-told c = λ start input gone is none still.
-    let old : Whole = the_view c.self.inside in
-    let new : Whole = record old { held = c.replace_table.new.self } in
-    let out : all_out old ≡ true = subst (λ (whole : Whole). all_out whole ≡ true) (sym c.self.view_is) c.requires.drained in
-    let going : old.fault ≡ None = subst (λ (whole : Whole). whole.fault ≡ None) (sym c.self.view_is) none in
-    told_in_course (ATable c.args.table) (course start input) gone old new going (replacement_event (course start input).intake.state c.args.table)
-    refl still (subst (λ (whole : Whole). StandsAt (course start input) gone whole) (sym c.self.view_is) is) (λ stands.
+returns-clause-told c = λ start input sent is none still.
+    let old : HostModel = the_view c.self.inside in
+    let new : HostModel = record old { server = c.replace_table.new.self } in
+    let out : all_out old ≡ true = subst (λ (host : HostModel). all_out host ≡ true) (sym c.self.view_is) c.requires.drained in
+    let going : old.fault ≡ None = subst (λ (host : HostModel). host.fault ≡ None) (sym c.self.view_is) none in
+    told_in_course (ATable c.args.table) (run start input) sent old new going (replacement_event (run start input).intake.state c.args.table)
+    refl still (subst (λ (host : HostModel). RefinesRun (run start input) sent host) (sym c.self.view_is) is) (λ refines.
     table_told c.args.table old new going out c.replace_table.result
-    (replaced_after c.args.table old.held new.held c.replace_table.result c.replace_table.ensures.after) c.replace_table.ensures.accepted c.replace_table.ensures.refused
-    c.replace_table.ensures.silent (course start input) gone stands)
+    (replaced_after c.args.table old.server new.server c.replace_table.result c.replace_table.ensures.after) c.replace_table.ensures.accepted c.replace_table.ensures.refused
+    c.replace_table.ensures.silent (run start input) sent refines)

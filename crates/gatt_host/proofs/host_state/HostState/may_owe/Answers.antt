@@ -4,10 +4,10 @@ use Rattle.std.proofs.lemmas.Bool.{OnFalse_at, OnFalse_from}
 use Rattle.gatt_host.proofs.owing.Lacking.{open_drained}
 use Rattle.gatt_host.specs.contracts.host_state.HostState.{the_view}
 use Rattle.gatt_host.specs.GoingOut.{is_drained}
-use Rattle.gatt_host.specs.Held.{Held, open_slots}
+use Rattle.gatt_host.specs.ServerState.{ServerState, open_slots}
 use Rattle.gatt_host.proofs.host_state.HostState.may_owe.Goals as goal
 
 pub returns : goal.returns
 returns c =
-    subst (λ (held : Held). OnFalse c.may_owe.result (is_drained held.controller (open_slots held) ≡ true)) c.self.view_is
+    subst (λ (server : ServerState). OnFalse c.may_owe.result (is_drained server.controller (open_slots server) ≡ true)) c.self.view_is
     (OnFalse_from _ _ (λ none. open_drained (the_view c.self.inside) (sym c.is_ready.ensures ∙ c.if-not-is_ready.false) (OnFalse_at none c.may_owe.ensures)))

@@ -16,7 +16,7 @@ returns-in_err-notice-clause-steps c =
 
 pub returns-clause-steps : goal.returns-clause-steps
 returns-clause-steps c =
-    let table : c.self.inside.host.now.held.table ≡ c.args.self.now.table = ap (λ (untold : Untold). untold.table) c.self.view_is in (
+    let table : c.self.inside.host.now.server.table ≡ c.args.self.now.table = ap (λ (untold : Untold). untold.table) c.self.view_is in (
       sym (ap (λ (untold : Untold). untold.notices) c.self.view_is)
           ∙ one_left (notices_told c.self.inside.host.now) c.self.inside.given (notice_of c.in_ok-notice.notice) (sym c.in_ok-notice.ensures.notice),
       subst (λ (table : Contents). HasTheValue table c.in_ok-notice.notice) table c.in_ok-notice.ensures.value,

@@ -4,9 +4,9 @@ use Rattle.std.specs.Prelude.{◌==◌, is_some, length, IfSome, IsSome}
 use Rattle.att_policy.specs.declared.standing.KeyFacts.{KeyFacts}
 use Rattle.att_policy.specs.declared.standing.Standing.{Standing}
 use Rattle.att_table.specs.ConfigRow.{IsRowOf}
-use Rattle.gatt_slots.specs.Hearing.{row_in_force}
-use Rattle.gatt_slots.specs.Kept.{Kept}
-use Rattle.gatt_slots.specs.Request.{bond_served, kept_served}
+use Rattle.gatt_slots.specs.Hearing.{slot_row_in_force}
+use Rattle.gatt_slots.specs.SlotState.{SlotState}
+use Rattle.gatt_slots.specs.Request.{bond_served, slot_after_request}
 use Rattle.gatt_slots.proofs.Confirming.{confirms_nothing}
 use Rattle.gatt_slots.proofs.Served.{bond_of_served, kept_after_serving, row_of_table}
 use Rattle.gatt_subs.specs.Rows.{row_of, ChangesBond}
@@ -18,8 +18,8 @@ answer_by_row-served-requires-clause-row c =
     row_of_table c.args.table.now c.args.now c.args.changer c.args.pdu.now c.args.rows.now c.args.rows.now c.args.rows.now
     inside.handle inside.peer inside.key_known inside.until inside.row inside.link inside.conn inside.pending inside.sender inside.reply inside.reason inside.used
     c.is_some-has_key.result (c.is_some-has_key.ensures ∙ ap (λ (key : Option KeyFacts). is_some key) c.facts.ensures.key)
-    (subst (λ (self : Option Kept). IsSome self) (sym c.self.view_is) c.requires.there)
-    (subst (λ (self : Option Kept). IfSome self (λ kept. IsRowOf c.args.table.now.attributes (row_in_force (row_of c.args.rows.now kept.peer) kept)))
+    (subst (λ (self : Option SlotState). IsSome self) (sym c.self.view_is) c.requires.there)
+    (subst (λ (self : Option SlotState). IfSome self (λ slot_state. IsRowOf c.args.table.now.attributes (slot_row_in_force (row_of c.args.rows.now slot_state.peer) slot_state)))
     (sym c.self.view_is) c.requires.row)
 
 pub returns-clause-bond : goal.returns-clause-bond
@@ -27,8 +27,8 @@ returns-clause-bond c =
     let inside = c.self.inside in
     let old = c.args.rows.now in
     let new = c.owe_unless.new.rows in
-    subst (λ (self : Option Kept). IfSome self (λ kept.
-    ChangesBond (bond_served c.args.table.now c.args.now c.args.changer (row_of old kept.peer) c.args.pdu.now kept) kept.peer old new)) c.self.view_is
+    subst (λ (self : Option SlotState). IfSome self (λ slot_state.
+    ChangesBond (bond_served c.args.table.now c.args.now c.args.changer (row_of old slot_state.peer) c.args.pdu.now slot_state) slot_state.peer old new)) c.self.view_is
     (bond_of_served c.args.table.now c.args.now c.args.changer c.args.pdu.now old c.answer_by_row-served.new.rows new
     inside.handle inside.peer inside.key_known inside.until inside.row inside.link inside.conn inside.pending inside.sender inside.reply inside.reason inside.used
     c.is_some-has_key.result c.knows_change-knows_change.result c.stand.new.self c.answer_by_row-served.result.confirmed
@@ -50,7 +50,7 @@ returns-clause-after c =
     (c.stand.ensures ∙ ap (λ (standing : Standing). record inside.conn { standing = standing }) c.standing-standing.ensures)
     c.answer_by_row-served.ensures.answered.confirmed c.answer_by_row-served.ensures.own c.answer_by_row-served.ensures.answered.conn c.take_confirmation.ensures.pending
     c.answer_by_row-served.ensures.queued
-    ∙ ap (λ (self : Option Kept). option_map (λ kept. kept_served c.args.table.now c.args.now (row_of old kept.peer) c.args.pdu.now kept) self) c.self.view_is
+    ∙ ap (λ (self : Option SlotState). option_map (λ slot_state. slot_after_request c.args.table.now c.args.now (row_of old slot_state.peer) c.args.pdu.now slot_state) self) c.self.view_is
 
 pub returns-then-is_full-clause-confirmed : goal.returns-then-is_full-clause-confirmed
 returns-then-is_full-clause-confirmed c =

@@ -4,11 +4,11 @@ use Rattle.std.specs.Bool.{OnFalse}
 use Rattle.std.specs.List.{list_any}
 use Rattle.gatt_slots.proofs.Covering.{none_marked}
 use Rattle.gatt_slots.specs.Commands.{has_command}
-use Rattle.gatt_slots.specs.Slots.{Held}
+use Rattle.gatt_slots.specs.Slots.{SlotStates}
 use Rattle.gatt_slots.specs.declared.places.Due.TheVariants.{Command}
 use Rattle.gatt_slots.proofs.slots.Slots.may_have_command.Goals as goal
 
 pub returns : goal.returns
 returns c =
-    subst (λ (slots : Held). OnFalse (not c.is_empty.result) (list_any has_command slots ≡ false)) c.self.view_is
+    subst (λ (slots : SlotStates). OnFalse (not c.is_empty.result) (list_any has_command slots ≡ false)) c.self.view_is
     (none_marked Command c.self.inside.marks.commands.bits c.self.inside.slots.items c.is_empty.result c.self.invariant.0.commands c.is_empty.ensures)

@@ -2,13 +2,13 @@ use Rattle.std.proofs.Common.{◌≡◌, ℕ, [], None, sym, subst}
 use Rattle.std.proofs.lemmas.Bool.{OnFalse_from}
 use Rattle.att_table.specs.Table.{Contents}
 use Rattle.gatt_slots.proofs.Quiet.{nothing_heard_by_all}
-use Rattle.gatt_slots.specs.Slots.{Held, all_heard}
+use Rattle.gatt_slots.specs.Slots.{SlotStates, all_heard}
 use Rattle.gatt_subs.specs.Rows.{Subscriptions}
 use Rattle.gatt_slots.proofs.slots.Slots.may_wait.Goals as goal
 
 pub returns : goal.returns
 returns c = OnFalse_from _ _ (λ none.
     let all : (table : Contents) → (rows : Subscriptions) → (now : ℕ) → all_heard table now rows None [] [] c.args.self.now ≡ c.args.self.now = λ table rows now.
-    subst (λ (it : Held). all_heard table now rows None [] [] it ≡ it) c.self.view_is
+    subst (λ (it : SlotStates). all_heard table now rows None [] [] it ≡ it) c.self.view_is
     (sym (nothing_heard_by_all table now rows None c.self.inside.slots.items (c.self.invariant.0.waiting none))) in
     all)

@@ -3,31 +3,31 @@ use Rattle.std.specs.Prelude.{is_some}
 use Rattle.std.proofs.lemmas.Bool.{OnTrue_at, OnTrue_from}
 use Rattle.gatt_slots.proofs.AtPlace.{changed_at, given_goes_on, given_listens, there_at}
 use Rattle.gatt_slots.proofs.Noted.{given_noted, noted_still}
-use Rattle.gatt_slots.specs.Commands.{without_packet}
+use Rattle.gatt_slots.specs.Commands.{slot_without_packet}
 use Rattle.gatt_slots.specs.Handles.{noted_of}
-use Rattle.gatt_slots.specs.Kept.{Kept}
-use Rattle.gatt_slots.specs.Places.{may_listen, GoesOn}
-use Rattle.gatt_slots.specs.Slots.{Held}
+use Rattle.gatt_slots.specs.SlotState.{SlotState}
+use Rattle.gatt_slots.specs.Places.{may_listen, WaitsForNothingNew}
+use Rattle.gatt_slots.specs.Slots.{SlotStates}
 use Rattle.gatt_slots.proofs.slots.Slots.next_into.Goals as goal
 
 pub returns-clause-after : goal.returns-clause-after
 returns-clause-after c =
     let slots = c.self.inside.slots.items in
-    let within : c.args.place < length slots = subst (λ (it : Held). c.args.place < length it) (sym c.self.view_is) c.requires.place in
+    let within : c.args.place < length slots = subst (λ (it : SlotStates). c.args.place < length it) (sym c.self.view_is) c.requires.place in
     OnTrue_from _ _ (λ gives.
     changed_at slots c.args.self.now c.self.view_is c.args.place c.index_mut-slot.result.now within c.index_mut-slot.ensures.value
-    without_packet c.next_into-given.new.self (OnTrue_at gives c.next_into-given.ensures.after))
+    slot_without_packet c.next_into-given.new.self (OnTrue_at gives c.next_into-given.ensures.after))
 
 pub invariant_of-self : goal.invariant_of-self
 invariant_of-self c =
     let slots = c.self.inside.slots.items in
     let place = c.args.place in
     let slot = c.index_mut-slot.result.now in
-    let within : place < length slots = subst (λ (it : Held). place < length it) (sym c.self.view_is) c.requires.place in
+    let within : place < length slots = subst (λ (it : SlotStates). place < length it) (sym c.self.view_is) c.requires.place in
     let there = there_at slots slots (λ i. slots) place slot within c.index_mut-slot.ensures.value in
     let goes = given_goes_on slot c.next_into-given.new.self (is_some c.next_into-given.result) c.next_into-given.ensures.after c.next_into-given.ensures.unchanged in (
       c.go_on.ensures slots c.next_into-given.new.self within c.self.invariant.0
-          (subst (λ (it : Option Kept). GoesOn it c.next_into-given.new.self) there goes)
+          (subst (λ (it : Option SlotState). WaitsForNothingNew it c.next_into-given.new.self) there goes)
           (λ listens. sym (ap may_listen there) ∙ given_listens slot c.next_into-given.new.self (is_some c.next_into-given.result) c.next_into-given.ensures.after c.next_into-given.ensures.unchanged listens)
           (λ none. sym c.gives-giving.ensures ∙ none),
       noted_still slots c.self.inside.handles.noted c.self.invariant.1 place c.next_into-given.new.self within

@@ -6,7 +6,7 @@ use Rattle.att_table.specs.Table.{Contents}
 use Rattle.gatt_slots.proofs.Covering.{there}
 use Rattle.gatt_slots.proofs.InTurn.{nobody_listens, nothing_is_raised}
 use Rattle.gatt_slots.proofs.Quiet.{none_there}
-use Rattle.gatt_slots.specs.Slots.{Held, all_heard, is_own}
+use Rattle.gatt_slots.specs.Slots.{SlotStates, all_heard, is_own_place}
 use Rattle.gatt_slots.specs.declared.places.Due.TheVariants.{Value}
 use Rattle.gatt_subs.specs.Rows.{Subscriptions}
 use Rattle.gatt_slots.proofs.slots.Slots.nobody_hears.Goals as goal
@@ -30,11 +30,11 @@ returns-else-is_empty-2 c =
     let marked = c.self.invariant.0 in
     let here : a.here.now ≡ [] = none_there a.here.now (sym c.is_empty.ensures ∙ c.if-is_empty.true) in
     OnTrue_from _ _ (λ is.
-    let only : (place : ℕ) → place < 8 → bit_at c.self.inside.marks.listening.bits place ≡ 1 → is_own a.own place ≡ true = OnTrue_at is c.is_empty_but.ensures in
+    let only : (place : ℕ) → place < 8 → bit_at c.self.inside.marks.listening.bits place ≡ 1 → is_own_place a.own place ≡ true = OnTrue_at is c.is_empty_but.ensures in
     let all : (table : Contents) → (rows : Subscriptions) → (now : ℕ)
     → all_heard table now rows a.own a.here.now a.handles.now a.self.now ≡ all_heard table now rows None [] [] a.self.now = λ table rows now.
     ap (λ (it : List Handle). all_heard table now rows a.own it a.handles.now a.self.now) here
-    ∙ subst (λ (it : Held). all_heard table now rows a.own [] a.handles.now it ≡ all_heard table now rows None [] [] it) c.self.view_is
+    ∙ subst (λ (it : SlotStates). all_heard table now rows a.own [] a.handles.now it ≡ all_heard table now rows None [] [] it) c.self.view_is
     (nobody_listens table now rows a.own a.handles.now slots
     (λ place listens. only place (omega (arith, there Value slots place listens, marked.few)) (marked.listening place listens))) in
     all)

@@ -3,10 +3,10 @@ use Rattle.std.specs.Option.{option_map}
 use Rattle.std.proofs.lemmas.List.{length-map}
 use Rattle.gatt_slots.proofs.Noted.{each_noted, written_over, replaced_handle}
 use Rattle.gatt_slots.specs.Handles.{AreNoted}
-use Rattle.gatt_slots.specs.Kept.{Kept}
+use Rattle.gatt_slots.specs.SlotState.{SlotState}
 use Rattle.gatt_slots.specs.Places.{IsMarked}
-use Rattle.gatt_slots.specs.Slots.{Held}
-use Rattle.gatt_slots.specs.Turn.{after_table}
+use Rattle.gatt_slots.specs.Slots.{SlotStates}
+use Rattle.gatt_slots.specs.SlotEffects.{after_table}
 use Rattle.gatt_slots.proofs.slots.Slots.replace.Goals as goal
 
 pub invariant_of-self : goal.invariant_of-self
@@ -14,9 +14,9 @@ invariant_of-self c =
     let slots = c.self.inside.slots.items in
     let noted = c.self.inside.handles.noted in
     let others = c.replace_all.new.slots in
-    let change : Kept → Kept = (after_table c.args.old.now.attributes c.args.new.now.attributes) in
-    let changed : others ≡ map (λ (slot : Option Kept). option_map change slot) slots =
-    c.replace_all.ensures ∙ ap (λ (it : Held). map (λ (slot : Option Kept). option_map change slot) it) c.as_mut_slice.ensures.value in
-    let count : length others ≡ length slots = ap (λ (it : Held). length it) changed ∙ length-map slots (λ (slot : Option Kept). option_map change slot) in
-    subst (λ (it : Held). IsMarked it c.all-self-inside.result × AreNoted it noted) (sym (written_over c.self.inside.slots.len slots others count (ap (λ (it : Held). length it) (sym c.as_mut_slice.ensures.value) ∙ c.as_mut_slice.ensures.len)))
+    let change : SlotState → SlotState = (after_table c.args.old.now.attributes c.args.new.now.attributes) in
+    let changed : others ≡ map (λ (slot : Option SlotState). option_map change slot) slots =
+    c.replace_all.ensures ∙ ap (λ (it : SlotStates). map (λ (slot : Option SlotState). option_map change slot) it) c.as_mut_slice.ensures.value in
+    let count : length others ≡ length slots = ap (λ (it : SlotStates). length it) changed ∙ length-map slots (λ (slot : Option SlotState). option_map change slot) in
+    subst (λ (it : SlotStates). IsMarked it c.all-self-inside.result × AreNoted it noted) (sym (written_over c.self.inside.slots.len slots others count (ap (λ (it : SlotStates). length it) (sym c.as_mut_slice.ensures.value) ∙ c.as_mut_slice.ensures.len)))
     (c.all-self-inside.ensures others (omega (arith, c.self.invariant.0.few, count)), each_noted slots others noted change (replaced_handle c.args.old.now.attributes c.args.new.now.attributes) changed c.self.invariant.1)

@@ -2,10 +2,10 @@ use Rattle.std.proofs.Common.{◌≡◌, ◌<◌, Option, length, subst, sym}
 use Rattle.std.specs.Prelude.{IfSome}
 use Rattle.gatt_slots.proofs.AtPlace.{changed_at, served_goes_on, there_at}
 use Rattle.gatt_slots.proofs.Noted.{changed_noted, served_handle}
-use Rattle.gatt_slots.specs.Kept.{Kept}
-use Rattle.gatt_slots.specs.Places.{GoesOn}
-use Rattle.gatt_slots.specs.Request.{bond_served, confirmed_of, handles_of, is_full, kept_served, table_after}
-use Rattle.gatt_slots.specs.Slots.{Held}
+use Rattle.gatt_slots.specs.SlotState.{SlotState}
+use Rattle.gatt_slots.specs.Places.{WaitsForNothingNew}
+use Rattle.gatt_slots.specs.Request.{bond_served, confirmed_of, handles_written_by, overflows, slot_after_request, table_after}
+use Rattle.gatt_slots.specs.Slots.{SlotStates}
 use Rattle.gatt_subs.specs.Rows.{row_of, ChangesBond}
 use Rattle.gatt_slots.proofs.slots.Slots.serve.Goals as goal
 
@@ -14,61 +14,61 @@ invariant_of-self c =
     let slots = c.self.inside.slots.items in
     let place = c.args.place in
     let slot = c.index_mut.result.now in
-    let within : place < length slots = subst (λ (it : Held). place < length it) (sym c.self.view_is) c.requires.place in (
+    let within : place < length slots = subst (λ (it : SlotStates). place < length it) (sym c.self.view_is) c.requires.place in (
       c.serve.ensures slots c.serve-brought.new.self within c.self.invariant.0 (λ none.
-          subst (λ (it : Option Kept). GoesOn it c.serve-brought.new.self) (there_at slots slots (λ i. slots) place slot within c.index_mut.ensures.value)
-          (subst (λ (it : Option Kept). GoesOn slot it) (sym c.serve-brought.ensures.after)
+          subst (λ (it : Option SlotState). WaitsForNothingNew it c.serve-brought.new.self) (there_at slots slots (λ i. slots) place slot within c.index_mut.ensures.value)
+          (subst (λ (it : Option SlotState). WaitsForNothingNew slot it) (sym c.serve-brought.ensures.after)
           (served_goes_on c.args.table.now c.args.now c.args.rows.now c.args.pdu.now slot c.serve-brought.result.ended c.serve-brought.ensures.ended none))),
       changed_noted slots c.self.inside.handles.noted place slot c.serve-brought.new.self
-          (λ (kept : Kept). kept_served c.args.table.now c.args.now (row_of c.args.rows.now kept.peer) c.args.pdu.now kept) within c.index_mut.ensures.value
-          (λ kept. served_handle c.args.table.now c.args.now (row_of c.args.rows.now kept.peer) c.args.pdu.now kept) c.serve-brought.ensures.after c.self.invariant.1,
+          (λ (slot_state : SlotState). slot_after_request c.args.table.now c.args.now (row_of c.args.rows.now slot_state.peer) c.args.pdu.now slot_state) within c.index_mut.ensures.value
+          (λ slot_state. served_handle c.args.table.now c.args.now (row_of c.args.rows.now slot_state.peer) c.args.pdu.now slot_state) c.serve-brought.ensures.after c.self.invariant.1,
     )
 
 pub returns-clause-after : goal.returns-clause-after
 returns-clause-after c =
     let slots = c.self.inside.slots.items in
     let place = c.args.place in
-    let within : place < length slots = subst (λ (it : Held). place < length it) (sym c.self.view_is) c.requires.place in
+    let within : place < length slots = subst (λ (it : SlotStates). place < length it) (sym c.self.view_is) c.requires.place in
     changed_at slots c.args.self.now c.self.view_is place c.index_mut.result.now within c.index_mut.ensures.value
-    (λ (kept : Kept). kept_served c.args.table.now c.args.now (row_of c.args.rows.now kept.peer) c.args.pdu.now kept) c.serve-brought.new.self c.serve-brought.ensures.after
+    (λ (slot_state : SlotState). slot_after_request c.args.table.now c.args.now (row_of c.args.rows.now slot_state.peer) c.args.pdu.now slot_state) c.serve-brought.new.self c.serve-brought.ensures.after
 
 pub returns-clause-table : goal.returns-clause-table
 returns-clause-table c =
     let slots = c.self.inside.slots.items in
     let place = c.args.place in
-    let within : place < length slots = subst (λ (it : Held). place < length it) (sym c.self.view_is) c.requires.place in
-    subst (λ (it : Option Kept). IfSome it (λ kept. c.serve-brought.new.table ≡ table_after c.args.table.now c.args.now (row_of c.args.rows.now kept.peer) c.args.pdu.now kept))
+    let within : place < length slots = subst (λ (it : SlotStates). place < length it) (sym c.self.view_is) c.requires.place in
+    subst (λ (it : Option SlotState). IfSome it (λ slot_state. c.serve-brought.new.table ≡ table_after c.args.table.now c.args.now (row_of c.args.rows.now slot_state.peer) c.args.pdu.now slot_state))
     (there_at slots c.args.self.now c.self.view_is place c.index_mut.result.now within c.index_mut.ensures.value) c.serve-brought.ensures.table
 
 pub returns-clause-bond : goal.returns-clause-bond
 returns-clause-bond c =
     let slots = c.self.inside.slots.items in
     let place = c.args.place in
-    let within : place < length slots = subst (λ (it : Held). place < length it) (sym c.self.view_is) c.requires.place in
-    subst (λ (it : Option Kept). IfSome it (λ kept.
-    ChangesBond (bond_served c.args.table.now c.args.now c.args.changer (row_of c.args.rows.now kept.peer) c.args.pdu.now kept) kept.peer c.args.rows.now c.serve-brought.new.rows))
+    let within : place < length slots = subst (λ (it : SlotStates). place < length it) (sym c.self.view_is) c.requires.place in
+    subst (λ (it : Option SlotState). IfSome it (λ slot_state.
+    ChangesBond (bond_served c.args.table.now c.args.now c.args.changer (row_of c.args.rows.now slot_state.peer) c.args.pdu.now slot_state) slot_state.peer c.args.rows.now c.serve-brought.new.rows))
     (there_at slots c.args.self.now c.self.view_is place c.index_mut.result.now within c.index_mut.ensures.value) c.serve-brought.ensures.bond
 
 pub returns-clause-written : goal.returns-clause-written
 returns-clause-written c =
     let slots = c.self.inside.slots.items in
     let place = c.args.place in
-    let within : place < length slots = subst (λ (it : Held). place < length it) (sym c.self.view_is) c.requires.place in
-    subst (λ (it : Option Kept). IfSome it (λ kept. c.serve-brought.new.written.items ≡ handles_of c.args.table.now c.args.now (row_of c.args.rows.now kept.peer) c.args.pdu.now kept))
+    let within : place < length slots = subst (λ (it : SlotStates). place < length it) (sym c.self.view_is) c.requires.place in
+    subst (λ (it : Option SlotState). IfSome it (λ slot_state. c.serve-brought.new.written.items ≡ handles_written_by c.args.table.now c.args.now (row_of c.args.rows.now slot_state.peer) c.args.pdu.now slot_state))
     (there_at slots c.args.self.now c.self.view_is place c.index_mut.result.now within c.index_mut.ensures.value) c.serve-brought.ensures.written
 
 pub returns-clause-ended : goal.returns-clause-ended
 returns-clause-ended c =
     let slots = c.self.inside.slots.items in
     let place = c.args.place in
-    let within : place < length slots = subst (λ (it : Held). place < length it) (sym c.self.view_is) c.requires.place in
-    subst (λ (it : Option Kept). IfSome it (λ kept. c.serve-brought.result.ended ≡ is_full c.args.pdu.now kept))
+    let within : place < length slots = subst (λ (it : SlotStates). place < length it) (sym c.self.view_is) c.requires.place in
+    subst (λ (it : Option SlotState). IfSome it (λ slot_state. c.serve-brought.result.ended ≡ overflows c.args.pdu.now slot_state))
     (there_at slots c.args.self.now c.self.view_is place c.index_mut.result.now within c.index_mut.ensures.value) c.serve-brought.ensures.ended
 
 pub returns-clause-confirmed : goal.returns-clause-confirmed
 returns-clause-confirmed c =
     let slots = c.self.inside.slots.items in
     let place = c.args.place in
-    let within : place < length slots = subst (λ (it : Held). place < length it) (sym c.self.view_is) c.requires.place in
-    subst (λ (it : Option Kept). IfSome it (λ kept. c.serve-brought.result.confirmed ≡ confirmed_of c.args.pdu.now kept))
+    let within : place < length slots = subst (λ (it : SlotStates). place < length it) (sym c.self.view_is) c.requires.place in
+    subst (λ (it : Option SlotState). IfSome it (λ slot_state. c.serve-brought.result.confirmed ≡ confirmed_of c.args.pdu.now slot_state))
     (there_at slots c.args.self.now c.self.view_is place c.index_mut.result.now within c.index_mut.ensures.value) c.serve-brought.ensures.confirmed

@@ -1,14 +1,14 @@
 use Rattle.std.proofs.Common.{[], ◌∷◌}
 use Rattle.gatt_host.specs.Asked.{call_of}
 use Rattle.gatt_laws.specs.machine.Input.{ACall}
-use Rattle.gihandop_c.specs.Boundary.{AnswersCall, LeadsOn, TellsItem}
+use Rattle.gihandop_c.specs.Boundary.{AnswersCall, OpenedRefines, TellsItem}
 use Rattle.gihandop_c.specs.Statuses.{WaitsForOutput}
 use Rattle.gihandop_c.proofs.Carried.{carried, carried_before}
 use Rattle.gihandop_c.proofs.exports.asking.ask.Goals as goal
 
 pub returns-clause-takes : goal.returns-clause-takes
 returns-clause-takes c = λ asked.
-    carried (LeadsOn (ACall (call_of c.args.call) ∷ []) []) c.args.host.now.host c.in-Some.open.now c.call.new.opened c.in-Some.ensures.host
+    carried (OpenedRefines (ACall (call_of c.args.call) ∷ []) []) c.args.host.now.host c.in-Some.open.now c.call.new.opened c.in-Some.ensures.host
     (c.call.ensures.takes asked)
 
 pub returns-clause-tells : goal.returns-clause-tells

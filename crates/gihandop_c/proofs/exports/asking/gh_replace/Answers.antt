@@ -1,13 +1,13 @@
 use Rattle.std.proofs.Common.{[], ◌∷◌}
 use Rattle.gatt_laws.specs.machine.Input.{ATable}
-use Rattle.gihandop_c.specs.Boundary.{AnswersTable, LeadsOn, TellsItem}
+use Rattle.gihandop_c.specs.Boundary.{AnswersTable, OpenedRefines, TellsItem}
 use Rattle.gihandop_c.specs.Statuses.{WaitsForOutput}
 use Rattle.gihandop_c.proofs.Carried.{carried, carried_before}
 use Rattle.gihandop_c.proofs.exports.asking.gh_replace.Goals as goal
 
 pub returns-clause-takes : goal.returns-clause-takes
 returns-clause-takes c = λ contents read below asked.
-    carried (LeadsOn (ATable contents ∷ []) []) c.args.host.now.host c.in-Some.open.now c.replace_by.new.opened c.in-Some.ensures.host
+    carried (OpenedRefines (ATable contents ∷ []) []) c.args.host.now.host c.in-Some.open.now c.replace_by.new.opened c.in-Some.ensures.host
     (c.replace_by.ensures.takes contents read below asked)
 
 pub returns-clause-tells : goal.returns-clause-tells

@@ -1,9 +1,9 @@
 use Rattle.std.proofs.Common.{[], ◌∷◌, take}
-use Rattle.gihandop_c.specs.Boundary.{LeadsOn}
+use Rattle.gihandop_c.specs.Boundary.{OpenedRefines}
 use Rattle.gihandop_c.proofs.Carried.{carried}
 use Rattle.gihandop_c.proofs.exports.stream.gh_next_out.Goals as goal
 
 pub returns-clause-goes : goal.returns-clause-goes
 returns-clause-goes c = λ done.
-    carried (LeadsOn [] (take c.next_out.new.count c.next_out.new.out ∷ [])) c.args.host.now.host c.in-Some.open.now c.next_out.new.opened
+    carried (OpenedRefines [] (take c.next_out.new.count c.next_out.new.out ∷ [])) c.args.host.now.host c.in-Some.open.now c.next_out.new.opened
     c.in-Some.ensures.host (c.next_out.ensures.goes done)

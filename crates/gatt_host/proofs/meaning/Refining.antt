@@ -1,0 +1,318 @@
+-- What happens to a state in its run leads a host on in it, whatever means it: by the places of
+-- connections the host understands the same.
+use Rattle.std.proofs.Common.{◌≡◌, ℕ, ◌≤◌, Bool, true, false, [], ◌∷◌, length, Option, Some, None}
+use Rattle.std.proofs.Common.{Result, Ok, Err, refl, sym, ap, subst, ◌∙◌, arith}
+use Rattle.std.specs.Prelude.{IsOkAnd, ◌==◌, ◌||◌, if◌then◌else◌}
+use Rattle.std.proofs.lemmas.List.{length-set}
+use Rattle.gatt_host.proofs.meaning.Staying.{stays_sound}
+use Rattle.gatt_host.proofs.meaning.Together.{few_slots, next_place, together_coming, together_then}
+use Rattle.gatt_host.proofs.refinement.Arrivals.{frames_follow, recombine_alike}
+use Rattle.gatt_host.proofs.refinement.Happenings.{events_lead_on}
+use Rattle.gatt_host.proofs.refinement.Holding.{has_slot_there, some-is}
+use Rattle.gatt_host.proofs.refinement.Names.{finds, knows_the_same}
+use Rattle.gatt_host.proofs.refinement.OneSlot.{apart}
+use Rattle.gatt_host.specs.Answers.{stop_of}
+use Rattle.gatt_host.specs.declared.host_fault.HostFault.{HostFault}
+use Rattle.gatt_host.specs.ServerState.{ServerState}
+use Rattle.gatt_host.specs.Meaning.{Frames, context_in, frames_after, IsAfter, recombinations_in}
+use Rattle.gatt_host.specs.Notices.{last_notices}
+use Rattle.gatt_host.specs.Packet.{TakesPacket, frames_after_acl, frames_after_event}
+use Rattle.gatt_host.specs.Packet.{frames_after_packet, frames_with, packet_happening, packet_stop}
+use Rattle.gatt_host.specs.RunRefinement.{IsDrainedIn, IsPutTogether, ServerRefinesRun}
+use Rattle.gatt_host.specs.RunRefinement.{PacketStops, StopsForFault}
+use Rattle.gatt_host.specs.StateRefinement.{IsSound, RefinesStep, RefinesState, place_of_connection}
+use Rattle.gatt_host.specs.Telling.{noticed_in}
+use Rattle.gatt_laws.proofs.Meant.{MeantIfAny, packet_meant, possible_where_meant}
+use Rattle.gatt_laws.proofs.Renaming.{packets_mean_the_same}
+use Rattle.gatt_laws.proofs.Settled.{none_next}
+use Rattle.gatt_laws.specs.laws.Possible.{IsMeant}
+use Rattle.gatt_laws.specs.laws.Renaming.{renamed, renamed_if}
+use Rattle.gatt_laws.specs.machine.Context.{context_of, serving}
+use Rattle.gatt_laws.specs.machine.Controller.{is_ready}
+use Rattle.gatt_laws.specs.machine.Event.{Ordinal, Event, Connected}
+use Rattle.gatt_laws.specs.machine.Event.{Asks, Signals, Happening}
+use Rattle.gatt_laws.specs.machine.Event.{Of, Nothing}
+use Rattle.gatt_laws.specs.machine.Input.{Run, packet_taken}
+use Rattle.gatt_laws.specs.machine.Notice.{noticed}
+use Rattle.gatt_laws.specs.machine.Packets.{Fault, Fragments, answered, arrival, arrival_of}
+use Rattle.gatt_laws.specs.machine.Packets.{data_event, event_or_bad, following_of, frame_event}
+use Rattle.gatt_laws.specs.machine.Packets.{is_awaited}
+use Rattle.gatt_laws.specs.machine.Packets.{Recombination, recombinations_of, of_frame, of_octets}
+use Rattle.gatt_laws.specs.machine.Packets.{packet_event, status_of, with_arrival}
+use Rattle.gatt_laws.specs.machine.State.{State, out, step}
+use Rattle.gatt_slots.proofs.states.Places.{Finds}
+use Rattle.gatt_slots.specs.Slots.{Place, place_serving}
+use Rattle.le_acl.specs.Fragment.{Fragment, fragment_of}
+use Rattle.le_h4.specs.Packet.{Packet, AclPacket, EventPacket, ScoPacket}
+use Rattle.le_hci.specs.declared.event.BadEvent.{BadEvent}
+use Rattle.le_hci.specs.declared.init.Init.{Init}
+use Rattle.le_hci.specs.declared.peer.Peer.{Peer}
+use Rattle.le_hci.specs.Event as event
+use Rattle.le_hci.specs.Event.{Reported, event_of}
+use Rattle.le_hci.specs.Init.{init_outcome}
+use Rattle.le_l2cap.specs.declared.channel.TheConstants.{ATT, LE_SIGNALLING, SECURITY_MANAGER}
+use Rattle.le_l2cap.specs.declared.frame.Skip.{Skip}
+use Rattle.le_l2cap.specs.Frame.{BasicFrame, frame_of}
+use Rattle.octets.specs.Number.{Octets}
+
+abbrev pub IsAny : {A : Type 0} → A → Type 0
+IsAny x = Unit
+
+ok-is : {A E : Type 0} {x y : A} → ◌≡◌ {A = Result A E} (Ok x) (Ok y) → x ≡ y
+ok-is e = cc e
+
+-- An event leads on, with what is put together.
+module _ (state : State) (server : ServerState) (sound : IsSound state) (refines : RefinesState state [] server)
+    (fragments : Fragments) (frames : Frames)
+    (is : IsPutTogether state fragments frames) where
+  abbrev JoinsAt : Event → Type 0
+  JoinsAt event =
+      IsPutTogether (step state event) fragments
+      (frames_after (renamed (place_of_connection state) event) frames)
+
+  came-joined : (ordinal : Ordinal) (handle : ℕ) (peer : Peer)
+      → IsMeant IsAny state (Of ordinal (Connected handle peer))
+      → JoinsAt (Of ordinal (Connected handle peer))
+  came-joined ordinal handle peer meant =
+      subst (λ (one : Ordinal). JoinsAt (Of one (Connected handle peer))) (sym meant.may.next)
+      (subst (λ (place : Place). IsPutTogether (step state (Of state.next (Connected handle peer)))
+      fragments (frames_after (Of place (Connected handle peer)) frames))
+      (sym (next_place state.next state.slots meant.may.free
+      (none_next state.next state.next state.slots (omega arith) sound.settled.slots)))
+      (together_coming state server fragments frames handle peer sound refines meant.may.free is))
+
+  pub joined : (event : Event) → IsMeant IsAny state event → JoinsAt event
+  joined (Of ordinal (Connected handle peer)) meant = came-joined ordinal handle peer meant
+  joined event meant = together_then state event fragments frames refl is
+
+-- where an event leads a host, and what is told of it
+pub record EventLed (state : State) (event : Event) (fragments : Fragments) (new : ServerState)
+    (after : Frames) : Type 0 where
+  pub sound : IsSound (step state event)
+  pub refines : RefinesState (step state event) (out state event) new
+  pub together : IsPutTogether (step state event) fragments after
+  pub told : last_notices new ≡ noticed state event
+
+pub event_led : (state : State) (server new : ServerState) (fragments : Fragments) (frames after : Frames)
+    (event : Event) → IsSound state → RefinesState state [] server
+    → IsPutTogether state fragments frames → IsMeant IsAny state event
+    → IsAfter (renamed (place_of_connection state) event) server new
+    → after ≡ frames_after (renamed (place_of_connection state) event) frames
+    → EventLed state event fragments new after
+event_led state server new fragments frames after event sound refines together meant then_held
+    then_frames =
+    let leads : RefinesStep state event new =
+    events_lead_on state server new event sound refines meant then_held in
+    record {
+      sound = stays_sound state event (possible_where_meant IsAny state event meant) sound;
+      refines = leads.refines;
+      together =
+          subst (λ (after : Frames). IsPutTogether (step state event) fragments after)
+          (sym then_frames)
+          (joined state server sound refines fragments frames together event meant);
+      told = leads.told;
+    }
+
+-- No data of a connection means that one comes.
+frame-frames : (place : Place) (frame : Result BasicFrame Skip) (frames : Frames)
+    → frames ≡ frames_after (frame_event place (of_frame frame)) frames
+frame-frames place (Ok frame) frames =
+    elim (frame.cid == ATT) as (λ (asks : Bool). frames
+    ≡ frames_after (frame_event place (if asks then Some (Asks frame.payload)
+    else if frame.cid == LE_SIGNALLING || frame.cid == SECURITY_MANAGER then Some (Signals frame.cid frame.payload) else None)) frames) [
+      | true ↦ refl
+      | false ↦
+          elim (frame.cid == LE_SIGNALLING || frame.cid == SECURITY_MANAGER) as (λ (signals : Bool).
+          frames ≡ frames_after
+          (frame_event place (if signals then Some (Signals frame.cid frame.payload) else None))
+          frames) [ true ↦ refl | false ↦ refl ]
+    ]
+frame-frames place (Err skip) frames = refl
+
+octets-frames : (place : Place) (octets : Option Octets) (frames : Frames)
+    → frames ≡ frames_after (frame_event place (of_octets octets)) frames
+octets-frames place None frames = refl
+octets-frames place (Some octets) frames = frame-frames place (frame_of octets) frames
+
+data-frames : (recombinations : Place → Recombination) (found : Option Place)
+    (fragment : Option Fragment) (frames : Frames)
+    → frames ≡ frames_after (data_event recombinations found fragment) frames
+data-frames recombinations None fragment frames = refl
+data-frames recombinations (Some place) None frames = refl
+data-frames recombinations (Some place) (Some fragment) frames =
+    octets-frames place (recombinations place fragment) frames
+
+-- What an event leaves of the frames.
+answered-frames : (allowed opcode : ℕ) (status : Option ℕ) (following : Result (Option Init) Fault)
+    (happening : Happening Place) (frames : Frames)
+    → answered allowed opcode status following ≡ Ok happening
+    → frames ≡ frames_after happening frames
+answered-frames allowed opcode status (Ok following) happening frames is =
+    ap (λ (happening : Happening Place). frames_after happening frames) (ok-is is)
+answered-frames allowed opcode status (Err fault) happening frames is = cc is
+
+either-way : (ready : Bool) (frames : Frames)
+    → frames_after (if ready then Nothing else Nothing) frames ≡ frames
+either-way true frames = refl
+either-way false frames = refl
+
+event-frames : (server : ServerState) (read : Result Reported BadEvent) (happening : Happening Place)
+    (frames : Frames) → event_or_bad (context_in server) read ≡ Ok happening
+    → frames_after_event server read frames ≡ frames_after happening frames
+event-frames server (Err bad) happening frames is = cc is
+event-frames server (Ok (event.CommandComplete allowed opcode returned)) happening frames is =
+    either-way (is_ready server.controller) frames
+    ∙ answered-frames allowed opcode (status_of returned)
+    (if is_awaited server.controller opcode then following_of
+    (init_outcome server.controller.init returned) else Ok None) happening frames is
+event-frames server (Ok (event.CommandStatus status allowed opcode)) happening frames is =
+    either-way (is_ready server.controller) frames
+    ∙ answered-frames allowed opcode (Some status) _ happening frames is
+event-frames server (Ok (event.HardwareError code)) happening frames is = cc is
+event-frames server (Ok reported) happening frames is =
+    ap (λ (happening : Happening Place). frames_after happening frames) (ok-is is)
+
+-- as many frames as before
+as-many : (place : Option Place) (fragment : Option Fragment) (frames : Frames)
+    → length (frames_with place fragment frames) ≡ length frames
+as-many None fragment frames = refl
+as-many (Some place) fragment frames = length-set frames place _
+
+-- who has not come has no fragment
+still-fresh : (state : State) (fragments : Fragments) (found : Option Ordinal)
+    (place : Option Place) (fragment : Option Fragment)
+    (ordinal : Ordinal) → IsSound state → Finds state.slots found place → state.next ≤ ordinal
+    → fragments ordinal ≡ []
+    → with_arrival fragments (arrival_of found fragment) ordinal ≡ []
+still-fresh state fragments None place fragment ordinal sound finds later none = none
+still-fresh state fragments (Some own) place None ordinal sound finds later none = none
+still-fresh state fragments (Some own) place (Some fragment) ordinal sound finds later none =
+    let lacks =
+    none_next state.next ordinal state.slots (omega (arith, later)) sound.settled.slots in
+    let differs : (ordinal == own) ≡ false =
+    apart ordinal own state.slots lacks (has_slot_there own state.slots finds.at finds.has) in
+    ap (λ (same : Bool). if same then fragment ∷ fragments ordinal else fragments ordinal) differs
+    ∙ none
+
+-- the frames with what a packet brings, before what happens by it
+abbrev pub frames_joined : ServerState → Packet → Frames → Frames
+frames_joined server (AclPacket handle boundary broadcast octets) frames =
+    frames_after_acl server handle boundary broadcast octets frames
+frames_joined server (EventPacket octets) frames = frames
+frames_joined server ScoPacket frames = frames
+
+packet-frames : (server : ServerState) (frames : Frames) (packet : Packet) (happening : Happening Place)
+    → packet_happening server frames packet ≡ Ok happening
+    → frames_after_packet server packet frames
+    ≡ frames_after happening (frames_joined server packet frames)
+packet-frames server frames (AclPacket handle boundary broadcast octets) happening is =
+    let joined : Frames = frames_after_acl server handle boundary broadcast octets frames in
+    data-frames (recombinations_in frames) (place_serving server.slots handle)
+    (fragment_of boundary broadcast octets) joined
+    ∙ ap (λ (happening : Happening Place). frames_after happening joined) (ok-is is)
+packet-frames server frames (EventPacket octets) happening is =
+    event-frames server (event_of octets) happening frames is
+packet-frames server frames ScoPacket happening is =
+    ap (λ (happening : Happening Place). frames_after happening frames) (ok-is is)
+
+module _ (run : Run) (server : ServerState) (frames : Frames) (is : IsDrainedIn run server frames)
+  where
+    abbrev state : State
+    state = run.intake.state
+
+    abbrev fragments : Fragments
+    fragments = run.intake.fragments
+
+    same-packet : (packet : Packet) → packet_happening server frames packet
+        ≡ renamed_if (place_of_connection state) (packet_event state fragments packet)
+    unfolding packet_event
+    same-packet packet =
+        packets_mean_the_same Ordinal Place (place_of_connection state) (context_of state) (context_in server)
+        (knows_the_same state server is.sound is.refines)
+        (recombinations_of fragments) (recombinations_in frames)
+        (recombine_alike state server is.sound is.refines fragments frames is.together.there) packet
+
+    packet-joined : (packet : Packet)
+        → IsPutTogether state (with_arrival fragments (arrival state packet))
+        (frames_joined server packet frames)
+    packet-joined (AclPacket handle boundary broadcast octets) =
+        let found : Finds state.slots (serving state handle) (place_serving server.slots handle) =
+        finds state server is.sound is.refines handle in
+        let shared : length state.slots ≤ length frames =
+        omega (arith, few_slots state server is.sound is.refines, is.together.shared) in
+        record {
+          there = frames_follow state server fragments frames handle boundary broadcast octets is.sound
+              is.refines shared is.together.there;
+          fresh = λ ordinal later.
+              still-fresh state fragments (serving state handle) (place_serving server.slots handle)
+              (fragment_of boundary broadcast octets)
+              ordinal is.sound found later (is.together.fresh ordinal later);
+          shared = subst (λ (count : ℕ). state.shared.slots ≤ count)
+              (sym (as-many (place_serving server.slots handle) (fragment_of boundary broadcast octets)
+              frames)) is.together.shared;
+        }
+    packet-joined (EventPacket octets) = is.together
+    packet-joined ScoPacket = is.together
+
+    module _ (new : ServerState) (after : Frames) (packet : Packet) where
+      -- where a packet leads, and what is told of it
+      pub record PacketLed (result : Result Event Fault) : Type 0 where
+        pub refines : ServerRefinesRun (packet_taken run packet result) run.sent new after
+        pub told : last_notices new ≡ noticed_in state result
+        pub goes : (packet_taken run packet result).intake.fault ≡ run.intake.fault
+
+      by-result : (result : Result Event Fault) → MeantIfAny IsAny state result
+          → IsOkAnd (renamed_if (place_of_connection state) result) (λ happening. IsAfter happening server new)
+          → ((event : Event) → result ≡ Ok event
+          → after ≡ frames_after (renamed (place_of_connection state) event) (frames_joined server packet frames))
+          → PacketLed result
+      by-result (Ok event) meant takes then_frames =
+          let led =
+          event_led state server new (with_arrival fragments (arrival state packet))
+          (frames_joined server packet frames) after event is.sound is.refines
+          (packet-joined packet) meant takes (then_frames event refl) in
+          record {
+            refines = record {
+              owed = out state event;
+              all = refl;
+              sound = led.sound;
+              refines =
+                  led.refines;
+              together = led.together;
+            };
+            told = led.told;
+            goes = refl;
+          }
+      by-result (Err why) meant takes then_frames = absurd takes
+
+      pub packet_led : TakesPacket packet server frames new after
+          → PacketLed (packet_event state fragments packet)
+      packet_led takes =
+          let same = same-packet packet in
+          by-result (packet_event state fragments packet) (packet_meant IsAny state fragments packet)
+          (subst (λ (result : Result (Happening Place) Fault). IsOkAnd result
+          (λ happening. IsAfter happening server new)) same takes.server)
+          (λ event means. takes.frames_then
+          ∙ packet-frames server frames packet (renamed (place_of_connection state) event) (same
+          ∙ ap (λ (result : Result Event Fault). renamed_if (place_of_connection state) result) means))
+
+-- or the host stops
+stops-where : (names : Ordinal → Place) (result : Result Event Fault) (fault : HostFault)
+    → stop_of (renamed_if names result) ≡ Some fault
+    → (why : Fault) × (result ≡ Err why) × StopsForFault why fault
+stops-where names (Ok event) fault is = cc is
+stops-where names (Err why) fault is = (why, refl, record { same = some-is is })
+
+-- only an event of the controller stops it
+packet-stop : (server : ServerState) (frames : Frames) (packet : Packet)
+    → packet_stop packet server ≡ stop_of (packet_happening server frames packet)
+packet-stop server frames (AclPacket handle boundary broadcast octets) = refl
+packet-stop server frames (EventPacket octets) = refl
+packet-stop server frames ScoPacket = refl
+
+pub packet_stops : PacketStops
+packet_stops run server frames packet fault is stops =
+    stops-where (place_of_connection run.intake.state)
+    (packet_event run.intake.state run.intake.fragments packet) fault
+    (sym (ap stop_of (same-packet run server frames is packet))
+    ∙ sym (packet-stop server frames packet) ∙ stops)

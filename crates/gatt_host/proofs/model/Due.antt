@@ -1,0 +1,58 @@
+-- A host of which all is out owes nothing, and still does not where it stops.
+use Rattle.std.proofs.Common.{◌≡◌, true, false, Option, Some, None, Result, Ok, Err, refl, sym, subst}
+use Rattle.std.specs.Prelude.{is_err, IsOk}
+use Rattle.gatt_host.proofs.owing.Nexts.{clash}
+use Rattle.gatt_host.proofs.meaning.Drained.{all_gone}
+use Rattle.gatt_host.proofs.model.Items.{drained_where}
+use Rattle.gatt_host.specs.declared.host_fault.HostFault.{HostFault}
+use Rattle.gatt_host.specs.declared.host_fault.HostFault.TheVariants as stop
+use Rattle.gatt_host.specs.Feeding.{IsAllOut, WritesAllThatIsDue}
+use Rattle.gatt_host.specs.GoingOut.{is_drained}
+use Rattle.gatt_host.specs.declared.last_event.LastEvent.TheVariants as last
+use Rattle.gatt_host.specs.ServerState.{ServerState, open_slots, with_last}
+use Rattle.gatt_host.specs.HostModel.{HostModel, all_out}
+use Rattle.gatt_laws.specs.machine.Input.{run}
+
+-- by the fault that stands
+due-by : (fault : Option HostFault) (host : HostModel) → IsAllOut host → WritesAllThatIsDue fault host
+due-by None host out = out
+due-by (Some (stop.Desync indicator)) host out = out
+due-by (Some (stop.BadEvent code)) host out = out
+due-by (Some (stop.Init why)) host out = out
+due-by (Some (stop.Hardware code)) host out = out
+due-by (Some stop.Read) host out = out
+due-by (Some stop.Write) host out = tt
+due-by (Some stop.Turns) host out = out
+
+-- one that holds what it held when all was out
+pub due_where_held : (old new : HostModel) (fault : Option HostFault) → old.fault ≡ None → all_out old ≡ true → new.server ≡ old.server
+    → WritesAllThatIsDue fault new
+due_where_held old new fault none out same =
+    due-by fault new (λ start input sent is.
+    all_gone (run start input) sent new.server new.frames is.refines
+    (subst (λ (server : ServerState). is_drained server.controller (open_slots server) ≡ true) (sym same) (drained_where old none out)))
+
+pub due_where_out : (host : HostModel) → host.fault ≡ None → all_out host ≡ true → WritesAllThatIsDue host.fault host
+due_where_out host none out = due_where_held host host host.fault none out (λ i. host.server)
+
+-- where the writer has failed nothing is said
+pub due_where_broken : (fault : Option HostFault) (host : HostModel) → fault ≡ Some stop.Write → WritesAllThatIsDue fault host
+due_where_broken fault host is = subst (λ (fault : Option HostFault). WritesAllThatIsDue fault host) (sym is) tt
+
+-- by what is held
+pub due_where_drained : (host : HostModel) (fault : Option HostFault) → is_drained host.server.controller (open_slots host.server) ≡ true
+    → WritesAllThatIsDue fault host
+due_where_drained host fault drained =
+    due-by fault host (λ start input sent is. all_gone (run start input) sent host.server host.frames is.refines drained)
+
+-- of which nothing is told any more
+pub due_in_silence : (old new : HostModel) (fault : Option HostFault) → old.fault ≡ None → all_out old ≡ true → new.server ≡ with_last last.Quiet old.server
+    → WritesAllThatIsDue fault new
+due_in_silence old new fault none out same =
+    due_where_drained new fault
+    (subst (λ (server : ServerState). is_drained server.controller (open_slots server) ≡ true) (sym same) (drained_where old none out))
+
+-- a call that is no failure is well
+pub ok_where : {T E : Type 0} (result : Result T E) → is_err result ≡ false → IsOk result
+ok_where (Ok x) works = refl
+ok_where (Err e) works = absurd (clash (sym works))

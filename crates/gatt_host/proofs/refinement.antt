@@ -1,0 +1,16 @@
+pub mod Answered
+pub mod Arrivals
+pub mod AtTheStart
+pub mod Connecting
+pub mod Completions
+pub mod ForAll
+pub mod Happenings
+pub mod Holding
+pub mod Links
+pub mod Names
+pub mod OneSlot
+pub mod OwnEvents
+pub mod Replacements
+pub mod Requests
+pub mod Told
+pub mod Effects

@@ -1,0 +1,45 @@
+-- What happens leads a host to where the same event leads a state, since both know the same, but
+-- for the names of connections.
+use Rattle.std.specs.Prelude.{◌≡◌, ℕ, ◌≤◌, [], length, get_or, slice_get, Some}
+use Rattle.gatt_host.specs.ServerState.{ServerState}
+use Rattle.gatt_host.specs.Meaning.{Frames, context_in, IsAfter, once_heard}
+use Rattle.gatt_host.specs.Packet.{frames_after_acl}
+use Rattle.gatt_host.specs.StateRefinement.{IsSound, RefinesStep, RefinesState, place_of_connection}
+use Rattle.gatt_laws.specs.laws.Possible.{IsMeant}
+use Rattle.gatt_laws.specs.laws.Renaming.{AreAlike, renamed}
+use Rattle.gatt_laws.specs.machine.Context.{context_of}
+use Rattle.gatt_laws.specs.machine.Event.{Ordinal, Event}
+use Rattle.gatt_laws.specs.machine.Packets.{Fragments, arrival, with_arrival}
+use Rattle.gatt_laws.specs.machine.State.{State}
+use Rattle.gatt_slots.specs.Slots.{Place}
+use Rattle.le_acl.specs.Reassembler.{no_assembly, assembly_after}
+use Rattle.le_h4.specs.Packet.{AclPacket}
+use Rattle.octets.specs.Number.{Octets}
+
+-- a connection is found at the place of its slot
+abbrev pub KnowsTheSame : Type 0
+KnowsTheSame = (state : State) (server : ServerState) → IsSound state → RefinesState state [] server →
+    AreAlike Ordinal Place (place_of_connection state) (context_of state) (context_in server)
+
+-- so the same happens there
+abbrev pub EventsAreRefined : Type 0
+EventsAreRefined = (state : State) (server new : ServerState) (event : Event) → IsSound state →
+    RefinesState state [] server → IsMeant (λ table. Unit) state event →
+    IsAfter (renamed (place_of_connection state) event) server new → RefinesStep state event new
+
+-- the frames that are put together at the slots are those of their connections' fragments
+abbrev pub HoldsFrames : State → Fragments → Frames → Type 0
+HoldsFrames state fragments frames =
+    (place : ℕ) (ordinal : Ordinal) → slice_get state.slots place ≡ Some (Some ordinal) →
+    get_or frames place no_assembly ≡ once_heard (assembly_after (fragments ordinal))
+
+-- and so they are after an ACL packet, with the fragments and its own
+abbrev pub FramesFollow : Type 0
+FramesFollow =
+    (state : State) (server : ServerState) (fragments : Fragments) (frames : Frames)
+    (handle boundary broadcast : ℕ) (octets : Octets) →
+    IsSound state → RefinesState state [] server → length state.slots ≤ length frames →
+    HoldsFrames state fragments frames →
+    HoldsFrames state
+    (with_arrival fragments (arrival state (AclPacket handle boundary broadcast octets)))
+    (frames_after_acl server handle boundary broadcast octets frames)

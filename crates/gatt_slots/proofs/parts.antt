@@ -1,8 +1,0 @@
-pub mod Ends
-pub mod Events
-pub mod Found
-pub mod Heard
-pub mod Kept
-pub mod Places
-pub mod Requests
-pub mod Turns

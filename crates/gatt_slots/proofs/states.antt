@@ -1,0 +1,8 @@
+pub mod Ends
+pub mod Events
+pub mod Found
+pub mod Heard
+pub mod SlotStates
+pub mod Places
+pub mod Requests
+pub mod Effects
