@@ -2,8 +2,8 @@
 
 ghost use Rattle.std.specs.Prelude.{◌≤◌, length, IfOk};
 
-use device_ends::{Source, Waiting};
 use arrayvec::ArrayVec;
+use device_ends::{Source, Waiting};
 use device_lines::{Found, Inbox, LONGEST, Outbox};
 use std::alloc::Global;
 use std::fs::{Files, Permissions};

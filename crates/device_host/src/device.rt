@@ -4,8 +4,8 @@ ghost use Rattle.std.specs.Prelude.{None};
 
 use crate::application::Application;
 use crate::strangers::Strangers;
-use device_ends::{Log, RETRY_TIME, Ready, Recording, RowsFile, Source, Stream, Waiting, Way};
 use arrayvec::ArrayVec;
+use device_ends::{Log, RETRY_TIME, Ready, Recording, RowsFile, Source, Stream, Waiting, Way};
 use device_lines::{Asked, Found, LONGEST, read_line};
 use gatt_device::{Happenings, Next};
 use gatt_host::{App, AppFault};
