@@ -2,7 +2,7 @@ ghost use Rattle.std.specs.Prelude.{◌≡◌, ◌+◌, ◌*◌, ◌^◌, ◌<�
 ghost use Rattle.octets.specs.Number.{two_octets};
 
 use crate::indicator;
-use crate::write::acl_header;
+use crate::write::acl_into;
 use arrayvec::ArrayVec;
 use octets::write_parts;
 use std::marker::Model;
@@ -55,10 +55,10 @@ impl PacketBuf {
         &self.octets[..self.len]
     }
 
-    /// Writes an ACL packet in place of the one before: a connection handle of 12 bits, the packet
-    /// boundary flag, and at most 255 octets of data, those of `header` and then those of `octets`. So
-    /// the header of a frame goes in front of its payload without a copy of both. Its broadcast flag is
-    /// 0. (Core 5.0, Vol 2 Part E, 5.4.2)
+    /// Writes an ACL packet in place of the one before, by `acl_into`: a connection handle of 12 bits,
+    /// the packet boundary flag, and at most 255 octets of data, those of `header` and then those of
+    /// `octets`. So the header of a frame goes in front of its payload without a copy of both. Its
+    /// broadcast flag is 0. (Core 5.0, Vol 2 Part E, 5.4.2)
     #[inline(always)]
     pub fn acl(&mut self, handle: u16, pb: u8, header: &[u8], octets: &[u8])
         requires handle { handle < 2 ^ 12 }
@@ -68,8 +68,7 @@ impl PacketBuf {
             (length (header.now ++ octets.now))
             ++ header.now ++ octets.now }
     {
-        let length = header.len() + octets.len();
-        self.write(&acl_header(handle, pb, length as u16), header, octets);
+        self.len = acl_into(handle, pb, header, octets, &mut self.octets);
     }
 
     /// Writes a command in place of the packet before: its indicator, and its at most 259 octets from

@@ -10,8 +10,8 @@ use octets::{overwrite, write_parts};
 pub(crate) const HEADER: usize = 5;
 
 /// Writes an ACL packet in place of what `out` holds: a connection handle of 12 bits, the packet
-/// boundary flag, and at most 255 octets of data. Its broadcast flag is 0. (Core 5.0, Vol 2 Part E,
-/// 5.4.2)
+/// boundary flag, and at most 255 octets of data. Its broadcast flag is 0. It is the packet of
+/// `acl_into` with no header apart, in a buffer of its own length. (Core 5.0, Vol 2 Part E, 5.4.2)
 pub fn write_acl(handle: u16, pb: u8, octets: &[u8], out: &mut PacketOctets)
     requires handle { handle < 2 ^ 12 }
     requires pb { pb ≤ 3 }
