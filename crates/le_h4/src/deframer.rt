@@ -171,7 +171,7 @@ fn gather(gathered: &mut Gathered, skipping: &mut usize, octets: &[u8]) -> Resul
     let Some(size) = whole_packet(octets) else {
         return gather_by_parts(gathered, skipping, octets);
     };
-    let _ = fill(gathered, size, octets);
+    fill(gathered, size, octets);
     Ok(Fed {
         used: size,
         packet: true,
