@@ -1,15 +1,19 @@
 ghost use Rattle.std.specs.Prelude.{◌≡◌, ◌+◌, ◌*◌, ◌^◌, ◌<◌, ◌≤◌, [], ◌∷◌, ◌++◌, length};
 ghost use Rattle.octets.specs.Number.{two_octets};
+ghost use Rattle.le_h4.specs.declared.packet_buf.TheConstants.{MAX_ACL_DATA_OUT};
 
 use crate::indicator;
-use crate::write::acl_into;
+use crate::write::{HEADER, acl_into};
 use arrayvec::ArrayVec;
 use octets::write_parts;
 use std::marker::Model;
 
-/// The most octets of a packet to the controller: the header of ACL data, and 255 of them; or a
-/// command with its indicator.
-pub const MAX_PACKET_OUT: usize = 260;
+/// The most octets of data of an ACL packet to the controller: this profile's own.
+pub const MAX_ACL_DATA_OUT: usize = 255;
+
+/// The most octets of a packet to the controller: those of an ACL packet. A command with its indicator
+/// is shorter.
+pub const MAX_PACKET_OUT: usize = HEADER + MAX_ACL_DATA_OUT;
 
 /// The octets of a packet to the controller.
 pub type PacketOctets = ArrayVec<u8, MAX_PACKET_OUT>;
@@ -56,14 +60,14 @@ impl PacketBuf {
     }
 
     /// Writes an ACL packet in place of the one before, by `acl_into`: a connection handle of 12 bits,
-    /// the packet boundary flag, and at most 255 octets of data, those of `header` and then those of
-    /// `octets`. So the header of a frame goes in front of its payload without a copy of both. Its
-    /// broadcast flag is 0. (Core 5.0, Vol 2 Part E, 5.4.2)
+    /// the packet boundary flag, and at most `MAX_ACL_DATA_OUT` octets of data, those of `header` and
+    /// then those of `octets`. So the header of a frame goes in front of its payload without a copy of
+    /// both. Its broadcast flag is 0. (Core 5.0, Vol 2 Part E, 5.4.2)
     #[inline(always)]
     pub fn acl(&mut self, handle: u16, pb: u8, header: &[u8], octets: &[u8])
         requires handle { handle < 2 ^ 12 }
         requires pb { pb ≤ 3 }
-        requires octets { length header.now + length octets.now ≤ 255 }
+        requires octets { length header.now + length octets.now ≤ MAX_ACL_DATA_OUT }
         ensures { self.new ≡ 0x02 ∷ two_octets (handle + 2 ^ 12 * pb) ++ two_octets
             (length (header.now ++ octets.now))
             ++ header.now ++ octets.now }
@@ -71,10 +75,10 @@ impl PacketBuf {
         self.len = acl_into(handle, pb, header, octets, &mut self.octets);
     }
 
-    /// Writes a command in place of the packet before: its indicator, and its at most 259 octets from
-    /// the opcode on. (Core 5.0, Vol 2 Part E, 5.4.1)
+    /// Writes a command in place of the packet before: its indicator, and its octets from the opcode on,
+    /// fewer than `MAX_PACKET_OUT`. (Core 5.0, Vol 2 Part E, 5.4.1)
     pub fn command(&mut self, octets: &[u8])
-        requires { length octets.now ≤ 259 }
+        requires { length octets.now < MAX_PACKET_OUT }
         ensures { self.new ≡ 0x01 ∷ octets.now }
     {
         self.write(&[indicator::COMMAND], octets, &[]);

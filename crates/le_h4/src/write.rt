@@ -1,6 +1,6 @@
 ghost use Rattle.std.specs.Prelude.{◌≡◌, ◌+◌, ◌*◌, ◌^◌, ◌<◌, ◌≤◌, [], ◌∷◌, ◌++◌, length, take};
 ghost use Rattle.octets.specs.Number.{two_octets};
-ghost use Rattle.le_h4.specs.declared.packet_buf.TheConstants.{MAX_PACKET_OUT};
+ghost use Rattle.le_h4.specs.declared.packet_buf.TheConstants.{MAX_ACL_DATA_OUT, MAX_PACKET_OUT};
 
 use crate::indicator;
 use crate::packet_buf::PacketOctets;
@@ -10,12 +10,13 @@ use octets::{overwrite, write_parts};
 pub(crate) const HEADER: usize = 5;
 
 /// Writes an ACL packet in place of what `out` holds: a connection handle of 12 bits, the packet
-/// boundary flag, and at most 255 octets of data. Its broadcast flag is 0. It is the packet of
-/// `acl_into` with no header apart, in a buffer of its own length. (Core 5.0, Vol 2 Part E, 5.4.2)
+/// boundary flag, and at most `MAX_ACL_DATA_OUT` octets of data. Its broadcast flag is 0. It is the
+/// packet of `acl_into` with no header apart, in a buffer of its own length. (Core 5.0, Vol 2 Part E,
+/// 5.4.2)
 pub fn write_acl(handle: u16, pb: u8, octets: &[u8], out: &mut PacketOctets)
     requires handle { handle < 2 ^ 12 }
     requires pb { pb ≤ 3 }
-    requires octets { length octets.now ≤ 255 }
+    requires octets { length octets.now ≤ MAX_ACL_DATA_OUT }
     ensures { out.new.items
         ≡ 0x02 ∷ two_octets (handle + 2 ^ 12 * pb) ++ two_octets (length octets.now)
         ++ octets.now }
@@ -25,13 +26,14 @@ pub fn write_acl(handle: u16, pb: u8, octets: &[u8], out: &mut PacketOctets)
 }
 
 /// Writes an ACL packet at the front of `out`, and says how many octets it has: a connection handle of
-/// 12 bits, the packet boundary flag, and at most 255 octets of data, those of `header` and then those
-/// of `octets`. What stands behind it stays. Its broadcast flag is 0. (Core 5.0, Vol 2 Part E, 5.4.2)
+/// 12 bits, the packet boundary flag, and at most `MAX_ACL_DATA_OUT` octets of data, those of `header`
+/// and then those of `octets`. What stands behind it stays. Its broadcast flag is 0. (Core 5.0, Vol 2
+/// Part E, 5.4.2)
 #[inline(always)]
 pub fn acl_into(handle: u16, pb: u8, header: &[u8], octets: &[u8], out: &mut [u8]) -> usize
     requires handle { handle < 2 ^ 12 }
     requires pb { pb ≤ 3 }
-    requires octets { length header.now + length octets.now ≤ 255 }
+    requires octets { length header.now + length octets.now ≤ MAX_ACL_DATA_OUT }
     requires room { MAX_PACKET_OUT ≤ length out.old }
     ensures written { take result out.new
         ≡ 0x02 ∷ two_octets (handle + 2 ^ 12 * pb) ++ two_octets
@@ -63,10 +65,10 @@ pub(crate) fn acl_header(handle: u16, pb: u8, length: u16) -> [u8; HEADER]
     [indicator::ACL, low, high, size_low, size_high]
 }
 
-/// Writes a command in place of what `out` holds: its indicator, and its at most 259 octets from the
-/// opcode on. (Core 5.0, Vol 2 Part E, 5.4.1)
+/// Writes a command in place of what `out` holds: its indicator, and its octets from the opcode on,
+/// fewer than `MAX_PACKET_OUT`. (Core 5.0, Vol 2 Part E, 5.4.1)
 pub fn write_command(octets: &[u8], out: &mut PacketOctets)
-    requires { length octets.now ≤ 259 }
+    requires { length octets.now < MAX_PACKET_OUT }
     ensures { out.new.items ≡ 0x01 ∷ octets.now }
 {
     overwrite(out, &[indicator::COMMAND], octets, &[]);
