@@ -4,6 +4,7 @@ use Rattle.std.specs.Prelude.{◌==◌, ◌&&◌, nat_le, nat_lt, if◌then◌el
 use Rattle.std.specs.Result.{result_map_both}
 use Rattle.arrayvec.specs.ArrayVec.{ArrayVec}
 use Rattle.le_hci.specs.declared.buffers.Buffers.{Buffers}
+use Rattle.le_hci.specs.declared.buffers.TheConstants.{LEAST_LENGTH}
 use Rattle.le_hci.specs.declared.init.Settings.{Settings}
 use Rattle.le_hci.specs.declared.init.Init.{Init}
 use Rattle.le_hci.specs.declared.init.Init.TheVariants.{Resetting, Masking, LeMasking, Sizing, SharedSizing, Addressing, Describing, Filling, Enabling, Ready}
@@ -121,7 +122,7 @@ sizing (returned ∷ answers) settings = one_more _ _ _ (sized returned)
     pick true buffers following e =
         let same : SharedSizing settings ≡ following = cc in
         subst (λ (s : Init). IsPrefixOf (init_commands_sent answers s) (ReadBufferSize ∷ rest_of settings)) same (shared_sizing answers settings)
-    pick false buffers following e = own buffers (nat_le 27 buffers.length && nat_lt 0 buffers.packets) following e
+    pick false buffers following e = own buffers (nat_le LEAST_LENGTH buffers.length && nat_lt 0 buffers.packets) following e
 
     sized : (returned : List ℕ) → IsPrefixOf (sent_after (init_outcome (Sizing settings) returned) (init_commands_sent answers))
         (shared_commands (tell_shared (returned ∷ answers)) ++ rest_of settings)

@@ -5,6 +5,7 @@ use Rattle.std.specs.Result.{result_map_both}
 use Rattle.std.proofs.lemmas.Bool.{leb-true, ltb-true}
 use Rattle.octets.specs.Number.{from_two}
 use Rattle.le_hci.specs.declared.buffers.Buffers.{Buffers}
+use Rattle.le_hci.specs.declared.buffers.TheConstants.{LEAST_LENGTH}
 use Rattle.le_hci.specs.declared.init.Settings.{Settings}
 use Rattle.le_hci.specs.declared.init.Init.{Init}
 use Rattle.le_hci.specs.declared.init.Init.TheVariants.{Resetting, Masking, LeMasking, Sizing, SharedSizing, Addressing, Describing, Filling, Enabling, Ready}
@@ -23,14 +24,14 @@ addressed : (address : Option (List ℕ)) (advertising : ArrayVec ℕ) (buffers 
 addressed None advertising buffers usable = usable
 addressed (Some address) advertising buffers usable = usable
 
-usable-by : (buffers : Buffers) (length packets : Bool) → nat_le 27 buffers.length ≡ length → nat_lt 0 buffers.packets ≡ packets
+usable-by : (buffers : Buffers) (length packets : Bool) → nat_le LEAST_LENGTH buffers.length ≡ length → nat_lt 0 buffers.packets ≡ packets
     → IfOk (let told : Result Buffers InitFault = if length && packets then Ok buffers else Err BadBuffers in told) AreUsable
-usable-by buffers true true long some = record { length_least = leb-true 27 buffers.length long; packets_some = ltb-true 0 buffers.packets some }
+usable-by buffers true true long some = record { length_least = leb-true LEAST_LENGTH buffers.length long; packets_some = ltb-true 0 buffers.packets some }
 usable-by buffers true false long some = tt
 usable-by buffers false packets long some = tt
 
 usable : (buffers : Buffers) → IfOk (usable_of buffers) AreUsable
-usable buffers = usable-by buffers (nat_le 27 buffers.length) (nat_lt 0 buffers.packets) refl refl
+usable buffers = usable-by buffers (nat_le LEAST_LENGTH buffers.length) (nat_lt 0 buffers.packets) refl refl
 
 shared : (returned : List ℕ) → IfOk (shared_buffers_of returned) AreUsable
 shared (low ∷ high ∷ sco ∷ packets_low ∷ packets_high ∷ sco_low ∷ sco_high ∷ rest) = usable (record { length = from_two low high; packets = from_two packets_low packets_high })

@@ -2,13 +2,14 @@
 use Rattle.std.specs.Prelude.{◌==◌, ◌&&◌, nat_le, nat_lt, if◌then◌else◌, ◌∷◌, Option, Some, None, Result, Ok, Err}
 use Rattle.std.specs.Result.{result_map_both}
 use Rattle.le_hci.specs.declared.buffers.Buffers.{Buffers}
+use Rattle.le_hci.specs.declared.buffers.TheConstants.{LEAST_LENGTH}
 use Rattle.le_hci.specs.declared.init.InitFault.{InitFault}
 use Rattle.le_hci.specs.declared.init.InitFault.TheVariants.{BadBuffers, Short}
 use Rattle.octets.specs.Number.{Octets, from_two}
 
--- enough for a peripheral: a length of at least 27, and a packet
+-- enough for a peripheral: at least the least length of a buffer, and a packet
 abbrev pub usable_of : Buffers → Result Buffers InitFault
-usable_of buffers = if nat_le 27 buffers.length && nat_lt 0 buffers.packets then Ok buffers else Err BadBuffers
+usable_of buffers = if nat_le LEAST_LENGTH buffers.length && nat_lt 0 buffers.packets then Ok buffers else Err BadBuffers
 
 -- the return parameters of LE Read Buffer Size after the status; none where the length is 0, since the buffers are shared then
 abbrev pub le_buffers_of : Octets → Result (Option Buffers) InitFault

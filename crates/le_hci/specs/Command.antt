@@ -3,6 +3,7 @@ use Rattle.std.specs.Prelude.{ℕ, ◌+◌, ◌-◌, ◌*◌, [], ◌∷◌, ◌
 use Rattle.std.specs.Int.{to_le_bytes, w64}
 use Rattle.le_hci.specs.declared.command.Command.{Command}
 use Rattle.le_hci.specs.declared.command.Command.TheVariants as variant
+use Rattle.le_hci.specs.declared.command.TheConstants.{MAX_ADVERTISING_DATA}
 use Rattle.octets.specs.Number.{Octets, two_octets}
 
 -- what a command asks for, without where its data lie
@@ -58,9 +59,9 @@ abbrev pub advertising_parameters : ℕ → Octets
 advertising_parameters own_address_type =
     two_octets 160 ++ two_octets 160 ++ 0x00 ∷ own_address_type ∷ 0x00 ∷ replicate 6 0x00 ++ 0x07 ∷ 0x00 ∷ []
 
--- a length, and the data filled up to 31 octets: 7.8.7
+-- a length, and the data filled up to the most octets that they can have: 7.8.7
 abbrev pub advertising_data : Octets → Octets
-advertising_data advertising = length advertising ∷ advertising ++ replicate (31 - length advertising) 0x00
+advertising_data advertising = length advertising ∷ advertising ++ replicate (MAX_ADVERTISING_DATA - length advertising) 0x00
 
 -- a handle and a key: 7.8.25
 abbrev pub key_reply : ℕ → Octets → Octets

@@ -2,6 +2,7 @@
 use Rattle.std.specs.Prelude.{◌<◌, ◌≤◌, List, [], ◌∷◌, IfSome, Option, Some, None, Result, Ok, Err}
 use Rattle.octets.specs.Number.{Octets}
 use Rattle.le_hci.specs.declared.buffers.Buffers.{Buffers}
+use Rattle.le_hci.specs.declared.buffers.TheConstants.{LEAST_LENGTH}
 use Rattle.le_hci.specs.declared.init.Init.{Init}
 use Rattle.le_hci.specs.declared.init.Init.TheVariants.{Resetting, Masking, LeMasking, Sizing, SharedSizing, Addressing, Describing, Filling, Enabling, Ready}
 use Rattle.le_hci.specs.declared.init.InitFault.{InitFault}
@@ -22,7 +23,7 @@ told_in (SharedSizing settings) = None
 
 -- it is enough for a peripheral
 pub record AreUsable (buffers : Buffers) : Type 0 where
-  pub length_least : 27 ≤ buffers.length
+  pub length_least : LEAST_LENGTH ≤ buffers.length
   pub packets_some : 0 < buffers.packets
 
 abbrev pub KnowsUsable : Init → Type 0

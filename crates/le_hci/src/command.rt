@@ -10,6 +10,8 @@ pub const EVENT_MASK: u64 = 0x2000_9FFF_FFFF_FFFF;
 /// The subevents of LE Meta that this host listens to, a bit for each: the default, which has
 /// Connection Complete and Long Term Key Request. Core 5.0, Vol 2 Part E, 7.8.1.
 pub const LE_EVENT_MASK: u64 = 0x0000_0000_0000_001F;
+/// The most octets of advertising data: Core 5.0, Vol 2 Part E, 7.8.7.
+pub const MAX_ADVERTISING_DATA: usize = 31;
 
 /// What a host asks of its controller: Core 5.0, Vol 2 Part E, 7.
 #[derive(Clone, Copy)]
@@ -45,7 +47,7 @@ pub enum Command<'a> {
     },
     /// Advertise with these data: 7.8.7.
     LeSetAdvertisingData {
-        advertising: &'a ArrayVec<u8, 31>,
+        advertising: &'a ArrayVec<u8, MAX_ADVERTISING_DATA>,
     },
     /// Begin to advertise: 7.8.9.
     LeSetAdvertiseEnable,

@@ -2,15 +2,30 @@ ghost use Rattle.std.specs.Prelude.{◌≡◌, ◌+◌, ◌≤◌, [], ◌∷◌
 ghost use Rattle.arrayvec.specs.ArrayVec.{array_vec_len};
 ghost use Rattle.le_hci.specs.Command.{command_of, packet_of, command_packet, advertising_data, key_reply, advertising_parameters};
 ghost use Rattle.octets.specs.Number.{two_octets};
+ghost use Rattle.le_hci.specs.declared.command.TheConstants.{MAX_ADVERTISING_DATA};
+ghost use Rattle.le_hci.specs.declared.command_packet.TheConstants.{COMMAND_ROOM, MAX_COMMAND, MAX_PARAMETERS};
 
-use crate::command::Command;
+use crate::command::{Command, MAX_ADVERTISING_DATA};
 use arrayvec::ArrayVec;
 
+/// The octets in front of a command's parameters: its opcode and their length.
+const HEADER: usize = 3;
+
+/// The most octets of a command's parameters: Core 5.0, Vol 2 Part E, 5.4.1.
+const MAX_PARAMETERS: usize = 255;
+
+/// The most octets of a command packet, from its opcode on.
+pub const MAX_COMMAND: usize = HEADER + MAX_PARAMETERS;
+
+/// The room for a command packet: that of any packet to the controller, of which ACL data have the
+/// longest.
+pub const COMMAND_ROOM: usize = 260;
+
 /// Replaces the content of `out` by a command packet, from its opcode on: Core 5.0, Vol 2 Part E,
-/// 5.4.1. A packet has at most 258 octets.
-pub fn write_command(command: &Command<'_>, out: &mut ArrayVec<u8, 260>)
+/// 5.4.1. A packet has at most `MAX_COMMAND` octets.
+pub fn write_command(command: &Command<'_>, out: &mut ArrayVec<u8, COMMAND_ROOM>)
     ensures packet { out.new.items ≡ packet_of (command_of command.now) }
-    ensures fits { length out.new.items ≤ 258 }
+    ensures fits { length out.new.items ≤ MAX_COMMAND }
 {
     let opcode = command.opcode();
     match command {
@@ -43,20 +58,18 @@ pub fn write_command(command: &Command<'_>, out: &mut ArrayVec<u8, 260>)
 
 /// Enabled, as the parameter of LE Set Advertise Enable: Core 5.0, Vol 2 Part E, 7.8.9.
 const ENABLE: u8 = 0x01;
-/// The number of octets that advertising data are filled up to: Core 5.0, Vol 2 Part E, 7.8.7.
-const ADVERTISING_DATA: usize = 31;
 
-fn write_packet(opcode: u16, parameters: &[u8], out: &mut ArrayVec<u8, 260>)
-    requires { length parameters.now ≤ 255 }
+fn write_packet(opcode: u16, parameters: &[u8], out: &mut ArrayVec<u8, COMMAND_ROOM>)
+    requires { length parameters.now ≤ MAX_PARAMETERS }
     ensures packet { out.new.items ≡ command_packet opcode parameters.now }
-    ensures fits { length out.new.items ≤ 258 }
+    ensures fits { length out.new.items ≤ MAX_COMMAND }
 {
     write_header(opcode, parameters.len() as u8, out);
     append(parameters, out);
 }
 
 /// Replaces the content by the header of a packet: the opcode and the length of its parameters.
-fn write_header(opcode: u16, length: u8, out: &mut ArrayVec<u8, 260>)
+fn write_header(opcode: u16, length: u8, out: &mut ArrayVec<u8, COMMAND_ROOM>)
     ensures { out.new.items ≡ two_octets opcode ++ length ∷ [] }
 {
     let [low, high] = opcode.to_le_bytes();
@@ -64,17 +77,21 @@ fn write_header(opcode: u16, length: u8, out: &mut ArrayVec<u8, 260>)
     append(&[low, high, length], out);
 }
 
-fn append(octets: &[u8], out: &mut ArrayVec<u8, 260>)
-    requires { array_vec_len out.old + length octets.now ≤ 260 }
+fn append(octets: &[u8], out: &mut ArrayVec<u8, COMMAND_ROOM>)
+    requires { array_vec_len out.old + length octets.now ≤ COMMAND_ROOM }
     ensures { out.new.items ≡ out.old.items ++ octets.now }
 {
     out.try_extend_from_slice(octets).unwrap();
 }
 
-fn write_advertising_parameters(opcode: u16, own_address_type: u8, out: &mut ArrayVec<u8, 260>)
+fn write_advertising_parameters(
+    opcode: u16,
+    own_address_type: u8,
+    out: &mut ArrayVec<u8, COMMAND_ROOM>,
+)
     ensures packet { out.new.items
         ≡ command_packet opcode (advertising_parameters own_address_type) }
-    ensures fits { length out.new.items ≤ 258 }
+    ensures fits { length out.new.items ≤ MAX_COMMAND }
 {
     let parameters = [
         0xA0,
@@ -96,30 +113,34 @@ fn write_advertising_parameters(opcode: u16, own_address_type: u8, out: &mut Arr
     write_packet(opcode, &parameters, out);
 }
 
-fn write_advertising_data(opcode: u16, advertising: &ArrayVec<u8, 31>, out: &mut ArrayVec<u8, 260>)
+fn write_advertising_data(
+    opcode: u16,
+    advertising: &ArrayVec<u8, MAX_ADVERTISING_DATA>,
+    out: &mut ArrayVec<u8, COMMAND_ROOM>,
+)
     ensures packet { out.new.items
         ≡ command_packet opcode (advertising_data advertising.now.items) }
-    ensures fits { length out.new.items ≤ 258 }
+    ensures fits { length out.new.items ≤ MAX_COMMAND }
 {
     let octets = advertising.as_slice();
-    write_header(opcode, 32, out);
+    write_header(opcode, (1 + MAX_ADVERTISING_DATA) as u8, out);
     append(&[octets.len() as u8], out);
     append(octets, out);
     fill_up(octets.len(), out);
 }
 
 /// Appends the octets 00 that so many octets of advertising data are filled up with.
-fn fill_up(length: usize, out: &mut ArrayVec<u8, 260>)
-    requires shorter { length ≤ 31 }
-    requires room { array_vec_len out.old + 31 ≤ 260 + length }
-    ensures { out.new.items ≡ out.old.items ++ replicate (31 - length) 0x00 }
+fn fill_up(length: usize, out: &mut ArrayVec<u8, COMMAND_ROOM>)
+    requires shorter { length ≤ MAX_ADVERTISING_DATA }
+    requires room { array_vec_len out.old + MAX_ADVERTISING_DATA ≤ COMMAND_ROOM + length }
+    ensures { out.new.items ≡ out.old.items ++ replicate (MAX_ADVERTISING_DATA - length) 0x00 }
 {
-    append(&[0x00; ADVERTISING_DATA][length..], out);
+    append(&[0x00; MAX_ADVERTISING_DATA][length..], out);
 }
 
-fn write_key_reply(opcode: u16, handle: u16, key: &[u8; 16], out: &mut ArrayVec<u8, 260>)
+fn write_key_reply(opcode: u16, handle: u16, key: &[u8; 16], out: &mut ArrayVec<u8, COMMAND_ROOM>)
     ensures packet { out.new.items ≡ command_packet opcode (key_reply handle key.now) }
-    ensures fits { length out.new.items ≤ 258 }
+    ensures fits { length out.new.items ≤ MAX_COMMAND }
 {
     write_header(opcode, 18, out);
     append(&handle.to_le_bytes(), out);

@@ -9,7 +9,7 @@ ghost use Rattle.le_hci.specs.InitTold.{KnowsUsable, state_after_answers};
 ghost use Rattle.le_hci.specs.Init.{command_awaited, opcode_awaited, init_outcome, returned_values, handed_back, next, with_buffers, first_state};
 
 use crate::buffers::{Buffers, le_buffers, shared_buffers};
-use crate::command::{Command, EVENT_MASK, LE_EVENT_MASK};
+use crate::command::{Command, EVENT_MASK, LE_EVENT_MASK, MAX_ADVERTISING_DATA};
 use crate::peer::{PUBLIC_ADDRESS, RANDOM_ADDRESS};
 use arrayvec::ArrayVec;
 
@@ -20,7 +20,7 @@ pub struct Settings {
     /// one.
     pub address: Option<[u8; 6]>,
     /// The advertising data.
-    pub advertising: ArrayVec<u8, 31>,
+    pub advertising: ArrayVec<u8, MAX_ADVERTISING_DATA>,
 }
 
 /// How far a controller is initialised. Each state but `Ready` awaits the completion of one
@@ -40,19 +40,19 @@ pub enum Init {
     /// Awaits LE Set Random Address.
     Addressing {
         address: [u8; 6],
-        advertising: ArrayVec<u8, 31>,
+        advertising: ArrayVec<u8, MAX_ADVERTISING_DATA>,
         buffers: Buffers,
     },
     /// Awaits LE Set Advertising Parameters.
     Describing {
         /// 0 public, 1 random.
         own_address_type: u8,
-        advertising: ArrayVec<u8, 31>,
+        advertising: ArrayVec<u8, MAX_ADVERTISING_DATA>,
         buffers: Buffers,
     },
     /// Awaits LE Set Advertising Data.
     Filling {
-        advertising: ArrayVec<u8, 31>,
+        advertising: ArrayVec<u8, MAX_ADVERTISING_DATA>,
         buffers: Buffers,
     },
     /// Awaits LE Set Advertise Enable.
@@ -84,7 +84,7 @@ const SUCCESS: u8 = 0x00;
 
 impl Init {
     /// The first state, for a random address or the public one, and for advertising data.
-    pub fn new(address: Option<[u8; 6]>, advertising: ArrayVec<u8, 31>) -> Init
+    pub fn new(address: Option<[u8; 6]>, advertising: ArrayVec<u8, MAX_ADVERTISING_DATA>) -> Init
         ensures exact { result ≡ first_state address advertising }
         ensures in_order { (answers : List Octets)
             → IsPrefixOf (init_commands_sent answers result)

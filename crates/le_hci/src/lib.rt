@@ -16,8 +16,8 @@ mod peer;
 pub mod reason;
 
 pub use buffers::Buffers;
-pub use command::{Command, EVENT_MASK, LE_EVENT_MASK};
-pub use command_packet::write_command;
+pub use command::{Command, EVENT_MASK, LE_EVENT_MASK, MAX_ADVERTISING_DATA};
+pub use command_packet::{COMMAND_ROOM, MAX_COMMAND, write_command};
 pub use connection::{LAST_CONNECTION_HANDLE, PERIPHERAL};
 pub use event::{BadEvent, CompletedPackets, Event, read_event};
 pub use init::{Init, InitFault, Settings};
