@@ -1,5 +1,6 @@
 -- How the buffers of a controller are shared: this profile's own.
 use Rattle.std.specs.Prelude.{ℕ, ◌/◌, min}
+use Rattle.le_acl.specs.declared.sender.TheConstants.{MAX_ACL_LEN}
 
 -- of so many slots for connections, those that packets are there for
 abbrev pub usable : ℕ → ℕ → ℕ
@@ -11,4 +12,4 @@ quota slots packets = packets / usable slots packets
 
 -- the most octets of data in a packet, where the controller takes so many
 abbrev pub acl_len : ℕ → ℕ
-acl_len told = min told 251
+acl_len told = min told MAX_ACL_LEN

@@ -6,6 +6,7 @@ use Rattle.le_acl.specs.Fragment.{Fragment, Beginning, Continuation}
 use Rattle.le_acl.specs.Packets.{Pdu, pieces, frame_octets, fragments_of}
 use Rattle.le_acl.specs.Outgoing.{Outgoing, none_queued}
 use Rattle.le_acl.specs.declared.pdus.TheConstants.{MAX_PDUS}
+use Rattle.le_acl.specs.declared.sender.TheConstants.{MIN_ACL_LEN, MAX_ACL_LEN}
 
 -- what stands in the room that is lent is no part of what goes out
 pub record Sending : Type 0 where
@@ -45,7 +46,7 @@ IsWithin size gone [] = gone ≡ 0
 IsWithin size gone (pdu ∷ pdus) = (gone < 4 + length pdu.1) × (0 < gone → size ≤ gone)
 
 pub record IsSending (queued : Queued) (gone size : ℕ) (lent : Bool) : Type 0 where
-  pub size_least : 27 ≤ size
-  pub size_most : size ≤ 251
+  pub size_least : MIN_ACL_LEN ≤ size
+  pub size_most : size ≤ MAX_ACL_LEN
   pub within : IsWithin size gone queued.pdus
   pub has_room : lent ≡ true → length queued.pdus < MAX_PDUS

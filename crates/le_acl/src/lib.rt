@@ -11,4 +11,4 @@ mod sender;
 pub use frame::MAX_FRAME;
 pub use pdus::MAX_PDUS;
 pub use reassembler::{Piece, Reassembler, is_frame};
-pub use sender::{Full, Sender};
+pub use sender::{Full, MAX_ACL_LEN, MIN_ACL_LEN, Sender};

@@ -7,6 +7,7 @@ ghost use Rattle.le_acl.specs.Outgoing.{with_pdu, next_of, may_give, after_next,
 ghost use Rattle.le_acl.specs.Acts.{AlwaysGivesWithinQuota};
 ghost use Rattle.le_acl.specs.History.{FollowsHistory};
 ghost use Rattle.le_acl.specs.Sending.{idle, fragment_at};
+ghost use Rattle.le_acl.specs.declared.sender.TheConstants.{MIN_ACL_LEN, MAX_ACL_LEN};
 ghost use Rattle.octets.specs.Number.{Octets, two_octets};
 ghost use Rattle.le_h4.specs.declared.packet_buf.TheConstants.{MAX_PACKET_OUT};
 ghost use Rattle.octets.specs.declared.pdu.TheConstants.{MAX_PDU};
@@ -18,6 +19,14 @@ use le_h4::{PacketBuf, PacketOctets, acl_into};
 use octets::{PduOctets, overwrite};
 use std::alloc::{AllocError, Global};
 use std::marker::Model;
+
+/// The least length of a controller's buffer for ACL data of an LE connection, in octets: Core 5.0,
+/// Vol 2 Part E, 7.8.2.
+pub const MIN_ACL_LEN: u16 = 27;
+
+/// The most octets of data of an ACL packet that goes out, as many as one packet of the Link Layer
+/// has: Core 5.0, Vol 6 Part B, 4.5.10.
+pub const MAX_ACL_LEN: u16 = 251;
 
 /// As many PDUs are queued as there is room for.
 #[derive(Clone, Copy, PartialEq, Eq)]
@@ -58,8 +67,8 @@ impl Sender {
     #[tactic(auto, using(crate::proofs::Shares::always_gives_a_share))]
     pub fn new(alloc: Global, share: u16, acl_len: u16) -> Result<Sender, AllocError>
         requires share { 0 < share }
-        requires acl_len_least { 27 ≤ acl_len }
-        requires acl_len_most { acl_len ≤ 251 }
+        requires acl_len_least { MIN_ACL_LEN ≤ acl_len }
+        requires acl_len_most { acl_len ≤ MAX_ACL_LEN }
         ensures idle { IfOk result (λ sender. sender ≡ idle share acl_len) }
         // Whatever is done with it, the packets that it gives are a quota of those that are queued.
         ensures share { AlwaysGivesWithinQuota share acl_len }
@@ -232,8 +241,8 @@ impl Sender {
     /// Drops the PDUs, counts no packet as outstanding, and takes another quota and size.
     pub fn reset(&mut self, share: u16, acl_len: u16)
         requires share { 0 < share }
-        requires acl_len_least { 27 ≤ acl_len }
-        requires acl_len_most { acl_len ≤ 251 }
+        requires acl_len_least { MIN_ACL_LEN ≤ acl_len }
+        requires acl_len_most { acl_len ≤ MAX_ACL_LEN }
         ensures { self.new ≡ idle share acl_len }
     {
         self.flush();
@@ -258,7 +267,7 @@ fn write_fragment(
     requires payload { length payload.now ≤ MAX_PDU }
     requires gone { 0 < gone → 4 ≤ gone }
     requires least { 4 ≤ acl_len }
-    requires most { acl_len ≤ 251 }
+    requires most { acl_len ≤ MAX_ACL_LEN }
     ensures { out.new
         ≡ acl_octets handle
         (fragment_at gone (take acl_len (drop gone (frame_octets (channel, payload.now))))) }
@@ -289,7 +298,7 @@ fn fragment_into(
     requires payload { length payload.now ≤ MAX_PDU }
     requires gone { 0 < gone → 4 ≤ gone }
     requires least { 4 ≤ acl_len }
-    requires most { acl_len ≤ 251 }
+    requires most { acl_len ≤ MAX_ACL_LEN }
     requires room { MAX_PACKET_OUT ≤ length out.old }
     ensures written { take result out.new
         ≡ acl_octets handle
