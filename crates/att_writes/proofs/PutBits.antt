@@ -24,7 +24,7 @@ twice-at : (row : Row) (entry : Handle × ℕ) (handle bits last : ℕ) (here : 
 twice-at row entry handle bits last true is later = grind (arith, nat_tests, common_steps)
 twice-at row entry handle bits last false is later = rw is (ap (λ rest. entry ∷ rest) later)
 
-twice : (row : Row) (handle bits last : ℕ) → with_bits (with_bits row handle bits) handle last ≡ with_bits row handle last
+pub twice : (row : Row) (handle bits last : ℕ) → with_bits (with_bits row handle bits) handle last ≡ with_bits row handle last
 twice [] handle bits last = grind (arith, nat_tests, common_steps)
 twice (entry ∷ row) handle bits last = twice-at row entry handle bits last (entry.0 == handle) refl (twice row handle bits last)
 
@@ -53,7 +53,7 @@ apart-at row entry handle bits other own false false is was differs later = rw (
 rest_has : (row : Row) (entry : Handle × ℕ) (handle : Handle) → has_entry (entry ∷ row) handle ≡ true → (entry.0 == handle) ≡ false → has_entry row handle ≡ true
 rest_has row entry handle has differs = grind (arith, common_steps)
 
-apart : (row : Row) (handle bits other own : ℕ) → has_entry row handle ≡ true → (other == handle) ≡ false
+pub apart : (row : Row) (handle bits other own : ℕ) → has_entry row handle ≡ true → (other == handle) ≡ false
     → with_bits (with_bits row other own) handle bits ≡ with_bits (with_bits row handle bits) other own
 apart [] handle bits other own has differs = absurd (cc has)
 apart (entry ∷ row) handle bits other own has differs =
@@ -75,7 +75,7 @@ has_own-at : (row : Row) (entry : Handle × ℕ) (handle bits : ℕ) (here : Boo
 has_own-at row entry handle bits true is later = grind (arith, nat_tests, common_steps)
 has_own-at row entry handle bits false is later = grind (arith, nat_tests, common_steps)
 
-has_own : (row : Row) (handle bits : ℕ) → has_entry (with_bits row handle bits) handle ≡ true
+pub has_own : (row : Row) (handle bits : ℕ) → has_entry (with_bits row handle bits) handle ≡ true
 has_own [] handle bits = grind (arith, nat_tests, common_steps)
 has_own (entry ∷ row) handle bits = has_own-at row entry handle bits (entry.0 == handle) refl (has_own row handle bits)
 

@@ -20,7 +20,7 @@ use Rattle.att_writes.specs.Queue.{once_each, handles_of_entries}
 use Rattle.att_writes.specs.SameBut.{values_put, bits_put}
 use Rattle.att_writes.proofs.AtOnce.{fits_unless_refused}
 use Rattle.att_writes.proofs.Put.{handles_in, stored_touched}
-use Rattle.att_writes.proofs.PutBits.{row_touched}
+use Rattle.att_writes.proofs.PutBits.{apart, has_own, row_touched, twice}
 use Rattle.att_writes.proofs.Sizes.{used}
 use Rattle.octets.specs.Number.{Octets}
 
@@ -197,48 +197,6 @@ stores_written access attributes standing entries stored new is =
     ∙ stores-all from (filter test (handles_of_entries entries)) stored.values
 
 -- Configurations.
-
--- bits that are set twice at a handle are the last
-twice-at : (row : Row) (entry : Handle × ℕ) (handle bits last : ℕ) (here : Bool) → (entry.0 == handle) ≡ here
-    → with_bits (with_bits row handle bits) handle last ≡ with_bits row handle last
-    → with_bits (if here then (handle, bits) ∷ row else entry ∷ with_bits row handle bits) handle last ≡ (if here then (handle, last) ∷ row else entry ∷ with_bits row handle last)
-twice-at row entry handle bits last true is later = grind (arith, nat_tests, common_steps)
-twice-at row entry handle bits last false is later = rw is (ap (λ rest. entry ∷ rest) later)
-
-twice : (row : Row) (handle bits last : ℕ) → with_bits (with_bits row handle bits) handle last ≡ with_bits row handle last
-twice [] handle bits last = grind (arith, nat_tests, common_steps)
-twice (entry ∷ row) handle bits last = twice-at row entry handle bits last (entry.0 == handle) refl (twice row handle bits last)
-
--- setting the bits of an entry that is there, and those of another handle, in either order
-apart-at : (row : Row) (entry : Handle × ℕ) (handle bits other own : ℕ) (here there : Bool) → (entry.0 == handle) ≡ here → (entry.0 == other) ≡ there → (other == handle) ≡ false
-    → (here ≡ false → with_bits (with_bits row other own) handle bits ≡ with_bits (with_bits row handle bits) other own)
-    → with_bits (if there then (other, own) ∷ row else entry ∷ with_bits row other own) handle bits
-    ≡ with_bits (if here then (handle, bits) ∷ row else entry ∷ with_bits row handle bits) other own
-apart-at row entry handle bits other own true true is was differs later =
-    let same : (other == handle) ≡ true = grind (arith, nat_tests) in absurd (cc (same, differs))
-apart-at row entry handle bits other own true false is was differs later =
-    let back : (handle == other) ≡ false = grind (arith, nat_tests) in rw (is, back) refl
-apart-at row entry handle bits other own false true is was differs later = rw (differs, was) refl
-apart-at row entry handle bits other own false false is was differs later = rw (is, was) (ap (λ rest. entry ∷ rest) (later refl))
-
-rest_has : (row : Row) (entry : Handle × ℕ) (handle : Handle) → has_entry (entry ∷ row) handle ≡ true → (entry.0 == handle) ≡ false → has_entry row handle ≡ true
-rest_has row entry handle has differs = grind (arith, common_steps)
-
-apart : (row : Row) (handle bits other own : ℕ) → has_entry row handle ≡ true → (other == handle) ≡ false
-    → with_bits (with_bits row other own) handle bits ≡ with_bits (with_bits row handle bits) other own
-apart [] handle bits other own has differs = absurd (cc has)
-apart (entry ∷ row) handle bits other own has differs =
-    apart-at row entry handle bits other own (entry.0 == handle) (entry.0 == other) refl refl differs (λ is. apart row handle bits other own (rest_has row entry handle has is) differs)
-
--- what is set is there
-has_own-at : (row : Row) (entry : Handle × ℕ) (handle bits : ℕ) (here : Bool) → (entry.0 == handle) ≡ here → has_entry (with_bits row handle bits) handle ≡ true
-    → has_entry (if here then (handle, bits) ∷ row else entry ∷ with_bits row handle bits) handle ≡ true
-has_own-at row entry handle bits true is later = grind (arith, nat_tests, common_steps)
-has_own-at row entry handle bits false is later = grind (arith, nat_tests, common_steps)
-
-has_own : (row : Row) (handle bits : ℕ) → has_entry (with_bits row handle bits) handle ≡ true
-has_own [] handle bits = grind (arith, nat_tests, common_steps)
-has_own (entry ∷ row) handle bits = has_own-at row entry handle bits (entry.0 == handle) refl (has_own row handle bits)
 
 abbrev put_bits : Row → Row → Handle → Row
 put_bits from into handle = with_bits into handle (bits_at from handle)
