@@ -39,7 +39,8 @@ pub struct Served {
 
 /// Serves one Attribute PDU of one connection: puts the answer into `out`, and makes the change
 /// that it asks for, where the policy permits it. `row` is what the connection's client has
-/// configured, of this table.
+/// configured, of this table. This is `answer_into` for an answer whose room the caller has made, with
+/// a list of its own for the handles: both are one call of `serve`.
 #[tactic(auto, using(crate::proofs::Dues::answered_where_due), unfolding(att_pdu::specs::Form::form_of))]
 pub fn answer(
     table: &mut Table,

@@ -126,7 +126,8 @@ impl Sender {
     }
 
     /// Writes the first packet not yet given in place of what `out` holds. There is none, and nothing
-    /// changes, where no PDU is queued or as many packets are outstanding as may be.
+    /// changes, where no PDU is queued or as many packets are outstanding as may be. This is
+    /// `next_packet` and a copy of its octets.
     pub fn next(&mut self, handle: u16, out: &mut PacketOctets) -> bool
         requires { handle < 2 ^ 12 }
         ensures gives { result ≡ may_give self.old.outgoing }
