@@ -12,6 +12,7 @@ use Rattle.sim_controller.specs.declared.command.Asked.{Asked}
 use Rattle.sim_controller.specs.declared.command.Asked.TheVariants.{Status, ReadBufferSize, LeReadBufferSize, Advertise, Disconnect, GiveKey, RefuseKey}
 use Rattle.sim_controller.specs.declared.config.SimConfig.{SimConfig}
 use Rattle.sim_controller.specs.declared.fault.SimFault.{SimFault}
+use Rattle.sim_controller.specs.declared.handle.TheConstants.{PHONES}
 use Rattle.sim_controller.specs.Acts.{SimulatedAct, Connect, Drop, Encrypt, Clear, Send, Hold, Done, act_fault, simulated_after_doing, simulated_after_act}
 use Rattle.sim_controller.specs.Answers.{here_or_none, phone_here, with_end, simulated_after_answer, after_data, host_fault, after_host}
 use Rattle.sim_controller.specs.Calls.{SimulatedCall, Acts, Takes, Gives, Hears, Tells, if_accepted, after_call, after_calls}
@@ -223,7 +224,7 @@ module _ (phone : ℕ) (old : Simulated) (older : List Fragment) (below : phone 
   call-moves (Hears other) = hears-moves other
   call-moves (Tells other) = tells-moves other
 
--- there are always 8 phones
+-- there are always as many phones
 doing-count : (old : Simulated) (act : SimulatedAct) → length (simulated_after_doing old act).phones ≡ length old.phones
 doing-count old (Connect phone peer) = length-set old.phones phone (record (phone_at old phone) { link = Some new_link })
 doing-count old (Drop phone) = length-set old.phones phone (record (phone_at old phone) { link = None })
@@ -269,20 +270,20 @@ call-count old Gives = refl
 call-count old (Hears phone) = length-set old.phones phone (phone_after_hearing (phone_at old phone))
 call-count old (Tells phone) = length-set old.phones phone (after_telling (phone_at old phone))
 
-all-count : (config : SimConfig) (calls : List SimulatedCall) → length (after_calls config calls).phones ≡ 8
+all-count : (config : SimConfig) (calls : List SimulatedCall) → length (after_calls config calls).phones ≡ PHONES
 all-count config [] = refl
 all-count config (call ∷ earlier) = call-count (after_calls config earlier) call ∙ all-count config earlier
 
-none-behind : (phone : ℕ) → phone < 8 → (link : Option Link) → link ≡ None → IsBehind link []
+none-behind : (phone : ℕ) → phone < PHONES → (link : Option Link) → link ≡ None → IsBehind link []
 none-behind phone below link e = subst (λ (l : Option Link). IsBehind l []) (sym e) tt
 
 record Follows (config : SimConfig) (phone : ℕ) (calls : List SimulatedCall) : Type 0 where
   heard : frames_heard_in config phone calls ++ (phone_at (after_calls config calls) phone).heard ≡ frames_for config phone calls
   behind : IsBehind (phone_at (after_calls config calls) phone).link (fragments_for config phone calls)
 
-follows : (config : SimConfig) (phone : ℕ) (calls : List SimulatedCall) → phone < 8 → Follows config phone calls
+follows : (config : SimConfig) (phone : ℕ) (calls : List SimulatedCall) → phone < PHONES → Follows config phone calls
 follows config phone [] below =
-    let absent-first : slice_index_or (after_calls config []).phones phone absent_phone ≡ absent_phone = get_or-replicate 8 phone absent_phone absent_phone below in
+    let absent-first : slice_index_or (after_calls config []).phones phone absent_phone ≡ absent_phone = get_or-replicate PHONES phone absent_phone absent_phone below in
     record {
       heard = ap (λ (p : Phone). p.heard) absent-first;
       behind = none-behind phone below (phone_at (after_calls config []) phone).link (ap (λ (p : Phone). p.link) absent-first);

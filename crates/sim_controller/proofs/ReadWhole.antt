@@ -19,6 +19,7 @@ use Rattle.sim_controller.specs.declared.command.Asked.{Asked}
 use Rattle.sim_controller.specs.declared.command.Asked.TheVariants.{Status, ReadBufferSize, LeReadBufferSize, Advertise, Disconnect, GiveKey, RefuseKey}
 use Rattle.sim_controller.specs.declared.config.SimConfig.{SimConfig}
 use Rattle.sim_controller.specs.declared.fault.SimFault.{SimFault}
+use Rattle.sim_controller.specs.declared.handle.TheConstants.{PHONES}
 use Rattle.le_hci.specs.declared.reason.TheConstants.{REMOTE_USER_TERMINATED}
 use Rattle.sim_controller.specs.declared.told.Told.{Told}
 use Rattle.sim_controller.specs.declared.told.Told.TheVariants as told
@@ -68,23 +69,23 @@ event-read sent fields same =
     ∙ ap ok same
 
 -- the handle of a phone has 12 bits
-small : (phone : ℕ) → phone < 8 → (64 + phone) % 4096 ≡ 64 + phone
+small : (phone : ℕ) → phone < PHONES → (64 + phone) % 4096 ≡ 64 + phone
 small phone below = omega arith
 
-in-12-bits : (phone : ℕ) → phone < 8 → 64 + phone < 4096
+in-12-bits : (phone : ℕ) → phone < PHONES → 64 + phone < 4096
 in-12-bits phone below = omega arith
 
 -- a packet of one of the phones, whose address has 6 octets and whose random number has 8
 abbrev IsFitTold : Told → Type 0
 IsFitTold (told.CommandComplete code parameters) = Unit {0}
 IsFitTold (told.CommandStatus code) = Unit {0}
-IsFitTold (told.ConnectionComplete phone peer) = (phone < 8) × (length peer.address ≡ 6)
-IsFitTold (told.DisconnectionComplete phone reason) = phone < 8
-IsFitTold (told.EncryptionChange phone enabled) = phone < 8
-IsFitTold (told.LongTermKeyRequest phone random_number diversifier) = (phone < 8) × (length random_number ≡ 8)
-IsFitTold (told.CompletedPackets phone packets) = phone < 8
-IsFitTold (told.Beginning phone octets) = phone < 8
-IsFitTold (told.Continuation phone octets) = phone < 8
+IsFitTold (told.ConnectionComplete phone peer) = (phone < PHONES) × (length peer.address ≡ 6)
+IsFitTold (told.DisconnectionComplete phone reason) = phone < PHONES
+IsFitTold (told.EncryptionChange phone enabled) = phone < PHONES
+IsFitTold (told.LongTermKeyRequest phone random_number diversifier) = (phone < PHONES) × (length random_number ≡ 8)
+IsFitTold (told.CompletedPackets phone packets) = phone < PHONES
+IsFitTold (told.Beginning phone octets) = phone < PHONES
+IsFitTold (told.Continuation phone octets) = phone < PHONES
 
 told-read : (event_packet : Told) → IsFitTold event_packet → IsReadWhole event_packet
 told-read (told.CommandComplete code parameters) fit = record {
@@ -142,17 +143,17 @@ one : (event_packet : Told) → IsFitTold event_packet → All IsReadWhole (even
 one event_packet fit = All-cons IsReadWhole event_packet [] (told-read event_packet fit) none
 
 -- the acts
-fragment-read : (phone : ℕ) (fragment : Fragment) → phone < 8 → IsReadWhole (told_fragment phone fragment)
+fragment-read : (phone : ℕ) (fragment : Fragment) → phone < PHONES → IsReadWhole (told_fragment phone fragment)
 fragment-read phone (Beginning octets) below = told-read (told.Beginning phone (record { items = octets })) below
 fragment-read phone (Continuation octets) below = told-read (told.Continuation phone (record { items = octets })) below
 
-fragments-read : (phone : ℕ) (fragments : List Fragment) → phone < 8 → All IsReadWhole (map (told_fragment phone) fragments)
+fragments-read : (phone : ℕ) (fragments : List Fragment) → phone < PHONES → All IsReadWhole (map (told_fragment phone) fragments)
 fragments-read phone [] below = none
 fragments-read phone (fragment ∷ fragments) below =
     All-cons IsReadWhole (told_fragment phone fragment) (map (told_fragment phone) fragments)
     (fragment-read phone fragment below) (fragments-read phone fragments below)
 
-frame-read : (phone cut : ℕ) (frame : List ℕ) → phone < 8 → All IsReadWhole (told_frame phone cut frame)
+frame-read : (phone cut : ℕ) (frame : List ℕ) → phone < PHONES → All IsReadWhole (told_frame phone cut frame)
 unfolding told_frame
 frame-read phone cut frame below = fragments-read phone (fragments_of_pieces (pieces cut frame)) below
 
@@ -167,29 +168,29 @@ act-read config (Done phone packets) fit = one (told.CompletedPackets phone pack
 
 -- the answers: a handle that is found is that of a phone
 below-by : (least most : Bool) (handle phone : ℕ) → (most ≡ true → handle < 72)
-    → (if least && most then Some (handle - 64) else None) ≡ Some phone → phone < 8
+    → (if least && most then Some (handle - 64) else None) ≡ Some phone → phone < PHONES
 below-by true true handle phone most e = let is : handle - 64 ≡ phone = cc in omega (arith, most refl, is)
 below-by true false handle phone most e = absurd cc
 below-by false true handle phone most e = absurd cc
 below-by false false handle phone most e = absurd cc
 
-phone-below : (handle phone : ℕ) → phone_with handle ≡ Some phone → phone < 8
+phone-below : (handle phone : ℕ) → phone_with handle ≡ Some phone → phone < PHONES
 phone-below handle phone e = below-by (nat_le 64 handle) (nat_lt handle 72) handle phone (ltb-true handle 72) e
 
-here-by : (phones : List Phone) (found : Option ℕ) (phone : ℕ) → ((other : ℕ) → found ≡ Some other → other < 8)
-    → option_and_then (here_or_none phones) found ≡ Some phone → phone < 8
+here-by : (phones : List Phone) (found : Option ℕ) (phone : ℕ) → ((other : ℕ) → found ≡ Some other → other < PHONES)
+    → option_and_then (here_or_none phones) found ≡ Some phone → phone < PHONES
 here-by phones None phone below e = absurd cc
 here-by phones (Some other) phone below e = pick (is_some (slice_index_or phones other absent_phone).link) e
   where
-    pick : (here : Bool) → (if here then Some other else None) ≡ Some phone → phone < 8
+    pick : (here : Bool) → (if here then Some other else None) ≡ Some phone → phone < PHONES
     pick true e = let is : other ≡ phone = cc in omega (arith, below other refl, is)
     pick false e = absurd cc
 
-here-below : (phones : List Phone) (handle phone : ℕ) → phone_here phones handle ≡ Some phone → phone < 8
+here-below : (phones : List Phone) (handle phone : ℕ) → phone_here phones handle ≡ Some phone → phone < PHONES
 here-below phones handle phone e = here-by phones (phone_with handle) phone (phone-below handle) e
 
-event-reads : (event : ℕ → Told) → ((phone : ℕ) → phone < 8 → IsFitTold (event phone)) → (found : Option ℕ)
-    → ((phone : ℕ) → found ≡ Some phone → phone < 8) → All IsReadWhole (option_to_list (option_map event found))
+event-reads : (event : ℕ → Told) → ((phone : ℕ) → phone < PHONES → IsFitTold (event phone)) → (found : Option ℕ)
+    → ((phone : ℕ) → found ≡ Some phone → phone < PHONES) → All IsReadWhole (option_to_list (option_map event found))
 event-reads event fit None below = none
 event-reads event fit (Some phone) below = one (event phone) (fit phone (below phone refl))
 
@@ -212,11 +213,11 @@ answer-fit config (Disconnect handle reason) = tt
 answer-fit config (GiveKey handle) = tt
 answer-fit config (RefuseKey handle) = tt
 
-held-read : (held : Bool) (phone : ℕ) → phone < 8 → All IsReadWhole (if held then [] else told.CompletedPackets phone 1 ∷ [])
+held-read : (held : Bool) (phone : ℕ) → phone < PHONES → All IsReadWhole (if held then [] else told.CompletedPackets phone 1 ∷ [])
 held-read true phone below = none
 held-read false phone below = one (told.CompletedPackets phone 1) below
 
-data-read : (old : Simulated) (found : Option ℕ) → ((phone : ℕ) → found ≡ Some phone → phone < 8) → All IsReadWhole (told_of_data old found)
+data-read : (old : Simulated) (found : Option ℕ) → ((phone : ℕ) → found ≡ Some phone → phone < PHONES) → All IsReadWhole (told_of_data old found)
 data-read old None below = none
 data-read old (Some phone) below = held-read (is_held (phone_at old phone).link) phone (below phone refl)
 

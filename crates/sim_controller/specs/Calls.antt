@@ -6,6 +6,7 @@ use Rattle.le_hci.specs.Event.{event_of}
 use Rattle.le_hci.specs.EventPacket.{event_packet, event_code, fields_of}
 use Rattle.sim_controller.specs.declared.config.SimConfig.{SimConfig}
 use Rattle.sim_controller.specs.declared.fault.SimFault.{SimFault}
+use Rattle.sim_controller.specs.declared.handle.TheConstants.{PHONES}
 use Rattle.sim_controller.specs.declared.told.Told.{Told}
 use Rattle.sim_controller.specs.Acts.{SimulatedAct, Connect, Drop, Encrypt, Clear, Send, Hold, Done, told_of_act, act_fault, simulated_after_act}
 use Rattle.sim_controller.specs.Answers.{phone_here, answers, completions_for, host_fault, after_host}
@@ -80,13 +81,13 @@ GivesInOrder config = (calls : List SimulatedCall) → given_in_calls config cal
 
 -- an act of one of the phones, whose address has 6 octets and whose random number has 8
 abbrev pub IsFit : SimulatedAct → Type 0
-IsFit (Connect phone peer) = (phone < 8) × (length peer.address ≡ 6)
-IsFit (Encrypt phone random_number diversifier) = (phone < 8) × (length random_number ≡ 8)
-IsFit (Drop phone) = phone < 8
-IsFit (Clear phone) = phone < 8
-IsFit (Send phone channel payload) = phone < 8
-IsFit (Hold phone) = phone < 8
-IsFit (Done phone packets) = phone < 8
+IsFit (Connect phone peer) = (phone < PHONES) × (length peer.address ≡ 6)
+IsFit (Encrypt phone random_number diversifier) = (phone < PHONES) × (length random_number ≡ 8)
+IsFit (Drop phone) = phone < PHONES
+IsFit (Clear phone) = phone < PHONES
+IsFit (Send phone channel payload) = phone < PHONES
+IsFit (Hold phone) = phone < PHONES
+IsFit (Done phone packets) = phone < PHONES
 
 abbrev pub IsFitCall : SimulatedCall → Type 0
 IsFitCall (Acts act) = IsFit act

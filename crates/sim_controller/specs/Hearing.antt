@@ -5,6 +5,7 @@ use Rattle.octets.specs.Number.{Octets}
 use Rattle.le_acl.specs.Fragment.{Fragment}
 use Rattle.le_acl.specs.Frame.{frame_at}
 use Rattle.sim_controller.specs.declared.config.SimConfig.{SimConfig}
+use Rattle.sim_controller.specs.declared.handle.TheConstants.{PHONES}
 use Rattle.sim_controller.specs.Acts.{SimulatedAct, Connect, act_fault}
 use Rattle.sim_controller.specs.Answers.{phone_here, host_fault}
 use Rattle.sim_controller.specs.Calls.{SimulatedCall, Acts, Takes, Gives, Hears, Tells, if_accepted, after_calls}
@@ -66,5 +67,5 @@ frames_heard_in config phone (call ∷ earlier) = frames_heard_in config phone e
 
 -- what a phone heard, and then what waits to be heard, are the frames of the data that were handed in, in their order
 abbrev pub HearsItsFrames : SimConfig → Type 0
-HearsItsFrames config = (phone : ℕ) (calls : List SimulatedCall) → phone < 8
+HearsItsFrames config = (phone : ℕ) (calls : List SimulatedCall) → phone < PHONES
     → frames_heard_in config phone calls ++ (phone_at (after_calls config calls) phone).heard ≡ frames_for config phone calls

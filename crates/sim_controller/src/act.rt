@@ -1,6 +1,6 @@
 use le_hci::Peer;
 
-/// What a phone does. Phones are numbered from 0, and there are 8.
+/// What a phone does. Phones are numbered from 0, and there are `PHONES`.
 #[derive(Clone, Copy)]
 pub enum PhoneAct<'a> {
     /// The phone connects, as this peer. The controller no longer advertises.

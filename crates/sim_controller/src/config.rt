@@ -7,6 +7,6 @@ pub struct SimConfig {
     pub packets: u8,
     /// There are no buffers for LE connections alone: they are told by Read Buffer Size.
     pub shared: bool,
-    /// The most octets of data of an ACL packet to the host, 1 to 251.
+    /// The most octets of data of an ACL packet to the host, 1 to `le_acl::MAX_ACL_LEN`.
     pub cut: u16,
 }

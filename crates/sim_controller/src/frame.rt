@@ -2,10 +2,13 @@ ghost use Rattle.std.specs.Prelude.{◌≡◌, ◌+◌, ◌<◌, ◌≤◌, ◌�
 ghost use Rattle.circular_buffer.specs.Buffer.{buffer};
 ghost use Rattle.le_acl.specs.Packets.{frame_octets};
 ghost use Rattle.sim_controller.specs.Frames.{told_frame, told_others};
+ghost use Rattle.sim_controller.specs.declared.told.TheConstants.{MAX_PIECE};
+ghost use Rattle.sim_controller.specs.declared.waiting.TheConstants.{MAX_PACKETS};
+ghost use Rattle.le_acl.specs.declared.sender.TheConstants.{MAX_ACL_LEN};
 ghost use Rattle.octets.specs.declared.pdu.TheConstants.{MAX_PDU};
 
 use crate::fault::SimFault;
-use crate::told::Told;
+use crate::told::{MAX_PIECE, Told};
 use crate::waiting::{MAX_PACKETS, put};
 use arrayvec::ArrayVec;
 use circular_buffer::HeapCircularBuffer;
@@ -38,15 +41,15 @@ pub(crate) fn tell_frame(
     frame: &[u8],
     cut: usize,
 ) -> Result<(), SimFault>
-    requires capacity { waiting.old.capacity ≡ 64 }
-    requires within { length waiting.old.items ≤ 64 }
+    requires capacity { waiting.old.capacity ≡ MAX_PACKETS }
+    requires within { length waiting.old.items ≤ MAX_PACKETS }
     requires cut_least { 1 ≤ cut }
-    requires cut_most { cut ≤ 251 }
+    requires cut_most { cut ≤ MAX_ACL_LEN }
     requires some { 0 < length frame.now }
     ensures room { IsOk result ↔
-        (length waiting.old.items + length (told_frame phone cut frame.now) ≤ 64) }
+        (length waiting.old.items + length (told_frame phone cut frame.now) ≤ MAX_PACKETS) }
     ensures told { OnOk result
-        (waiting.new ≡ buffer (waiting.old.items ++ told_frame phone cut frame.now) 64) }
+        (waiting.new ≡ buffer (waiting.old.items ++ told_frame phone cut frame.now) MAX_PACKETS) }
     ensures full { IfErr result (λ fault. fault ≡ SimFault.Full) }
     ensures unchanged { OnErr result (waiting.new ≡ waiting.old) }
 {
@@ -63,11 +66,11 @@ pub(crate) fn tell_frame(
 /// Has what continues a frame wait for the host, for which there is room.
 #[tactic(auto, using(crate::proofs::Pieces::others_parts, crate::proofs::Pieces::others_step, crate::proofs::Pieces::others_count, crate::proofs::Pieces::others_done))]
 fn tell_others(waiting: &mut HeapCircularBuffer<Told>, phone: u8, octets: &[u8], cut: usize)
-    requires capacity { waiting.old.capacity ≡ 64 }
+    requires capacity { waiting.old.capacity ≡ MAX_PACKETS }
     requires cut_least { 1 ≤ cut }
-    requires cut_most { cut ≤ 251 }
-    requires room { length waiting.old.items + length (told_others phone cut octets.now) ≤ 64 }
-    ensures { waiting.new ≡ buffer (waiting.old.items ++ told_others phone cut octets.now) 64 }
+    requires cut_most { cut ≤ MAX_ACL_LEN }
+    requires room { length waiting.old.items + length (told_others phone cut octets.now) ≤ MAX_PACKETS }
+    ensures { waiting.new ≡ buffer (waiting.old.items ++ told_others phone cut octets.now) MAX_PACKETS }
 {
     let mut left = octets;
     while !left.is_empty() {
@@ -91,9 +94,9 @@ fn behind(octets: &[u8], count: usize) -> &[u8]
     &octets[count.min(octets.len())..]
 }
 
-/// At most 251 octets, copied.
-fn piece(octets: &[u8]) -> ArrayVec<u8, 251>
-    requires { length octets.now ≤ 251 }
+/// At most `MAX_PIECE` octets, copied.
+fn piece(octets: &[u8]) -> ArrayVec<u8, MAX_PIECE>
+    requires { length octets.now ≤ MAX_PIECE }
     ensures { result ≡ record { items = octets.now } }
 {
     let mut piece = ArrayVec::new();

@@ -1,8 +1,9 @@
 ghost use Rattle.std.specs.Prelude.{◌≡◌, ◌<◌, IfSome};
 ghost use Rattle.sim_controller.specs.Phones.{handle_of_phone, phone_with};
+ghost use Rattle.sim_controller.specs.declared.handle.TheConstants.{PHONES};
 
 /// How many phones there are.
-pub(crate) const PHONES: u8 = 8;
+pub const PHONES: u8 = 8;
 
 /// The connection handle of the first phone. Each other one has the next.
 const FIRST_HANDLE: u16 = 0x0040;
@@ -17,7 +18,7 @@ pub(crate) fn handle_of(phone: u8) -> u16
 /// The phone with a connection handle.
 pub(crate) fn phone_with(handle: u16) -> Option<u8>
     ensures exact { result ≡ phone_with handle }
-    ensures below { IfSome result (λ phone. phone < 8) }
+    ensures below { IfSome result (λ phone. phone < PHONES) }
 {
     if handle >= FIRST_HANDLE && handle < FIRST_HANDLE + u16::from(PHONES) {
         Some((handle - FIRST_HANDLE) as u8)

@@ -19,4 +19,5 @@ mod waiting;
 pub use act::PhoneAct;
 pub use config::SimConfig;
 pub use fault::SimFault;
+pub use handle::PHONES;
 pub use sim::Sim;

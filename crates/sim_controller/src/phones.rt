@@ -3,14 +3,15 @@
 ghost use Rattle.std.specs.Prelude.{◌≡◌, ◌<◌, length, replicate, IfSome, IfOk};
 ghost use Rattle.sim_controller.specs.Answers.{phone_here};
 ghost use Rattle.sim_controller.specs.Phone.{absent_phone};
+ghost use Rattle.sim_controller.specs.declared.handle.TheConstants.{PHONES};
 
 use crate::handle::{PHONES, phone_with};
 use crate::phone::Phone;
 use std::alloc::{AllocError, Global};
 
-/// 8 phones that are not connected, with room for all that they may hear.
+/// The phones, which are not connected, with room for all that they may hear.
 pub(crate) fn absent_phones(alloc: Global) -> Result<Vec<Phone>, AllocError>
-    ensures { IfOk result (λ phones. phones.items ≡ replicate 8 absent_phone) }
+    ensures { IfOk result (λ phones. phones.items ≡ replicate PHONES absent_phone) }
 {
     let mut phones = Vec::with_capacity(alloc, usize::from(PHONES))?;
     for _ in 0..PHONES {
@@ -21,9 +22,9 @@ pub(crate) fn absent_phones(alloc: Global) -> Result<Vec<Phone>, AllocError>
 
 /// The phone that is connected and whose connection has a handle.
 pub(crate) fn here_with(phones: &[Phone], handle: u16) -> Option<u8>
-    requires { length phones.now ≡ 8 }
+    requires { length phones.now ≡ PHONES }
     ensures exact { result ≡ phone_here phones.now handle }
-    ensures below { IfSome result (λ phone. phone < 8) }
+    ensures below { IfSome result (λ phone. phone < PHONES) }
 {
     let phone = phone_with(handle)?;
     if phones[usize::from(phone)].is_here() {

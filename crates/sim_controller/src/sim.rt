@@ -9,6 +9,10 @@ ghost use Rattle.sim_controller.specs.Hearing.{HearsItsFrames};
 ghost use Rattle.sim_controller.specs.Phone.{phone_after_hearing, after_telling};
 ghost use Rattle.sim_controller.specs.Simulated.{simulated_at_start, phone_at, with_phone, with_told, refusal, IsDone};
 ghost use Rattle.sim_controller.specs.Told.{sent_octets, sent_of};
+ghost use Rattle.sim_controller.specs.declared.handle.TheConstants.{PHONES};
+ghost use Rattle.sim_controller.specs.declared.phone.TheConstants.{MAX_FRAMES};
+ghost use Rattle.sim_controller.specs.declared.waiting.TheConstants.{MAX_PACKETS};
+ghost use Rattle.le_acl.specs.declared.sender.TheConstants.{MAX_ACL_LEN};
 ghost use Rattle.octets.specs.declared.pdu.TheConstants.{MAX_PDU};
 
 use crate::act::PhoneAct;
@@ -30,7 +34,7 @@ use le_hci::reason::{LOCAL_HOST_TERMINATED, REMOTE_USER_TERMINATED};
 use std::alloc::{AllocError, Global};
 use std::marker::Model;
 
-/// A controller with 8 phones, over memory. It takes none once it is made.
+/// A controller with its phones, `PHONES` of them, over memory. It takes none once it is made.
 #[derive(Drop)]
 pub struct Sim {
     config: SimConfig,
@@ -57,7 +61,7 @@ impl Sim {
     #[tactic(auto, using(crate::proofs::GivenInOrder::gives_in_order, crate::proofs::HeardFrames::hears_its_frames))]
     pub fn new(alloc: Global, config: SimConfig) -> Result<Sim, SimFault>
         requires cut_least { 1 ≤ config.cut }
-        requires cut_most { config.cut ≤ 251 }
+        requires cut_most { config.cut ≤ MAX_ACL_LEN }
         ensures start { IfOk result (λ sim. sim ≡ simulated_at_start config) }
         ensures fault { IfErr result (λ fault. fault ≡ SimFault.OutOfMemory) }
         // The same whatever is done with it.
@@ -70,7 +74,7 @@ impl Sim {
 
     fn with_room(alloc: Global, config: SimConfig) -> Result<Sim, AllocError>
         requires cut_least { 1 ≤ config.cut }
-        requires cut_most { config.cut ≤ 251 }
+        requires cut_most { config.cut ≤ MAX_ACL_LEN }
         ensures { IfOk result (λ sim. sim ≡ simulated_at_start config) }
     {
         Ok(Sim {
@@ -81,9 +85,9 @@ impl Sim {
         })
     }
 
-    /// Does what one of the 8 phones does. What is refused changes nothing.
+    /// Does what one of the phones does. What is refused changes nothing.
     pub fn act(&mut self, act: PhoneAct<'_>) -> Result<(), SimFault>
-        requires phone { phone_in (act_of act) < 8 }
+        requires phone { phone_in (act_of act) < PHONES }
         requires payload { length (payload_in (act_of act)) ≤ MAX_PDU }
         ensures exact { result ≡ refusal (act_fault self.old (act_of act.entry)) }
         ensures done { OnOk result (self.new ≡ simulated_after_act self.old (act_of act.entry)) }
@@ -111,7 +115,7 @@ impl Sim {
     }
 
     fn connect(&mut self, phone: u8, peer: Peer) -> Result<(), SimFault>
-        requires { phone < 8 }
+        requires { phone < PHONES }
         ensures { DoesAct (SimulatedAct.Connect phone peer) self.old self.new result }
     {
         if self.phones[usize::from(phone)].is_here() {
@@ -127,7 +131,7 @@ impl Sim {
     }
 
     fn leave(&mut self, phone: u8) -> Result<(), SimFault>
-        requires { phone < 8 }
+        requires { phone < PHONES }
         ensures { DoesAct (SimulatedAct.Drop phone) self.old self.new result }
     {
         if !self.phones[usize::from(phone)].is_here() {
@@ -146,7 +150,7 @@ impl Sim {
 
     /// Has the host told something of a phone that is connected.
     fn tell_of(&mut self, phone: u8, told: Told) -> Result<(), SimFault>
-        requires { phone < 8 }
+        requires { phone < PHONES }
         ensures { IsDone (telling_fault self.old phone (told ∷ []))
             (with_told self.old (told ∷ [])) self.old self.new result }
     {
@@ -157,7 +161,7 @@ impl Sim {
     }
 
     fn send(&mut self, phone: u8, cid: u16, payload: &[u8]) -> Result<(), SimFault>
-        requires phone { phone < 8 }
+        requires phone { phone < PHONES }
         requires payload { length payload.now ≤ MAX_PDU }
         ensures { DoesAct (SimulatedAct.Send phone cid payload.now) self.old self.new result }
     {
@@ -170,7 +174,7 @@ impl Sim {
     }
 
     fn hold(&mut self, phone: u8) -> Result<(), SimFault>
-        requires { phone < 8 }
+        requires { phone < PHONES }
         ensures { DoesAct (SimulatedAct.Hold phone) self.old self.new result }
     {
         if !self.phones[usize::from(phone)].is_here() {
@@ -222,7 +226,7 @@ impl Sim {
             (slice_get self.old.waiting 0) ≡ Some out.new.items) }
         ensures none { OnFalse result (self.old.waiting ≡ []) }
         ensures out_unchanged { OnFalse result (out.new.items ≡ out.old.items) }
-        ensures within { length self.old.waiting ≤ 64 }
+        ensures within { length self.old.waiting ≤ MAX_PACKETS }
         ensures after { self.new ≡ record self.old { waiting = drop 1 self.old.waiting } }
     {
         match self.waiting.pop_front() {
@@ -258,7 +262,7 @@ impl Sim {
 
     /// Takes a fragment for a phone that is connected.
     fn take_data(&mut self, phone: u8, begins: bool, octets: &[u8]) -> Result<(), SimFault>
-        requires { phone < 8 }
+        requires { phone < PHONES }
         ensures { let fragment = fragment_that begins octets.now in
             IsDone (data_fault self.old (Some phone) fragment)
             (after_data self.old (Some phone) fragment) self.old self.new result }
@@ -282,12 +286,12 @@ impl Sim {
     /// Writes the first frame that waits for a phone in place of what `out` holds, its header in front
     /// of its payload. There is none, and nothing changes, where it answers `false`.
     pub fn heard(&mut self, phone: u8, out: &mut ArrayVec<u8, MAX_FRAME>) -> bool
-        requires { phone < 8 }
+        requires { phone < PHONES }
         ensures frame { OnTrue result
             (slice_get (phone_at self.old phone).heard 0 ≡ Some out.new.items) }
         ensures none { OnFalse result ((phone_at self.old phone).heard ≡ []) }
         ensures out_unchanged { OnFalse result (out.new.items ≡ out.old.items) }
-        ensures within { length (phone_at self.old phone).heard ≤ 16 }
+        ensures within { length (phone_at self.old phone).heard ≤ MAX_FRAMES }
         ensures after { self.new
             ≡ with_phone self.old phone (phone_after_hearing (phone_at self.old phone)) }
     {
@@ -296,7 +300,7 @@ impl Sim {
 
     /// The reason of a Disconnect that ended the connection of a phone, where it was not yet told.
     pub fn ended(&mut self, phone: u8) -> Option<u8>
-        requires { phone < 8 }
+        requires { phone < PHONES }
         ensures reason { result ≡ (phone_at self.old phone).ended }
         ensures after { self.new
             ≡ with_phone self.old phone (after_telling (phone_at self.old phone)) }

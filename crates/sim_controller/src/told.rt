@@ -3,6 +3,7 @@ ghost use Rattle.sim_controller.specs.Told.{event_octets, sent_octets, sent_of, 
 
 use crate::handle::handle_of;
 use arrayvec::ArrayVec;
+use le_acl::MAX_ACL_LEN;
 use le_acl::boundary::{CONTINUATION, FIRST};
 use le_h4::{PacketOctets, indicator, write_acl};
 use le_hci::{PERIPHERAL, Peer, event_code};
@@ -48,14 +49,17 @@ pub(crate) enum Told {
     /// A frame of a phone begins.
     Beginning {
         phone: u8,
-        octets: ArrayVec<u8, 251>,
+        octets: ArrayVec<u8, MAX_PIECE>,
     },
     /// A frame of a phone goes on.
     Continuation {
         phone: u8,
-        octets: ArrayVec<u8, 251>,
+        octets: ArrayVec<u8, MAX_PIECE>,
     },
 }
+
+/// The most octets of a piece of a frame, which is the data of one ACL packet.
+pub(crate) const MAX_PIECE: usize = MAX_ACL_LEN as usize;
 
 /// The status of what was successful, in an event: Core 5.0, Vol 2 Part D, 1.3.
 const SUCCESS: u8 = 0x00;

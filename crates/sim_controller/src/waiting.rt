@@ -1,5 +1,6 @@
-ghost use Rattle.std.specs.Prelude.{◌≡◌, ◌+◌, ◌<◌, ◌↔◌, [], ◌∷◌, ◌++◌, length, IsOk, OnOk, OnErr, IfErr};
+ghost use Rattle.std.specs.Prelude.{◌≡◌, ◌+◌, ◌<◌, ◌≤◌, ◌↔◌, [], ◌∷◌, ◌++◌, length, IsOk, OnOk, OnErr, IfErr};
 ghost use Rattle.circular_buffer.specs.Buffer.{buffer};
+ghost use Rattle.sim_controller.specs.declared.waiting.TheConstants.{MAX_PACKETS};
 
 use crate::fault::SimFault;
 use crate::told::Told;
@@ -10,9 +11,9 @@ pub(crate) const MAX_PACKETS: usize = 64;
 
 /// Has a packet wait for the host behind the others, if there is room.
 pub(crate) fn tell(waiting: &mut HeapCircularBuffer<Told>, told: Told) -> Result<(), SimFault>
-    requires { waiting.old.capacity ≡ 64 }
-    ensures room { IsOk result ↔ (length waiting.old.items < 64) }
-    ensures told { OnOk result (waiting.new ≡ buffer (waiting.old.items ++ told ∷ []) 64) }
+    requires { waiting.old.capacity ≡ MAX_PACKETS }
+    ensures room { IsOk result ↔ (length waiting.old.items < MAX_PACKETS) }
+    ensures told { OnOk result (waiting.new ≡ buffer (waiting.old.items ++ told ∷ []) MAX_PACKETS) }
     ensures full { IfErr result (λ fault. fault ≡ SimFault.Full) }
     ensures unchanged { OnErr result (waiting.new ≡ waiting.old) }
 {
@@ -25,10 +26,10 @@ pub(crate) fn tell_both(
     first: Told,
     second: Told,
 ) -> Result<(), SimFault>
-    requires { waiting.old.capacity ≡ 64 }
-    ensures room { IsOk result ↔ (length waiting.old.items < 63) }
+    requires { waiting.old.capacity ≡ MAX_PACKETS }
+    ensures room { IsOk result ↔ (length waiting.old.items + 2 ≤ MAX_PACKETS) }
     ensures told { OnOk result
-        (waiting.new ≡ buffer (waiting.old.items ++ first ∷ second ∷ []) 64) }
+        (waiting.new ≡ buffer (waiting.old.items ++ first ∷ second ∷ []) MAX_PACKETS) }
     ensures full { IfErr result (λ fault. fault ≡ SimFault.Full) }
     ensures unchanged { OnErr result (waiting.new ≡ waiting.old) }
 {
@@ -41,9 +42,9 @@ pub(crate) fn tell_both(
 
 /// Has a packet wait for the host behind the others, where there is room.
 pub(crate) fn put(waiting: &mut HeapCircularBuffer<Told>, told: Told)
-    requires capacity { waiting.old.capacity ≡ 64 }
-    requires room { length waiting.old.items < 64 }
-    ensures told { waiting.new ≡ buffer (waiting.old.items ++ told ∷ []) 64 }
+    requires capacity { waiting.old.capacity ≡ MAX_PACKETS }
+    requires room { length waiting.old.items < MAX_PACKETS }
+    ensures told { waiting.new ≡ buffer (waiting.old.items ++ told ∷ []) MAX_PACKETS }
     ensures len { length waiting.new.items ≡ length waiting.old.items + 1 }
 {
     waiting.try_push_back(told).unwrap();
