@@ -1,7 +1,8 @@
--- Distinct handles from 1 to 1,024 are at most 1,024.
+-- Distinct handles from 1 to the largest that there may be are no more than that.
 use Rattle.std.proofs.Common.{◌≡◌, ℕ, zero, suc, ◌+◌, ◌<◌, ◌≤◌, Bool, true, false, ◌==◌, if◌then◌else◌, List, [], ◌∷◌, ◌++◌, length, refl, sym, ap, ◌∙◌, arith}
 use Rattle.std.proofs.lemmas.Bool.Decides.{nat_tests}
 use Rattle.std.proofs.lemmas.Grind.{common_steps}
+use Rattle.att_numbers.specs.declared.limit.TheConstants.{MAX_ATTRIBUTES}
 use Rattle.gatt_subs.specs.Indications.{is_waiting, HaveOnePlace}
 
 -- the handles but for one of them
@@ -49,20 +50,20 @@ at_most (suc most) handles all =
     let counted = length_without (suc most) handles in
     omega arith
 
-placed : (handles : List ℕ) → HaveOnePlace handles → AreAtMost 1024 handles
+placed : (handles : List ℕ) → HaveOnePlace handles → AreAtMost MAX_ATTRIBUTES handles
 placed [] all = tt
 placed (first ∷ rest) all = (all.0, all.1, all.2, placed rest all.3)
 
 -- so there is room for a handle that does not wait
-pub room_for : (handles : List ℕ) (handle : ℕ) → HaveOnePlace handles → is_waiting handles handle ≡ false → 0 < handle → handle ≤ 1024 → length handles < 1024
+pub room_for : (handles : List ℕ) (handle : ℕ) → HaveOnePlace handles → is_waiting handles handle ≡ false → 0 < handle → handle ≤ MAX_ATTRIBUTES → length handles < MAX_ATTRIBUTES
 room_for handles handle all absent is_used most =
-    let more = at_most 1024 (handle ∷ handles) (absent, is_used, most, placed handles all) in
+    let more = at_most MAX_ATTRIBUTES (handle ∷ handles) (absent, is_used, most, placed handles all) in
     omega arith
 
 absent_more : (handles : List ℕ) (handle other : ℕ) → is_waiting handles other ≡ false → (other == handle) ≡ false → is_waiting (handles ++ handle ∷ []) other ≡ false
 absent_more handles handle other absent differs = grind (arith, nat_tests, common_steps)
 
-pub placed_more : (handles : List ℕ) (handle : ℕ) → HaveOnePlace handles → is_waiting handles handle ≡ false → 0 < handle → handle ≤ 1024 → HaveOnePlace (handles ++ handle ∷ [])
+pub placed_more : (handles : List ℕ) (handle : ℕ) → HaveOnePlace handles → is_waiting handles handle ≡ false → 0 < handle → handle ≤ MAX_ATTRIBUTES → HaveOnePlace (handles ++ handle ∷ [])
 placed_more [] handle all absent is_used most = (refl, is_used, most, tt)
 placed_more (first ∷ rest) handle all absent is_used most =
     (absent_more rest handle first all.0 (grind (arith, nat_tests)), all.1, all.2, placed_more rest handle all.3 (grind (arith, nat_tests)) is_used most)

@@ -4,6 +4,7 @@ use Rattle.std.specs.Prelude.{◌≡◌, ℕ, ◌+◌, ◌<◌, ◌≤◌, Bool,
 use Rattle.std.specs.List.{list_any}
 use Rattle.std.specs.Option.{option_and_then, option_map, option_map_or}
 use Rattle.att_numbers.specs.Types.{Handle, Row}
+use Rattle.att_numbers.specs.declared.limit.TheConstants.{MAX_ATTRIBUTES}
 use Rattle.att_policy.specs.declared.standing.Standing.{Standing}
 use Rattle.att_attributes.specs.declared.attr.Attr.{Attr}
 use Rattle.gatt_subs.specs.declared.pending.TheConstants.{MAX_BACKLOG, CONFIRMATION_TIMEOUT}
@@ -29,10 +30,10 @@ no_indications = record { waiting = []; unconfirmed = None; timed_out = false }
 abbrev pub is_waiting : List Handle → Handle → Bool
 is_waiting waiting handle = list_any (λ other. other == handle) waiting
 
--- each handle waits once, and is that of an attribute: there are at most 1,024
+-- each handle waits once, and is that of an attribute: there are no more than a table may have
 abbrev pub HaveOnePlace : List Handle → Type 0
 HaveOnePlace [] = Unit
-HaveOnePlace (handle ∷ waiting) = (is_waiting waiting handle ≡ false) × (0 < handle) × (handle ≤ 1024) × HaveOnePlace waiting
+HaveOnePlace (handle ∷ waiting) = (is_waiting waiting handle ≡ false) × (0 < handle) × (handle ≤ MAX_ATTRIBUTES) × HaveOnePlace waiting
 
 -- a handle waits once, at the end where it did not wait yet
 abbrev pub with_handle : List Handle → Handle → List Handle

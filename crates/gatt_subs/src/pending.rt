@@ -1,5 +1,6 @@
 ghost use Rattle.std.specs.Prelude.{◌≡◌, ◌≢◌, ◌<◌, ◌≤◌, true, IfSome, []};
 ghost use Rattle.std.specs.Bool.{OnTrue, OnFalse};
+ghost use Rattle.att_numbers.specs.declared.limit.TheConstants.{MAX_ATTRIBUTES};
 ghost use Rattle.att_attributes.specs.Attributes.{is_value_at};
 ghost use Rattle.gatt_subs.specs.Deadline.{deadline_of};
 ghost use Rattle.gatt_subs.specs.Hearing.{is_indicated};
@@ -9,6 +10,7 @@ ghost use Rattle.gatt_subs.specs.Told.{TellsOnlyWhatIsHeard};
 
 use crate::hearing::{Raised, Telling, is_indicated};
 use arrayvec::ArrayVec;
+use att_numbers::limit::MAX_ATTRIBUTES;
 use att_policy::Standing;
 use att_table::{ConfigRow, Table};
 use std::marker::Model;
@@ -33,8 +35,8 @@ struct Unconfirmed {
 /// once, and the indication that is not confirmed. (Core 5.0, Vol 3 Part F, 3.4.7.2)
 #[derive(Drop)]
 pub struct Pending {
-    /// A table has at most 1,024 attributes.
-    waiting: ArrayVec<u16, 1024>,
+    /// There are no more handles than attributes.
+    waiting: ArrayVec<u16, MAX_ATTRIBUTES>,
     unconfirmed: Option<Unconfirmed>,
     timed_out: bool,
 }
@@ -237,10 +239,10 @@ impl Pending {
 /// Puts a handle at the end, if it does not wait yet.
 #[inline(never)]
 #[tactic(auto, using(crate::proofs::Places::places))]
-fn wait_once(waiting: &mut ArrayVec<u16, 1024>, handle: u16)
+fn wait_once(waiting: &mut ArrayVec<u16, MAX_ATTRIBUTES>, handle: u16)
     requires places { HaveOnePlace waiting.old.items }
     requires used { 0 < handle }
-    requires most { handle ≤ 1024 }
+    requires most { handle ≤ MAX_ATTRIBUTES }
     ensures waits { waiting.new.items ≡ with_handle waiting.old.items handle }
     ensures places { HaveOnePlace waiting.new.items }
 {
@@ -258,7 +260,7 @@ fn is_waiting(waiting: &[u16], handle: u16) -> bool
 
 /// Takes out the handles up to the first of which an indication is due, and gives that one.
 fn take_due(
-    waiting: &mut ArrayVec<u16, 1024>,
+    waiting: &mut ArrayVec<u16, MAX_ATTRIBUTES>,
     table: &Table,
     row: &ConfigRow,
     standing: &Standing,
