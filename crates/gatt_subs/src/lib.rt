@@ -14,6 +14,6 @@ mod rows_text;
 mod unfitted;
 
 pub use hearing::Raised;
-pub use pending::Pending;
+pub use pending::{MAX_BACKLOG, Pending};
 pub use rows::Rows;
 pub use rows_fault::RowsFault;

@@ -16,7 +16,7 @@ use att_table::{ConfigRow, Table};
 use std::marker::Model;
 
 /// Notifications and indications are queued only while fewer PDUs than this are: this profile's own.
-const MAX_BACKLOG: usize = 8;
+pub const MAX_BACKLOG: usize = 8;
 
 /// How long an indication may be unconfirmed, in milliseconds: Core 5.0, Vol 3 Part F, 3.3.3.
 const CONFIRMATION_TIMEOUT: u64 = 30_000;
