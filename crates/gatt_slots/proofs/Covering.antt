@@ -11,6 +11,7 @@ use Rattle.std.proofs.lemmas.List.{get_or-set_same, get_or-set_other, length-set
 use Rattle.std.proofs.lemmas.Nat.Bits.{bit_at-zero, bit_at_ones}
 use Rattle.std.proofs.lemmas.Option.{slice_get-get_or}
 use Rattle.std.proofs.Math.Logic.{⊎_elim}
+use Rattle.gatt_slots.proofs.SlotBits.{all_places}
 use Rattle.gatt_slots.proofs.Found.{clash, first_at, kept-is, none_at, past, within}
 use Rattle.att_numbers.specs.Types.{Handle}
 use Rattle.att_table.specs.Table.{Contents}
@@ -49,8 +50,8 @@ at-other slots place other slot apart = ⊎_elim
     (cases_lt other (length slots))
 
 -- all places cover all that is due
-pub all_covered : (due : Due) (slots : SlotStates) → length slots ≤ MAX_SLOTS → Covers due 255 slots
-all_covered due slots few = λ place is. bit_at_ones 8 place (omega (arith, there due slots place is))
+pub all_covered : (due : Due) (slots : SlotStates) → length slots ≤ MAX_SLOTS → Covers due all_places slots
+all_covered due slots few = λ place is. bit_at_ones MAX_SLOTS place (omega (arith, there due slots place is))
 
 -- a slot is changed whose place comes into the set
 pub covered_with : (due : Due) (old new : ℕ) (slots : SlotStates) (place : ℕ) (slot : Option SlotState) → Covers due old slots → bit_at new place ≡ 1
@@ -180,7 +181,7 @@ marked_off slots place slot old new within marked idle others commands waiting f
     }
 
 pub all_marked : (slots : SlotStates) → length slots ≤ MAX_SLOTS
-    → IsMarked slots (record { commands = record { bits = 255 }; packets = record { bits = 255 }; listening = record { bits = 255 }; waiting = true; free = true })
+    → IsMarked slots (record { commands = record { bits = all_places }; packets = record { bits = all_places }; listening = record { bits = all_places }; waiting = true; free = true })
 all_marked slots few = record {
   few = few;
   commands = all_covered Command slots few;

@@ -5,6 +5,7 @@ mod Served
 pub mod EachSlot
 pub mod states
 pub mod Found
+mod SlotBits
 pub mod Covering
 pub mod AtPlace
 pub mod InTurn
