@@ -9,6 +9,7 @@ use Rattle.att_attributes.specs.declared.attr.Attr.{Attr}
 use Rattle.gatt_laws.specs.machine.Heard.{Heard, heard_when_notifying, hearer_after, heard_in_turn}
 use Rattle.gatt_subs.specs.Hearing.{is_indicated}
 use Rattle.gatt_subs.specs.Indications.{Indications, after_indicate, first_handle, rest_of, from_due, may_indicate, unconfirmed_since}
+use Rattle.gatt_subs.specs.declared.pending.TheConstants.{MAX_BACKLOG}
 use Rattle.gatt_subs.specs.Told.{Hearer}
 use Rattle.gatt_promise.specs.Waiting.{WaitsOnlyBehindABacklog}
 
@@ -17,19 +18,19 @@ rest-none : (now : ℕ) (due : List Handle) → option_map (unconfirmed_since no
 rest-none now [] none = refl
 rest-none now (handle ∷ rest) none = cc none
 
-held-back : (pending : Indications) (backlog : ℕ) → may_indicate pending backlog ≡ false → pending.unconfirmed ≡ None → pending.timed_out ≡ false → 8 ≤ backlog
+held-back : (pending : Indications) (backlog : ℕ) → may_indicate pending backlog ≡ false → pending.unconfirmed ≡ None → pending.timed_out ≡ false → MAX_BACKLOG ≤ backlog
 held-back pending backlog may none in_time =
     omega (
       arith,
-      ltb-false backlog 8 (
-          sym ((λ i. not (is_some (none i)) && not (in_time i) && nat_lt backlog 8)) ∙ may),
+      ltb-false backlog MAX_BACKLOG (
+          sym ((λ i. not (is_some (none i)) && not (in_time i) && nat_lt backlog MAX_BACKLOG)) ∙ may),
     )
 
 released : (attributes : List Attr) (hearer : Hearer) (now count : ℕ) (may : Bool) → may_indicate hearer.pending hearer.backlog ≡ may
     → (let due : List Handle = from_due (is_indicated attributes hearer.row hearer.standing) hearer.pending.waiting in
     let pending : Indications = if may then record hearer.pending { waiting = rest_of due; unconfirmed = option_map (unconfirmed_since now) (first_handle due) }
     else hearer.pending in
-    pending.timed_out ≡ false → pending.unconfirmed ≡ None → (pending.waiting ≡ [] → ⊥) → 8 ≤ hearer.backlog + count)
+    pending.timed_out ≡ false → pending.unconfirmed ≡ None → (pending.waiting ≡ [] → ⊥) → MAX_BACKLOG ≤ hearer.backlog + count)
 released attributes hearer now count true is in_time none waits =
     absurd (waits (rest-none now (from_due (is_indicated attributes hearer.row hearer.standing) hearer.pending.waiting) none))
 released attributes hearer now count false is in_time none waits = omega (arith, held-back hearer.pending hearer.backlog is none in_time)
@@ -37,7 +38,7 @@ released attributes hearer now count false is in_time none waits = omega (arith,
 at-end : (attributes : List Attr) (hearer : Hearer) (now count : ℕ) (live : Bool) → live ≡ true
     → (let pending : Indications =
     if live then after_indicate hearer.pending attributes hearer.row hearer.standing hearer.backlog now else hearer.pending in
-    pending.timed_out ≡ false → pending.unconfirmed ≡ None → (pending.waiting ≡ [] → ⊥) → 8 ≤ hearer.backlog + count)
+    pending.timed_out ≡ false → pending.unconfirmed ≡ None → (pending.waiting ≡ [] → ⊥) → MAX_BACKLOG ≤ hearer.backlog + count)
 at-end attributes hearer now count true live = released attributes hearer now count (may_indicate hearer.pending hearer.backlog) refl
 at-end attributes hearer now count false live = cc live
 
