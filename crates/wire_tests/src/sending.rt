@@ -85,9 +85,9 @@ fn queue(sender: &mut Sender, payload: &[u8]) -> bool {
     let Ok(room) = sender.room() else {
         return false;
     };
-    let _ = room.try_extend_from_slice(payload);
+    let fits = room.try_extend_from_slice(payload).is_ok();
     sender.push(4);
-    true
+    fits
 }
 
 fn queue_largest(sender: &mut Sender) -> bool {

@@ -1,12 +1,16 @@
 //! Steps with a simulated controller, from the host's side and from the phones'.
 
+ghost use Rattle.octets.specs.declared.pdu.TheConstants.{MAX_PDU};
 ghost use Rattle.sim_controller.specs.Acts.{act_of, payload_in, phone_in};
+ghost use Rattle.sim_controller.specs.declared.handle.TheConstants.{PHONES};
 ghost use Rattle.std.specs.Bool.{OnTrue};
 ghost use Rattle.std.specs.Prelude.{length, ◌<◌, ◌≤◌};
 
 use arrayvec::ArrayVec;
+use le_acl::MAX_ACL_LEN;
 use le_hci::{Peer, RANDOM_ADDRESS};
-use sim_controller::{PhoneAct, Sim, SimConfig, SimFault};
+use octets::MAX_PDU;
+use sim_controller::{PHONES, PhoneAct, Sim, SimConfig, SimFault};
 use std::alloc::Global;
 use std::process::Abort;
 
@@ -39,7 +43,7 @@ pub fn assert_plays(rt: &impl Abort, alloc: Global, cases: &[Case<'_>]) {
 }
 
 fn play(alloc: Global, config: SimConfig, parts: &[Part<'_>]) -> bool {
-    if config.cut < 1 || config.cut > 251 {
+    if config.cut < 1 || config.cut > MAX_ACL_LEN {
         return false;
     }
     match Sim::new(alloc, config) {
@@ -75,7 +79,7 @@ fn is_as_expected(sim: &mut Sim, step: Step<'_>) -> bool {
         Step::Host(octets, fault) => sim.from_host(octets).err() == fault,
         Step::Given(octets) => gives(sim, octets),
         Step::Heard(phone, octets) => hears(sim, phone, octets),
-        Step::Ended(phone, reason) => phone < 8 && sim.ended(phone) == reason,
+        Step::Ended(phone, reason) => phone < PHONES && sim.ended(phone) == reason,
     }
 }
 
@@ -88,10 +92,10 @@ fn fault_of(sim: &mut Sim, act: PhoneAct<'_>) -> Option<SimFault> {
     }
 }
 
-/// Whether the phone is one of the eight, and a payload no longer than a phone sends.
+/// Whether the phone is one of those that there are, and a payload no longer than a phone sends.
 fn is_within_bounds(act: PhoneAct<'_>) -> bool
-    ensures phone { OnTrue result (phone_in (act_of act.entry) < 8) }
-    ensures payload { OnTrue result (length (payload_in (act_of act.entry)) ≤ 517) }
+    ensures phone { OnTrue result (phone_in (act_of act.entry) < PHONES) }
+    ensures payload { OnTrue result (length (payload_in (act_of act.entry)) ≤ MAX_PDU) }
 {
     match act {
         PhoneAct::Connect { phone, .. }
@@ -99,8 +103,8 @@ fn is_within_bounds(act: PhoneAct<'_>) -> bool
         | PhoneAct::Encrypt { phone, .. }
         | PhoneAct::Clear { phone }
         | PhoneAct::Hold { phone }
-        | PhoneAct::Done { phone, .. } => phone < 8,
-        PhoneAct::Send { phone, payload, .. } => phone < 8 && payload.len() <= 517,
+        | PhoneAct::Done { phone, .. } => phone < PHONES,
+        PhoneAct::Send { phone, payload, .. } => phone < PHONES && payload.len() <= MAX_PDU,
     }
 }
 
@@ -112,7 +116,7 @@ fn gives(sim: &mut Sim, octets: &[u8]) -> bool {
 
 fn hears(sim: &mut Sim, phone: u8, octets: &[u8]) -> bool {
     let mut out = ArrayVec::new();
-    let heard = phone < 8 && sim.heard(phone, &mut out);
+    let heard = phone < PHONES && sim.heard(phone, &mut out);
     heard != octets.is_empty() && out.as_slice() == octets
 }
 
