@@ -14,13 +14,16 @@ use Rattle.gatt_laws.specs.laws.Alike.{erased, is_of, Alike, HidesFrom}
 use Rattle.gatt_laws.specs.machine.Event.{Ordinal, Own, Of, Completed, Credit, Update, Tick, Replaced, Nothing}
 use Rattle.gatt_laws.specs.machine.ConnectionState.{ConnectionState, is_live, row_in_force, standing_of}
 use Rattle.gatt_laws.specs.machine.SharedState.{ServiceChangedPending}
-use Rattle.gatt_laws.specs.machine.State.{State, Change, with_values, at_peer, after_effect, own_change, with_packets_completed, after_packets_completed, all_changed, announced, connection_dropped, connection_after_replacement, change_of}
+use Rattle.gatt_laws.specs.machine.Controller.{Controller, Slots}
+use Rattle.gatt_laws.specs.machine.State.{State, Change, none_to_notify, slots_when_ready, with_values, at_peer, after_effect, own_change, with_packets_completed, after_packets_completed, all_changed, announced, connection_dropped, connection_after_replacement, change_of}
 use Rattle.gatt_laws.specs.machine.Effect.{Effect, effect_of}
 use Rattle.gatt_laws.specs.laws.TwoWorlds.{SameTable, finds_no_room, Spared}
 use Rattle.gatt_subs.specs.Fit.{wants_changes}
 use Rattle.gatt_subs.specs.Indications.{after_tick, after_replacement}
+use Rattle.le_hci.specs.declared.buffers.Buffers.{Buffers}
 use Rattle.le_hci.specs.declared.init.Init.{Init}
 use Rattle.le_hci.specs.declared.peer.Peer.{Peer}
+use Rattle.le_hci.specs.InitTold.{told_in}
 use Rattle.le_security.proofs.Peers.{equal_peers, same_as_itself}
 use Rattle.le_security.specs.Entry.{same_peer}
 use Rattle.octets.specs.Number.{Octets}
@@ -138,19 +141,6 @@ module _ (peer : Peer) (hidden : Handle → Bool) (state : State) (ys : Values) 
       completed-erased ordinal entries (if entry.0 == ordinal then with_packets_completed connection entry.1 else connection)
       ∙ either_choice (λ (p : ConnectionState). erased p ≡ erased connection) (entry.0 == ordinal) (with_packets_completed connection entry.1) connection refl refl
 
-  none-changed : Alike peer hidden state far
-  none-changed = record {
-    shared = refl;
-    values = same;
-    bonds = refl;
-    owed = owes;
-    own = own;
-    others = rest;
-    slots = refl;
-    next = refl;
-    controller = refl;
-  }
-
   pub completed-change : (entries : List (Ordinal × ℕ)) → SameChange peer hidden (change_of state (Completed entries)) (change_of far (Completed entries))
   unfolding change_of
   completed-change entries = record {
@@ -169,38 +159,32 @@ module _ (peer : Peer) (hidden : Handle → Bool) (state : State) (ys : Values) 
     to_notify = λ ordinal mine. refl;
   }
 
+  -- other buffers, slots, and controller in both
+  beside-change : (buffers : Option Buffers) (slots : Slots) (controller : Controller) → SameChange peer hidden
+      (record { state = record state { shared = record state.shared { buffers = buffers }; slots = slots; controller = controller }; to_notify = none_to_notify })
+      (record { state = record far { shared = record far.shared { buffers = buffers }; slots = slots; controller = controller }; to_notify = none_to_notify })
+  beside-change buffers slots controller = record {
+    state = record {
+      shared = refl;
+      values = same;
+      bonds = refl;
+      owed = owes;
+      own = own;
+      others = rest;
+      slots = refl;
+      next = refl;
+      controller = refl;
+    };
+    to_notify = λ ordinal mine. refl;
+  }
+
   -- a command is answered
   pub credit-change : (allowed opcode : ℕ) (status : Option ℕ) (following : Option Init)
       → SameChange peer hidden (change_of state (Credit allowed opcode status following)) (change_of far (Credit allowed opcode status following))
   unfolding change_of
-  credit-change allowed opcode status (Some init) = record {
-    state = record {
-      shared = refl;
-      values = same;
-      bonds = refl;
-      owed = owes;
-      own = own;
-      others = rest;
-      slots = refl;
-      next = refl;
-      controller = refl;
-    };
-    to_notify = λ ordinal mine. refl;
-  }
-  credit-change allowed opcode status None = record {
-    state = record {
-      shared = refl;
-      values = same;
-      bonds = refl;
-      owed = owes;
-      own = own;
-      others = rest;
-      slots = refl;
-      next = refl;
-      controller = refl;
-    };
-    to_notify = λ ordinal mine. refl;
-  }
+  credit-change allowed opcode status (Some init) =
+      beside-change (told_in init) (slots_when_ready state.shared.slots init state.slots) (record state.controller { credit = allowed; init = init; awaiting = false })
+  credit-change allowed opcode status None = beside-change state.shared.buffers state.slots _
 
   -- the same is stored in both, also at no handle at all
   stored-too : (following : Handle → Bool) (xs zs : Values) (handle : Handle) (value : Octets) → SameBut following xs zs
@@ -244,7 +228,7 @@ module _ (peer : Peer) (hidden : Handle → Bool) (state : State) (ys : Values) 
 
   pub nothing-change : SameChange peer hidden (change_of state Nothing) (change_of far Nothing)
   unfolding change_of
-  nothing-change = record { state = none-changed; to_notify = λ ordinal mine. refl }
+  nothing-change = beside-change state.shared.buffers state.slots state.controller
 
   -- the table is replaced
   announced-same : (following : Handle → Bool) (table its : Contents) (changer : Option Handle) → SameTable following table its → changer_of table ≡ changer → changer_of its ≡ changer
