@@ -2,18 +2,14 @@
 use Rattle.std.proofs.Common.{◌≡◌, ℕ, suc, ◌+◌, ◌≤◌, Bool, true, false, not, nat_lt, if◌then◌else◌, List, [], ◌∷◌, length, Option, Some, None, refl, ap, ◌∙◌, arith}
 use Rattle.std.specs.List.{insert, position, position_or_len}
 use Rattle.std.specs.Option.{unwrap_or}
-use Rattle.std.proofs.lemmas.Grind.{common_steps}
+use Rattle.std.proofs.lemmas.List.Sums.{prefix_len-le-length}
 use Rattle.std.proofs.lemmas.Bool.Decides.{nat_tests}
 use Rattle.gatt_subs.specs.InOrder.{in_order}
-
-pub place_within : {X : Type 0} (test : X → Bool) (xs : List X) → position_or_len test xs ≤ length xs
-place_within test [] = omega arith
-place_within test (y ∷ ys) = grind (arith, common_steps, place_within test ys)
 
 -- the place that is found, or else the end
 place_or_end : {X : Type 0} (test : X → Bool) (xs : List X) → unwrap_or (position test xs) (length xs) ≡ position_or_len test xs
 place_or_end test xs =
-    let within = place_within test xs in
+    let within = prefix_len-le-length (λ x. not (test x)) xs in
     elim (nat_lt (position_or_len test xs) (length xs)) as (λ found. nat_lt (position_or_len test xs) (length xs) ≡ found
     → unwrap_or (if found then Some (position_or_len test xs) else None) (length xs) ≡ position_or_len test xs) [
       | true ↦ λ found. refl
@@ -47,6 +43,6 @@ inserted_where_found order x xs seen key end place found whole same first last a
     rw (at, last, first, same, whole) (inserted_in_order order x xs)
 
 pub place_or_end_within : {X : Type 0} (test : X → Bool) (xs : List X) → unwrap_or (position test xs) (length xs) ≤ length xs
-place_or_end_within test xs = omega (arith, place_or_end test xs, place_within test xs)
+place_or_end_within test xs = omega (arith, place_or_end test xs, prefix_len-le-length (λ x. not (test x)) xs)
 
 pub ruleset inserts = (place_or_end_within)

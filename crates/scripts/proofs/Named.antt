@@ -1,11 +1,12 @@
 -- The phones of a script have names.
-use Rattle.std.proofs.Common.{◌≡◌, ℕ, ◌+◌, ◌<◌, ◌≤◌, ◌==◌, Bool, true, false, nat_lt, if◌then◌else◌, List, [], ◌∷◌, ◌++◌, length, Option, Some, None, unwrap_or, Result, Ok, Err, IfOk, refl, sym, ◌∙◌, ap, subst, arith}
+use Rattle.std.proofs.Common.{◌≡◌, ℕ, ◌+◌, ◌<◌, ◌≤◌, ◌==◌, Bool, true, false, not, nat_lt, if◌then◌else◌, List, [], ◌∷◌, ◌++◌, length, Option, Some, None, unwrap_or, Result, Ok, Err, IfOk, refl, sym, ◌∙◌, ap, subst, arith}
 use Rattle.std.specs.List.{All, IsDistinct, list_any, position, position_or_len}
 use Rattle.std.specs.Str.{bytes_eq}
 use Rattle.std.proofs.lemmas.Bool.Decides.{nat_tests}
 use Rattle.std.proofs.lemmas.Cmp.{nat_list_eq_equiv}
 use Rattle.std.proofs.lemmas.Grind.{common_steps}
 use Rattle.std.proofs.lemmas.List.{length_push}
+use Rattle.std.proofs.lemmas.List.Sums.{prefix_len-le-length}
 use Rattle.std.proofs.lemmas.List.Elements.{All-nil, All-cons, All-head, All-tail, All-push}
 use Rattle.std.proofs.lemmas.Map.Keys.{IsDistinct-push}
 use Rattle.octets.specs.Number.{Octets}
@@ -22,14 +23,10 @@ use Rattle.scripts.specs.Line.{line_of}
 use Rattle.scripts.specs.Phones.{IsOfPhoneBelow, HasNamedPhones}
 use Rattle.scripts.specs.Script.{Acts, no_acts, phone_number_in, with_name, with_act, with_act_of, script_with_said, script_with_line, script_with_lines, number_sign, lines_of_script, script_of}
 
-place_within : {X : Type 0} (test : X → Bool) (xs : List X) → position_or_len test xs ≤ length xs
-place_within test [] = omega arith
-place_within test (y ∷ ys) = grind (arith, common_steps, place_within test ys)
-
 -- the place that is found, or else the end
 place_or_end : {X : Type 0} (test : X → Bool) (xs : List X) → unwrap_or (position test xs) (length xs) ≡ position_or_len test xs
 place_or_end test xs =
-    let within = place_within test xs in
+    let within = prefix_len-le-length (λ x. not (test x)) xs in
     elim (nat_lt (position_or_len test xs) (length xs)) as (λ found. nat_lt (position_or_len test xs) (length xs) ≡ found
     → unwrap_or (if found then Some (position_or_len test xs) else None) (length xs) ≡ position_or_len test xs) [
       | true ↦ λ found. refl
@@ -41,7 +38,7 @@ missing_at_end test [] at = refl
 missing_at_end test (y ∷ ys) at = grind (arith, common_steps, missing_at_end test ys)
 
 number_within : (names : List Octets) (name : Octets) → phone_number_in names name ≤ length names
-number_within names name = omega (arith, place_or_end (bytes_eq name) names, place_within (bytes_eq name) names)
+number_within names name = omega (arith, place_or_end (bytes_eq name) names, prefix_len-le-length (λ x. not (bytes_eq name x)) names)
 
 below_more : (count more : ℕ) → count ≤ more → (one : Act) → IsOfPhoneBelow count one → IsOfPhoneBelow more one
 below_more count more fits (act.Phone phone does) below = omega (arith, fits, below)
