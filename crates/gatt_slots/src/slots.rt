@@ -13,6 +13,7 @@ ghost use Rattle.gatt_slots.specs.Request.{bond_served, confirmed_of, handles_wr
 ghost use Rattle.gatt_slots.specs.Slots.{slots_after_entries, all_after_table, all_after_time, all_heard, at_place, slot_state_at, late_handles, place_free, place_holding, place_serving, slot_row_at, slots_at, slots_deadline, IsThere};
 ghost use Rattle.gatt_slots.specs.SlotEffects.{after_authorizing, slot_after_ending, after_key_asked, after_link_step, slot_after_other_channel, new_slot_state, has_no_room};
 ghost use Rattle.gatt_subs.specs.Rows.{owes, row_of, ChangesBond, Subscriptions};
+ghost use Rattle.le_acl.specs.declared.sender.TheConstants.{MAX_ACL_LEN, MIN_ACL_LEN};
 ghost use Rattle.le_hci.specs.Event.{completed_packets_of};
 ghost use Rattle.le_security.specs.Keys.{key_asked_for};
 ghost use Rattle.le_security.specs.Link.{after_step, Encryption, Refresh};
@@ -167,8 +168,8 @@ impl Slots {
         requires rx_mtu_least { MIN_MTU ≤ rx_mtu }
         requires rx_mtu_most { rx_mtu ≤ MAX_MTU }
         requires share { 0 < share }
-        requires acl_len_least { 27 ≤ acl_len }
-        requires acl_len_most { acl_len ≤ 251 }
+        requires acl_len_least { MIN_ACL_LEN ≤ acl_len }
+        requires acl_len_most { acl_len ≤ MAX_ACL_LEN }
         ensures { self.new
             ≡ at_place place
             (λ slot. Some (new_slot_state handle peer key_known rx_mtu share acl_len)) self.old }

@@ -5,6 +5,7 @@ ghost use Rattle.std.specs.Option.{option_copied, option_map, option_map_or, opt
 ghost use Rattle.gatt_laws.specs.machine.Effect.{channel_answer, gained_encryption};
 ghost use Rattle.gatt_slots.specs.SlotEffects.{new_slot_state, after_authorizing, slot_after_packets_completed, slot_after_ending, after_key_asked, after_link_step, after_loss, slot_after_other_channel, after_table, after_time, has_no_room, with_channel_answer};
 ghost use Rattle.gatt_slots.specs.Slots.{late_handle};
+ghost use Rattle.le_acl.specs.declared.sender.TheConstants.{MAX_ACL_LEN, MIN_ACL_LEN};
 ghost use Rattle.le_security.specs.Keys.{key_asked_for};
 ghost use Rattle.le_security.specs.Link.{Encryption, Refresh, after_step};
 ghost use Rattle.att_pdu.specs.declared.pdu_buf.TheConstants.{MAX_MTU, MIN_MTU};
@@ -14,7 +15,7 @@ use crate::slot::{Slot, Use};
 use att_table::{ConfigRow, Table};
 use gatt_conn::Conn;
 use gatt_subs::Pending;
-use le_acl::{MAX_PDUS, Sender};
+use le_acl::{MAX_PDUS, MIN_ACL_LEN, Sender};
 use le_hci::Peer;
 use le_hci::reason::{AUTHENTICATION_FAILURE, REMOTE_USER_TERMINATED};
 use le_l2cap::channel::{LE_SIGNALLING, SECURITY_MANAGER};
@@ -40,7 +41,7 @@ impl Slot {
             link: Link::new(),
             conn: Conn::new(alloc)?,
             pending: Pending::new(),
-            sender: Sender::new(alloc, 1, 27)?,
+            sender: Sender::new(alloc, 1, MIN_ACL_LEN)?,
             reply: None,
             reason: None,
         })
@@ -61,8 +62,8 @@ impl Slot {
         requires rx_mtu_least { MIN_MTU ≤ rx_mtu }
         requires rx_mtu_most { rx_mtu ≤ MAX_MTU }
         requires share { 0 < share }
-        requires acl_len_least { 27 ≤ acl_len }
-        requires acl_len_most { acl_len ≤ 251 }
+        requires acl_len_least { MIN_ACL_LEN ≤ acl_len }
+        requires acl_len_most { acl_len ≤ MAX_ACL_LEN }
         ensures { self.new ≡ Some (new_slot_state handle peer key_known rx_mtu share acl_len) }
     {
         self.used = Use::Live;
