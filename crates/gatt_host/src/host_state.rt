@@ -21,7 +21,7 @@ use att_policy::KeyFacts;
 use att_table::Table;
 use gatt_conn::Touched;
 use gatt_laws::MAX_SLOTS;
-use gatt_slots::Slots;
+use gatt_slots::{Moment, Slots};
 use gatt_subs::Rows;
 use le_h4::PacketBuf;
 use le_hci::reason::REMOTE_USER_TERMINATED;
@@ -102,8 +102,12 @@ impl HostState {
         ensures { self.new ≡ with_last last (after_no_change self.old) }
     {
         self.last = last;
-        self.slots
-            .hear(&self.table, &self.rows, None, &[], &[], self.time);
+        let moment = Moment {
+            table: &self.table,
+            rows: &self.rows,
+            now: self.time,
+        };
+        self.slots.hear(moment, None, &[], &[]);
     }
 
     /// Time goes by, in milliseconds.
@@ -125,8 +129,12 @@ impl HostState {
     {
         self.table.set(handle, value);
         self.last = LastEvent::Quiet;
-        self.slots
-            .hear(&self.table, &self.rows, None, &[], &[handle], self.time);
+        let moment = Moment {
+            table: &self.table,
+            rows: &self.rows,
+            now: self.time,
+        };
+        self.slots.hear(moment, None, &[], &[handle]);
     }
 
     /// The application authorizes the connection of a slot up to a moment.
@@ -221,14 +229,13 @@ impl HostState {
             handle,
             brought,
         };
-        self.slots.hear(
-            &self.table,
-            &self.rows,
-            Some(place),
-            &[],
-            self.written.as_slice(),
-            self.time,
-        );
+        let moment = Moment {
+            table: &self.table,
+            rows: &self.rows,
+            now: self.time,
+        };
+        self.slots
+            .hear(moment, Some(place), &[], self.written.as_slice());
     }
 
     /// Encryption of the link of the connection of a slot was changed, or could not be.
@@ -286,18 +293,14 @@ impl HostState {
             (if due then option_to_list self.old.changer else []) [] self.old) }
     {
         self.last = last;
+        let moment = Moment {
+            table: &self.table,
+            rows: &self.rows,
+            now: self.time,
+        };
         match self.changer {
-            Some(changer) if due => self.slots.hear(
-                &self.table,
-                &self.rows,
-                Some(place),
-                &[changer],
-                &[],
-                self.time,
-            ),
-            _ => self
-                .slots
-                .hear(&self.table, &self.rows, Some(place), &[], &[], self.time),
+            Some(changer) if due => self.slots.hear(moment, Some(place), &[changer], &[]),
+            _ => self.slots.hear(moment, Some(place), &[], &[]),
         }
     }
 
@@ -315,12 +318,21 @@ impl HostState {
         match self.changer {
             Some(changer) => {
                 self.table.set(changer, &ALL_CHANGED);
-                self.slots
-                    .hear(&self.table, &self.rows, None, &[], &[changer], self.time);
+                let moment = Moment {
+                    table: &self.table,
+                    rows: &self.rows,
+                    now: self.time,
+                };
+                self.slots.hear(moment, None, &[], &[changer]);
             }
-            None => self
-                .slots
-                .hear(&self.table, &self.rows, None, &[], &[], self.time),
+            None => {
+                let moment = Moment {
+                    table: &self.table,
+                    rows: &self.rows,
+                    now: self.time,
+                };
+                self.slots.hear(moment, None, &[], &[]);
+            }
         }
         old
     }

@@ -6,7 +6,7 @@ ghost use Rattle.std.specs.Option.{option_map_or};
 ghost use Rattle.gatt_slots.specs.Commands.{gives};
 ghost use Rattle.gatt_slots.specs.SlotState.{standing_with};
 ghost use Rattle.att_table.specs.ConfigRow.{bits_at};
-ghost use Rattle.gatt_slots.specs.Hearing.{row_by_key, slot_row_in_force, delivery_when_notifying, delivery_when_indicating};
+ghost use Rattle.gatt_slots.specs.Hearing.{row_by_key, slot_row_in_force, delivery_when_indicating};
 ghost use Rattle.gatt_slots.specs.Places.{waits};
 ghost use Rattle.gatt_slots.specs.Slots.{slot_heard, slot_notified};
 ghost use Rattle.gatt_subs.specs.Rows.{owes, row_of};
@@ -15,6 +15,7 @@ ghost use Rattle.octets.specs.Number.{two_octets};
 ghost use Rattle.att_pdu.specs.declared.pdu_buf.TheConstants.{MAX_MTU, MIN_MTU};
 ghost use Rattle.le_acl.specs.declared.pdus.TheConstants.{MAX_PDUS};
 
+use crate::moment::Moment;
 use crate::slot::{Slot, Use};
 use att_numbers::opcode::{HANDLE_VALUE_INDICATION, HANDLE_VALUE_NOTIFICATION};
 use att_policy::Standing;
@@ -24,37 +25,6 @@ use le_acl::Sender;
 use le_hci::Peer;
 use le_l2cap::channel::ATT;
 use le_security::Link;
-
-/// Tells of a value that was written: whether it is notified.
-#[inline(always)]
-fn notify(
-    raised: &Raised<'_>,
-    row: &ConfigRow,
-    standing: &Standing,
-    mtu: u16,
-    pending: &mut Pending,
-    sender: &mut Sender,
-) -> bool
-    requires least { MIN_MTU ≤ mtu }
-    requires most { mtu ≤ MAX_MTU }
-    ensures told { record { pending = pending.new; outgoing = sender.new.outgoing }
-        ≡ delivery_when_notifying raised.now.table
-        (record { row = row.now; standing = standing.entry.now; mtu = mtu }) raised.now.handle
-        (record { pending = pending.old; outgoing = sender.old.outgoing }) }
-    ensures unnotified { OnFalse result (sender.new.outgoing ≡ sender.old.outgoing) }
-{
-    let notified = pending.raise_value(raised, row, standing, sender.backlog());
-    if notified {
-        queue_value(
-            HANDLE_VALUE_NOTIFICATION,
-            raised.handle(),
-            raised.octets(),
-            mtu,
-            sender,
-        );
-    }
-    notified
-}
 
 /// Sends the indication that is due, if one is.
 #[inline(always)]
@@ -128,28 +98,37 @@ impl Slot {
     /// Tells the connection of a value that was written: whether it is notified. Where it is indicated
     /// the value waits.
     #[inline(always)]
-    pub(crate) fn notify(&mut self, raised: &Raised<'_>, rows: &Rows, now: u64) -> bool
+    pub(crate) fn notify(&mut self, raised: &Raised<'_>, moment: Moment<'_>) -> bool
         ensures raised { self.new
-            ≡ slot_notified raised.now.table now rows.now raised.now.handle self.old }
+            ≡ slot_notified raised.now.table moment.entry.now moment.entry.rows.now
+            raised.now.handle self.old }
         ensures unnotified { OnFalse result (gives self.new ≡ gives self.old) }
     {
         if self.used != Use::Live {
             return false;
         }
-        notify(
-            raised,
-            row_in_force(&self.link, &self.peer, &self.row, rows),
-            &standing(&self.link, self.key_known, self.until, now),
-            self.conn.mtu(),
-            &mut self.pending,
-            &mut self.sender,
-        )
+        let row = row_in_force(&self.link, &self.peer, &self.row, moment.rows);
+        let standing = standing(&self.link, self.key_known, self.until, moment.now);
+        let backlog = self.sender.backlog();
+        let notified = self.pending.raise_value(raised, row, &standing, backlog);
+        if notified {
+            queue_value(
+                HANDLE_VALUE_NOTIFICATION,
+                raised.handle(),
+                raised.octets(),
+                self.conn.mtu(),
+                &mut self.sender,
+            );
+        }
+        notified
     }
 
     /// Sends the connection the indication that is due, if one is. `false` where nothing waits.
     #[tactic(auto, using(crate::proofs::Quiet::nothing_heard))]
-    pub(crate) fn indicate(&mut self, table: &Table, rows: &Rows, now: u64) -> bool
-        ensures heard { self.new ≡ slot_heard table.now now rows.now [] self.old }
+    pub(crate) fn indicate(&mut self, moment: Moment<'_>) -> bool
+        ensures heard { self.new
+            ≡ slot_heard moment.entry.table.now moment.entry.now moment.entry.rows.now []
+            self.old }
         ensures unchanged { OnFalse result (self.new ≡ self.old) }
         ensures idle { OnFalse result (waits self.new ≡ false) }
     {
@@ -160,11 +139,11 @@ impl Slot {
             return false;
         }
         indicate(
-            table,
-            row_in_force(&self.link, &self.peer, &self.row, rows),
-            &standing(&self.link, self.key_known, self.until, now),
+            moment.table,
+            row_in_force(&self.link, &self.peer, &self.row, moment.rows),
+            &standing(&self.link, self.key_known, self.until, moment.now),
             self.conn.mtu(),
-            now,
+            moment.now,
             &mut self.pending,
             &mut self.sender,
         );

@@ -8,6 +8,7 @@ mod going_out;
 mod handles;
 mod hearing;
 mod marks;
+mod moment;
 mod places;
 mod request;
 mod slot;
@@ -16,5 +17,6 @@ mod telling;
 mod turn;
 
 pub use connection::Connection;
+pub use moment::Moment;
 pub use request::Brought;
 pub use slots::Slots;

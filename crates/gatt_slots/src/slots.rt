@@ -8,7 +8,7 @@ ghost use Rattle.att_table.specs.Table.{Contents};
 ghost use Rattle.gatt_laws.specs.machine.Effect.{channel_answer, gained_encryption};
 ghost use Rattle.gatt_slots.specs.Connections.{FindsNext};
 ghost use Rattle.gatt_slots.specs.Hearing.{slot_row_in_force};
-ghost use Rattle.gatt_slots.specs.Places.{may_listen, CoversHeard};
+ghost use Rattle.gatt_slots.specs.Places.{may_listen};
 ghost use Rattle.gatt_slots.specs.Request.{bond_served, confirmed_of, handles_written_by, overflows, slot_after_request, table_after};
 ghost use Rattle.gatt_slots.specs.Slots.{slots_after_entries, all_after_table, all_after_time, all_heard, at_place, slot_state_at, late_handles, place_free, place_holding, place_serving, slot_row_at, slots_at, slots_deadline, IsThere};
 ghost use Rattle.gatt_slots.specs.SlotEffects.{after_authorizing, slot_after_ending, after_key_asked, after_link_step, slot_after_other_channel, new_slot_state, has_no_room};
@@ -23,10 +23,11 @@ use crate::connection::{Connection, next_connection};
 use crate::each::{complete_all, find_free, find_serving, first_deadline, replace_all, tick_all};
 use crate::handles::Handles;
 use crate::marks::Marks;
+use crate::moment::Moment;
 use crate::places::{Due, first_due};
 use crate::request::Brought;
 use crate::slot::Slot;
-use crate::telling::{Heard, hear_all};
+use crate::telling::{Heard, indicate_due, notify_all};
 use arrayvec::ArrayVec;
 use att_policy::KeyFacts;
 use att_table::Table;
@@ -358,22 +359,15 @@ impl Slots {
     /// slots, that of the slot `own` of those of `here` and the others of `handles`, and of what is then
     /// due.
     #[inline(always)]
-    pub fn hear(
-        &mut self,
-        table: &Table,
-        rows: &Rows,
-        own: Option<usize>,
-        here: &[u16],
-        handles: &[u16],
-        now: u64,
-    )
+    pub fn hear(&mut self, moment: Moment<'_>, own: Option<usize>, here: &[u16], handles: &[u16])
         ensures heard { self.new
-            ≡ all_heard table.now now rows.now own here.now handles.now self.old }
+            ≡ all_heard moment.entry.table.now moment.entry.now moment.entry.rows.now own here.now
+            handles.now self.old }
         ensures count { length self.new ≡ length self.old }
     {
         // Most events tell no connection anything.
         if !self.nobody_hears(own, here, handles) || self.may_wait() {
-            self.look_and_hear(table, rows, own, here, handles, now);
+            self.look_and_hear(moment, own, here, handles);
         }
     }
 
@@ -409,91 +403,44 @@ impl Slots {
     #[inline(never)]
     fn look_and_hear(
         &mut self,
-        table: &Table,
-        rows: &Rows,
+        moment: Moment<'_>,
         own: Option<usize>,
         here: &[u16],
         handles: &[u16],
-        now: u64,
     )
         ensures heard { self.new
-            ≡ all_heard table.now now rows.now own here.now handles.now self.old }
+            ≡ all_heard moment.entry.table.now moment.entry.now moment.entry.rows.now own here.now
+            handles.now self.old }
         ensures count { length self.new ≡ length self.old }
     {
         let first = self.first_that_listens();
         let another_listens = first.is_some() && first != own;
         if another_listens || !self.nobody_hears(own, here, handles) {
-            self.hear_each(table, rows, own, here, handles, now);
+            self.hear_each(moment, own, here, handles);
         } else if self.may_wait() {
-            self.hear_each(table, rows, None, &[], &[], now);
+            self.hear_each(moment, None, &[], &[]);
         }
     }
 
-    /// Has each slot hear what is notified, one after another.
+    /// Has each slot hear what is notified, value by value, and then what is due.
     #[inline(always)]
-    fn hear_each(
-        &mut self,
-        table: &Table,
-        rows: &Rows,
-        own: Option<usize>,
-        here: &[u16],
-        handles: &[u16],
-        now: u64,
-    )
+    fn hear_each(&mut self, moment: Moment<'_>, own: Option<usize>, here: &[u16], handles: &[u16])
         ensures heard { self.new
-            ≡ all_heard table.now now rows.now own here.now handles.now self.old }
+            ≡ all_heard moment.entry.table.now moment.entry.now moment.entry.rows.now own here.now
+            handles.now self.old }
         ensures count { length self.new ≡ length self.old }
     {
-        let before = self.marks;
-        let heard = hear_in(
-            &mut self.slots,
-            Heard {
-                packets: before.packets,
-                waiting: before.waiting,
-            },
-            table,
-            rows,
-            own,
-            here,
-            handles,
-            now,
-        );
-        self.marks = Marks {
-            packets: heard.packets,
-            waiting: heard.waiting,
-            ..before
+        let mut heard = Heard {
+            packets: self.marks.packets,
+            waiting: self.marks.waiting,
         };
+        let slots = self.slots.as_mut_slice();
+        notify_all(slots, &mut heard, moment, own, false, here);
+        notify_all(slots, &mut heard, moment, own, true, handles);
+        indicate_due(slots, &mut heard, moment);
+        self.marks.packets = heard.packets;
+        self.marks.waiting = heard.waiting;
     }
-}
-
-/// All of them hear.
-fn hear_in(
-    slots: &mut Vec<Slot>,
-    before: Heard,
-    table: &Table,
-    rows: &Rows,
-    own: Option<usize>,
-    here: &[u16],
-    handles: &[u16],
-    now: u64,
-) -> Heard
-    requires few { length slots.old.items ≤ MAX_SLOTS }
-    requires covered { CoversHeard slots.old.items before }
-    ensures heard { slots.new.items
-        ≡ all_heard table.now now rows.now own here.now handles.now slots.old.items }
-    ensures count { length slots.new.items ≡ length slots.old.items }
-    ensures covered { CoversHeard slots.new.items result }
-{
-    hear_all(
-        slots.as_mut_slice(),
-        before,
-        table,
-        rows,
-        own,
-        here,
-        handles,
-        now,
-    )
 }
 
 /// Free slots, as many.

@@ -17,7 +17,7 @@ loop-place-preserved c =
     let at = c.indicate_at in
     let within : place < length a.slots.now = omega (arith, c.loop-place-test.true) in
     let there : place < length slots = omega (arith, c.loop-place-test.true, c.loop-place.auto.slots) in
-    let hear : ℕ → Option SlotState → Option SlotState = λ at slot. slot_heard a.table.now a.now a.rows.now [] slot in
+    let hear : ℕ → Option SlotState → Option SlotState = λ at slot. slot_heard a.moment.table.now a.moment.now a.moment.rows.now [] slot in
     let slot : Option SlotState = hear place (slot_state_at slots place) in (
       at.ensures.slots
           ∙ heard_more hear a.slots.now slots place (slot_state_at slots place) within heard.0 (kept-is slots place there ∙ get_or_default slots place None (slot_state_at slots place) there),

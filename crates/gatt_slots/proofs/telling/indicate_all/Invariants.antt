@@ -6,6 +6,6 @@ use Rattle.gatt_slots.proofs.telling.indicate_all.Given as goal
 
 abbrev pub invariant-loop-place : goal.invariant-loop-place
 invariant-loop-place l =
-    (l.slots ≡ all_heard l.table l.now l.rows None [] [] (take l.place l.fn.slots) ++ drop l.place l.fn.slots)
+    (l.slots ≡ all_heard l.moment.table.now l.moment.now l.moment.rows.now None [] [] (take l.place l.fn.slots) ++ drop l.place l.fn.slots)
     × (Covers Packet l.heard.packets.bits l.slots
     × ((place : ℕ) → place < l.place → waits (slot_state_at l.slots place) ≡ true → l.heard.waiting ≡ true))

@@ -1,21 +1,69 @@
-use Rattle.std.proofs.Common.{arith}
+use Rattle.std.proofs.Common.{◌≡◌, true, [], None, length, sym, ap, subst, ◌∙◌, arith}
 use Rattle.gatt_slots.proofs.Covering.{commands_heard, free_heard, listening_heard}
-use Rattle.gatt_slots.proofs.Noted.{heard_noted}
+use Rattle.gatt_slots.proofs.InTurn.{all_in_turn}
+use Rattle.gatt_slots.proofs.Noted.{heard_noted, written_over}
+use Rattle.gatt_slots.specs.Handles.{AreNoted}
+use Rattle.gatt_slots.specs.declared.marks.Marks.{Marks}
+use Rattle.gatt_slots.specs.Places.{IsMarked}
+use Rattle.gatt_slots.specs.Slots.{SlotStates, all_heard, all_notified_in_turn}
 use Rattle.gatt_slots.proofs.slots.Slots.hear_each.Goals as goal
 
 pub invariant_of-self : goal.invariant_of-self
 invariant_of-self c =
     let a = c.args in
+    let table = a.moment.table.now in
+    let now = a.moment.now in
+    let rows = a.moment.rows.now in
+    let own = a.own in
+    let here = a.here.now in
+    let handles = a.handles.now in
     let old = c.self.inside.slots.items in
-    let heard = c.hear_in-heard.ensures in
-    let marked = c.self.invariant.0 in (
+    let lent = c.as_mut_slice-slots.result.now in
+    let new = c.indicate_due.new.slots in
+    let noted = c.self.inside.handles.noted in
+    let marked = c.self.invariant.0 in
+    let is : lent ≡ old = c.as_mut_slice-slots.ensures.value in
+    let heard : new ≡ all_heard table now rows own here handles old =
+    c.indicate_due.ensures.heard
+    ∙ ap (λ (it : SlotStates). all_heard table now rows None [] [] it)
+    (c.notify_all-2.ensures.raised ∙ ap (λ (it : SlotStates). all_notified_in_turn table now rows own true handles it) c.notify_all.ensures.raised)
+    ∙ all_in_turn table now rows own here handles lent
+    ∙ ap (λ (it : SlotStates). all_heard table now rows own here handles it) is in
+    let count : length new ≡ length old =
+    c.indicate_due.ensures.count ∙ c.notify_all-2.ensures.count ∙ c.notify_all.ensures.count ∙ ap (λ (it : SlotStates). length it) is in
+    let covered = c.indicate_due.ensures.covered in
+    let marks : Marks = record c.self.inside.marks { packets = c.indicate_due.new.heard.packets; waiting = c.indicate_due.new.heard.waiting } in
+    subst (λ (it : SlotStates). IsMarked it marks × AreNoted it noted)
+    (sym (written_over c.self.inside.slots.len old new count (ap (λ (it : SlotStates). length it) (sym is) ∙ c.as_mut_slice-slots.ensures.len))) (
       record {
-        few = omega (arith, marked.few, heard.count);
-        commands = commands_heard a.table.now a.now a.rows.now a.own a.here.now a.handles.now c.self.inside.marks.commands.bits old _ heard.heard marked.commands;
-        packets = heard.covered.packets;
-        listening = listening_heard a.table.now a.now a.rows.now a.own a.here.now a.handles.now c.self.inside.marks.listening.bits old _ heard.heard marked.listening;
-        waiting = heard.covered.waiting;
-        free = λ none. free_heard a.table.now a.now a.rows.now a.own a.here.now a.handles.now old _ heard.heard (marked.free none);
+        few = omega (arith, marked.few, count);
+        commands = commands_heard table now rows own here handles c.self.inside.marks.commands.bits old new heard marked.commands;
+        packets = covered.packets;
+        listening = listening_heard table now rows own here handles c.self.inside.marks.listening.bits old new heard marked.listening;
+        waiting = covered.waiting;
+        free = λ none. free_heard table now rows own here handles old new heard (marked.free none);
       },
-      heard_noted a.table.now a.now a.rows.now a.own a.here.now a.handles.now old _ c.self.inside.handles.noted heard.heard heard.count c.self.invariant.1,
+      heard_noted table now rows own here handles old new noted heard count c.self.invariant.1,
     )
+
+pub returns-clause-heard : goal.returns-clause-heard
+returns-clause-heard c =
+    let a = c.args in
+    let table = a.moment.table.now in
+    let now = a.moment.now in
+    let rows = a.moment.rows.now in
+    let own = a.own in
+    let here = a.here.now in
+    let handles = a.handles.now in
+    let old = c.self.inside.slots.items in
+    let lent = c.as_mut_slice-slots.result.now in
+    let new = c.indicate_due.new.slots in
+    let is : lent ≡ old = c.as_mut_slice-slots.ensures.value in
+    let count : length new ≡ length old =
+    c.indicate_due.ensures.count ∙ c.notify_all-2.ensures.count ∙ c.notify_all.ensures.count ∙ ap (λ (it : SlotStates). length it) is in
+    written_over c.self.inside.slots.len old new count (ap (λ (it : SlotStates). length it) (sym is) ∙ c.as_mut_slice-slots.ensures.len)
+    ∙ c.indicate_due.ensures.heard
+    ∙ ap (λ (it : SlotStates). all_heard table now rows None [] [] it)
+    (c.notify_all-2.ensures.raised ∙ ap (λ (it : SlotStates). all_notified_in_turn table now rows own true handles it) c.notify_all.ensures.raised)
+    ∙ all_in_turn table now rows own here handles lent
+    ∙ ap (λ (it : SlotStates). all_heard table now rows own here handles it) (is ∙ c.self.view_is)
