@@ -1,6 +1,7 @@
 -- What the words of a command line mean to the parser, computed.
-use Rattle.std.proofs.Common.{◌≡◌, ◌⊎◌, inl, inr, [], ◌∷◌, drop, codes, option_map, List, ℕ, Some, None, true, false, ◌||◌, refl, sym, subst, ap, ◌∙◌, Bool}
+use Rattle.std.proofs.Common.{◌≡◌, ◌⊎◌, inl, inr, [], ◌∷◌, drop, codes, option_map, length, List, ℕ, ◌<◌, ◌+◌, get_or, Some, None, true, false, ◌||◌, refl, sym, subst, ap, ◌∙◌, Bool}
 use Rattle.std.proofs.Math.Bool.{or-false}
+use Rattle.std.proofs.lemmas.List.{at_drop_more}
 use Rattle.std.specs.Box.{box_value}
 use Rattle.std.specs.Prelude.{IfOk, Result, Ok, Err}
 use Rattle.clap.specs.Built.{AddsArg, AddsSubcommand}
@@ -145,6 +146,16 @@ pub added_to : {old sub new : Command} {app : App} {shape : Shape} → AddsSubco
     → app_of old ≡ app → shape_of sub ≡ shape → app_of new ≡ with_subcommand app shape
 added_to {sub = sub} {app = app} adds local app_is shape_is =
     adds.shape local ∙ ap (λ (front : App). with_subcommand front (shape_of sub)) app_is ∙ ap (λ (last : Shape). with_subcommand app last) shape_is
+
+-- what is left to do with the elements of a list, one step on
+pub one_step_on : {S X : Type 0} (all_done : S → List X → S) (done : S → X → S)
+    → ((state : S) (x : X) (left : List X) → all_done state (x ∷ left) ≡ all_done (done state x) left)
+    → (old : S) (xs : List X) (i : ℕ) (d : X) {new : S} → i < length xs → new ≡ done old (get_or xs i d)
+    → all_done new (drop (i + 1) xs) ≡ all_done old (drop i xs)
+one_step_on all_done done steps old xs i d more is_done =
+    ap (λ state. all_done state (drop (i + 1) xs)) is_done
+    ∙ sym (steps old (get_or xs i d) (drop (i + 1) xs))
+    ∙ sym (at_drop_more (all_done old) xs i d more)
 
 -- only an error that asks for help or the version is shown
 pub only_shown : (error text : Error) (kind : ErrorKind) → refusal_for error kind ≡ Shown text

@@ -5,6 +5,7 @@ use Rattle.clap.specs.declared.builder.action.ArgAction.TheVariants.{Append, Set
 use Rattle.gatt_words.specs.declared.argument.Argument.{Argument}
 use Rattle.gatt_words.specs.declared.argument.Takes.{Takes}
 use Rattle.gatt_words.specs.declared.argument.Takes.TheVariants.{Path, PathIfAny, Value, Values, Nothing}
+use Rattle.gatt_words.specs.declared.subcommand.Subcommand.{Subcommand}
 use Rattle.gatt_words.specs.declared.words.Choice.{Choice}
 use Rattle.gatt_words.specs.declared.words.Choice.TheVariants.{Att, Check, Show, Run, Serve, Host}
 
@@ -46,6 +47,15 @@ with_rules app (rule ∷ rules) = with_rules (with_rule app rule) rules
 
 abbrev pub shape_with : Text → List Rule → Shape
 shape_with name rules = (with_rules (new_app name) rules).top
+
+-- what the parser is told of a command of the code's tables
+abbrev pub shape_for : Subcommand → Shape
+shape_for subcommand = shape_with subcommand.name.now (map rule_for subcommand.arguments.now)
+
+-- a program with commands, in their order
+abbrev pub with_subcommands : App → List Shape → App
+with_subcommands app [] = app
+with_subcommands app (sub ∷ subs) = with_subcommands (with_subcommand app sub) subs
 
 -- the command `att`, which has no argument
 abbrev pub att_shape : Shape

@@ -1,9 +1,9 @@
 //! The arguments of a command, as tables that are read in their order.
 
-ghost use Rattle.std.specs.Prelude.{◌≡◌, map, IfOk, false};
+ghost use Rattle.std.specs.Prelude.{◌≡◌, [], map, IfOk, false};
 ghost use Rattle.clap.specs.Words.{IsPlainArg, app_of, rule_of, with_rule};
 ghost use Rattle.clap.specs.declared.builder.Command.TheViews.{out-Command};
-ghost use Rattle.gatt_words.specs.CommandLine.{rule_for, with_rules};
+ghost use Rattle.gatt_words.specs.CommandLine.{rule_for, rule_taking, with_rules};
 
 use clap::{Arg, ArgAction, Command};
 use std::alloc::{AllocError, Global};
@@ -34,25 +34,31 @@ pub(crate) struct Argument {
     pub about: &'static str,
 }
 
+/// What the parser does with what is given for an argument.
+fn action_for(takes: Takes) -> ArgAction
+    ensures { Some result ≡ (rule_taking takes []).action }
+{
+    match takes {
+        Takes::Path | Takes::PathIfAny | Takes::Value(_) => ArgAction::Set,
+        Takes::Values(_) => ArgAction::Append,
+        Takes::Nothing => ArgAction::SetTrue,
+    }
+}
+
 /// What the parser is told of an argument.
 fn parsed_argument<'a>(alloc: Global, argument: Argument) -> Arg<'a>
     ensures rule { rule_of result ≡ rule_for argument }
     ensures plain { IsPlainArg result }
     ensures local { result.global ≡ false }
 {
-    let parsed = Arg::new(alloc, argument.name).help(argument.about);
+    let parsed = Arg::new(alloc, argument.name)
+        .help(argument.about)
+        .action(action_for(argument.takes));
     match argument.takes {
-        Takes::Path => parsed.required(true).action(ArgAction::Set),
-        Takes::PathIfAny => parsed.action(ArgAction::Set),
-        Takes::Value(word) => parsed
-            .long(argument.name)
-            .value_name(word)
-            .action(ArgAction::Set),
-        Takes::Values(word) => parsed
-            .long(argument.name)
-            .value_name(word)
-            .action(ArgAction::Append),
-        Takes::Nothing => parsed.long(argument.name).action(ArgAction::SetTrue),
+        Takes::Path => parsed.required(true),
+        Takes::PathIfAny => parsed,
+        Takes::Value(word) | Takes::Values(word) => parsed.long(argument.name).value_name(word),
+        Takes::Nothing => parsed.long(argument.name),
     }
 }
 

@@ -1,7 +1,9 @@
-//! The arguments of the commands: their names, and the tables that the parser and the help have them
-//! from.
+//! The commands and their arguments: their names, and the tables that the parser and the help have
+//! them from.
 
 use crate::argument::{Argument, Takes};
+use crate::help;
+use crate::subcommand::Subcommand;
 
 // The names, by which what is given is asked for.
 
@@ -71,10 +73,10 @@ const ROWS_FILE: Argument = Argument {
 };
 
 /// The arguments of `check`.
-pub const CHECK_ARGUMENTS: [Argument; 2] = [TABLE_FILE, KEY_FILE];
+const CHECK_ARGUMENTS: [Argument; 2] = [TABLE_FILE, KEY_FILE];
 
 /// The arguments of `show`.
-pub const SHOW_ARGUMENTS: [Argument; 3] = [
+const SHOW_ARGUMENTS: [Argument; 3] = [
     TABLE_FILE,
     Argument {
         name: KEYS,
@@ -85,7 +87,7 @@ pub const SHOW_ARGUMENTS: [Argument; 3] = [
 ];
 
 /// The arguments of `run`.
-pub const RUN_ARGUMENTS: [Argument; 7] = [
+const RUN_ARGUMENTS: [Argument; 7] = [
     TABLE_FILE,
     KEY_FILE,
     Argument {
@@ -112,7 +114,7 @@ pub const RUN_ARGUMENTS: [Argument; 7] = [
 ];
 
 /// The arguments of `serve`.
-pub const SERVE_ARGUMENTS: [Argument; 4] = [
+const SERVE_ARGUMENTS: [Argument; 4] = [
     TABLE_FILE,
     KEY_FILE,
     Argument {
@@ -124,7 +126,7 @@ pub const SERVE_ARGUMENTS: [Argument; 4] = [
 ];
 
 /// The arguments of `host`.
-pub const HOST_ARGUMENTS: [Argument; 17] = [
+const HOST_ARGUMENTS: [Argument; 17] = [
     TABLE_FILE,
     KEY_FILE,
     ROWS_FILE,
@@ -197,5 +199,45 @@ pub const HOST_ARGUMENTS: [Argument; 17] = [
         name: ONCE,
         takes: Takes::Nothing,
         about: "End once the first controller is gone",
+    },
+];
+
+/// The commands.
+pub const SUBCOMMANDS: [Subcommand; 6] = [
+    Subcommand {
+        name: help::ATT,
+        about: help::ATT_ABOUT,
+        details: help::ATT_DETAILS,
+        arguments: &[],
+    },
+    Subcommand {
+        name: help::CHECK,
+        about: help::CHECK_ABOUT,
+        details: help::CHECK_DETAILS,
+        arguments: &CHECK_ARGUMENTS,
+    },
+    Subcommand {
+        name: help::SHOW,
+        about: help::SHOW_ABOUT,
+        details: help::SHOW_DETAILS,
+        arguments: &SHOW_ARGUMENTS,
+    },
+    Subcommand {
+        name: help::RUN,
+        about: help::RUN_ABOUT,
+        details: help::RUN_DETAILS,
+        arguments: &RUN_ARGUMENTS,
+    },
+    Subcommand {
+        name: help::SERVE,
+        about: help::SERVE_ABOUT,
+        details: help::SERVE_DETAILS,
+        arguments: &SERVE_ARGUMENTS,
+    },
+    Subcommand {
+        name: help::HOST,
+        about: help::HOST_ABOUT,
+        details: help::HOST_DETAILS,
+        arguments: &HOST_ARGUMENTS,
     },
 ];

@@ -1,17 +1,14 @@
 //! The command `host`: its words, and what they choose.
 
-ghost use Rattle.std.specs.Prelude.{◌≡◌, codes, map, take, IfSome, IfOk, false};
-ghost use Rattle.clap.specs.Words.{shape_of, found_of, rows_of};
-ghost use Rattle.clap.specs.declared.builder.Command.TheViews.{out-Command};
-ghost use Rattle.gatt_words.specs.CommandLine.{host_shape, command_name};
+ghost use Rattle.std.specs.Prelude.{◌≡◌, codes, map, take, IfSome};
+ghost use Rattle.clap.specs.Words.{found_of, rows_of};
+ghost use Rattle.gatt_words.specs.CommandLine.{command_name};
 ghost use Rattle.gatt_words.specs.CommandLine.{given, HasFilesOf};
 
-use crate::argument::with_arguments;
+use crate::arguments;
 use crate::words::Choice;
-use crate::{arguments, help};
 use arrayvec::ArrayVec;
-use clap::{ArgMatches, Command};
-use std::alloc::{AllocError, Global};
+use clap::ArgMatches;
 
 /// As many services as are taken in: one more than fit into advertising data.
 pub const MOST_SERVICES: usize = 14;
@@ -102,16 +99,4 @@ fn first_words<'a>(words: &[&'a str]) -> ArrayVec<&'a str, MOST_SERVICES>
     let (front, _) = words.split_at(words.len().min(MOST_SERVICES));
     first.try_extend_from_slice(front).unwrap();
     first
-}
-
-/// The command `host`.
-pub(crate) fn host_command<'a>(alloc: Global) -> Result<Command<'a>, AllocError>
-    ensures shape { IfOk result (λ command. shape_of command ≡ host_shape) }
-    ensures local { IfOk result (λ command. (out-Command command).has_globals ≡ false) }
-{
-    let command = Command::new(alloc, help::HOST)
-        .about(help::HOST_ABOUT)
-        .long_about(help::HOST_DETAILS)
-        .after_help(help::STATUSES);
-    with_arguments(alloc, command, &arguments::HOST_ARGUMENTS)
 }

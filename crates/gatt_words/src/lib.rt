@@ -8,6 +8,7 @@ mod given;
 mod help;
 mod host;
 mod show;
+mod subcommand;
 mod words;
 
 pub use given::words_of;

@@ -1,16 +1,15 @@
 //! The command line: which command its words choose, and what is told where they choose none.
 ghost use Rattle.std.specs.Prelude.{◌≡◌, ◌⊎◌, [], ◌∷◌, map, drop, codes, option_map, string_bytes};
-ghost use Rattle.std.specs.Prelude.{IfSome, IfOk, IfErr, IsErrAnd, MatchResult, false};
-ghost use Rattle.clap.specs.Words.{IsAmong, app_of, fault_of, kind_of, shape_of};
-ghost use Rattle.clap.specs.declared.builder.Command.TheViews.{out-Command};
+ghost use Rattle.std.specs.Prelude.{IfSome, IfOk, IfErr, IsErrAnd, MatchResult};
+ghost use Rattle.clap.specs.Words.{IsAmong, app_of, fault_of, kind_of};
 ghost use Rattle.clap.specs.Words.{found_of, rows_of, subcommand_name_of, subcommand_of, subcommand_rows_of};
-ghost use Rattle.gatt_words.specs.CommandLine.{att_shape, check_shape, run_shape, serve_shape, program_line, command_line, command_name};
+ghost use Rattle.gatt_words.specs.CommandLine.{program_line, command_line, command_name};
 ghost use Rattle.gatt_words.specs.CommandLine.{HasFiles, HasFilesOf};
 ghost use Rattle.gatt_words.specs.Refusal.{ShowsUnlessMemory, refusal_for};
 
-use crate::argument::with_arguments;
-use crate::host::{HostChoice, host_command, hosting};
-use crate::show::{show_command, showing};
+use crate::host::{HostChoice, hosting};
+use crate::show::showing;
+use crate::subcommand::with_subcommands;
 use crate::{arguments, help};
 use clap::error::ErrorKind;
 use clap::{ArgMatches, Command, Error};
@@ -107,14 +106,23 @@ fn choice_in<'a>(matches: &ArgMatches<'a>) -> Result<Choice<'a>, Refusal>
     let Some((name, named)) = matches.subcommand() else {
         return Err(Refusal::Misunderstood);
     };
+    choice_of(name, named).ok_or(Refusal::Misunderstood)
+}
+
+/// The choice of the command with a name, by what is given with it.
+fn choice_of<'a>(name: &str, matches: &ArgMatches<'a>) -> Option<Choice<'a>>
+    ensures named { IfSome result (λ choice. command_name choice ≡ name.now) }
+    ensures files { IfSome result (HasFilesOf (rows_of (found_of matches.now))) }
+    ensures att { name.now ≡ codes "att" → result ≡ Some Choice.Att }
+{
     match name {
-        help::ATT => Ok(Choice::Att),
-        help::CHECK => checking(named).ok_or(Refusal::Misunderstood),
-        help::SHOW => showing(named).ok_or(Refusal::Misunderstood),
-        help::RUN => running(named).ok_or(Refusal::Misunderstood),
-        help::SERVE => serving(named).ok_or(Refusal::Misunderstood),
-        help::HOST => hosting(named).ok_or(Refusal::Misunderstood),
-        _ => Err(Refusal::Misunderstood),
+        help::ATT => Some(Choice::Att),
+        help::CHECK => checking(matches),
+        help::SHOW => showing(matches),
+        help::RUN => running(matches),
+        help::SERVE => serving(matches),
+        help::HOST => hosting(matches),
+        _ => None,
     }
 }
 
@@ -173,77 +181,23 @@ fn refusal_of(error: Error) -> Refusal
     }
 }
 
-/// The command `att`.
-fn att_command<'a>(alloc: Global) -> Command<'a>
-    ensures shape { shape_of result ≡ att_shape }
-    ensures local { (out-Command result).has_globals ≡ false }
-{
-    Command::new(alloc, help::ATT)
-        .about(help::ATT_ABOUT)
-        .long_about(help::ATT_DETAILS)
-        .after_help(help::STATUSES)
-}
-
-/// The command `check`.
-fn check_command<'a>(alloc: Global) -> Result<Command<'a>, AllocError>
-    ensures shape { IfOk result (λ command. shape_of command ≡ check_shape) }
-    ensures local { IfOk result (λ command. (out-Command command).has_globals ≡ false) }
-{
-    let command = Command::new(alloc, help::CHECK)
-        .about(help::CHECK_ABOUT)
-        .long_about(help::CHECK_DETAILS)
-        .after_help(help::STATUSES);
-    with_arguments(alloc, command, &arguments::CHECK_ARGUMENTS)
-}
-
-/// The command `run`.
-fn run_command<'a>(alloc: Global) -> Result<Command<'a>, AllocError>
-    ensures shape { IfOk result (λ command. shape_of command ≡ run_shape) }
-    ensures local { IfOk result (λ command. (out-Command command).has_globals ≡ false) }
-{
-    let command = Command::new(alloc, help::RUN)
-        .about(help::RUN_ABOUT)
-        .long_about(help::RUN_DETAILS)
-        .after_help(help::STATUSES);
-    with_arguments(alloc, command, &arguments::RUN_ARGUMENTS)
-}
-
-/// The command `serve`.
-fn serve_command<'a>(alloc: Global) -> Result<Command<'a>, AllocError>
-    ensures shape { IfOk result (λ command. shape_of command ≡ serve_shape) }
-    ensures local { IfOk result (λ command. (out-Command command).has_globals ≡ false) }
-{
-    let command = Command::new(alloc, help::SERVE)
-        .about(help::SERVE_ABOUT)
-        .long_about(help::SERVE_DETAILS)
-        .after_help(help::STATUSES);
-    with_arguments(alloc, command, &arguments::SERVE_ARGUMENTS)
-}
-
 /// The program without its commands, of which one has to be named.
 fn program<'a>(alloc: Global) -> Result<Command<'a>, AllocError>
     ensures { IfOk result (λ command. app_of command ≡ program_line) }
 {
-    let command = Command::new(alloc, help::PROGRAM)
-        .bin_name(help::PROGRAM)?
+    Command::new(alloc, help::PROGRAM)
         .version(help::VERSION)
         .about(help::ABOUT)
         .after_help(help::STATUSES)
-        .subcommand_required(true);
-    Ok(command)
+        .subcommand_required(true)
+        .bin_name(help::PROGRAM)
 }
 
 /// The command line that the program takes.
 fn command<'a>(alloc: Global) -> Result<Command<'a>, AllocError>
     ensures { IfOk result (λ command. app_of command ≡ command_line) }
 {
-    program(alloc)?
-        .subcommand(att_command(alloc))?
-        .subcommand(check_command(alloc)?)?
-        .subcommand(show_command(alloc)?)?
-        .subcommand(run_command(alloc)?)?
-        .subcommand(serve_command(alloc)?)?
-        .subcommand(host_command(alloc)?)
+    with_subcommands(alloc, program(alloc)?, &arguments::SUBCOMMANDS)
 }
 
 /// The command that the words of the command line choose, of which the first is the program's
