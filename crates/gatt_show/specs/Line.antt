@@ -24,7 +24,7 @@ declaration_word kind =
     else if kind == INCLUDE then codes "include"
     else codes "characteristic"
 
-abbrev pub kind_word : Role → AttributeType → Octets
+unfoldable pub kind_word : Role → AttributeType → Octets
 kind_word Declaration kind = declaration_word kind
 kind_word Value kind = codes "value"
 kind_word Configuration kind = codes "configuration"
@@ -49,7 +49,7 @@ declared_text table kind value =
     else type_text (drop 3 value)
 
 -- how many octets the value may have: a client characteristic configuration has two (Core 5.0, Vol 3 Part G, 3.3.3.3)
-abbrev pub length_text : Role → Attr → Octets
+unfoldable pub length_text : Role → Attr → Octets
 length_text Configuration attr = codes "2"
 length_text _ attr = if attr.fixed then decimal attr.largest else codes "0-" ++ decimal attr.largest
 
@@ -59,7 +59,7 @@ used_text attr =
     left 40 (type_text (type_octets attr.kind)) ++ codes "  " ++ left 5 (length_text attr.role attr)
     ++ rights_text attr.guard
 
-abbrev pub rest_of_line : Contents → Role → Attr → Octets
+unfoldable pub rest_of_line : Contents → Role → Attr → Octets
 rest_of_line table Declaration attr = declared_text table attr.kind (told_value table attr.handle)
 rest_of_line table _ attr = used_text attr
 

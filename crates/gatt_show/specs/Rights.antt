@@ -18,7 +18,7 @@ word properties property text = if has_property properties property then text el
 abbrev pub needs_reading : Properties → Bool
 needs_reading properties = has_property properties READ || has_property properties NOTIFY || has_property properties INDICATE
 
-abbrev pub heard_words : Properties → Octets
+unfoldable pub heard_words : Properties → Octets
 heard_words properties =
     word properties READ (codes " read") ++ word properties NOTIFY (codes " notify") ++ word properties INDICATE (codes " indicate")
 
@@ -26,7 +26,7 @@ heard_words properties =
 abbrev pub is_written : Properties → Bool
 is_written properties = has_property properties WRITE || has_property properties WRITE_WITHOUT_RESPONSE
 
-abbrev pub written_words : Properties → Octets
+unfoldable pub written_words : Properties → Octets
 written_words properties =
     word properties WRITE (codes " write") ++ word properties WRITE_WITHOUT_RESPONSE (codes " command")
 
@@ -44,7 +44,7 @@ key_words need =
     else (if needs_authentication_of need then codes " if authenticated" else codes " if encrypted") ++ asked_size_words need.key_size
 
 -- and that the user lets the connection through
-abbrev pub need_words : Need → Octets
+unfoldable pub need_words : Need → Octets
 need_words need =
     if needs_encryption_of need
     then key_words need ++ (if need.authorized then codes ", authorized" else [])

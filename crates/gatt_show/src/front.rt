@@ -63,11 +63,11 @@ pub struct Front<'a> {
     /// How many properties of the last element.
     pub properties: usize,
     /// Which keys of the last element.
-    pub keys: Kept<'a>,
+    pub keys: &'a Kept<'a>,
     /// The key of a table in the last element that is then the last table.
     pub inner: Option<&'a str>,
     /// Which keys of that table.
-    pub inner_keys: Kept<'a>,
+    pub inner_keys: &'a Kept<'a>,
 }
 
 impl<'a> Front<'a> {
@@ -80,20 +80,9 @@ impl<'a> Front<'a> {
             characteristics: 0,
             descriptors: 0,
             properties: usize::MAX,
-            keys: Kept::All,
+            keys: &Kept::All,
             inner: None,
-            inner_keys: Kept::All,
-        }
-    }
-
-    /// The whole file.
-    pub fn whole(root: &'static str) -> Front<'static> {
-        Front {
-            elements: usize::MAX,
-            includes: usize::MAX,
-            characteristics: usize::MAX,
-            descriptors: usize::MAX,
-            ..Front::of_root(root)
+            inner_keys: &Kept::All,
         }
     }
 
@@ -110,8 +99,23 @@ impl<'a> Front<'a> {
         front
     }
 
+    /// The front with all elements of a level, and all that stands in the last one.
+    pub fn with_whole(self, level: Level) -> Front<'a> {
+        let mut front = self.with(level, usize::MAX);
+        match level {
+            Level::Elements => {
+                front.includes = usize::MAX;
+                front.characteristics = usize::MAX;
+                front.descriptors = usize::MAX;
+            }
+            Level::Characteristics => front.descriptors = usize::MAX,
+            Level::Includes | Level::Descriptors | Level::Properties => {}
+        }
+        front
+    }
+
     /// The front with other keys of its last table.
-    pub fn with_keys<'k>(&'k self, keys: Kept<'k>) -> Front<'k> {
+    pub fn with_keys<'k>(&'k self, keys: &'k Kept<'k>) -> Front<'k> {
         let (keys, inner_keys) = match self.inner {
             Some(_) => (self.keys, keys),
             None => (keys, self.inner_keys),
@@ -127,7 +131,7 @@ impl<'a> Front<'a> {
     pub fn with_inner<'k>(&'k self, inner: &'k str) -> Front<'k> {
         Front {
             inner: Some(inner),
-            inner_keys: Kept::All,
+            inner_keys: &Kept::All,
             ..*self
         }
     }
@@ -220,8 +224,8 @@ fn array_at<'t>(table: &'t mut Table, key: &str) -> Option<&'t mut Vec<Value>> {
 }
 
 /// Leaves some keys of a table.
-fn keep_keys(alloc: Global, table: &mut Table, keys: Kept<'_>) -> Result<(), AllocError> {
-    match keys {
+fn keep_keys(alloc: Global, table: &mut Table, keys: &Kept<'_>) -> Result<(), AllocError> {
+    match *keys {
         Kept::All => {}
         Kept::Alone(key) => {
             if let Some((name, value)) = table.remove_entry(key) {

@@ -25,36 +25,33 @@ pub fn add_key_place(
     refused: &Refused<'_>,
     fault: KeyFault,
 ) -> Result<(), AllocError> {
-    let front = shortest(refused)?;
+    let front = refused.shortest("key", &[Level::Elements])?;
     if front.elements > 0 {
         text.extend_from_slice(b"key ")?;
         add_number(text, front.elements as u64)?;
     }
+    add_fault(text, refused, &front, fault)
+}
+
+/// Adds which key of the last entry of a front is at fault, and why.
+fn add_fault(
+    text: &mut Vec<u8>,
+    refused: &Refused<'_>,
+    front: &Front<'_>,
+    fault: KeyFault,
+) -> Result<(), AllocError> {
     match fault {
-        KeyFault::Shape => add_wrong_key(text, refused, &front),
-        KeyFault::Missing => add_missing(text, refused, &front),
-        KeyFault::BadAddress => add_bad_address(text, refused, &front),
-        KeyFault::BadHex => add_bad_hex(text, refused, &front),
-        KeyFault::BadSize => {
-            add_name(text, &front, "size")?;
-            add_range(text, refused, &front, Others::Kept, "size", 16)
-        }
+        KeyFault::Shape => add_wrong_key(text, refused, front),
+        KeyFault::Missing => add_missing(text, refused, front),
+        KeyFault::BadAddress => add_bad_address(text, refused, front),
+        KeyFault::BadHex => add_bad_hex(text, refused, front),
+        KeyFault::BadSize => add_bad_size(text, refused, front),
         KeyFault::NotToml
         | KeyFault::Twice
         | KeyFault::TooMany
         | KeyFault::OutOfMemory
         | KeyFault::NotZero => add_words(text, refused),
     }
-}
-
-/// The shortest front of a document that has its first fault.
-fn shortest(refused: &Refused<'_>) -> Result<Front<'static>, AllocError> {
-    let root = Front::of_root("key");
-    if refused.has_fault(&root)? {
-        return Ok(root);
-    }
-    let entries = refused.least(&Front::whole("key"), Level::Elements)?;
-    Ok(root.with(Level::Elements, entries))
 }
 
 /// Adds the key of an entry that is missed first.
@@ -110,6 +107,16 @@ fn add_bad_hex(
     }
 }
 
+/// Adds which numbers the size may be.
+fn add_bad_size(
+    text: &mut Vec<u8>,
+    refused: &Refused<'_>,
+    front: &Front<'_>,
+) -> Result<(), AllocError> {
+    add_name(text, front, "size")?;
+    add_range(text, refused, front, Others::Kept, "size", 16)
+}
+
 /// Whether the fault stays with a good text at a key, so that it is that of another one.
 fn stays_with(
     refused: &Refused<'_>,
@@ -117,5 +124,5 @@ fn stays_with(
     key: &str,
     good: &str,
 ) -> Result<bool, AllocError> {
-    refused.has_fault(&front.with_keys(Kept::With(key, good, &[])))
+    refused.has_fault(&front.with_keys(&Kept::With(key, good, &[])))
 }

@@ -82,6 +82,7 @@ fn add_attribute(
 }
 
 /// What an attribute is, in a word.
+#[tactic(auto, unfolding(crate::specs::Line::kind_word))]
 fn kind_word(role: Role, kind: u128) -> &'static str
     ensures { result.now ≡ kind_word role kind }
 {
@@ -97,6 +98,7 @@ fn kind_word(role: Role, kind: u128) -> &'static str
 }
 
 /// Adds what a line says behind what the attribute is.
+#[tactic(auto, unfolding(crate::specs::Line::rest_of_line))]
 fn add_rest(alloc: Global, text: &mut Vec<u8>, table: &Table, attr: &Attr) -> Result<(), AllocError>
     ensures ok { OnOk result (text.new.items
         ≡ text.old.items ++ rest_of_line table.now attr.now.role attr.now) }
@@ -172,6 +174,7 @@ fn type_cell(alloc: Global, kind: u128) -> Result<Vec<u8>, AllocError>
 }
 
 /// How many octets the value of an attribute may have.
+#[tactic(auto, unfolding(crate::specs::Line::length_text))]
 fn length_cell(alloc: Global, attr: &Attr) -> Result<Vec<u8>, AllocError>
     ensures ok { IfOk result (λ cell. cell.items ≡ length_text attr.now.role attr.now) }
 {

@@ -94,7 +94,34 @@ impl Refused<'_> {
 
     /// Whether a front has the fault without some keys of its last element.
     pub fn has_fault_without(&self, front: &Front<'_>, keys: &[&str]) -> Result<bool, AllocError> {
-        self.has_fault(&front.with_keys(Kept::Without(keys)))
+        self.has_fault(&front.with_keys(&Kept::Without(keys)))
+    }
+
+    /// The shortest front of the document that has its first fault, found level by level from the root
+    /// down.
+    pub fn shortest(
+        &self,
+        root: &'static str,
+        levels: &[Level],
+    ) -> Result<Front<'static>, AllocError> {
+        let mut front = Front::of_root(root);
+        for level in levels {
+            if self.has_fault(&front)? {
+                return Ok(front);
+            }
+            front = front.with(*level, self.needed(&front.with_whole(*level), *level)?);
+        }
+        Ok(front)
+    }
+
+    /// How many elements of a level have to be there for the fault, of a front that is whole from this
+    /// level on: all, where it has not the fault, which then stands behind them.
+    fn needed(&self, whole: &Front<'_>, level: Level) -> Result<usize, AllocError> {
+        if self.has_fault(whole)? {
+            self.least(whole, level)
+        } else {
+            Ok(usize::MAX)
+        }
     }
 
     /// The least count at a level with which a front has the first fault of the document, where it

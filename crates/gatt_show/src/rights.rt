@@ -70,6 +70,7 @@ fn add_written(text: &mut Vec<u8>, guard: &Guard) -> Result<(), AllocError>
 }
 
 /// Adds the words of the properties that need what reading needs.
+#[tactic(auto, unfolding(crate::specs::Rights::heard_words))]
 fn add_heard_words(text: &mut Vec<u8>, properties: Properties) -> Result<(), AllocError>
     ensures ok { OnOk result (text.new.items ≡ text.old.items ++ heard_words properties) }
 {
@@ -79,6 +80,7 @@ fn add_heard_words(text: &mut Vec<u8>, properties: Properties) -> Result<(), All
 }
 
 /// Adds the words of the properties that need what writing needs.
+#[tactic(auto, unfolding(crate::specs::Rights::written_words))]
 fn add_written_words(text: &mut Vec<u8>, properties: Properties) -> Result<(), AllocError>
     ensures ok { OnOk result (text.new.items ≡ text.old.items ++ written_words properties) }
 {
@@ -118,6 +120,7 @@ fn need_words(alloc: Global, need: &Need) -> Result<Vec<u8>, AllocError>
 }
 
 /// Adds what a need asks for.
+#[tactic(auto, unfolding(crate::specs::Rights::need_words))]
 fn add_need(text: &mut Vec<u8>, need: &Need) -> Result<(), AllocError>
     ensures ok { OnOk result (text.new.items ≡ text.old.items ++ need_words need.now) }
 {

@@ -13,9 +13,17 @@ pub fn add_rows_fault(alloc: Global, text: &mut Vec<u8>, octets: &[u8]) -> Resul
         Ok(file) => file,
         Err(error) => return add_no_text(text, octets, error.valid_up_to()),
     };
+    match rows_fault(alloc, file)? {
+        Some(fault) => text.extend_from_slice(format!(in alloc; "{fault}")?.as_bytes()),
+        None => Ok(()),
+    }
+}
+
+/// The first fault of a rows file.
+fn rows_fault(alloc: Global, file: &str) -> Result<Option<RowsFault>, AllocError> {
     match Rows::read(alloc, file) {
-        Ok(_) => Ok(()),
+        Ok(_) => Ok(None),
         Err(RowsFault::OutOfMemory) => Err(AllocError),
-        Err(fault) => text.extend_from_slice(format!(in alloc; "{fault}")?.as_bytes()),
+        Err(fault) => Ok(Some(fault)),
     }
 }

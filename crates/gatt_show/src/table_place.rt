@@ -8,6 +8,14 @@ use crate::wrong_key::{Others, add_name, add_range, add_words, add_wrong_key};
 use att_table::{TableFault, TableKey};
 use std::alloc::AllocError;
 
+/// The levels of a table file, from its root down.
+const LEVELS: [Level; 4] = [
+    Level::Elements,
+    Level::Includes,
+    Level::Characteristics,
+    Level::Descriptors,
+];
+
 /// Words of properties, each as the only one of an array.
 const PROPERTIES: [(&str, &str); 5] = [
     ("read", "[\"read\"]"),
@@ -23,56 +31,31 @@ pub fn add_table_place(
     refused: &Refused<'_>,
     fault: TableFault,
 ) -> Result<(), AllocError> {
-    let front = shortest(refused)?;
+    let front = refused.shortest("service", &LEVELS)?;
     add_element(text, &front, fault)?;
+    add_fault(text, refused, &front, fault)
+}
+
+/// Adds which key of the last element of a front is at fault, and why.
+fn add_fault(
+    text: &mut Vec<u8>,
+    refused: &Refused<'_>,
+    front: &Front<'_>,
+    fault: TableFault,
+) -> Result<(), AllocError> {
     match fault {
-        TableFault::Shape => add_wrong_key(text, refused, &front),
-        TableFault::Missing(key) => {
-            add_name(text, &front, key_name(key))?;
-            text.extend_from_slice(b": the key is missing")
-        }
-        TableFault::TooLong => add_too_long(text, refused, &front),
-        TableFault::BadSecurity => add_need(text, refused, &front),
-        TableFault::BadProperty => add_property(text, refused, &front),
-        TableFault::BadUuid => {
-            add_name(text, &front, "uuid")?;
-            add_words(text, refused)
-        }
-        TableFault::BadHex => {
-            add_name(text, &front, "value")?;
-            add_words(text, refused)
-        }
+        TableFault::Shape => add_wrong_key(text, refused, front),
+        TableFault::Missing(key) => add_missing(text, front, key),
+        TableFault::TooLong => add_too_long(text, refused, front),
+        TableFault::BadSecurity => add_need(text, refused, front),
+        TableFault::BadProperty => add_property(text, refused, front),
+        TableFault::BadUuid => add_bad_text(text, refused, front, "uuid"),
+        TableFault::BadHex => add_bad_text(text, refused, front, "value"),
         TableFault::NotToml
         | TableFault::TooMany
         | TableFault::BadInclude
         | TableFault::OutOfMemory => add_words(text, refused),
     }
-}
-
-/// The shortest front of a document that has its first fault.
-fn shortest(refused: &Refused<'_>) -> Result<Front<'static>, AllocError> {
-    let root = Front::of_root("service");
-    if refused.has_fault(&root)? {
-        return Ok(root);
-    }
-    let services = refused.least(&Front::whole("service"), Level::Elements)?;
-    let service = root.with(Level::Elements, services);
-    if refused.has_fault(&service)? {
-        return Ok(service);
-    }
-    let included = service.with(Level::Includes, usize::MAX);
-    if refused.has_fault(&included)? {
-        let includes = refused.least(&service, Level::Includes)?;
-        return Ok(service.with(Level::Includes, includes));
-    }
-    let whole = included.with(Level::Descriptors, usize::MAX);
-    let characteristics = refused.least(&whole, Level::Characteristics)?;
-    let characteristic = included.with(Level::Characteristics, characteristics);
-    if refused.has_fault(&characteristic)? {
-        return Ok(characteristic);
-    }
-    let descriptors = refused.least(&characteristic, Level::Descriptors)?;
-    Ok(characteristic.with(Level::Descriptors, descriptors))
 }
 
 /// Adds which element is the last one of a front, if it is another than the root. Of an include it is
@@ -96,6 +79,23 @@ fn add_element(text: &mut Vec<u8>, front: &Front<'_>, fault: TableFault) -> Resu
 fn add_counted(text: &mut Vec<u8>, name: &[u8], count: usize) -> Result<(), AllocError> {
     text.extend_from_slice(name)?;
     add_number(text, count as u64)
+}
+
+/// Adds the key that is missing.
+fn add_missing(text: &mut Vec<u8>, front: &Front<'_>, key: TableKey) -> Result<(), AllocError> {
+    add_name(text, front, key_name(key))?;
+    text.extend_from_slice(b": the key is missing")
+}
+
+/// Adds the key whose text is bad, and what the reader says of it.
+fn add_bad_text(
+    text: &mut Vec<u8>,
+    refused: &Refused<'_>,
+    front: &Front<'_>,
+    key: &str,
+) -> Result<(), AllocError> {
+    add_name(text, front, key)?;
+    add_words(text, refused)
 }
 
 /// The name of a key that has to be there.
@@ -151,7 +151,8 @@ fn add_in_need(
     others: &[&str],
     need: &str,
 ) -> Result<(), AllocError> {
-    let alone = front.with_keys(Kept::Without(others));
+    let without = Kept::Without(others);
+    let alone = front.with_keys(&without);
     add_wrong_key(text, refused, &alone.with_inner(need))
 }
 
@@ -162,7 +163,7 @@ fn add_property(
     refused: &Refused<'_>,
     front: &Front<'_>,
 ) -> Result<(), AllocError> {
-    let without = front.with_keys(Kept::Without(&["config"]));
+    let without = front.with_keys(&Kept::Without(&["config"]));
     if !refused.has_fault(&without)? {
         return text.extend_from_slice(
             b", config: there is nothing to configure without notify or indicate",
@@ -186,11 +187,16 @@ fn add_last_property(
     let Some(element) = front.last_element(&mut kept) else {
         return Ok(());
     };
-    let Some(word) = toml_tables::items(element, "properties").last() else {
-        return Ok(());
-    };
+    match toml_tables::items(element, "properties").last() {
+        Some(word) => add_in_quotes(text, word.as_str().unwrap_or("")),
+        None => Ok(()),
+    }
+}
+
+/// Adds a text of a file, in quotes.
+fn add_in_quotes(text: &mut Vec<u8>, quoted: &str) -> Result<(), AllocError> {
     text.extend_from_slice(b" \"")?;
-    add_quoted(text, word.as_str().unwrap_or(""))?;
+    add_quoted(text, quoted)?;
     text.extend_from_slice(b"\"")
 }
 
@@ -202,14 +208,19 @@ fn add_allowed(
 ) -> Result<(), AllocError> {
     let mut is_first = true;
     for (word, alone) in &PROPERTIES {
-        let with = front.with_keys(Kept::With("properties", alone, &["config"]));
-        if !refused.has_fault(&with)? {
-            if !is_first {
-                text.extend_from_slice(b", ")?;
-            }
+        let with = Kept::With("properties", alone, &["config"]);
+        if !refused.has_fault(&front.with_keys(&with))? {
+            add_one_of(text, word, is_first)?;
             is_first = false;
-            text.extend_from_slice(word.as_bytes())?;
         }
     }
     Ok(())
+}
+
+/// Adds a word of several, behind a comma unless it is the first.
+fn add_one_of(text: &mut Vec<u8>, word: &str, is_first: bool) -> Result<(), AllocError> {
+    if !is_first {
+        text.extend_from_slice(b", ")?;
+    }
+    text.extend_from_slice(word.as_bytes())
 }

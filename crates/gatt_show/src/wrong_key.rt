@@ -4,7 +4,9 @@ use crate::cells::add_number;
 use crate::front::{Front, Kept};
 use crate::quoted::add_quoted;
 use crate::refused::Refused;
+use itoa::Buffer;
 use std::alloc::AllocError;
+use toml::Table;
 
 /// A value of each type that a key may have, and the type.
 const TYPES: [(&str, &[u8]); 7] = [
@@ -30,6 +32,16 @@ pub enum Others {
     Kept,
     /// They are left out, since one of them may have the same fault.
     Left,
+}
+
+impl Others {
+    /// The keys that are kept where a key has this value.
+    fn with<'a>(self, key: &'a str, value: &'a str) -> Kept<'a> {
+        match self {
+            Others::Kept => Kept::With(key, value, &[]),
+            Others::Left => Kept::AloneAs(key, value),
+        }
+    }
 }
 
 /// Adds the name of a key, behind the element that has it.
@@ -58,9 +70,20 @@ pub fn add_wrong_key(
     front: &Front<'_>,
 ) -> Result<(), AllocError> {
     let mut kept = front.of(refused.alloc, refused.document)?;
-    let Some(table) = front.last_table(&mut kept) else {
-        return text.extend_from_slice(b": it has to be a table");
-    };
+    match front.last_table(&mut kept) {
+        Some(table) => add_wrong_key_of(text, refused, front, table),
+        None => text.extend_from_slice(b": it has to be a table"),
+    }
+}
+
+/// Adds the first key of this table, the last one of a front, that is refused where it stands alone,
+/// and why.
+fn add_wrong_key_of(
+    text: &mut Vec<u8>,
+    refused: &Refused<'_>,
+    front: &Front<'_>,
+    table: &Table,
+) -> Result<(), AllocError> {
     for (name, value) in table.iter() {
         let key = name.as_str();
         if is_wrong_alone(refused, front, key)? {
@@ -73,7 +96,7 @@ pub fn add_wrong_key(
 
 /// Whether a key of the last table of a front has the fault where it stands alone.
 fn is_wrong_alone(refused: &Refused<'_>, front: &Front<'_>, key: &str) -> Result<bool, AllocError> {
-    refused.has_fault(&front.with_keys(Kept::Alone(key)))
+    refused.has_fault(&front.with_keys(&Kept::Alone(key)))
 }
 
 /// Adds why a key is refused where it stands alone.
@@ -85,7 +108,7 @@ fn add_wrong(
     is_integer: bool,
 ) -> Result<(), AllocError> {
     for (value, name) in &TYPES {
-        if !refused.has_fault(&front.with_keys(Kept::AloneAs(key, value)))? {
+        if !refused.has_fault(&front.with_keys(&Kept::AloneAs(key, value)))? {
             if is_integer && *name == INTEGER {
                 return add_range(text, refused, front, Others::Left, key, 16);
             }
@@ -164,10 +187,8 @@ fn is_accepted(
     key: &str,
     number: usize,
 ) -> Result<bool, AllocError> {
-    let digits = format!(in refused.alloc; "{number}")?;
-    let kept = match others {
-        Others::Kept => Kept::With(key, digits.as_str(), &[]),
-        Others::Left => Kept::AloneAs(key, digits.as_str()),
-    };
-    Ok(!refused.has_fault(&front.with_keys(kept))?)
+    let mut digits = Buffer::new();
+    let digits = digits.format(number as u64);
+    let kept = others.with(key, digits);
+    Ok(!refused.has_fault(&front.with_keys(&kept))?)
 }
