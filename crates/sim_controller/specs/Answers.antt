@@ -82,6 +82,9 @@ after_command old asked = with_told (simulated_after_answer old asked) (answers 
 abbrev pub completions_for : Simulated → ℕ → List Told
 completions_for old phone = if is_held (phone_at old phone).link then [] else told.CompletedPackets phone 1 ∷ []
 
+abbrev pub completion_fault : Simulated → ℕ → Option SimFault
+completion_fault old phone = if is_too_much old (completions_for old phone) then Some Full else None
+
 -- data for a phone that is not here are dropped, and not completed
 abbrev pub data_fault : Simulated → Option ℕ → Fragment → Option SimFault
 data_fault old None fragment = None

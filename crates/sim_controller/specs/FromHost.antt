@@ -46,7 +46,18 @@ abbrev pub refuse_key_by : Octets → Option Asked
 refuse_key_by (low ∷ high ∷ []) = Some (RefuseKey (from_two low high))
 refuse_key_by _ = None
 
--- what a command with these parameters asks, where it is one of the twelve that the controller knows
+-- what a command with these parameters asks, where it is not answered with a status alone
+abbrev pub asked_by_parameters : ℕ → Octets → Option Asked
+asked_by_parameters code parameters =
+    if code == opcode.READ_BUFFER_SIZE then alone ReadBufferSize parameters
+    else if code == opcode.LE_READ_BUFFER_SIZE then alone LeReadBufferSize parameters
+    else if code == opcode.LE_SET_ADVERTISE_ENABLE then advertise_by parameters
+    else if code == opcode.DISCONNECT then disconnect_by parameters
+    else if code == opcode.LE_LONG_TERM_KEY_REQUEST_REPLY then give_key_by parameters
+    else if code == opcode.LE_LONG_TERM_KEY_REQUEST_NEGATIVE_REPLY then refuse_key_by parameters
+    else None
+
+-- and where it is one of the twelve that the controller knows
 unfoldable pub asked_by_command : ℕ → Octets → Option Asked
 asked_by_command code parameters =
     if code == opcode.RESET then status_if (length parameters == 0) code
@@ -55,13 +66,7 @@ asked_by_command code parameters =
     else if code == opcode.LE_SET_RANDOM_ADDRESS then status_if (length parameters == 6) code
     else if code == opcode.LE_SET_ADVERTISING_PARAMETERS then status_if (length parameters == 15) code
     else if code == opcode.LE_SET_ADVERTISING_DATA then status_if (length parameters == 32) code
-    else if code == opcode.READ_BUFFER_SIZE then alone ReadBufferSize parameters
-    else if code == opcode.LE_READ_BUFFER_SIZE then alone LeReadBufferSize parameters
-    else if code == opcode.LE_SET_ADVERTISE_ENABLE then advertise_by parameters
-    else if code == opcode.DISCONNECT then disconnect_by parameters
-    else if code == opcode.LE_LONG_TERM_KEY_REQUEST_REPLY then give_key_by parameters
-    else if code == opcode.LE_LONG_TERM_KEY_REQUEST_NEGATIVE_REPLY then refuse_key_by parameters
-    else None
+    else asked_by_parameters code parameters
 
 abbrev pub command_in : Octets → Option Asked
 command_in (low ∷ high ∷ size ∷ parameters) =

@@ -27,7 +27,7 @@ impl Assembled {
 }
 
 /// How many octets of a frame there are.
-#[derive(Clone, Copy, PartialEq, Eq)]
+#[derive(Clone, Copy)]
 enum State {
     /// Fewer than its header states, or than the header has.
     Short,

@@ -1,13 +1,13 @@
 ghost use Rattle.std.specs.Prelude.{◌≡◌, if◌then◌else◌, Some, None};
 ghost use Rattle.std.specs.Option.{option_map};
-ghost use Rattle.sim_controller.specs.FromHost.{host_packet_of, taken_of, asked_by_command, command_in, data_in};
+ghost use Rattle.sim_controller.specs.FromHost.{host_packet_of, taken_of, asked_by_command, asked_by_parameters, command_in, data_in};
 
 use le_acl::boundary::{CONTINUATION, FIRST_NOT_FLUSHED};
 use le_h4::indicator;
 use le_hci::opcode;
 
 /// What a command asks of a controller, as far as it matters to a simulated one.
-#[derive(Clone, Copy, PartialEq, Eq)]
+#[derive(Clone, Copy)]
 pub(crate) enum Asked {
     /// To be answered with a status alone.
     Status { opcode: u16 },
@@ -26,7 +26,7 @@ pub(crate) enum Asked {
 }
 
 /// A packet from the host.
-#[derive(Clone, Copy, PartialEq, Eq)]
+#[derive(Clone, Copy)]
 pub(crate) enum HostPacket<'a> {
     Command(Asked),
     /// A fragment for the connection with a handle, that begins a frame or continues one.
@@ -76,6 +76,15 @@ fn read_asked(opcode: u16, parameters: &[u8]) -> Option<Asked>
         opcode::LE_SET_RANDOM_ADDRESS => status_if(parameters.len() == 6, opcode),
         opcode::LE_SET_ADVERTISING_PARAMETERS => status_if(parameters.len() == 15, opcode),
         opcode::LE_SET_ADVERTISING_DATA => status_if(parameters.len() == 32, opcode),
+        _ => read_parameters(opcode, parameters),
+    }
+}
+
+/// What a command with these parameters asks, where it is not answered with a status alone.
+fn read_parameters(opcode: u16, parameters: &[u8]) -> Option<Asked>
+    ensures { result ≡ asked_by_parameters opcode parameters.now }
+{
+    match opcode {
         opcode::READ_BUFFER_SIZE => match parameters {
             [] => Some(Asked::ReadBufferSize),
             _ => None,

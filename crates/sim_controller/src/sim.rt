@@ -2,9 +2,9 @@ ghost use Rattle.std.specs.Prelude.{◌≡◌, ◌<◌, ◌≤◌, [], ◌∷◌
 ghost use Rattle.std.specs.Bool.{OnTrue, OnFalse};
 ghost use Rattle.std.specs.Option.{option_map};
 ghost use Rattle.sim_controller.specs.Acts.{SimulatedAct, act_of, phone_in, payload_in, act_fault, telling_fault, simulated_after_act, DoesAct};
-ghost use Rattle.sim_controller.specs.Answers.{command_fault, after_command, data_fault, after_data, host_fault, after_host};
+ghost use Rattle.sim_controller.specs.Answers.{completion_fault, completions_for, command_fault, after_command, data_fault, after_data, host_fault, after_host};
 ghost use Rattle.sim_controller.specs.Calls.{GivesInOrder, TellsWhatIsRead};
-ghost use Rattle.sim_controller.specs.FromHost.{host_packet_of, fragment_that};
+ghost use Rattle.sim_controller.specs.FromHost.{host_packet_of, fragment_that, taken_of};
 ghost use Rattle.sim_controller.specs.Hearing.{HearsItsFrames};
 ghost use Rattle.sim_controller.specs.Phone.{phone_after_hearing, after_telling};
 ghost use Rattle.sim_controller.specs.Simulated.{simulated_at_start, phone_at, with_phone, with_told, refusal, IsDone};
@@ -245,18 +245,26 @@ impl Sim {
         ensures unchanged { OnErr result (self.new ≡ self.old) }
     {
         match read(octets) {
-            Some(HostPacket::Command(asked)) => self.answer(asked),
-            Some(
-                HostPacket::Data {
-                    handle,
-                    begins,
-                    octets,
-                },
-            ) => match here_with(&self.phones, handle) {
+            Some(packet) => self.take(packet),
+            None => Err(SimFault::BadPacket),
+        }
+    }
+
+    /// Takes a packet of the host.
+    fn take(&mut self, packet: HostPacket<'_>) -> Result<(), SimFault>
+        ensures { IsDone (host_fault self.old (Some (taken_of packet.entry)))
+            (after_host self.old (Some (taken_of packet.entry))) self.old self.new result }
+    {
+        match packet {
+            HostPacket::Command(asked) => self.answer(asked),
+            HostPacket::Data {
+                handle,
+                begins,
+                octets,
+            } => match here_with(&self.phones, handle) {
                 Some(phone) => self.take_data(phone, begins, octets),
                 None => Ok(()),
             },
-            None => Err(SimFault::BadPacket),
         }
     }
 
@@ -271,16 +279,24 @@ impl Sim {
         if self.phones[usize::from(phone)].hears_too_much(&assembled) {
             return Err(SimFault::Full);
         }
+        self.complete(phone)?;
+        self.phones[usize::from(phone)].take_in(assembled);
+        Ok(())
+    }
+
+    /// Has the host told that a packet for a phone is completed, unless its packets are held.
+    fn complete(&mut self, phone: u8) -> Result<(), SimFault>
+        requires { phone < 8 }
+        ensures { IsDone (completion_fault self.old phone)
+            (with_told self.old (completions_for self.old phone)) self.old self.new result }
+    {
         if self.phones[usize::from(phone)].is_held() {
-            self.phones[usize::from(phone)].take_in(assembled);
             return Ok(());
         }
         tell(
             &mut self.waiting,
             Told::CompletedPackets { phone, packets: 1 },
-        )?;
-        self.phones[usize::from(phone)].take_in(assembled);
-        Ok(())
+        )
     }
 
     /// Writes the first frame that waits for a phone in place of what `out` holds, its header in front
