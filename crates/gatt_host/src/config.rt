@@ -1,6 +1,7 @@
 //! What a host is opened with, beside its files.
 
 use arrayvec::ArrayVec;
+use le_hci::MAX_ADVERTISING_DATA;
 use std::error::Error;
 use std::fmt;
 
@@ -16,7 +17,7 @@ pub struct Config {
     /// the controller.
     pub address: Option<[u8; 6]>,
     /// Advertising data: Core 5.0, Vol 3 Part C, 11.
-    pub advertising: ArrayVec<u8, 31>,
+    pub advertising: ArrayVec<u8, MAX_ADVERTISING_DATA>,
 }
 
 /// Why a host is not opened.

@@ -12,6 +12,7 @@ ghost use Rattle.le_hci.specs.InitTold.{told_in};
 use crate::host_fault::HostFault;
 use crate::host_state::HostState;
 use crate::last_event::LastEvent;
+use le_acl::MAX_ACL_LEN;
 use le_hci::Peer;
 
 impl HostState {
@@ -104,5 +105,5 @@ fn share(slots: usize, packets: u16) -> u16
 fn acl_len(told: u16) -> u16
     ensures { result ≡ acl_len told }
 {
-    told.min(251)
+    told.min(MAX_ACL_LEN)
 }

@@ -13,7 +13,7 @@ ghost use Rattle.le_hci.specs.declared.peer.Peer.{Peer};
 use crate::host_fault::HostFault;
 use arrayvec::ArrayVec;
 use le_hci::event_code::COMMAND_COMPLETE;
-use le_hci::{Buffers, Init, InitFault, opcode};
+use le_hci::{Buffers, Init, InitFault, MAX_ADVERTISING_DATA, opcode};
 use std::marker::Model;
 use std::mem;
 
@@ -54,7 +54,10 @@ impl Controller {
     /// A controller that is not initialised, and takes one command before it answers any: Core 5.0,
     /// Vol 2 Part E, 4.4.
     #[tactic(auto, using(crate::proofs::places::Entering::owes_the_first_command))]
-    pub fn new(address: Option<[u8; 6]>, advertising: ArrayVec<u8, 31>) -> Controller
+    pub fn new(
+        address: Option<[u8; 6]>,
+        advertising: ArrayVec<u8, MAX_ADVERTISING_DATA>,
+    ) -> Controller
         ensures new { result
             ≡ record {
               credit = 1;

@@ -45,7 +45,7 @@ pub use host::Host;
 pub use host_fault::HostFault;
 pub use iter::Notices;
 pub use le_h4::{MAX_PACKET_OUT, PacketOctets, PacketRef};
-pub use le_hci::{InitFault, Peer};
+pub use le_hci::{InitFault, MAX_ADVERTISING_DATA, Peer};
 pub use le_security::{KeyFault, Keys};
 pub use listener::Listener;
 pub use notice::Notice;
