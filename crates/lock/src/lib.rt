@@ -4,7 +4,7 @@
 #![tactic(auto)]
 
 use arrayvec::ArrayVec;
-use gatt_host::{App, Host, HostFault, Input, Listener, Notice, Sink, drive_to};
+use gatt_host::{App, Host, HostFault, Input, Listener, MAX_SLOTS, Notice, Sink, drive_to};
 
 /// The handle of the state of the lock in the table of the door: 01 is open.
 const STATE: u16 = 10;
@@ -36,7 +36,7 @@ struct Phone {
 #[derive(Drop)]
 pub struct Lock<M> {
     motor: M,
-    phones: ArrayVec<Phone, 8>,
+    phones: ArrayVec<Phone, MAX_SLOTS>,
     /// In milliseconds.
     now: u64,
 }
@@ -83,7 +83,7 @@ impl<M: Motor> Lock<M> {
         self.now = now;
         let inputs = [Input::Call(App::Tick(now)), Input::Bytes(octets)];
         drive_to(host, &inputs, out, self)?;
-        for place in (0..8).rev() {
+        for place in (0..MAX_SLOTS).rev() {
             if let Some(stranger) = self.stranger(place) {
                 self.call(host, App::Disconnect(stranger), out)?;
             }
@@ -94,7 +94,7 @@ impl<M: Motor> Lock<M> {
     /// The button inside is pressed.
     pub fn press<W: Sink>(&mut self, host: &mut Host, out: &mut W) -> Result<(), HostFault> {
         let until = self.now.saturating_add(LEAVE);
-        for place in 0..8 {
+        for place in 0..MAX_SLOTS {
             if let Some(phone) = self.phone(place) {
                 self.call(host, App::Authorize(phone.handle, until), out)?;
             }
