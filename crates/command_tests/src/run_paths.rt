@@ -57,6 +57,7 @@ fn has_rows(rt: &(impl AllocGlobal + Files), rows: &str) -> bool {
 
 /// Writes the table and the keys. There is no rows file.
 fn make_files(rt: &impl Files) -> io::Result<()> {
+    // Only a run that was stopped has left one.
     let _ = fs::remove_file(rt, ROWS);
     fs::write(rt, TABLE, DOOR)?;
     fs::write(rt, PEERS, KEYS)

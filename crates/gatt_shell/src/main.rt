@@ -29,7 +29,7 @@ fn tell(rt: &impl Eprint, fault: &ShellFault) {
     let _ = rt.eprintln(str::from_utf8(text.as_slice()).unwrap_or(""));
 }
 
-/// Prints the text of a fault on standard error, and where the fault is.
+/// Prints the text of a fault on standard error, and where the fault is, as `tell` does.
 fn tell_at(rt: &impl Eprint, fault: &ShellFault, place: &[u8]) {
     let mut text = ArrayVec::new();
     gatt_commands::text(fault, &mut text);
@@ -168,6 +168,7 @@ fn run_host(
         Err(Stop::Fault(fault)) => exit_status(rt, Err(fault)),
         Err(Stop::File) => gatt_commands::status(&ShellFault::Unwritten),
         Err(Stop::Words(wrong)) => {
+            // Where that cannot be written, nobody can be told.
             let _ = rt.eprintln(wrong);
             Refusal::Misunderstood.status()
         }

@@ -31,7 +31,7 @@ struct Kept {
 }
 
 impl Kept {
-    /// A value is this now.
+    /// A value is this now. What has no room is not kept, and fails the comparison.
     fn keep(&mut self, attribute: u16, octets: &[u8]) {
         let mut value = ArrayVec::new();
         let _ = value.try_extend_from_slice(octets);

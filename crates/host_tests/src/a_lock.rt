@@ -22,6 +22,7 @@ struct Turns(ArrayVec<bool, 8>);
 
 impl Motor for Turns {
     fn turn(&mut self, open: bool) {
+        // What has no room is not kept, and fails the comparison.
         let _ = self.0.try_push(open);
     }
 }
