@@ -4,7 +4,7 @@ use super::cases::assert_case;
 use arrayvec::ArrayVec;
 use le_hci::{PUBLIC_ADDRESS, Peer, RANDOM_ADDRESS};
 use le_l2cap::channel;
-use scripts::{Act, Payload, PhoneAct, Script};
+use scripts::{Act, Payload, Script, ScriptedAct};
 use std::alloc::Global;
 use std::process::Abort;
 
@@ -186,18 +186,18 @@ fn is_update(handle: u16, value: &Payload<'_>, wanted: &Wanted<'_>) -> bool {
     matches!(wanted, Wanted::Update(place, octets) if *place == handle && writes(value, octets))
 }
 
-fn is_phone_act(phone: u8, act: &PhoneAct<'_>, wanted: &Wanted<'_>) -> bool {
+fn is_phone_act(phone: u8, act: &ScriptedAct<'_>, wanted: &Wanted<'_>) -> bool {
     match act {
-        PhoneAct::Connect { peer } => is_connection(phone, peer, wanted),
-        PhoneAct::Encrypt {
+        ScriptedAct::Connect { peer } => is_connection(phone, peer, wanted),
+        ScriptedAct::Encrypt {
             random_number,
             diversifier,
         } => is_encryption(phone, random_number, *diversifier, wanted),
-        PhoneAct::Send { channel, payload } => is_sent(phone, *channel, payload, wanted),
-        PhoneAct::Done { packets } => is_completion(phone, *packets, wanted),
-        PhoneAct::Drop => matches!(wanted, Wanted::Drop(of) if *of == phone),
-        PhoneAct::Clear => matches!(wanted, Wanted::Clear(of) if *of == phone),
-        PhoneAct::Hold => matches!(wanted, Wanted::Hold(of) if *of == phone),
+        ScriptedAct::Send { channel, payload } => is_sent(phone, *channel, payload, wanted),
+        ScriptedAct::Done { packets } => is_completion(phone, *packets, wanted),
+        ScriptedAct::Drop => matches!(wanted, Wanted::Drop(of) if *of == phone),
+        ScriptedAct::Clear => matches!(wanted, Wanted::Clear(of) if *of == phone),
+        ScriptedAct::Hold => matches!(wanted, Wanted::Hold(of) if *of == phone),
     }
 }
 

@@ -11,8 +11,8 @@ use Rattle.gatt_laws.specs.machine.Start.{Start}
 use Rattle.octets.specs.Number.{Octets}
 use Rattle.scripts.specs.declared.act.Act.{Act}
 use Rattle.scripts.specs.declared.act.Act.TheVariants as line
-use Rattle.scripts.specs.declared.act.PhoneAct.{PhoneAct}
-use Rattle.scripts.specs.declared.act.PhoneAct.TheVariants as does
+use Rattle.scripts.specs.declared.act.ScriptedAct.{ScriptedAct}
+use Rattle.scripts.specs.declared.act.ScriptedAct.TheVariants as does
 use Rattle.sim_controller.specs.Acts as sim
 use Rattle.sim_controller.specs.Acts.{act_fault, phone_in}
 use Rattle.sim_controller.specs.Calls.{Acts, after_call}
@@ -35,7 +35,7 @@ abbrev pub stage_of : HostModel → Simulated → Option Contents → Stage
 stage_of host sim next = record { host = host; sim = sim; next = next }
 
 -- what the phone of a number does to the controller
-abbrev pub sim_act : ℕ → PhoneAct → sim.SimulatedAct
+abbrev pub sim_act : ℕ → ScriptedAct → sim.SimulatedAct
 sim_act phone (does.Connect peer) = sim.Connect phone peer
 sim_act phone does.Drop = sim.Drop phone
 sim_act phone (does.Encrypt random_number diversifier) = sim.Encrypt phone random_number diversifier

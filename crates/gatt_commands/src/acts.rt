@@ -13,8 +13,8 @@ use crate::notes::Notes;
 use arrayvec::ArrayVec;
 use att_table::Table;
 use gatt_host::{App, Host};
-use scripts::{Act, PhoneAct};
-use sim_controller::{Sim, SimFault};
+use scripts::{Act, ScriptedAct};
+use sim_controller::{PhoneAct, Sim, SimFault};
 
 /// The handle of the first phone's connection. Those of the others follow it.
 pub(crate) const FIRST_HANDLE: u16 = 0x40;
@@ -103,7 +103,7 @@ fn replace(host: &mut Host, next: &mut Option<Table>, notes: &mut Notes) -> Opti
 }
 
 /// What a phone does, unless the controller refuses it.
-fn phone_act(sim: &mut Sim, phone: u8, act: &PhoneAct<'_>) -> Option<Refused>
+fn phone_act(sim: &mut Sim, phone: u8, act: &ScriptedAct<'_>) -> Option<Refused>
     requires { phone < MAX_PHONES }
     ensures acts { PhoneActs (sim_act phone act.now) result sim.old sim.new }
     ensures named { (count : ℕ) → phone < count → IfSome result (IsOfPhone count) }
@@ -119,36 +119,33 @@ fn phone_act(sim: &mut Sim, phone: u8, act: &PhoneAct<'_>) -> Option<Refused>
 }
 
 /// What a phone does to the controller.
-fn do_phone_act(sim: &mut Sim, phone: u8, act: &PhoneAct<'_>) -> Result<(), SimFault>
+fn do_phone_act(sim: &mut Sim, phone: u8, act: &ScriptedAct<'_>) -> Result<(), SimFault>
     requires { phone < MAX_PHONES }
     ensures { DoesAct (sim_act phone act.now) sim.old sim.new result }
 {
     match act {
-        PhoneAct::Connect { peer } => sim.act(sim_controller::PhoneAct::Connect {
-            phone,
-            peer: *peer,
-        }),
-        PhoneAct::Drop => sim.act(sim_controller::PhoneAct::Drop { phone }),
-        PhoneAct::Encrypt {
+        ScriptedAct::Connect { peer } => sim.act(PhoneAct::Connect { phone, peer: *peer }),
+        ScriptedAct::Drop => sim.act(PhoneAct::Drop { phone }),
+        ScriptedAct::Encrypt {
             random_number,
             diversifier,
-        } => sim.act(sim_controller::PhoneAct::Encrypt {
+        } => sim.act(PhoneAct::Encrypt {
             phone,
             rand: *random_number,
             ediv: *diversifier,
         }),
-        PhoneAct::Clear => sim.act(sim_controller::PhoneAct::Clear { phone }),
-        PhoneAct::Send { channel, payload } => {
+        ScriptedAct::Clear => sim.act(PhoneAct::Clear { phone }),
+        ScriptedAct::Send { channel, payload } => {
             let mut octets = ArrayVec::new();
             payload.decode(&mut octets);
-            sim.act(sim_controller::PhoneAct::Send {
+            sim.act(PhoneAct::Send {
                 phone,
                 cid: *channel,
                 payload: octets.as_slice(),
             })
         }
-        PhoneAct::Hold => sim.act(sim_controller::PhoneAct::Hold { phone }),
-        PhoneAct::Done { packets } => sim.act(sim_controller::PhoneAct::Done {
+        ScriptedAct::Hold => sim.act(PhoneAct::Hold { phone }),
+        ScriptedAct::Done { packets } => sim.act(PhoneAct::Done {
             phone,
             packets: *packets,
         }),

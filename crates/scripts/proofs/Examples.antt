@@ -3,7 +3,7 @@ use Rattle.std.proofs.Common.{◌≡◌, ℕ, true, List, [], ◌∷◌, ◌++�
 use Rattle.hex.specs.Hex.{decode_pairs}
 use Rattle.octets.specs.Number.{Octets}
 use Rattle.scripts.specs.declared.act.Act.TheVariants as act
-use Rattle.scripts.specs.declared.act.PhoneAct.TheVariants.{Connect, Drop, Encrypt, Clear, Send, Hold, Done}
+use Rattle.scripts.specs.declared.act.ScriptedAct.TheVariants.{Connect, Drop, Encrypt, Clear, Send, Hold, Done}
 use Rattle.scripts.specs.declared.line.Line.TheVariants.{Phone, Authorize, Update, Tick, Replace}
 use Rattle.scripts.specs.declared.script_fault.ScriptFault.TheVariants.{BadLine}
 use Rattle.scripts.specs.Name.{is_command_word, is_name, name_of}

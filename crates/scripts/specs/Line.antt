@@ -11,8 +11,8 @@ use Rattle.le_hci.specs.declared.peer.Peer.{Peer}
 use Rattle.le_hci.specs.declared.peer.TheConstants.{PUBLIC_ADDRESS, RANDOM_ADDRESS}
 use Rattle.le_l2cap.specs.declared.channel.TheConstants.{ATT, LE_SIGNALLING, SECURITY_MANAGER}
 use Rattle.le_security.specs.Address.{address_of}
-use Rattle.scripts.specs.declared.act.PhoneAct.{PhoneAct}
-use Rattle.scripts.specs.declared.act.PhoneAct.TheVariants.{Connect, Drop, Encrypt, Clear, Send, Hold, Done}
+use Rattle.scripts.specs.declared.act.ScriptedAct.{ScriptedAct}
+use Rattle.scripts.specs.declared.act.ScriptedAct.TheVariants.{Connect, Drop, Encrypt, Clear, Send, Hold, Done}
 use Rattle.scripts.specs.declared.line.Line.{Line}
 use Rattle.scripts.specs.declared.line.Line.TheVariants.{Phone, Authorize, Update, Tick, Replace}
 use Rattle.scripts.specs.Name.{name_of}
@@ -43,7 +43,7 @@ channel_of sign =
     else None
 
 -- what a phone does, by its name
-abbrev pub of_phone : Octets → PhoneAct → Option Line
+abbrev pub of_phone : Octets → ScriptedAct → Option Line
 of_phone word act = option_map (λ name. Phone name act) (name_of word)
 
 -- the moment until which a phone is authorized, by its name

@@ -3,9 +3,9 @@
 use crate::payload::Payload;
 use le_hci::Peer;
 
-/// What a phone does.
+/// What a line has a phone do.
 #[derive(Drop)]
-pub enum PhoneAct<'a> {
+pub enum ScriptedAct<'a> {
     /// It connects, as this peer.
     Connect {
         peer: Peer,
@@ -37,7 +37,7 @@ pub enum PhoneAct<'a> {
 #[derive(Drop)]
 pub enum Act<'a> {
     /// A phone does something.
-    Phone { phone: u8, act: PhoneAct<'a> },
+    Phone { phone: u8, act: ScriptedAct<'a> },
     /// The application authorizes a phone's connection while the time is below a moment, in
     /// milliseconds. At 0 it is not authorized.
     Authorize { phone: u8, until: u64 },

@@ -10,7 +10,7 @@ mod payload;
 mod script;
 mod script_fault;
 
-pub use act::{Act, PhoneAct};
+pub use act::{Act, ScriptedAct};
 pub use line::first_word;
 pub use name::Name;
 pub use numeral::{read_u16, read_u64};

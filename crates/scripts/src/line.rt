@@ -3,7 +3,7 @@
 ghost use Rattle.std.specs.Prelude.{◌≡◌, [], ◌∷◌, IfSome, IfNone};
 ghost use Rattle.scripts.specs.Line.{words_of, peer_of_words, random_number_of, channel_of, line_of_one, line_of_two, line_of_three, line_of_four, of_phone, authorized_until, line_of};
 
-use crate::act::PhoneAct;
+use crate::act::ScriptedAct;
 use crate::name::Name;
 use crate::numeral::{read_u16, read_u64};
 use crate::payload::Payload;
@@ -15,13 +15,24 @@ use le_security::read_address;
 #[derive(Drop)]
 pub enum Line<'a> {
     /// What the phone of a name does.
-    Phone { name: Name<'a>, act: PhoneAct<'a> },
+    Phone {
+        name: Name<'a>,
+        act: ScriptedAct<'a>,
+    },
     /// The moment until which the phone of a name is authorized, in milliseconds.
-    Authorize { name: Name<'a>, until: u64 },
+    Authorize {
+        name: Name<'a>,
+        until: u64,
+    },
     /// The value at a handle is updated.
-    Update { handle: u16, value: Payload<'a> },
+    Update {
+        handle: u16,
+        value: Payload<'a>,
+    },
     /// The time, in milliseconds.
-    Tick { time: u64 },
+    Tick {
+        time: u64,
+    },
     /// The table is replaced.
     Replace,
 }
@@ -72,9 +83,9 @@ fn read_two<'a>(first: &str, second: &'a str) -> Option<Line<'a>>
     ensures { result ≡ line_of_two first.now second.now }
 {
     match first {
-        "drop" => of_phone(second, PhoneAct::Drop),
-        "clear" => of_phone(second, PhoneAct::Clear),
-        "hold" => of_phone(second, PhoneAct::Hold),
+        "drop" => of_phone(second, ScriptedAct::Drop),
+        "clear" => of_phone(second, ScriptedAct::Clear),
+        "hold" => of_phone(second, ScriptedAct::Hold),
         "allow" => authorized_until(second, u64::MAX),
         "deny" => authorized_until(second, 0),
         "tick" => Some(Line::Tick {
@@ -92,7 +103,7 @@ fn read_three<'a>(first: &'a str, second: &'a str, third: &'a str) -> Option<Lin
     match first {
         "done" => of_phone(
             second,
-            PhoneAct::Done {
+            ScriptedAct::Done {
                 packets: read_u16(third)?,
             },
         ),
@@ -103,7 +114,7 @@ fn read_three<'a>(first: &'a str, second: &'a str, third: &'a str) -> Option<Lin
         }),
         _ => of_phone(
             first,
-            PhoneAct::Send {
+            ScriptedAct::Send {
                 channel: read_channel(second)?,
                 payload: Payload::read(third)?,
             },
@@ -119,13 +130,13 @@ fn read_four<'a>(first: &str, second: &'a str, third: &str, fourth: &str) -> Opt
     match first {
         "connect" => of_phone(
             second,
-            PhoneAct::Connect {
+            ScriptedAct::Connect {
                 peer: read_peer(third, fourth)?,
             },
         ),
         "encrypt" => of_phone(
             second,
-            PhoneAct::Encrypt {
+            ScriptedAct::Encrypt {
                 random_number: read_random_number(third)?,
                 diversifier: read_u16(fourth)?,
             },
@@ -135,7 +146,7 @@ fn read_four<'a>(first: &str, second: &'a str, third: &str, fourth: &str) -> Opt
 }
 
 /// What the phone of a name does.
-fn of_phone<'a>(name: &'a str, act: PhoneAct<'a>) -> Option<Line<'a>>
+fn of_phone<'a>(name: &'a str, act: ScriptedAct<'a>) -> Option<Line<'a>>
     ensures { result ≡ of_phone name.now act.entry }
 {
     Some(Line::Phone {
