@@ -27,6 +27,7 @@ use Rattle.sim_controller.specs.Acts as by_phone
 use Rattle.sim_controller.specs.Answers.{after_host, host_fault}
 use Rattle.sim_controller.specs.Calls.{SimulatedCall, Acts, Gives, Takes as TakesFrom, after_calls, after_call, given_in_calls, if_accepted}
 use Rattle.sim_controller.specs.declared.fault.SimFault.{SimFault}
+use Rattle.sim_controller.specs.declared.handle.TheConstants.{PHONES}
 use Rattle.sim_controller.specs.declared.told.Told.{Told}
 use Rattle.sim_controller.specs.FromHost.{host_packet_of}
 use Rattle.sim_controller.specs.Hearing.{frames_heard_in}
@@ -55,7 +56,7 @@ record Joins (start : Start) (host : HostModel) (sim : Simulated) (so_far : SoFa
   given : packets_of_items input ≡ flat_map read_of (given_in_calls simulated calls)
   asked : others_in input ≡ so_far.asked
   acts : acts_in calls ≡ so_far.acts
-  heard_so : (phone : ℕ) → phone < 8 → so_far.heard phone ≡ frames_heard_in simulated phone calls
+  heard_so : (phone : ℕ) → phone < PHONES → so_far.heard phone ≡ frames_heard_in simulated phone calls
 
 joins : (start : Start) (host : HostModel) (sim : Simulated) (so_far : SoFar) → IsJoined start host sim so_far → Joins start host sim so_far
 joins start host sim so_far is = record {

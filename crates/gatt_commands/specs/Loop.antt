@@ -20,6 +20,7 @@ use Rattle.sim_controller.specs.Acts as by_phone
 use Rattle.sim_controller.specs.Answers.{host_fault}
 use Rattle.sim_controller.specs.Calls.{SimulatedCall, Acts, Takes, after_calls, given_in_calls, if_accepted}
 use Rattle.sim_controller.specs.declared.config.SimConfig.{SimConfig}
+use Rattle.sim_controller.specs.declared.handle.TheConstants.{PHONES}
 use Rattle.sim_controller.specs.declared.told.Told.{Told}
 use Rattle.sim_controller.specs.FromHost.{host_packet_of}
 use Rattle.sim_controller.specs.Hearing.{frames_for}
@@ -89,7 +90,7 @@ pub record IsJoined (start : Start) (host : HostModel) (sim : Simulated) (so_far
   pub given : packets_of_items input ≡ flat_map read_of (given_in_calls simulated calls)
   pub asked : others_in input ≡ so_far.asked
   pub acts : acts_in calls ≡ so_far.acts
-  pub hears : (phone : ℕ) → phone < 8 → so_far.heard phone ++ (phone_at sim phone).heard ≡ frames_for simulated phone calls
+  pub hears : (phone : ℕ) → phone < PHONES → so_far.heard phone ++ (phone_at sim phone).heard ≡ frames_for simulated phone calls
 
 -- before the first line
 abbrev pub nothing_heard : ℕ → List Octets

@@ -2,6 +2,7 @@
 
 ghost use Rattle.std.specs.Prelude.{◌≡◌, ◌<◌, ◌≤◌, [], ◌∷◌, length, Ok, IfErr, IfSome, OnErr, OnOk};
 ghost use Rattle.std.specs.Io.KnownBytes.{Appends};
+ghost use Rattle.le_acl.specs.declared.frame.TheConstants.{MAX_FRAME};
 ghost use Rattle.le_l2cap.specs.Frame.{frame_of, BasicFrame};
 ghost use Rattle.octets.specs.Number.{Octets};
 ghost use Rattle.octets.specs.Stream.{WritesFront};
@@ -144,7 +145,7 @@ fn print_phone<W: Write>(
 /// Prints a frame that a phone has heard: its channel and its payload.
 #[tactic(auto, using(gatt_files::proofs::Fronts::at_error, gatt_files::proofs::Fronts::front_first, gatt_files::proofs::Fronts::front_then, gatt_files::proofs::Fronts::front_rest))]
 fn print_frame<W: Write>(name: &Name<'_>, octets: &[u8], writer: &mut W) -> Result<(), ShellFault>
-    requires { length octets.now ≤ 521 }
+    requires { length octets.now ≤ MAX_FRAME }
     ensures ok { (frame : BasicFrame) → frame_of octets.now ≡ Ok frame
         → OnOk result (Appends (W.contents writer.old) (W.contents writer.new)
         (frame_line name.now frame)) }
