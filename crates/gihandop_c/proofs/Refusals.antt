@@ -12,6 +12,7 @@ use Rattle.gihandop_c.specs.declared.config.HostConfig.{HostConfig}
 use Rattle.gihandop_c.specs.declared.status.TheConstants.{BAD_CONFIG, BAD_KEYS, BAD_ROWS, BAD_TABLE, DONE}
 use Rattle.gihandop_c.specs.Files.{keys_given, keys_status, rows_given, rows_status, table_given, table_status}
 use Rattle.gihandop_c.specs.Opening.{config_given, config_status, IsNotOfMemory, IsStatusOf}
+use Rattle.le_hci.specs.declared.command.TheConstants.{MAX_ADVERTISING_DATA}
 use Rattle.le_security.specs.declared.key_fault.KeyFault.{KeyFault}
 use Rattle.le_security.specs.declared.key_fault.KeyFault.TheVariants.{OutOfMemory as NoMemoryForTheKeys}
 use Rattle.le_security.specs.KeyFault.{key_fault_number}
@@ -55,15 +56,15 @@ accepted : (configured : Bool) → configured ≢ false → status_by false conf
 accepted true not = refl
 accepted false not = absurd (not refl)
 
-pub config_accepted : (config : HostConfig) → nat_lt 31 config.advertising_length ≡ false
+pub config_accepted : (config : HostConfig) → nat_lt MAX_ADVERTISING_DATA config.advertising_length ≡ false
     → is_configured (config_given config) ≢ false → config_status config ≡ DONE
 config_accepted config fits is =
     ap (λ test. status_by test (is_configured (config_given config))) fits ∙ accepted (is_configured (config_given config)) is
 
-pub config_refused : (config : HostConfig) → nat_lt 31 config.advertising_length ≡ false
+pub config_refused : (config : HostConfig) → nat_lt MAX_ADVERTISING_DATA config.advertising_length ≡ false
     → is_configured (config_given config) ≡ false → config_status config ≡ BAD_CONFIG
 config_refused config fits is =
     ap (λ test. status_by test (is_configured (config_given config))) fits ∙ ap (status_by false) is
 
-pub config_too_long : (config : HostConfig) → nat_lt 31 config.advertising_length ≡ true → config_status config ≡ BAD_CONFIG
+pub config_too_long : (config : HostConfig) → nat_lt MAX_ADVERTISING_DATA config.advertising_length ≡ true → config_status config ≡ BAD_CONFIG
 config_too_long config long = ap (λ test. status_by test (is_configured (config_given config))) long

@@ -14,6 +14,7 @@ use Rattle.gihandop_c.specs.declared.config.HostConfig.{HostConfig}
 use Rattle.gihandop_c.specs.declared.opened.Opened.{Opened}
 use Rattle.gihandop_c.specs.declared.status.TheConstants.{BAD_CONFIG, BAD_KEYS, BAD_ROWS, BAD_TABLE, DONE, OUT_OF_MEMORY}
 use Rattle.gihandop_c.specs.Files.{keys_given, keys_status, rows_given, rows_status, table_given, table_status}
+use Rattle.le_hci.specs.declared.command.TheConstants.{MAX_ADVERTISING_DATA}
 use Rattle.le_security.specs.declared.entry.Entry.{Entry}
 use Rattle.le_security.specs.declared.key_fault.KeyFault.TheVariants.{OutOfMemory as NoMemoryForTheKeys}
 use Rattle.le_security.specs.KeyFault.{key_fault_number}
@@ -39,10 +40,10 @@ abbrev pub IsOpenWith : Octets → Octets → Octets → HostConfig → Option O
 IsOpenWith table keys rows config (Some opened) = IsOpenedByFiles table keys rows config opened.host
 IsOpenWith table keys rows config None = ⊥
 
--- the status of a configuration: there are 31 octets of advertising data at most
+-- the status of a configuration: the advertising data have a limit
 abbrev pub config_status : HostConfig → ℕ
 config_status config =
-    if nat_lt 31 config.advertising_length then BAD_CONFIG
+    if nat_lt MAX_ADVERTISING_DATA config.advertising_length then BAD_CONFIG
     else if is_configured (config_given config) then DONE else BAD_CONFIG
 
 -- the status of opening, where memory suffices: the first fault of the first file that has one, and else the configuration's

@@ -2,9 +2,10 @@
 
 ghost use Rattle.std.specs.Prelude.{◌≡◌, nat_lt, false, true, IfSome, IsNone, IsSome};
 ghost use Rattle.gihandop_c.specs.Opening.{config_given};
+ghost use Rattle.le_hci.specs.declared.command.TheConstants.{MAX_ADVERTISING_DATA};
 
 use arrayvec::ArrayVec;
-use gatt_host::Config;
+use gatt_host::{Config, MAX_ADVERTISING_DATA};
 
 /// How many connections a host may have, what it receives, and how it advertises.
 #[repr(C)]
@@ -21,14 +22,14 @@ pub struct HostConfig {
     /// How many octets of advertising data there are: 0 to 31.
     pub advertising_length: u8,
     /// Advertising data: Core 5.0, Vol 3 Part C, 11. Octets past the length are not read.
-    pub advertising: [u8; 31],
+    pub advertising: [u8; MAX_ADVERTISING_DATA],
 }
 
 /// The configuration as a host takes it; none where the advertising data is too long.
 pub(crate) fn to_config(config: &HostConfig) -> Option<Config>
     ensures config { IfSome result (λ given. given ≡ config_given config.now) }
-    ensures fits { IsSome result → nat_lt 31 config.now.advertising_length ≡ false }
-    ensures too_long { IsNone result → nat_lt 31 config.now.advertising_length ≡ true }
+    ensures fits { IsSome result → nat_lt MAX_ADVERTISING_DATA config.now.advertising_length ≡ false }
+    ensures too_long { IsNone result → nat_lt MAX_ADVERTISING_DATA config.now.advertising_length ≡ true }
 {
     let octets = config
         .advertising
