@@ -2,10 +2,11 @@
 //! Part A.
 
 use arrayvec::ArrayVec;
+use gatt_host::MAX_ADVERTISING_DATA;
 use uuid::Uuid;
 
 /// The data that are advertised.
-pub(crate) type Data = ArrayVec<u8, 31>;
+pub(crate) type Data = ArrayVec<u8, MAX_ADVERTISING_DATA>;
 
 /// Flags for general discovery, without BR/EDR.
 const FLAGS: [u8; 3] = [0x02, 0x01, 0x06];
@@ -29,8 +30,8 @@ const COMPLETE_NAME: u8 = 0x09;
 pub(crate) fn data(services: &[&str], name: &str) -> Option<Data> {
     let mut data = ArrayVec::new();
     data.try_extend_from_slice(&FLAGS).ok()?;
-    let mut short: ArrayVec<u8, 31> = ArrayVec::new();
-    let mut long: ArrayVec<u8, 31> = ArrayVec::new();
+    let mut short = Data::new();
+    let mut long = Data::new();
     for word in services {
         add_service(word, &mut short, &mut long)?;
     }
@@ -41,11 +42,7 @@ pub(crate) fn data(services: &[&str], name: &str) -> Option<Data> {
 }
 
 /// Adds a UUID to those of its length, the least significant octet first.
-fn add_service(
-    word: &str,
-    short: &mut ArrayVec<u8, 31>,
-    long: &mut ArrayVec<u8, 31>,
-) -> Option<()> {
+fn add_service(word: &str, short: &mut Data, long: &mut Data) -> Option<()> {
     let mut octets = [0; 2];
     if hex::decode_to_slice(word, &mut octets).is_ok() {
         let [high, low] = octets;

@@ -197,6 +197,7 @@ impl Application {
         match line.read(&mut buffer) {
             Ok(0) => self.end(),
             Ok(count) => {
+                // There is room, as was asked before.
                 let _ = self.inbox.take(&buffer[..count]);
             }
             Err(error) => match error.kind() {
@@ -256,7 +257,8 @@ impl Application {
     }
 }
 
-/// Removes a socket at a path, and nothing else.
+/// Removes a socket at a path, and nothing else. Where that cannot be done, whoever then binds the path
+/// is told so.
 fn remove_left_socket<R: Files>(rt: &R, path: &str) {
     if let Ok(found) = fs::symlink_metadata(rt, path) {
         if found.file_type().is_socket() {

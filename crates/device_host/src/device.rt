@@ -128,9 +128,7 @@ impl<
     fn reach(&mut self) {
         self.retry = self.log.now().saturating_add(RETRY_TIME);
         let reached = self.way.reach(self.log.rt);
-        if let Way::Listen(listener) = &self.way {
-            let _ = self.waiting.again(listener, Source::Controllers);
-        }
+        self.listen_again();
         match reached {
             Ok(Some(stream)) => {
                 if self.waiting.watch(&stream, Source::Controller).is_err() {
@@ -163,6 +161,12 @@ impl<
         self.is_readable = false;
         self.strangers.forget();
         self.recording.next_stream();
+        self.listen_again();
+    }
+
+    /// Has a controller that already waits to be taken told again. Where that cannot be done, the next
+    /// one that comes is told.
+    fn listen_again(&self) {
         if let Way::Listen(listener) = &self.way {
             let _ = self.waiting.again(listener, Source::Controllers);
         }

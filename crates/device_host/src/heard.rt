@@ -91,7 +91,8 @@ fn add_with_slot(
     let Some(place) = place else {
         return Ok(());
     };
-    let _ = log.pop();
+    // What follows goes in front of the end of the line.
+    log.pop();
     log.extend_from_slice(b" slot")?;
     add_number(log, place as u64)?;
     log.extend_from_slice(b"\n")

@@ -89,7 +89,8 @@ fn prepare_and_serve<
     Ok(())
 }
 
-/// Begins a capture in a file at a path, or tells that this cannot be created.
+/// Begins a capture in a file at a path, or tells that this cannot be created. Where that cannot be
+/// written, nobody can be told.
 fn record_to<R: Files<File = File> + Eprint>(
     rt: &R,
     alloc: Global,
@@ -106,7 +107,8 @@ fn record_to<R: Files<File = File> + Eprint>(
     }
 }
 
-/// Refuses rows of which a peer has no key, and tells which.
+/// Refuses rows of which a peer has no key, and tells which. Where that cannot be written, nobody can
+/// be told.
 fn refuse_unknown<R: Eprint>(rt: &R, alloc: Global, rows: &Rows, keys: &Keys) -> Result<(), Stop> {
     let unknown = match unknown_peer(alloc, rows, keys) {
         Ok(unknown) => unknown,

@@ -70,7 +70,9 @@ impl<'a> Settings<'a> {
     /// With what a host is opened.
     pub(crate) fn config(&self) -> Config {
         let mut advertising = Data::new();
-        let _ = advertising.try_extend_from_slice(self.advertising.as_slice());
+        advertising
+            .try_extend_from_slice(self.advertising.as_slice())
+            .unwrap();
         Config {
             slots: self.slots,
             rx_mtu: RX_MTU,

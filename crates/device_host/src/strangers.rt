@@ -69,6 +69,7 @@ impl Strangers {
             if connection.key.is_none() && !connection.ending {
                 let handle = connection.handle;
                 let since = since(self.known.as_slice(), handle).unwrap_or(now);
+                // A host has no more connections than there is room for.
                 let _ = known.try_push(Stranger { handle, since });
             }
         }
@@ -92,17 +93,12 @@ impl Strangers {
     /// One that has been silent for too long, which is known no more.
     pub(crate) fn next_silent(&mut self, now: u64) -> Option<u16> {
         let limit = self.limit?;
-        let mut found = None;
-        let mut left = ArrayVec::new();
-        for stranger in self.known.as_slice() {
-            if found.is_none() && stranger.since.saturating_add(limit) <= now {
-                found = Some(stranger.handle);
-            } else {
-                let _ = left.try_push(*stranger);
-            }
-        }
-        self.known = left;
-        found
+        let place = self
+            .known
+            .as_slice()
+            .iter()
+            .position(|stranger| stranger.since.saturating_add(limit) <= now)?;
+        Some(self.known.pop_at(place)?.handle)
     }
 }
 
