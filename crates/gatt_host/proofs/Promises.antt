@@ -1,5 +1,5 @@
 -- The laws that hold of all that a host takes in, and what goes out from its opening on.
-use Rattle.std.proofs.Common.{◌≡◌, []}
+use Rattle.std.proofs.Common.{[]}
 use Rattle.gatt_host.proofs.meaning.Drained.{all_gone}
 use Rattle.gatt_host.proofs.model.Items.{drained_where}
 use Rattle.gatt_host.specs.Promises.{GivesWhatIsDue}

@@ -6,7 +6,7 @@ use Rattle.gatt_host.specs.declared.host_fault.HostFault.{HostFault}
 use Rattle.gatt_host.specs.ServerState.{ServerState}
 use Rattle.gatt_host.specs.Meaning.{Frames, context_in, frames_after, IsAfter, recombinations_in}
 use Rattle.gatt_host.specs.Meaning.{once_heard, with_fragment}
-use Rattle.gatt_laws.specs.machine.Event.{Happening, Nothing}
+use Rattle.gatt_laws.specs.machine.Event.{Happening}
 use Rattle.gatt_laws.specs.machine.Packets.{Fault, data_event, event_or_bad}
 use Rattle.gatt_laws.specs.machine.Packets.{connection_event_if_ready, packet_meaning}
 use Rattle.gatt_slots.specs.Slots.{Place, place_serving}

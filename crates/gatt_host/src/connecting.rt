@@ -29,7 +29,9 @@ impl HostState {
         let share = share(self.slots.len(), buffers.packets);
         let acl_len = acl_len(buffers.length);
         let key_known = self.keys.known(&peer);
-        self.slots.connect(place, handle, peer, key_known, self.rx_mtu, share, acl_len);
+        self.slots
+            .at(place)
+            .connect(handle, peer, key_known, self.rx_mtu, share, acl_len);
         self.controller.note_connected();
         self.end_event(LastEvent::Connected { handle, peer });
     }

@@ -138,22 +138,25 @@ impl HostState {
     }
 
     /// The application authorizes the connection of a slot up to a moment.
+    #[tactic(auto, using(gatt_slots::proofs::AtPlace::lent_at))]
     pub(crate) fn authorize(&mut self, place: usize, until: u64)
         requires { place < length self.old.slots }
         ensures { self.new ≡ after_authorize place until self.old }
     {
-        self.slots.authorize(place, until);
+        self.slots.at(place).authorize(until);
         self.nothing();
     }
 
     /// The application ends the connection of a slot.
+    #[tactic(auto, using(gatt_slots::proofs::AtPlace::lent_at))]
     pub(crate) fn disconnect(&mut self, place: usize)
         requires place { place < length self.old.slots }
         requires there { IsSome (server_slot_at self.old place) }
         ensures ended { self.new ≡ after_disconnect place self.old }
     {
-        let handle = self.slots.handle(place);
-        self.slots.end(place, REMOTE_USER_TERMINATED);
+        let slot = self.slots.at(place);
+        let handle = slot.handle();
+        slot.end(REMOTE_USER_TERMINATED);
         self.end_event(LastEvent::Ended {
             handle,
             reason: REMOTE_USER_TERMINATED,
@@ -161,23 +164,27 @@ impl HostState {
     }
 
     /// The controller asks for the key of the connection of a slot.
+    #[tactic(auto, using(gatt_slots::proofs::AtPlace::lent_at))]
     pub(crate) fn ask_key(&mut self, place: usize, random_number: [u8; 8], diversifier: u16)
         requires { place < length self.old.slots }
         ensures { self.new ≡ after_ask_key place random_number diversifier self.old }
     {
         self.slots
-            .ask_key(place, &self.keys, random_number, diversifier);
+            .at(place)
+            .ask_key(&self.keys, random_number, diversifier);
         self.nothing();
     }
 
     /// A payload comes on a channel that is not that of the Attribute Protocol.
+    #[tactic(auto, using(gatt_slots::proofs::AtPlace::lent_at))]
     pub(crate) fn other_channel(&mut self, place: usize, channel: u16, payload: &[u8])
         requires place { place < length self.old.slots }
         requires there { IsSome (server_slot_at self.old place) }
         ensures { self.new ≡ server_after_other_channel place channel payload.now self.old }
     {
-        let handle = self.slots.handle(place);
-        let ended = self.slots.other_channel(place, channel, payload);
+        let slot = self.slots.at(place);
+        let handle = slot.handle();
+        let ended = slot.other_channel(channel, payload);
         self.end_event(ended_if(ended, handle));
     }
 
@@ -192,13 +199,15 @@ impl HostState {
     }
 
     /// A connection goes.
+    #[tactic(auto, using(gatt_slots::proofs::AtPlace::left_at))]
     pub(crate) fn disconnected(&mut self, place: usize)
         requires place { place < length self.old.slots }
         requires there { IsSome (server_slot_at self.old place) }
         ensures { self.new ≡ after_disconnection_complete place self.old }
     {
-        let handle = self.slots.handle(place);
-        self.slots.disconnected(place);
+        let slot = self.slots.at(place);
+        let handle = slot.handle();
+        slot.disconnected();
         self.controller.note_disconnected();
         self.end_event(LastEvent::Disconnected { handle });
     }
@@ -214,7 +223,7 @@ impl HostState {
         ensures { IfSome (server_slot_at self.old place)
             (λ slot_state. ServesRequest place pdu.now slot_state self.old self.new) }
     {
-        let handle = self.slots.handle(place);
+        let handle = self.slots.get(place).handle();
         let brought = self.slots.serve(
             place,
             &mut self.table,
@@ -239,26 +248,30 @@ impl HostState {
     }
 
     /// Encryption of the link of the connection of a slot was changed, or could not be.
+    #[tactic(auto, using(gatt_slots::proofs::AtPlace::lent_at))]
     pub(crate) fn encrypt(&mut self, place: usize, status: u8, enabled: u8)
         requires place { place < length self.old.slots }
         requires there { IsSome (server_slot_at self.old place) }
         ensures { self.new ≡ after_link place (Encryption status enabled) self.old }
     {
-        let before = self.slots.key(place);
-        let owed = self.slots.is_owed(place, &self.rows);
-        let gained = self.slots.encrypt(place, status, enabled);
+        let slot = self.slots.at(place);
+        let before = slot.key();
+        let owed = slot.is_owed(&self.rows);
+        let gained = slot.encrypt(status, enabled);
         self.hear_link(place, before, gained && owed);
     }
 
     /// The key of the link of the connection of a slot was refreshed, or could not be.
+    #[tactic(auto, using(gatt_slots::proofs::AtPlace::lent_at))]
     pub(crate) fn refresh(&mut self, place: usize, status: u8)
         requires place { place < length self.old.slots }
         requires there { IsSome (server_slot_at self.old place) }
         ensures { self.new ≡ after_link place (Refresh status) self.old }
     {
-        let before = self.slots.key(place);
-        let owed = self.slots.is_owed(place, &self.rows);
-        let gained = self.slots.refresh(place, status);
+        let slot = self.slots.at(place);
+        let before = slot.key();
+        let owed = slot.is_owed(&self.rows);
+        let gained = slot.refresh(status);
         self.hear_link(place, before, gained && owed);
     }
 
@@ -273,8 +286,9 @@ impl HostState {
             (server_after_event (Some place) (if due then option_to_list self.old.changer else [])
             [] self.old)) }
     {
-        let handle = self.slots.handle(place);
-        let after = self.slots.key(place);
+        let slot = self.slots.get(place);
+        let handle = slot.handle();
+        let after = slot.key();
         self.hear_changes(
             place,
             due,

@@ -1,6 +1,6 @@
 -- What happens at one place of the slots.
 use Rattle.std.proofs.Common.{◌≡◌, ℕ, ◌<◌, Bool, true, false, List, length, set, get_or, Option, Some, None, refl, sym, ap, subst, ◌∙◌}
-use Rattle.std.specs.Prelude.{is_none, if◌then◌else◌, IfSome}
+use Rattle.std.specs.Prelude.{is_none, if◌then◌else◌, slice_get, IfSome}
 use Rattle.std.specs.Option.{option_map, option_map_or}
 use Rattle.std.proofs.lemmas.Option.{slice_get-get_or}
 use Rattle.att_numbers.specs.Types.{Row}
@@ -35,6 +35,22 @@ module _ (slots self : SlotStates) (view : slots ≡ self) (place : ℕ) (slot :
       ap (λ (it : Option SlotState). set slots place it) changes
       ∙ set_at_place slots place (λ (it : Option SlotState). option_map change it) slot within is
       ∙ ap (λ (it : SlotStates). slots_at place change it) view
+
+-- a slot that was lent is left changed, or with something else
+module _ (slots : SlotStates) (place : ℕ) (lent left : Option SlotState) (within : place < length slots) (is : lent ≡ slot_state_at slots place) where
+  there : slice_get slots place ≡ Some (get_or slots place None)
+  there = slice_get-get_or slots place None within
+
+  pub lent_at : (change : SlotState → SlotState) → left ≡ option_map change lent → set slots place left ≡ slots_at place change slots
+  lent_at change changes =
+      ap (λ (it : Option SlotState). set slots place it) (changes ∙ ap (λ (it : Option SlotState). option_map change it)
+      (is ∙ ap (λ (found : Option (Option SlotState)). option_map_or (λ (slot : Option SlotState). slot) found None) there))
+      ∙ sym (ap (λ (found : Option (Option SlotState)). option_map_or (λ (slot : Option SlotState). set slots place (option_map change slot)) found slots) there)
+
+  pub left_at : (other : Option SlotState) → left ≡ other → set slots place left ≡ at_place place (λ slot. other) slots
+  left_at other changes =
+      ap (λ (it : Option SlotState). set slots place it) changes
+      ∙ sym (ap (λ (found : Option (Option SlotState)). option_map_or (λ (slot : Option SlotState). set slots place other) found slots) there)
 
 -- a connection that is served goes on: nothing waits that did not wait
 confirmed-waits : (pdu : Octets) (pending : Indications) → (pending_after pdu pending).waiting ≡ pending.waiting

@@ -1,31 +1,31 @@
 -- What is noted of slots, as they change, and what is found by it.
-use Rattle.std.proofs.Common.{◌≡◌, ℕ, zero, suc, ◌+◌, ◌<◌, ◌≤◌, ◌==◌, ◌&&◌, Bool, true, false, List, [], ◌∷◌, ◌++◌, drop, length, map, set, get_or, take, Option, Some, None, refl, sym, ap, subst, ◌∙◌, arith}
-use Rattle.std.specs.Prelude.{is_some, if◌then◌else◌}
+use Rattle.std.proofs.Common.{◌≡◌, replicate, ℕ, zero, suc, ◌+◌, ◌<◌, ◌==◌, ◌&&◌, Bool, true, false, List, [], ◌∷◌, ◌++◌, drop, length, map, set, get_or, take, Option, Some, None, refl, sym, ap, subst, ◌∙◌, arith}
+use Rattle.std.specs.Prelude.{if◌then◌else◌}
 use Rattle.std.specs.Bool.{OnFalse, OnTrue}
 use Rattle.std.specs.List.{position}
 use Rattle.std.specs.Option.{option_map, option_map_or}
 use Rattle.std.proofs.lemmas.Bool.{OnFalse_at, OnTrue_at, and_right, cases_eq, cases_lt}
 use Rattle.std.proofs.lemmas.Bool.Decides.{eqb_tells}
-use Rattle.std.proofs.lemmas.Iterator.Adapters.{position_from-zero}
-use Rattle.std.proofs.lemmas.List.{drop_all, get_or_past, get_or-set_same, get_or-set_other, length-set, take-append-le, take_all}
+use Rattle.std.proofs.lemmas.List.{drop_all, get_or_past, get_or-replicate, get_or-set_same, get_or-set_other, length-set, take-append-le, take_all}
 use Rattle.std.proofs.lemmas.List.Quantifiers.{position-Some}
 use Rattle.std.proofs.Math.Logic.{⊎_elim}
 use Rattle.att_numbers.specs.Types.{Handle, Row}
 use Rattle.att_attributes.specs.declared.attr.Attr.{Attr}
 use Rattle.att_table.specs.ConfigRow.{kept_row}
 use Rattle.att_table.specs.Table.{Contents}
-use Rattle.gatt_laws.specs.machine.Effect.{authentication_failure, channel_answer, lost_encryption, remote_user_terminated}
+use Rattle.gatt_laws.specs.machine.Effect.{remote_user_terminated}
 use Rattle.gatt_slots.proofs.Covering.{at-other, at-same, heard-at, read_at}
-use Rattle.gatt_slots.proofs.Found.{first_at, kept-is, none_at, past, some-passes}
-use Rattle.gatt_slots.specs.Commands.{slot_without_command, slot_without_packet}
-use Rattle.gatt_slots.specs.Handles.{noted_of, AreNoted}
+use Rattle.gatt_slots.proofs.Found.{clash, first_at, kept-is}
+use Rattle.gatt_slots.specs.Commands.{slot_without_packet}
+use Rattle.gatt_slots.specs.Handles.{noted_of, AreNoted, AreNotedIfAny}
 use Rattle.gatt_slots.specs.Hearing.{hearer_facts_of, delivery_in_turn, delivery_of, with_delivery}
-use Rattle.gatt_slots.specs.SlotState.{SlotState, slot_backlog}
+use Rattle.gatt_slots.specs.SlotState.{SlotState}
 use Rattle.gatt_slots.specs.Request.{overflows, slot_after_request}
 use Rattle.gatt_slots.specs.Slots.{SlotStates, all_heard, handles_for, slot_heard, is_holding, is_serving, slot_state_at, place_holding, place_serving}
-use Rattle.gatt_slots.specs.SlotEffects.{slot_after_ending, after_link_step, slot_after_other_channel, after_table, with_channel_answer}
+use Rattle.gatt_slots.specs.SlotEffects.{slot_after_ending, after_table}
+use Rattle.gatt_laws.specs.declared.TheConstants.{MAX_SLOTS}
+use Rattle.gatt_slots.specs.declared.handles.TheConstants.{FREE}
 use Rattle.gatt_subs.specs.Rows.{Subscriptions, row_of}
-use Rattle.le_security.specs.Link.{Step, after_step}
 use Rattle.octets.specs.Number.{Octets}
 
 -- a handle is noted of the connection that has it
@@ -42,16 +42,6 @@ module _ (slots : SlotStates) (noted : List ℕ) (are : AreNoted slots noted) wh
       (λ apart. are other (omega (arith, there, length-set slots place slot)) ∙ ap noted_of (sym (at-other slots place other slot apart)))
       (cases_eq other place)
 
-  -- another is noted of a slot
-  pub noted_with : (place : ℕ) (slot : Option SlotState) (handle : ℕ) → place < length slots → place < length noted → handle ≡ noted_of slot
-      → AreNoted (set slots place slot) (set noted place handle)
-  noted_with place slot handle within shared is = λ other there. ⊎_elim
-      (λ same. ap (λ at. get_or (set noted place handle) at 65536) same ∙ get_or-set_same noted place handle 65536 shared ∙ is
-      ∙ ap noted_of (sym (at-same slots place slot within)) ∙ ap (λ at. noted_of (slot_state_at (set slots place slot) at)) (sym same))
-      (λ apart. get_or-set_other noted place other handle 65536 apart ∙ are other (omega (arith, there, length-set slots place slot))
-      ∙ ap noted_of (sym (at-other slots place other slot apart)))
-      (cases_eq other place)
-
 -- the event of a connection leaves it its handle
 pub mapped_noted : (change : SlotState → SlotState) → ((slot_state : SlotState) → (change slot_state).handle ≡ slot_state.handle) → (slot : Option SlotState)
     → noted_of (option_map change slot) ≡ noted_of slot
@@ -64,32 +54,13 @@ changed_noted slots noted place old new change within is keeps changes are =
     noted_still slots noted are place new within
     (ap noted_of changes ∙ mapped_noted change keeps old ∙ ap noted_of (sym (read_at slots place old within is)))
 
--- what becomes of a served one, of one whose link is encrypted, and of one that is signalled to
+-- what becomes of a served one
 ended-or : (full : Bool) (reason : ℕ) (slot_state other : SlotState) → other.handle ≡ slot_state.handle → (let after : SlotState = if full then slot_after_ending reason slot_state else other in after).handle ≡ slot_state.handle
 ended-or true reason slot_state other same = refl
 ended-or false reason slot_state other same = same
 
 pub served_handle : (table : Contents) (now : ℕ) (bond : Option Row) (pdu : Octets) (slot_state : SlotState) → (slot_after_request table now bond pdu slot_state).handle ≡ slot_state.handle
 served_handle table now bond pdu slot_state = ended-or (overflows pdu slot_state) remote_user_terminated slot_state _ refl
-
-pub stepped_handle : (step : Step) (slot_state : SlotState) → (after_link_step step slot_state).handle ≡ slot_state.handle
-stepped_handle step slot_state =
-    let link = after_step slot_state.link step in
-    let new : SlotState = record slot_state { link = link } in
-    ended-or (lost_encryption slot_state.link.key link.key) authentication_failure new new refl
-
-answered-handle : (channel : ℕ) (answer : Option Octets) (slot_state : SlotState) → (with_channel_answer channel answer slot_state).handle ≡ slot_state.handle
-answered-handle channel None slot_state = refl
-answered-handle channel (Some answer) slot_state = ended-or (slot_backlog slot_state == 16) remote_user_terminated slot_state _ refl
-
-pub signalled_handle : (channel : ℕ) (payload : Octets) (slot_state : SlotState) → (slot_after_other_channel channel payload slot_state).handle ≡ slot_state.handle
-signalled_handle channel payload slot_state = answered-handle channel (channel_answer channel payload) slot_state
-
-pub commanded_handle : (slot_state : SlotState) → (slot_without_command slot_state).handle ≡ slot_state.handle
-commanded_handle slot_state = elim (is_some slot_state.reason) as (λ (is : Bool). (let after : SlotState = if is then record slot_state { reason = None } else record slot_state { reply = None } in after).handle ≡ slot_state.handle) [
-  | true ↦ refl
-  | false ↦ refl
-]
 
 table-handle : (live : Bool) (slot_state other : SlotState) → other.handle ≡ slot_state.handle → (let after : SlotState = if live then other else slot_state in after).handle ≡ slot_state.handle
 table-handle true slot_state other same = same
@@ -158,41 +129,33 @@ heard_noted table now rows own here handles slots heard noted is count are = λ 
     first : (place : ℕ) → 0 + place ≡ place
     first place = omega arith
 
+-- where none is noted, and where more and more are
+pub none_noted : (slots : SlotStates) → AreNotedIfAny slots (replicate MAX_SLOTS FREE)
+none_noted slots place some = absurd (⊎_elim
+    (λ within. omega (arith, some, get_or-replicate {A = ℕ} MAX_SLOTS place FREE FREE within))
+    (λ beyond. omega (arith, some, get_or_past {X = ℕ} (replicate MAX_SLOTS FREE) place FREE beyond))
+    (cases_lt place MAX_SLOTS))
+
+pub noted_more : (slots : SlotStates) (noted : List ℕ) (place handle : ℕ) → place < length noted → handle ≡ noted_of (slot_state_at slots place)
+    → ((other : ℕ) → other < place → get_or noted other FREE ≡ noted_of (slot_state_at slots other))
+    → (other : ℕ) → other < place + 1 → get_or (set noted place handle) other FREE ≡ noted_of (slot_state_at slots other)
+noted_more slots noted place handle within is are other less = ⊎_elim
+    (λ same. ap (λ at. get_or (set noted place handle) at FREE) same ∙ get_or-set_same noted place handle FREE within ∙ is
+    ∙ ap (λ at. noted_of (slot_state_at slots at)) (sym same))
+    (λ apart. get_or-set_other noted place other handle FREE apart ∙ are other (omega (arith, less, apart)))
+    (cases_eq other place)
+
 -- what is found by a handle
-module _ (slots : SlotStates) (noted : List ℕ) (are : AreNoted slots noted) (handle : ℕ) (below : handle < 65536) where
-  is-noted : (place : ℕ) → place < length slots → is_holding handle (slot_state_at slots place) ≡ (get_or noted place 65536 == handle)
-  is-noted place there = holds-noted handle below (slot_state_at slots place) ∙ ap (λ (it : ℕ). it == handle) (sym (are place there))
-
-  -- nothing holds it of which it is not noted
-  unheld : (place : ℕ) → (place < length slots → (get_or noted place 65536 == handle) ≡ false) → is_holding handle (slot_state_at slots place) ≡ false
-  unheld place not = ⊎_elim
-      (λ there. is-noted place there ∙ not there)
-      (λ beyond. ap (is_holding handle) (past slots place (omega (arith, beyond))))
-      (cases_lt place (length slots))
-
+module _ (slots : SlotStates) (noted : List ℕ) (any : AreNotedIfAny slots noted) (handle : ℕ) (below : handle < 65536) where
   pub noted_found : (place : ℕ) → position (λ (it : ℕ). it == handle) noted ≡ Some place → place < length slots → Some place ≡ place_holding slots handle
   noted_found place is there =
       let found = position-Some (λ (it : ℕ). it == handle) noted place 65536 is in
+      let some : get_or noted place 65536 < 65536 = ⊎_elim (λ same. omega (arith, same.1, below)) (λ apart. clash found.1 apart.0) (eqb_tells (get_or noted place 65536) handle) in
+      let are : AreNoted slots noted = any place some in
+      let is-noted : (at : ℕ) → at < length slots → is_holding handle (slot_state_at slots at) ≡ (get_or noted at 65536 == handle) =
+      λ at within. holds-noted handle below (slot_state_at slots at) ∙ ap (λ (it : ℕ). it == handle) (sym (are at within)) in
       sym (first_at (is_holding handle) refl slots place (is-noted place there ∙ found.1)
-      (λ other less. unheld other (λ _. found.2 other less)))
-
-  pub noted_beyond : (place : ℕ) → position (λ (it : ℕ). it == handle) noted ≡ Some place → length slots ≤ place → None ≡ place_holding slots handle
-  noted_beyond place is beyond =
-      let found = position-Some (λ (it : ℕ). it == handle) noted place 65536 is in
-      sym (none_at (is_holding handle) refl slots (λ other. unheld other (λ there. found.2 other (omega (arith, there, beyond)))))
-
-  pub noted_nowhere : position (λ (it : ℕ). it == handle) noted ≡ None → None ≡ place_holding slots handle
-  noted_nowhere none = sym (none_at (is_holding handle) refl slots (λ other. unheld other (λ there. no other refl)))
-    where
-      no : (other : ℕ) {so : Bool} → (get_or noted other 65536 == handle) ≡ so → (get_or noted other 65536 == handle) ≡ false
-      no other {so = false} is = is
-      no other {so = true} is = ⊎_elim
-          (λ within. absurd (some-passes (λ (it : ℕ). it == handle) 65536 0 noted other within is (sym (position_from-zero (λ (it : ℕ). it == handle) noted) ∙ none)))
-          (λ beyond. ap (λ (it : ℕ). it == handle) (get_or_past noted other 65536 (omega (arith, beyond))) ∙ above)
-          (cases_lt other (length noted))
-        where
-          above : (65536 == handle) ≡ false
-          above = ⊎_elim (λ same. absurd (omega (arith, same.1, below))) (λ apart. apart.0) (eqb_tells 65536 handle)
+      (λ other less. is-noted other (omega (arith, less, there)) ∙ found.2 other less))
 
 -- a connection that is found and serves is the first that does
 live-holds : (handle : ℕ) (slot : Option SlotState) → is_holding handle slot ≡ false → is_serving handle slot ≡ false

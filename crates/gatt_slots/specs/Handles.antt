@@ -12,3 +12,7 @@ noted_of (Some slot_state) = slot_state.handle
 -- it is noted of each slot, at its place
 abbrev pub AreNoted : SlotStates → List ℕ → Type 0
 AreNoted slots noted = (place : ℕ) → place < length slots → get_or noted place FREE ≡ noted_of (slot_state_at slots place)
+
+-- a handle is noted nowhere, or that of each slot is
+abbrev pub AreNotedIfAny : SlotStates → List ℕ → Type 0
+AreNotedIfAny slots noted = (place : ℕ) → get_or noted place FREE < FREE → AreNoted slots noted

@@ -7,4 +7,5 @@ pub mod Request
 pub mod Slots
 pub mod Places
 pub mod Handles
+pub mod Lending
 pub mod Connections

@@ -3,9 +3,9 @@
 ghost use Rattle.std.specs.Prelude.{◌≡◌, ◌<◌, ◌≤◌, ◌++◌, false, is_none, length, map, IfSome};
 ghost use Rattle.std.specs.Option.{option_map_or, option_to_list};
 ghost use Rattle.le_hci.specs.Event.{completed_packets_of};
-ghost use Rattle.gatt_slots.specs.Handles.{AreNoted};
+ghost use Rattle.gatt_slots.specs.Handles.{AreNotedIfAny};
 ghost use Rattle.gatt_slots.specs.Places.{IsMarked};
-ghost use Rattle.gatt_slots.specs.Slots.{slots_after_entries, slots_after_entry, all_after_table, all_after_time, is_serving, slot_state_deadline, late_handles, place_free, place_serving, slots_deadline, IsThere};
+ghost use Rattle.gatt_slots.specs.Slots.{slots_after_entries, slots_after_entry, all_after_table, all_after_time, is_holding, is_serving, slot_state_deadline, late_handles, place_free, place_holding, place_serving, slots_deadline, IsThere};
 
 use crate::handles::Handles;
 use crate::marks::Marks;
@@ -26,6 +26,17 @@ pub(crate) fn find_serving(slots: &[Slot], handle: u16) -> Option<usize>
     slots.iter().position(|slot| slot.is_serving(handle))
 }
 
+/// The slot whose connection has a handle, also one that is ending.
+#[cold]
+#[inline(never)]
+#[tactic(auto, using(crate::proofs::Found::holding_there))]
+pub(crate) fn find_holding(slots: &[Slot], handle: u16) -> Option<usize>
+    ensures place { result ≡ place_holding slots.now handle }
+    ensures there { IfSome result (IsThere slots.now) }
+{
+    slots.iter().position(|slot| slot.is_holding(handle))
+}
+
 /// The first slot that is free.
 #[tactic(auto, using(crate::proofs::Found::free_within))]
 pub(crate) fn find_free(slots: &[Slot]) -> Option<usize>
@@ -40,6 +51,12 @@ impl Slot {
         ensures { result ≡ is_serving handle self.now }
     {
         self.handle == handle && self.is_live()
+    }
+
+    fn is_holding(&self, handle: u16) -> bool
+        ensures { result ≡ is_holding handle self.now }
+    {
+        self.handle == handle && self.used != Use::Free
     }
 
     /// Whether it has a connection that is not ending.
@@ -111,11 +128,11 @@ pub(crate) fn complete_all(
     entries: &[[u8; 4]],
 )
     requires marked { IsMarked slots.old marks.old }
-    requires noted { AreNoted slots.old handles.now.noted }
+    requires noted { AreNotedIfAny slots.old handles.now.noted }
     ensures after { slots.new
         ≡ slots_after_entries (map completed_packets_of entries.now) slots.old }
     ensures marked { IsMarked slots.new marks.new }
-    ensures noted { AreNoted slots.new handles.now.noted }
+    ensures noted { AreNotedIfAny slots.new handles.now.noted }
 {
     for octets in entries {
         complete_entry(slots, handles, marks, &CompletedPackets::read(octets));
@@ -130,10 +147,10 @@ fn complete_entry(
     entry: &CompletedPackets,
 )
     requires marked { IsMarked slots.old marks.old }
-    requires noted { AreNoted slots.old handles.now.noted }
+    requires noted { AreNotedIfAny slots.old handles.now.noted }
     ensures after { slots.new ≡ slots_after_entry entry.now slots.old }
     ensures marked { IsMarked slots.new marks.new }
-    ensures noted { AreNoted slots.new handles.now.noted }
+    ensures noted { AreNotedIfAny slots.new handles.now.noted }
 {
     if let Some(place) = handles.find(slots, entry.handle) {
         let slot = &mut slots[place];

@@ -34,7 +34,7 @@ impl Slot {
     }
 
     /// Whether a command is due for the connection.
-    pub fn has_command(&self) -> bool
+    pub(crate) fn has_command(&self) -> bool
         ensures { result ≡ is_some (command_due self.now) }
     {
         self.used != Use::Free && (self.reason.is_some() || self.reply.is_some())
@@ -52,7 +52,7 @@ impl Slot {
     }
 
     /// No connection has the slot.
-    pub fn is_free(&self) -> bool
+    pub(crate) fn is_free(&self) -> bool
         ensures { result ≡ is_none self.now }
     {
         self.used == Use::Free
@@ -60,7 +60,7 @@ impl Slot {
 
     /// A packet may be given.
     #[inline(always)]
-    pub fn gives(&self) -> bool
+    pub(crate) fn gives(&self) -> bool
         ensures { result ≡ gives self.now }
     {
         self.used != Use::Free && self.sender.may_give()
@@ -69,7 +69,7 @@ impl Slot {
     /// Writes the next packet in place of what `out` holds. There is none, and nothing changes, where
     /// all is given that may be.
     #[inline(always)]
-    pub fn next_packet(&mut self, out: &mut PacketBuf) -> bool
+    pub(crate) fn next_packet(&mut self, out: &mut PacketBuf) -> bool
         ensures gives { result ≡ gives self.old }
         ensures packet { OnTrue result (option_and_then slot_packet self.old ≡ Some out.new) }
         ensures after { OnTrue result (self.new ≡ option_map slot_without_packet self.old) }
@@ -82,7 +82,7 @@ impl Slot {
     /// Writes the next packet at the front of `out`, and says how many octets it has. There is none, and
     /// nothing changes, where all is given that may be.
     #[inline(always)]
-    pub fn next_into(&mut self, out: &mut [u8]) -> Option<usize>
+    pub(crate) fn next_into(&mut self, out: &mut [u8]) -> Option<usize>
         requires room { MAX_PACKET_OUT ≤ length out.old }
         ensures gives { is_some result ≡ gives self.old }
         ensures packet { IfSome result
@@ -159,24 +159,6 @@ impl Slots {
         ensures unchanged { self.new ≡ self.old }
     {
         first_due(self.slots.as_slice(), Due::Packet, &mut self.marks.packets)
-    }
-
-    /// The command that is due for the connection of a slot: to disconnect it, else to reply to the
-    /// request for its key.
-    pub fn command(&self, place: usize) -> Option<Command<'static>>
-        requires { place < length self.now }
-        ensures { option_map command_of result ≡ command_due (slot_state_at self.now place) }
-    {
-        self.slots[place].command()
-    }
-
-    /// Takes in that the command that was due for the connection of a slot is sent.
-    pub fn command_sent(&mut self, place: usize)
-        requires { place < length self.old }
-        ensures { self.new ≡ slots_at place slot_without_command self.old }
-    {
-        self.slots[place].command_sent();
-        self.marks.change(place);
     }
 
     /// Writes the next packet of the connection of a slot in place of what `out` holds. There is none,

@@ -1,55 +1,81 @@
 //! The handles of the connections of slots, beside each other: a slot is found without a look at the
 //! others.
 
-ghost use Rattle.std.specs.Prelude.{◌≡◌, ◌<◌, ◌==◌, set, IfSome};
+ghost use Rattle.std.specs.Prelude.{◌≡◌, ◌≤◌, ◌==◌, length, IfSome};
 ghost use Rattle.std.specs.List.{position};
-ghost use Rattle.gatt_slots.specs.Handles.{AreNoted};
-ghost use Rattle.gatt_slots.specs.Slots.{place_holding, IsThere};
+ghost use Rattle.gatt_slots.specs.Handles.{noted_of, AreNoted, AreNotedIfAny};
+ghost use Rattle.gatt_slots.specs.Slots.{place_holding, IsThere, SlotStates};
 
-use crate::slot::Slot;
+use crate::each::find_holding;
+use crate::slot::{Slot, Use};
 use gatt_laws::MAX_SLOTS;
 
 /// Stands where a slot is free: it is no handle.
 const FREE: u32 = 0x1_0000;
 
-/// The handle of the connection of each slot.
+/// The handle of the connection of each slot, or of none: one that was lent may have come to another.
 #[derive(Clone, Copy)]
 pub(crate) struct Handles {
     pub(crate) noted: [u32; MAX_SLOTS],
 }
 
 impl Handles {
-    /// Of slots that are free.
-    pub(crate) const NONE: Handles = Handles {
-        noted: [FREE; MAX_SLOTS],
-    };
-
-    /// Notes that a connection has come to a slot.
-    pub(crate) fn note_connected(&mut self, place: usize, handle: u16)
-        requires { place < MAX_SLOTS }
-        ensures { self.new.noted ≡ set self.old.noted place handle }
+    /// None is noted.
+    #[tactic(auto, using(crate::proofs::Noted::none_noted))]
+    pub(crate) fn none() -> Handles
+        ensures { (slots : SlotStates) → AreNotedIfAny slots result.noted }
     {
-        self.noted[place] = u32::from(handle);
+        Handles {
+            noted: [FREE; MAX_SLOTS],
+        }
     }
 
-    /// Notes that a slot is free.
-    pub(crate) fn note_disconnected(&mut self, place: usize)
-        requires { place < MAX_SLOTS }
-        ensures { self.new.noted ≡ set self.old.noted place FREE }
+    /// Notes them again, where none is noted.
+    pub(crate) fn note_again(&mut self, slots: &[Slot])
+        requires few { length slots.now ≤ MAX_SLOTS }
+        requires noted { AreNotedIfAny slots.now self.old.noted }
+        ensures { AreNotedIfAny slots.now self.new.noted }
     {
-        self.noted[place] = FREE;
+        if self.noted == [FREE; MAX_SLOTS] {
+            self.note_all(slots);
+        }
+    }
+
+    /// Notes the handle of each slot.
+    #[tactic(auto, using(crate::proofs::Noted::noted_more))]
+    fn note_all(&mut self, slots: &[Slot])
+        requires { length slots.now ≤ MAX_SLOTS }
+        ensures { AreNoted slots.now self.new.noted }
+    {
+        for place in 0..slots.len() {
+            self.noted[place] = slots[place].noted();
+        }
     }
 
     /// The slot whose connection has a handle, also one that is ending.
     #[inline(always)]
     pub(crate) fn find(&self, slots: &[Slot], handle: u16) -> Option<usize>
-        requires noted { AreNoted slots.now self.now.noted }
+        requires noted { AreNotedIfAny slots.now self.now.noted }
         ensures place { result ≡ place_holding slots.now handle }
         ensures there { IfSome result (IsThere slots.now) }
     {
         match first_place(&self.noted, u32::from(handle)) {
             Some(place) if place < slots.len() => Some(place),
-            _ => None,
+            // Perhaps none is noted.
+            _ => find_holding(slots, handle),
+        }
+    }
+}
+
+impl Slot {
+    /// What is noted of it.
+    fn noted(&self) -> u32
+        ensures { result ≡ noted_of self.now }
+    {
+        if self.used == Use::Free {
+            FREE
+        } else {
+            u32::from(self.handle)
         }
     }
 }

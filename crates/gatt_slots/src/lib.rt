@@ -19,4 +19,5 @@ mod turn;
 pub use connection::Connection;
 pub use moment::Moment;
 pub use request::Brought;
+pub use slot::Slot;
 pub use slots::Slots;

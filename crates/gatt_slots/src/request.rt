@@ -38,7 +38,7 @@ impl Slot {
     /// Serves a PDU of the Attribute Protocol, with the handles that it wrote in place of what `written`
     /// holds. Where an answer is due and there is no room for it, the connection is ended.
     #[inline(always)]
-    pub fn serve(
+    pub(crate) fn serve(
         &mut self,
         table: &mut Table,
         rows: &mut Rows,

@@ -1,10 +1,11 @@
-ghost use Rattle.std.specs.Prelude.{◌≡◌, ◌<◌, ◌^◌, Some, None, IfOk};
+ghost use Rattle.std.specs.Prelude.{◌≡◌, ◌<◌, ◌^◌, IfSome};
 ghost use Rattle.std.specs.Bool.{OnTrue, OnFalse};
 ghost use Rattle.std.specs.Option.{option_and_then, option_map};
 ghost use Rattle.le_hci.specs.Command.{command_of};
 ghost use Rattle.gatt_slots.specs.Commands.{command_due, gives, slot_packet, slot_without_command, slot_without_packet};
 
 use arrayvec::ArrayVec;
+use att_policy::KeyFacts;
 use att_table::ConfigRow;
 use gatt_conn::Conn;
 use gatt_subs::Pending;
@@ -56,4 +57,20 @@ impl Model for Slot {
         slot.until slot.row slot.link slot.conn slot.pending slot.sender slot.reply slot.reason };
 
     ghost invariant = { λ slot. slot.handle < 2 ^ 12 };
+}
+
+impl Slot {
+    /// The handle of the connection.
+    pub fn handle(&self) -> u16
+        ensures { IfSome self.now (λ slot_state. result ≡ slot_state.handle) }
+    {
+        self.handle
+    }
+
+    /// What is known of the key of the link, if it has one.
+    pub fn key(&self) -> Option<KeyFacts>
+        ensures { IfSome self.now (λ slot_state. result ≡ slot_state.link.key) }
+    {
+        self.link.facts()
+    }
 }

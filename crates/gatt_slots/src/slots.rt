@@ -1,23 +1,19 @@
 //! The slots of a host, as one value that knows where something may be due.
 
-ghost use Rattle.std.specs.Prelude.{◌≡◌, ℕ, false, ◌<◌, ◌≤◌, ◌^◌, length, map, replicate, take, [], None, Some, IfOk, IfSome, IsSome};
+ghost use Rattle.std.specs.Prelude.{◌≡◌, ℕ, false, ◌<◌, ◌≤◌, length, map, replicate, take, [], None, Some, IfOk, IfSome, IsSome};
 ghost use Rattle.std.specs.Bool.{OnTrue, OnFalse};
+ghost use Rattle.std.specs.Borrow.{sem};
 ghost use Rattle.std.specs.List.{list_any, position};
 ghost use Rattle.att_table.specs.ConfigRow.{bits_at, IsRowOf};
 ghost use Rattle.att_table.specs.Table.{Contents};
-ghost use Rattle.gatt_laws.specs.machine.Effect.{channel_answer, gained_encryption};
 ghost use Rattle.gatt_slots.specs.Connections.{FindsNext};
 ghost use Rattle.gatt_slots.specs.Hearing.{slot_row_in_force};
+ghost use Rattle.gatt_slots.specs.Lending.{LendsSlot};
 ghost use Rattle.gatt_slots.specs.Places.{may_listen};
 ghost use Rattle.gatt_slots.specs.Request.{bond_served, confirmed_of, handles_written_by, overflows, slot_after_request, table_after};
-ghost use Rattle.gatt_slots.specs.Slots.{slots_after_entries, all_after_table, all_after_time, all_heard, at_place, slot_state_at, late_handles, place_free, place_holding, place_serving, slot_row_at, slots_at, slots_deadline, IsThere};
-ghost use Rattle.gatt_slots.specs.SlotEffects.{after_authorizing, slot_after_ending, after_key_asked, after_link_step, slot_after_other_channel, new_slot_state, has_no_room};
-ghost use Rattle.gatt_subs.specs.Rows.{owes, row_of, ChangesBond, Subscriptions};
-ghost use Rattle.le_acl.specs.declared.sender.TheConstants.{MAX_ACL_LEN, MIN_ACL_LEN};
+ghost use Rattle.gatt_slots.specs.Slots.{slots_after_entries, all_after_table, all_after_time, all_heard, slot_state_at, late_handles, place_free, place_holding, place_serving, slot_row_at, slots_at, slots_deadline, IsThere};
+ghost use Rattle.gatt_subs.specs.Rows.{row_of, ChangesBond, Subscriptions};
 ghost use Rattle.le_hci.specs.Event.{completed_packets_of};
-ghost use Rattle.le_security.specs.Keys.{key_asked_for};
-ghost use Rattle.le_security.specs.Link.{after_step, Encryption, Refresh};
-ghost use Rattle.att_pdu.specs.declared.pdu_buf.TheConstants.{MAX_MTU, MIN_MTU};
 
 use crate::connection::{Connection, next_connection};
 use crate::each::{complete_all, find_free, find_serving, first_deadline, replace_all, tick_all};
@@ -29,13 +25,10 @@ use crate::request::Brought;
 use crate::slot::Slot;
 use crate::telling::{Heard, indicate_due, notify_all};
 use arrayvec::ArrayVec;
-use att_policy::KeyFacts;
 use att_table::Table;
 use gatt_conn::Touched;
 use gatt_laws::MAX_SLOTS;
 use gatt_subs::Rows;
-use le_hci::Peer;
-use le_security::Keys;
 use std::alloc::{AllocError, Global};
 use std::marker::Model;
 
@@ -48,7 +41,7 @@ pub struct Slots {
 }
 
 impl Model for Slots {
-    ghost use Rattle.gatt_slots.specs.Handles.{AreNoted};
+    ghost use Rattle.gatt_slots.specs.Handles.{AreNotedIfAny};
     ghost use Rattle.gatt_slots.specs.Places.{IsMarked};
     ghost use Rattle.gatt_slots.specs.Slots.{SlotStates};
 
@@ -57,7 +50,7 @@ impl Model for Slots {
     ghost view = { λ s. s.slots.items };
 
     ghost invariant = { λ s. IsMarked s.slots.items s.marks
-        × AreNoted s.slots.items s.handles.noted };
+        × AreNotedIfAny s.slots.items s.handles.noted };
 }
 
 impl Slots {
@@ -68,7 +61,7 @@ impl Slots {
     {
         Ok(Slots {
             slots: free_slots(alloc, count)?,
-            handles: Handles::NONE,
+            handles: Handles::none(),
             marks: Marks::all(),
         })
     }
@@ -134,141 +127,23 @@ impl Slots {
         next_connection(self.slots.as_slice(), from)
     }
 
-    /// Authorizes the connection of a slot while the time is below a moment, in milliseconds.
-    pub fn authorize(&mut self, place: usize, until: u64)
-        requires { place < length self.old }
-        ensures { self.new ≡ slots_at place (after_authorizing until) self.old }
-    {
-        self.slots[place].authorize(until);
-        self.marks.change(place);
-    }
-
-    /// Ends the connection of a slot for a reason, which the Disconnect will tell.
-    pub fn end(&mut self, place: usize, reason: u8)
-        requires place { place < length self.old }
-        ensures ended { self.new ≡ slots_at place (slot_after_ending reason) self.old }
-    {
-        self.slots[place].end(reason);
-        self.marks.change(place);
-    }
-
-    /// Takes in a new connection at a slot, to a server that receives PDUs of `rx_mtu` octets. At most
-    /// `share` of its packets may be outstanding, with at most `acl_len` octets of data each.
-    pub fn connect(
-        &mut self,
-        place: usize,
-        handle: u16,
-        peer: Peer,
-        key_known: bool,
-        rx_mtu: u16,
-        share: u16,
-        acl_len: u16,
-    )
-        requires place { place < length self.old }
-        requires handle { handle < 2 ^ 12 }
-        requires rx_mtu_least { MIN_MTU ≤ rx_mtu }
-        requires rx_mtu_most { rx_mtu ≤ MAX_MTU }
-        requires share { 0 < share }
-        requires acl_len_least { MIN_ACL_LEN ≤ acl_len }
-        requires acl_len_most { acl_len ≤ MAX_ACL_LEN }
-        ensures { self.new
-            ≡ at_place place
-            (λ slot. Some (new_slot_state handle peer key_known rx_mtu share acl_len)) self.old }
-    {
-        self.slots[place].connect(handle, peer, key_known, rx_mtu, share, acl_len);
-        self.handles.note_connected(place, handle);
-        self.marks.change(place);
-    }
-
-    /// Frees a slot.
-    pub fn disconnected(&mut self, place: usize)
-        requires { place < length self.old }
-        ensures { self.new ≡ at_place place (λ slot. None) self.old }
-    {
-        self.slots[place].disconnected();
-        self.handles.note_disconnected(place);
-        self.marks.change(place);
-    }
-
-    /// The controller asked for the key of the link of a slot: it is looked up, and a reply is due.
-    pub fn ask_key(&mut self, place: usize, keys: &Keys, random_number: [u8; 8], diversifier: u16)
-        requires { place < length self.old }
-        ensures { self.new ≡ slots_at place (λ slot_state. after_key_asked
-            (key_asked_for keys.now slot_state.peer random_number diversifier) slot_state)
-            self.old }
-    {
-        self.slots[place].ask_key(keys, random_number, diversifier);
-        self.marks.change(place);
-    }
-
-    /// Encryption of the link of a slot was changed, or could not be: `true` where it has a key now and
-    /// had none. Where it lost its key the connection is ended.
-    pub fn encrypt(&mut self, place: usize, status: u8, enabled: u8) -> bool
-        requires { place < length self.old }
-        ensures after { self.new
-            ≡ slots_at place (after_link_step (Encryption status enabled)) self.old }
-        ensures gained { IfSome (slot_state_at self.old place)
-            (λ slot_state. result ≡ gained_encryption slot_state.link.key
-            (after_step slot_state.link (Encryption status enabled)).key) }
-    {
-        let gained = self.slots[place].encrypt(status, enabled);
-        self.marks.change(place);
-        gained
-    }
-
-    /// The key of the link of a slot was refreshed, or could not be.
-    pub fn refresh(&mut self, place: usize, status: u8) -> bool
-        requires { place < length self.old }
-        ensures after { self.new ≡ slots_at place (after_link_step (Refresh status)) self.old }
-        ensures gained { IfSome (slot_state_at self.old place) (λ slot_state. result
-            ≡ gained_encryption slot_state.link.key
-            (after_step slot_state.link (Refresh status)).key) }
-    {
-        let gained = self.slots[place].refresh(status);
-        self.marks.change(place);
-        gained
-    }
-
-    /// Whether the peer of the connection of a slot is owed an indication of a changed table.
-    pub fn is_owed(&self, place: usize, rows: &Rows) -> bool
+    /// The slot at a place.
+    pub fn get(&self, place: usize) -> &Slot
         requires { place < length self.now }
-        ensures { IfSome (slot_state_at self.now place)
-            (λ slot_state. result ≡ owes rows.now slot_state.peer) }
+        ensures { result.now ≡ slot_state_at self.now place }
     {
-        self.slots[place].is_owed(rows)
+        &self.slots[place]
     }
 
-    /// Takes in a payload on the channel of LE signalling or of the Security Manager: `true` where the
-    /// connection is ended, since there is no room for the answer.
-    pub fn other_channel(&mut self, place: usize, channel: u16, payload: &[u8]) -> bool
+    /// Lends the slot at a place. Anything may be due there then, and it may have another handle.
+    pub fn at(&mut self, place: usize) -> &mut Slot
         requires { place < length self.old }
-        ensures after { self.new
-            ≡ slots_at place (slot_after_other_channel channel payload.now) self.old }
-        ensures ended { IfSome (slot_state_at self.old place)
-            (λ slot_state. result
-            ≡ has_no_room (channel_answer channel payload.now) slot_state) }
+        ensures* writes_back { sem 𝓛 (LendsSlot self.entry place result) }
+        ensures value { result.now ≡ slot_state_at self.old place }
     {
-        let ended = self.slots[place].other_channel(channel, payload);
         self.marks.change(place);
-        ended
-    }
-
-    /// The handle of the connection of a slot.
-    pub fn handle(&self, place: usize) -> u16
-        requires { place < length self.now }
-        ensures { IfSome (slot_state_at self.now place)
-            (λ slot_state. result ≡ slot_state.handle) }
-    {
-        self.slots[place].handle
-    }
-
-    /// What is known of the key of the link of a slot, if it has one.
-    pub fn key(&self, place: usize) -> Option<KeyFacts>
-        requires { place < length self.now }
-        ensures { IfSome (slot_state_at self.now place)
-            (λ slot_state. result ≡ slot_state.link.key) }
-    {
-        self.slots[place].link.facts()
+        self.handles = Handles::none();
+        &mut self.slots[place]
     }
 
     /// Which bits the row in force of the connection of a slot has at a handle: none where there is no
@@ -413,6 +288,7 @@ impl Slots {
             handles.now self.old }
         ensures count { length self.new ≡ length self.old }
     {
+        self.handles.note_again(self.slots.as_slice());
         let first = self.first_that_listens();
         let another_listens = first.is_some() && first != own;
         if another_listens || !self.nobody_hears(own, here, handles) {

@@ -25,7 +25,7 @@ use std::alloc::{AllocError, Global};
 
 impl Slot {
     /// A free slot, with room for all that it may come to keep.
-    pub fn new(alloc: Global) -> Result<Slot, AllocError>
+    pub(crate) fn new(alloc: Global) -> Result<Slot, AllocError>
         ensures { IfOk result (λ slot. slot ≡ None) }
     {
         Ok(Slot {
@@ -186,7 +186,7 @@ impl Slot {
     }
 
     /// Ends the connection for a reason, which the Disconnect will tell.
-    pub(crate) fn end(&mut self, reason: u8)
+    pub fn end(&mut self, reason: u8)
         ensures { self.new ≡ option_map (slot_after_ending reason) self.old }
     {
         if self.used == Use::Live {
@@ -200,7 +200,7 @@ impl Slot {
     }
 
     /// Counts packets as completed, at most those that are outstanding.
-    pub fn packets_completed(&mut self, count: u16)
+    pub(crate) fn packets_completed(&mut self, count: u16)
         ensures { self.new ≡ option_map (slot_after_packets_completed count) self.old }
     {
         self.sender.completed(count);
@@ -208,7 +208,7 @@ impl Slot {
 
     /// Takes in the time, in milliseconds, and gives the handle of the connection where that is timed
     /// out by it.
-    pub fn tick(&mut self, now: u64) -> Option<u16>
+    pub(crate) fn tick(&mut self, now: u64) -> Option<u16>
         ensures after { self.new ≡ option_map (after_time now) self.old }
         ensures late { option_to_list result ≡ option_map_or (late_handle now) self.old [] }
     {
@@ -221,7 +221,7 @@ impl Slot {
 
     /// Takes in that a table replaces another: what is configured stays where it has its meaning, and
     /// nothing is prepared or waits any more.
-    pub fn replace(&mut self, old: &Table, new: &Table)
+    pub(crate) fn replace(&mut self, old: &Table, new: &Table)
         ensures { self.new
             ≡ option_map (after_table old.now.attributes new.now.attributes) self.old }
     {

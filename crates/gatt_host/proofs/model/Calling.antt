@@ -12,11 +12,10 @@ use Rattle.gatt_host.specs.declared.fault.Fault.TheVariants as told
 use Rattle.gatt_host.specs.declared.host_fault.HostFault.{HostFault}
 use Rattle.gatt_host.specs.Feeding.{Feeds, TakesAll}
 use Rattle.gatt_host.specs.Listening.{Listens}
-use Rattle.gatt_host.specs.HostModel.{Refines, RefinesRun, HostModel}
+use Rattle.gatt_host.specs.HostModel.{HostModel}
 use Rattle.gatt_laws.specs.machine.Calls.{Call}
 use Rattle.gatt_laws.specs.machine.Input.{Item, ACall, call_refusal, run}
 use Rattle.gatt_laws.specs.machine.Notice.{Notice}
-use Rattle.gatt_laws.specs.machine.Start.{Start}
 use Rattle.octets.specs.Number.{Octets}
 
 -- what an error is made of

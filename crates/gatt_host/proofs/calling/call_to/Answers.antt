@@ -1,4 +1,4 @@
-use Rattle.std.proofs.Common.{◌≡◌, List, [], ◌∷◌, Option, None, sym, ap, ◌∙◌}
+use Rattle.std.proofs.Common.{List, [], ◌∷◌, Option, sym, ap, ◌∙◌}
 use Rattle.gatt_host.proofs.calling.call_to.Goals as goal
 use Rattle.gatt_host.proofs.model.Calling.{answer_as, call_behind, call_listens, call_refused, error_told, stopped_answers}
 use Rattle.gatt_host.proofs.model.Driving.{past_fault}

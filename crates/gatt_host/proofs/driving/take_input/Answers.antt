@@ -1,5 +1,5 @@
 use Rattle.std.proofs.Common.{sym, subst}
-use Rattle.std.specs.Prelude.{IfOk, if◌then◌else◌}
+use Rattle.std.specs.Prelude.{if◌then◌else◌}
 use Rattle.gatt_host.proofs.model.Driving.{none_refused, one_refused}
 use Rattle.gatt_host.specs.Asked.{call_of}
 use Rattle.gatt_host.specs.declared.driving.Input.{Input}

@@ -1,4 +1,4 @@
-use Rattle.std.proofs.Common.{ap, sym, ◌∙◌}
+use Rattle.std.proofs.Common.{sym, ◌∙◌}
 use Rattle.std.proofs.lemmas.Bool.{OnFalse_at, OnFalse_from}
 use Rattle.gatt_host.proofs.owing.Lacking.{drained_where, none_due}
 use Rattle.gatt_host.proofs.going_out.may_owe.Goals as goal

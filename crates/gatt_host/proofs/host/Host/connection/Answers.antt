@@ -1,4 +1,4 @@
-use Rattle.std.proofs.Common.{◌≡◌, None, ap, sym, ◌∙◌}
+use Rattle.std.proofs.Common.{None, ap, sym, ◌∙◌}
 use Rattle.gatt_host.proofs.host.Host.connection.Goals as goal
 use Rattle.gatt_host.proofs.model.Seen.{found_here, found_later, found_where}
 use Rattle.gatt_host.specs.Connections.{connection_with}

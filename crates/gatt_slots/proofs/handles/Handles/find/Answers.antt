@@ -1,23 +1,13 @@
 use Rattle.std.proofs.Common.{ℕ, ◌==◌, Some, ap, sym, ◌∙◌, arith}
 use Rattle.std.specs.List.{position}
 use Rattle.gatt_slots.proofs.Found.{holding_there}
-use Rattle.gatt_slots.proofs.Noted.{noted_beyond, noted_found, noted_nowhere}
+use Rattle.gatt_slots.proofs.Noted.{noted_found}
 use Rattle.gatt_slots.proofs.handles.Handles.find.Goals as goal
 
 pub returns-in-Some-clause-place : goal.returns-in-Some-clause-place
 returns-in-Some-clause-place c =
     noted_found c.args.slots.now c.args.self.now.noted c.requires.noted c.args.handle c.ranges.handle.fits c.in-Some.place
     (sym (c.in-Some.ensures ∙ ap (λ (it : ℕ). position (λ (noted : ℕ). noted == it) c.args.self.now.noted) c.from.ensures)) (omega (arith, c.if-place-slots.true))
-
-pub returns-in_default-clause-place : goal.returns-in_default-clause-place
-returns-in_default-clause-place c =
-    noted_beyond c.args.slots.now c.args.self.now.noted c.requires.noted c.args.handle c.ranges.handle.fits c.in-Some.place
-    (sym (c.in-Some.ensures ∙ ap (λ (it : ℕ). position (λ (noted : ℕ). noted == it) c.args.self.now.noted) c.from.ensures)) (omega (arith, c.if-place-slots.false))
-
-pub returns-in_default-2-clause-place : goal.returns-in_default-2-clause-place
-returns-in_default-2-clause-place c =
-    noted_nowhere c.args.slots.now c.args.self.now.noted c.requires.noted c.args.handle c.ranges.handle.fits
-    (sym (c.in_default.ensures ∙ ap (λ (it : ℕ). position (λ (noted : ℕ). noted == it) c.args.self.now.noted) c.from.ensures))
 
 pub returns-in-Some-clause-there : goal.returns-in-Some-clause-there
 returns-in-Some-clause-there c = holding_there c.args.slots.now c.args.handle (Some c.in-Some.place) (returns-in-Some-clause-place c)

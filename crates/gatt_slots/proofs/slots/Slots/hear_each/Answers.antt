@@ -2,7 +2,7 @@ use Rattle.std.proofs.Common.{◌≡◌, true, [], None, length, sym, ap, subst,
 use Rattle.gatt_slots.proofs.Covering.{commands_heard, free_heard, listening_heard}
 use Rattle.gatt_slots.proofs.InTurn.{all_in_turn}
 use Rattle.gatt_slots.proofs.Noted.{heard_noted, written_over}
-use Rattle.gatt_slots.specs.Handles.{AreNoted}
+use Rattle.gatt_slots.specs.Handles.{AreNotedIfAny}
 use Rattle.gatt_slots.specs.declared.marks.Marks.{Marks}
 use Rattle.gatt_slots.specs.Places.{IsMarked}
 use Rattle.gatt_slots.specs.Slots.{SlotStates, all_heard, all_notified_in_turn}
@@ -33,7 +33,7 @@ invariant_of-self c =
     c.indicate_due.ensures.count ∙ c.notify_all-2.ensures.count ∙ c.notify_all.ensures.count ∙ ap (λ (it : SlotStates). length it) is in
     let covered = c.indicate_due.ensures.covered in
     let marks : Marks = record c.self.inside.marks { packets = c.indicate_due.new.heard.packets; waiting = c.indicate_due.new.heard.waiting } in
-    subst (λ (it : SlotStates). IsMarked it marks × AreNoted it noted)
+    subst (λ (it : SlotStates). IsMarked it marks × AreNotedIfAny it noted)
     (sym (written_over c.self.inside.slots.len old new count (ap (λ (it : SlotStates). length it) (sym is) ∙ c.as_mut_slice-slots.ensures.len))) (
       record {
         few = omega (arith, marked.few, count);
@@ -43,7 +43,7 @@ invariant_of-self c =
         waiting = covered.waiting;
         free = λ none. free_heard table now rows own here handles old new heard (marked.free none);
       },
-      heard_noted table now rows own here handles old new noted heard count c.self.invariant.1,
+      λ other some. heard_noted table now rows own here handles old new noted heard count (c.self.invariant.1 other some),
     )
 
 pub returns-clause-heard : goal.returns-clause-heard

@@ -29,6 +29,6 @@ invariant_of-self c =
           (subst (λ (it : Option SlotState). WaitsForNothingNew it c.next_packet-given.new.self) there goes)
           (λ listens. sym (ap may_listen there) ∙ given_listens slot c.next_packet-given.new.self c.next_packet-given.result c.next_packet-given.ensures.after c.next_packet-given.ensures.unchanged listens)
           (λ none. sym c.gives-giving.ensures ∙ none),
-      noted_still slots c.self.inside.handles.noted c.self.invariant.1 place c.next_packet-given.new.self within
+      λ other some. noted_still slots c.self.inside.handles.noted (c.self.invariant.1 other some) place c.next_packet-given.new.self within
           (given_noted slot c.next_packet-given.new.self c.next_packet-given.result c.next_packet-given.ensures.after c.next_packet-given.ensures.unchanged ∙ ap noted_of there),
     )

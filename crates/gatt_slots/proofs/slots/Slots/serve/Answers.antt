@@ -19,9 +19,9 @@ invariant_of-self c =
           subst (λ (it : Option SlotState). WaitsForNothingNew it c.serve-brought.new.self) (there_at slots slots (λ i. slots) place slot within c.index_mut.ensures.value)
           (subst (λ (it : Option SlotState). WaitsForNothingNew slot it) (sym c.serve-brought.ensures.after)
           (served_goes_on c.args.table.now c.args.now c.args.rows.now c.args.pdu.now slot c.serve-brought.result.ended c.serve-brought.ensures.ended none))),
-      changed_noted slots c.self.inside.handles.noted place slot c.serve-brought.new.self
+      λ other some. changed_noted slots c.self.inside.handles.noted place slot c.serve-brought.new.self
           (λ (slot_state : SlotState). slot_after_request c.args.table.now c.args.now (row_of c.args.rows.now slot_state.peer) c.args.pdu.now slot_state) within c.index_mut.ensures.value
-          (λ slot_state. served_handle c.args.table.now c.args.now (row_of c.args.rows.now slot_state.peer) c.args.pdu.now slot_state) c.serve-brought.ensures.after c.self.invariant.1,
+          (λ slot_state. served_handle c.args.table.now c.args.now (row_of c.args.rows.now slot_state.peer) c.args.pdu.now slot_state) c.serve-brought.ensures.after (c.self.invariant.1 other some),
     )
 
 pub returns-clause-after : goal.returns-clause-after
