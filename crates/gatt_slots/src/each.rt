@@ -27,8 +27,7 @@ pub(crate) fn find_serving(slots: &[Slot], handle: u16) -> Option<usize>
 }
 
 /// The slot whose connection has a handle, also one that is ending.
-#[cold]
-#[inline(never)]
+#[inline(always)]
 #[tactic(auto, using(crate::proofs::Found::holding_there))]
 pub(crate) fn find_holding(slots: &[Slot], handle: u16) -> Option<usize>
     ensures place { result ≡ place_holding slots.now handle }

@@ -1,7 +1,7 @@
 //! The handles of the connections of slots, beside each other: a slot is found without a look at the
 //! others.
 
-ghost use Rattle.std.specs.Prelude.{◌≡◌, ◌≤◌, ◌==◌, length, IfSome};
+ghost use Rattle.std.specs.Prelude.{◌≡◌, ◌≤◌, ◌==◌, length, Some, IfSome};
 ghost use Rattle.std.specs.List.{position};
 ghost use Rattle.gatt_slots.specs.Handles.{noted_of, AreNoted, AreNotedIfAny};
 ghost use Rattle.gatt_slots.specs.Slots.{place_holding, IsThere, SlotStates};
@@ -59,10 +59,23 @@ impl Handles {
         ensures place { result ≡ place_holding slots.now handle }
         ensures there { IfSome result (IsThere slots.now) }
     {
+        match self.find_noted(slots, handle) {
+            Some(place) => Some(place),
+            // Perhaps none is noted.
+            None => find_holding(slots, handle),
+        }
+    }
+
+    /// The slot of which a handle is noted.
+    #[inline(always)]
+    pub(crate) fn find_noted(&self, slots: &[Slot], handle: u16) -> Option<usize>
+        requires noted { AreNotedIfAny slots.now self.now.noted }
+        ensures place { IfSome result (λ place. Some place ≡ place_holding slots.now handle) }
+        ensures there { IfSome result (IsThere slots.now) }
+    {
         match first_place(&self.noted, u32::from(handle)) {
             Some(place) if place < slots.len() => Some(place),
-            // Perhaps none is noted.
-            _ => find_holding(slots, handle),
+            _ => None,
         }
     }
 }

@@ -89,9 +89,9 @@ impl Slots {
         ensures few { IfSome result (λ place. place < MAX_SLOTS) }
     {
         let slots = self.slots.as_slice();
-        match self.handles.find(slots, handle) {
+        match self.handles.find_noted(slots, handle) {
             Some(place) if slots[place].is_live() => Some(place),
-            // Beside a connection that is ending another may have its handle.
+            // Perhaps none is noted, and beside a connection that is ending another may have its handle.
             _ => find_serving(slots, handle),
         }
     }

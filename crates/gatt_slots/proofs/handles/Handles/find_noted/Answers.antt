@@ -2,7 +2,7 @@ use Rattle.std.proofs.Common.{ℕ, ◌==◌, Some, ap, sym, ◌∙◌, arith}
 use Rattle.std.specs.List.{position}
 use Rattle.gatt_slots.proofs.Found.{holding_there}
 use Rattle.gatt_slots.proofs.Noted.{noted_found}
-use Rattle.gatt_slots.proofs.handles.Handles.find.Goals as goal
+use Rattle.gatt_slots.proofs.handles.Handles.find_noted.Goals as goal
 
 pub returns-in-Some-clause-place : goal.returns-in-Some-clause-place
 returns-in-Some-clause-place c =
