@@ -95,7 +95,7 @@ impl ConfigRow {
     }
 }
 
-// Drops the entries that do not stay when a table is replaced.
+// Drops the entries that do not stay when a table is replaced. It stands apart for its proof.
 fn retain_kept(entries: &mut ArrayVec<(u16, u8), MAX_CONFIGURATIONS>, old: &Table, new: &Table)
     ensures { entries.new.items
         ≡ kept_row old.now.attributes new.now.attributes entries.old.items }
@@ -176,7 +176,7 @@ fn bits_in(entries: &[(u16, u8)], handle: u16) -> u8
     }
 }
 
-// Whether there is an entry at a handle.
+// Whether there is an entry at a handle. It stands apart for its proof.
 fn contains_handle(entries: &[(u16, u8)], handle: u16) -> bool
     ensures { result ≡ has_entry entries.now handle }
 {

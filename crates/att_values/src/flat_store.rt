@@ -145,7 +145,7 @@ impl ValueStore for FlatStore {
     }
 }
 
-// The octets of the value at a place.
+// The octets of the value at a place. It stands apart for its proof.
 fn octets_at(octets: &[u8], place: Place) -> &[u8]
     requires { place.start + place.len ≤ length octets.now }
     ensures { result.now ≡ (cell_in octets.now place).octets }

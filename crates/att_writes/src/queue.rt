@@ -122,7 +122,7 @@ impl Queue {
     }
 }
 
-/// Adds a place, for which the room is there.
+/// Adds a place, for which the room is there. It stands apart for its proof.
 fn push_place(places: &mut Vec<Place>, place: Place)
     requires room { length places.old.items < vec_capacity places.old }
     ensures items { places.new.items ≡ places.old.items ++ place ∷ [] }
@@ -132,7 +132,7 @@ fn push_place(places: &mut Vec<Place>, place: Place)
     places.push_reserved(place);
 }
 
-/// Adds octets, for which the room is there.
+/// Adds octets, for which the room is there. It stands apart for its proof.
 fn push_octets(octets: &mut Vec<u8>, part: &[u8])
     requires room { length octets.old.items + length part.now ≤ vec_capacity octets.old }
     ensures items { octets.new.items ≡ octets.old.items ++ part.now }

@@ -93,7 +93,7 @@ impl Slot {
     }
 }
 
-/// The first place of a number.
+/// The first place of a number. It stands apart for its proof.
 #[inline(always)]
 fn first_place(numbers: &[u32], number: u32) -> Option<usize>
     ensures { result ≡ position (λ it. it == number) numbers.now }

@@ -299,7 +299,7 @@ fn find_entry<'a>(entries: &'a [RowEntry], peer: &Peer, handle: u16) -> Option<&
     entries.iter().find(|entry| entry.is_at(peer, handle))
 }
 
-/// Sets bits in the row of the bond at a place.
+/// Sets bits in the row of the bond at a place. It stands apart for its proof.
 fn set_bits(bonds: &mut Vec<Bond>, place: usize, handle: u16, bits: u8)
     requires place { place < length bonds.old.items }
     requires handle { 0 < handle }
@@ -311,7 +311,7 @@ fn set_bits(bonds: &mut Vec<Bond>, place: usize, handle: u16, bits: u8)
     bonds[place].row.set(handle, bits);
 }
 
-/// Sets whether the peer of the bond at a place is owed.
+/// Sets whether the peer of the bond at a place is owed. It stands apart for its proof.
 fn set_owed(bonds: &mut Vec<Bond>, place: usize, owed: bool)
     requires { place < length bonds.old.items }
     ensures { bonds.new.items ≡ bonds_with bonds.old.items place (with_owed owed) }
