@@ -6,6 +6,8 @@ use Rattle.std.proofs.lemmas.Bool.{leb-false, lt-leb, le-leb, eq-eqb, cases_lt}
 use Rattle.std.proofs.lemmas.List.{append-nil, length-append, length-drop, take-append-drop}
 use Rattle.std.proofs.lemmas.Grind.{reverse_onto}
 use Rattle.octets.specs.Number.{from_two}
+use Rattle.octets.specs.declared.pdu.TheConstants.{MAX_PDU}
+use Rattle.le_acl.specs.declared.frame.TheConstants.{MAX_FRAME}
 use Rattle.le_acl.specs.Fragment.{Fragment, Beginning, Continuation}
 use Rattle.le_acl.specs.Packets.{Pdu, frame_octets, pieces_within, pieces, fragments_of_pieces, fragments_of}
 use Rattle.le_acl.specs.Frame.{is_enough, is_frame, newest_run, octets_of_run, is_shortest, frame_in, of_run, frame_at}
@@ -19,7 +21,7 @@ outcome_by enough frame fits octets short = record {
 }
 
 abbrev outcome : List ℕ → Bool → Assembly
-outcome octets short = outcome_by (is_enough octets) (is_frame octets) (nat_le (length octets) 521) octets short
+outcome octets short = outcome_by (is_enough octets) (is_frame octets) (nat_le (length octets) MAX_FRAME) octets short
 
 first-by : (enough frame fits : Bool) (octets : List ℕ)
     → cond enough (record { unfinished = None; frame = cond frame (Some octets) None }) (record { unfinished = cond fits (Some octets) None; frame = None })
@@ -28,27 +30,27 @@ first-by true frame fits octets = refl
 first-by false frame fits octets = refl
 
 outcome-first : (octets : List ℕ) → assembled_of octets ≡ outcome octets true
-outcome-first octets = first-by (is_enough octets) (is_frame octets) (nat_le (length octets) 521) octets
+outcome-first octets = first-by (is_enough octets) (is_frame octets) (nat_le (length octets) MAX_FRAME) octets
 
 later-by : (enough frame fits : Bool) (octets : List ℕ) → outcome_by enough frame fits octets false ≡ no_assembly
 later-by true frame fits octets = refl
 later-by false frame fits octets = refl
 
 outcome-later : (octets : List ℕ) → outcome octets false ≡ no_assembly
-outcome-later octets = later-by (is_enough octets) (is_frame octets) (nat_le (length octets) 521) octets
+outcome-later octets = later-by (is_enough octets) (is_frame octets) (nat_le (length octets) MAX_FRAME) octets
 
 -- what is too long is never a frame
 and-false : (test : Bool) → (test && false) ≡ false
 and-false true = refl
 and-false false = refl
 
-frame-long : (octets : List ℕ) → 521 < length octets → is_frame octets ≡ false
+frame-long : (octets : List ℕ) → MAX_FRAME < length octets → is_frame octets ≡ false
 frame-long [] long = refl
 frame-long (a ∷ []) long = refl
 frame-long (a ∷ b ∷ []) long = refl
 frame-long (a ∷ b ∷ c ∷ []) long = refl
 frame-long (a ∷ b ∷ c ∷ d ∷ payload) long =
-    ap (λ (fits : Bool). (length payload == from_two a b) && fits) (lt-leb (length (a ∷ b ∷ c ∷ d ∷ payload)) 521 long)
+    ap (λ (fits : Bool). (length payload == from_two a b) && fits) (lt-leb (length (a ∷ b ∷ c ∷ d ∷ payload)) MAX_FRAME long)
     ∙ and-false (length payload == from_two a b)
 
 long-by : (enough : Bool) (octets : List ℕ) (short : Bool) → outcome_by enough false false octets short ≡ no_assembly
@@ -57,14 +59,14 @@ long-by true octets false = refl
 long-by false octets true = refl
 long-by false octets false = refl
 
-outcome-long : (octets : List ℕ) (short : Bool) → 521 < length octets → outcome octets short ≡ no_assembly
+outcome-long : (octets : List ℕ) (short : Bool) → MAX_FRAME < length octets → outcome octets short ≡ no_assembly
 outcome-long octets short long =
-    ap (λ (frame : Bool). outcome_by (is_enough octets) frame (nat_le (length octets) 521) octets short) (frame-long octets long)
-    ∙ ap (λ (fits : Bool). outcome_by (is_enough octets) false fits octets short) (lt-leb (length octets) 521 long)
+    ap (λ (frame : Bool). outcome_by (is_enough octets) frame (nat_le (length octets) MAX_FRAME) octets short) (frame-long octets long)
+    ∙ ap (λ (fits : Bool). outcome_by (is_enough octets) false fits octets short) (lt-leb (length octets) MAX_FRAME long)
     ∙ long-by (is_enough octets) octets short
 
 -- a run, and one fragment more
-more-by : (enough short fits : Bool) (octets more : List ℕ) → (fits ≡ false → 521 < length (octets ++ more))
+more-by : (enough short fits : Bool) (octets more : List ℕ) → (fits ≡ false → MAX_FRAME < length (octets ++ more))
     → with_more (cond (not enough && (short && fits)) (Some octets) None) more ≡ outcome (octets ++ more) (not enough && short)
 more-by true short fits octets more long = sym (outcome-later (octets ++ more))
 more-by false false fits octets more long = sym (outcome-later (octets ++ more))
@@ -79,8 +81,8 @@ summary-more : (run : Option (List (List ℕ))) (octets : List ℕ)
     → with_more (summary run).unfinished octets ≡ summary (option_map (λ earlier. octets ∷ earlier) run)
 summary-more None octets = refl
 summary-more (Some run) octets =
-    more-by (is_enough (octets_of_run run)) (is_shortest run) (nat_le (length (octets_of_run run)) 521) (octets_of_run run) octets
-    (λ long. omega (arith, leb-false (length (octets_of_run run)) 521 long, length-append (octets_of_run run) octets))
+    more-by (is_enough (octets_of_run run)) (is_shortest run) (nat_le (length (octets_of_run run)) MAX_FRAME) (octets_of_run run) octets
+    (λ long. omega (arith, leb-false (length (octets_of_run run)) MAX_FRAME long, length-append (octets_of_run run) octets))
 
 assembled-is : (fragments : List Fragment) → assembly_after fragments ≡ summary (newest_run fragments)
 assembled-is [] = refl
@@ -157,16 +159,16 @@ module _ (pdu : Pdu) where
       alone zero piece last = last
       alone (suc count) piece last = last
 
-  whole_frame : length pdu.1 ≤ 517 → frame_in_by (is_enough (frame_octets pdu)) true (is_frame (frame_octets pdu)) (frame_octets pdu) ≡ Some (frame_octets pdu)
+  whole_frame : length pdu.1 ≤ MAX_PDU → frame_in_by (is_enough (frame_octets pdu)) true (is_frame (frame_octets pdu)) (frame_octets pdu) ≡ Some (frame_octets pdu)
   whole_frame fits =
       let stated : from_two (length pdu.1 % 256) (length pdu.1 / 256) ≡ length pdu.1 = omega arith in
       rw (
         le-leb (from_two (length pdu.1 % 256) (length pdu.1 / 256)) (length pdu.1) (omega arith),
         eq-eqb (length pdu.1) (from_two (length pdu.1 % 256) (length pdu.1 / 256)) (sym stated),
-        le-leb (length (frame_octets pdu)) 521 (omega arith),
+        le-leb (length (frame_octets pdu)) MAX_FRAME (omega arith),
       ) refl
 
-  run_frame : (run : List (List ℕ)) → IsRun run → length pdu.1 ≤ 517 → frame_in run ≡ Some (frame_octets pdu)
+  run_frame : (run : List (List ℕ)) → IsRun run → length pdu.1 ≤ MAX_PDU → frame_in run ≡ Some (frame_octets pdu)
   unfolding IsRun
   run_frame run is fits =
       ap₂ (λ (octets : List ℕ) (short : Bool). frame_in_by (is_enough octets) short (is_frame octets) octets) is.0 is.1 ∙ whole_frame fits
@@ -188,7 +190,7 @@ newest-flagged (piece ∷ others) older some =
     ∙ ap Some (sym (newer piece others []))
 
 -- the fragments of a PDU make its frame
-pub fragments_frame : (size : ℕ) (pdu : Pdu) (older : List Fragment) → 0 < size → length pdu.1 ≤ 517
+pub fragments_frame : (size : ℕ) (pdu : Pdu) (older : List Fragment) → 0 < size → length pdu.1 ≤ MAX_PDU
     → frame_at (reverse (fragments_of size pdu) ++ older) ≡ Some (frame_octets pdu)
 unfolding frame_at pieces
 fragments_frame size pdu older some fits =

@@ -3,6 +3,7 @@ use Rattle.std.specs.Int.{bit_at}
 use Rattle.std.proofs.lemmas.Bool.{OnTrue_at, OnTrue_from}
 use Rattle.att_numbers.specs.Types.{Handle}
 use Rattle.att_table.specs.Table.{Contents}
+use Rattle.gatt_laws.specs.declared.TheConstants.{MAX_SLOTS}
 use Rattle.gatt_slots.proofs.Covering.{there}
 use Rattle.gatt_slots.proofs.InTurn.{nobody_listens, nothing_is_raised}
 use Rattle.gatt_slots.proofs.Quiet.{none_there}
@@ -30,7 +31,7 @@ returns-else-is_empty-2 c =
     let marked = c.self.invariant.0 in
     let here : a.here.now ≡ [] = none_there a.here.now (sym c.is_empty.ensures ∙ c.if-is_empty.true) in
     OnTrue_from _ _ (λ is.
-    let only : (place : ℕ) → place < 8 → bit_at c.self.inside.marks.listening.bits place ≡ 1 → is_own_place a.own place ≡ true = OnTrue_at is c.is_empty_but.ensures in
+    let only : (place : ℕ) → place < MAX_SLOTS → bit_at c.self.inside.marks.listening.bits place ≡ 1 → is_own_place a.own place ≡ true = OnTrue_at is c.is_empty_but.ensures in
     let all : (table : Contents) → (rows : Subscriptions) → (now : ℕ)
     → all_heard table now rows a.own a.here.now a.handles.now a.self.now ≡ all_heard table now rows None [] [] a.self.now = λ table rows now.
     ap (λ (it : List Handle). all_heard table now rows a.own it a.handles.now a.self.now) here
