@@ -1,5 +1,5 @@
 -- What a controller answers to the packets of a host: Core 5.0, Vol 2 Part E, 7, and Vol 3 Part A, 7.2.
-use Rattle.std.specs.Prelude.{ℕ, ◌||◌, if◌then◌else◌, List, [], ◌∷◌, ◌++◌, slice_index_or, is_some, Option, Some, None}
+use Rattle.std.specs.Prelude.{ℕ, ◌||◌, if◌then◌else◌, List, [], ◌∷◌, ◌++◌, slice_index_or, is_some, Option, Some, None, Result}
 use Rattle.std.specs.Option.{option_map, option_and_then, option_to_list}
 use Rattle.octets.specs.Number.{Octets, two_octets}
 use Rattle.le_hci.specs.declared.opcode.TheConstants as opcode
@@ -15,7 +15,7 @@ use Rattle.sim_controller.specs.declared.told.Told.TheVariants as told
 use Rattle.sim_controller.specs.FromHost.{Taken, Command, Data}
 use Rattle.sim_controller.specs.Phone.{Phone, absent_phone, assembled_in, with_assembly, hears_too_much, is_held}
 use Rattle.sim_controller.specs.Phones.{phone_with}
-use Rattle.sim_controller.specs.Simulated.{Simulated, phone_at, with_phone, with_told, is_too_much}
+use Rattle.sim_controller.specs.Simulated.{Simulated, phone_at, with_phone, with_told, is_too_much, IsDone}
 
 -- the phone that is here and whose connection has a handle
 abbrev pub here_or_none : List Phone → ℕ → Option ℕ
@@ -77,6 +77,16 @@ command_fault old asked = if is_too_much old (answers old asked) then Some Full 
 
 abbrev pub after_command : Simulated → Asked → Simulated
 after_command old asked = with_told (simulated_after_answer old asked) (answers old asked)
+
+-- a command is answered, where what is told has room
+abbrev pub AnswersCommand : Asked → Simulated → Simulated → Result (Unit {0}) SimFault → Type 0
+AnswersCommand asked old new result = IsDone (command_fault old asked) (after_command old asked) old new result
+
+-- the answer to a command is told, where it has room
+abbrev pub TellsAnswer : Asked → Simulated → Simulated → Result (Unit {0}) SimFault → Type 0
+TellsAnswer asked old new result =
+    let answer : List Told = answer_to_command old.config asked ∷ [] in
+    IsDone (if is_too_much old answer then Some Full else None) (with_told old answer) old new result
 
 -- a packet for a phone is completed, unless its packets are held
 abbrev pub completions_for : Simulated → ℕ → List Told

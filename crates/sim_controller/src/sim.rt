@@ -2,7 +2,7 @@ ghost use Rattle.std.specs.Prelude.{◌≡◌, ◌<◌, ◌≤◌, [], ◌∷◌
 ghost use Rattle.std.specs.Bool.{OnTrue, OnFalse};
 ghost use Rattle.std.specs.Option.{option_map};
 ghost use Rattle.sim_controller.specs.Acts.{SimulatedAct, act_of, phone_in, payload_in, act_fault, telling_fault, simulated_after_act, DoesAct};
-ghost use Rattle.sim_controller.specs.Answers.{completion_fault, completions_for, command_fault, after_command, data_fault, after_data, host_fault, after_host};
+ghost use Rattle.sim_controller.specs.Answers.{completion_fault, completions_for, data_fault, after_data, host_fault, after_host, AnswersCommand, TellsAnswer};
 ghost use Rattle.sim_controller.specs.Calls.{GivesInOrder, TellsWhatIsRead};
 ghost use Rattle.sim_controller.specs.FromHost.{host_packet_of, fragment_that, taken_of};
 ghost use Rattle.sim_controller.specs.Hearing.{HearsItsFrames};
@@ -96,21 +96,15 @@ impl Sim {
         match act {
             PhoneAct::Connect { phone, peer } => self.connect(phone, peer),
             PhoneAct::Drop { phone } => self.leave(phone),
-            PhoneAct::Encrypt { phone, rand, ediv } => {
-                self.tell_of(phone, Told::LongTermKeyRequest { phone, rand, ediv })
-            },
-            PhoneAct::Clear { phone } => {
-                self.tell_of(phone, Told::EncryptionChange { phone, enabled: 0 })
-            },
+            PhoneAct::Encrypt { phone, rand, ediv } => self.encrypt(phone, rand, ediv),
+            PhoneAct::Clear { phone } => self.clear(phone),
             PhoneAct::Send {
                 phone,
                 cid,
                 payload,
             } => self.send(phone, cid, payload),
             PhoneAct::Hold { phone } => self.hold(phone),
-            PhoneAct::Done { phone, packets } => {
-                self.tell_of(phone, Told::CompletedPackets { phone, packets })
-            },
+            PhoneAct::Done { phone, packets } => self.done(phone, packets),
         }
     }
 
@@ -146,6 +140,27 @@ impl Sim {
         )?;
         self.phones[usize::from(phone)].leave();
         Ok(())
+    }
+
+    fn encrypt(&mut self, phone: u8, rand: [u8; 8], ediv: u16) -> Result<(), SimFault>
+        requires { phone < PHONES }
+        ensures { DoesAct (SimulatedAct.Encrypt phone rand ediv) self.old self.new result }
+    {
+        self.tell_of(phone, Told::LongTermKeyRequest { phone, rand, ediv })
+    }
+
+    fn clear(&mut self, phone: u8) -> Result<(), SimFault>
+        requires { phone < PHONES }
+        ensures { DoesAct (SimulatedAct.Clear phone) self.old self.new result }
+    {
+        self.tell_of(phone, Told::EncryptionChange { phone, enabled: 0 })
+    }
+
+    fn done(&mut self, phone: u8, packets: u16) -> Result<(), SimFault>
+        requires { phone < PHONES }
+        ensures { DoesAct (SimulatedAct.Done phone packets) self.old self.new result }
+    {
+        self.tell_of(phone, Told::CompletedPackets { phone, packets })
     }
 
     /// Has the host told something of a phone that is connected.
@@ -186,37 +201,59 @@ impl Sim {
 
     /// Answers a command.
     fn answer(&mut self, asked: Asked) -> Result<(), SimFault>
-        ensures { IsDone (command_fault self.old asked)
-            (after_command self.old asked) self.old self.new result }
+        ensures { AnswersCommand asked self.old self.new result }
     {
-        let answer = answer_to(&self.config, asked);
         match asked {
-            Asked::Disconnect { handle, reason } => match here_with(&self.phones, handle) {
-                Some(phone) => {
-                    let ended = Told::DisconnectionComplete {
-                        phone,
-                        reason: LOCAL_HOST_TERMINATED,
-                    };
-                    tell_both(&mut self.waiting, answer, ended)?;
-                    self.phones[usize::from(phone)].end(reason);
-                    Ok(())
-                }
-                None => tell(&mut self.waiting, answer),
-            },
-            Asked::GiveKey { handle } => match here_with(&self.phones, handle) {
-                Some(phone) => {
-                    let encrypted = Told::EncryptionChange { phone, enabled: 1 };
-                    tell_both(&mut self.waiting, answer, encrypted)
-                }
-                None => tell(&mut self.waiting, answer),
-            },
-            Asked::Advertise { enable } => {
-                tell(&mut self.waiting, answer)?;
-                self.advertising = enable;
-                Ok(())
-            }
-            _ => tell(&mut self.waiting, answer),
+            Asked::Disconnect { handle, reason } => self.disconnect(handle, reason),
+            Asked::GiveKey { handle } => self.give_key(handle),
+            Asked::Advertise { enable } => self.advertise(enable),
+            _ => self.tell_answer(asked),
         }
+    }
+
+    /// Ends the connection with a handle, where a phone has it.
+    fn disconnect(&mut self, handle: u16, reason: u8) -> Result<(), SimFault>
+        ensures { AnswersCommand (Asked.Disconnect handle reason) self.old self.new result }
+    {
+        let asked = Asked::Disconnect { handle, reason };
+        let Some(phone) = here_with(&self.phones, handle) else {
+            return self.tell_answer(asked);
+        };
+        let ended = Told::DisconnectionComplete {
+            phone,
+            reason: LOCAL_HOST_TERMINATED,
+        };
+        tell_both(&mut self.waiting, answer_to(&self.config, asked), ended)?;
+        self.phones[usize::from(phone)].end(reason);
+        Ok(())
+    }
+
+    /// Encrypts the connection with a handle, where a phone has it.
+    fn give_key(&mut self, handle: u16) -> Result<(), SimFault>
+        ensures { AnswersCommand (Asked.GiveKey handle) self.old self.new result }
+    {
+        let asked = Asked::GiveKey { handle };
+        let Some(phone) = here_with(&self.phones, handle) else {
+            return self.tell_answer(asked);
+        };
+        let encrypted = Told::EncryptionChange { phone, enabled: 1 };
+        tell_both(&mut self.waiting, answer_to(&self.config, asked), encrypted)
+    }
+
+    /// Advertises, or does no longer.
+    fn advertise(&mut self, enable: bool) -> Result<(), SimFault>
+        ensures { AnswersCommand (Asked.Advertise enable) self.old self.new result }
+    {
+        self.tell_answer(Asked::Advertise { enable })?;
+        self.advertising = enable;
+        Ok(())
+    }
+
+    /// Has the host told the answer to a command.
+    fn tell_answer(&mut self, asked: Asked) -> Result<(), SimFault>
+        ensures { TellsAnswer asked self.old self.new result }
+    {
+        tell(&mut self.waiting, answer_to(&self.config, asked))
     }
 
     /// Writes the first packet that waits for the host in place of what `out` holds. There is none,
