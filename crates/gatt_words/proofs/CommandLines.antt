@@ -5,7 +5,7 @@ use Rattle.std.proofs.lemmas.List.{at_drop_more}
 use Rattle.std.specs.Box.{box_value}
 use Rattle.std.specs.Prelude.{IfOk, Result, Ok, Err}
 use Rattle.clap.specs.Built.{AddsArg, AddsSubcommand}
-use Rattle.clap.specs.Words.{App, HasKind, IsAmong, Kinds, Shape, Text, all_of, app_of, shape_of, with_subcommand, fault_of, first_of, first_value, matched_of, one_of, one_text, is_simple_and_free, kind_of, raw_values, rows_of, subcommand_name_of, subcommand_of, subcommand_rows, subcommand_rows_of, takes}
+use Rattle.clap.specs.Words.{App, HasKind, IsAmong, Kinds, Shape, Text, all_of, app_of, shape_of, with_subcommand, fault_of, first_of, first_value, matched_of, one_of, one_text, is_simple, is_simple_and_free, kind_of, raw_values, rows_of, subcommand_name_of, subcommand_of, subcommand_rows, subcommand_rows_of, takes}
 use Rattle.clap.specs.declared.builder.Arg.{Arg}
 use Rattle.clap.specs.declared.builder.Command.{Command}
 use Rattle.clap.specs.declared.builder.Command.TheViews.{out-Command}
@@ -23,43 +23,55 @@ use Rattle.gatt_words.specs.declared.words.Refusal.TheVariants.{Shown, Misunders
 
 -- the word `att` alone passes
 pub att_taken : (program : List ℕ) → takes command_line (program ∷ codes "att" ∷ []) ≡ true
-unfolding clap_on_literals
+unfolding clap_on_literals command_line
 att_taken program = refl
 
 -- the word `att` alone names the command `att`
 pub att_named : (program : List ℕ)
     → option_map (λ named. named.0) (subcommand_of command_line (program ∷ codes "att" ∷ [])) ≡ Some (codes "att")
-unfolding clap_on_literals
+unfolding clap_on_literals command_line
 att_named program = refl
 
 -- with no word the command is missing
 pub none_faults : fault_of command_line ([] ∷ []) ≡ MissingSubcommand ∷ []
-unfolding clap_on_literals
+unfolding clap_on_literals command_line
 none_faults = refl
 
 -- the word `--help` alone asks for help
 pub help_faults : fault_of command_line ([] ∷ codes "--help" ∷ []) ≡ DisplayHelp ∷ []
-unfolding clap_on_literals
+unfolding clap_on_literals command_line
 help_faults = refl
 
 -- the word `--version` alone asks for the version
 pub version_faults : fault_of command_line ([] ∷ codes "--version" ∷ []) ≡ DisplayVersion ∷ []
-unfolding clap_on_literals
+unfolding clap_on_literals command_line
 version_faults = refl
+
+-- it is simple, and no argument is global
+pub line_simple : is_simple command_line ≡ true
+unfolding clap_on_literals command_line
+line_simple = refl
+
+pub line_simple_and_free : is_simple_and_free command_line ≡ true
+unfolding clap_on_literals command_line
+line_simple_and_free = refl
 
 -- only the words behind the program's name matter
 pub takes_behind : (words rest : List (List ℕ)) → drop 1 words ≡ rest
     → takes command_line words ≡ takes command_line ([] ∷ rest)
+unfolding command_line
 takes_behind [] rest e = rw (← e) refl
 takes_behind (program ∷ words) rest e = rw e refl
 
 pub named_behind : (words rest : List (List ℕ)) → drop 1 words ≡ rest
     → subcommand_of command_line words ≡ subcommand_of command_line ([] ∷ rest)
+unfolding command_line
 named_behind [] rest e = rw (← e) refl
 named_behind (program ∷ words) rest e = rw e refl
 
 pub faults_behind : (words rest : List (List ℕ)) → drop 1 words ≡ rest
     → fault_of command_line words ≡ fault_of command_line ([] ∷ rest)
+unfolding command_line
 faults_behind [] rest e = rw (← e) refl
 faults_behind (program ∷ words) rest e = rw e refl
 
@@ -125,13 +137,13 @@ pub kinds_at : (app : App) (words rest : List (List ℕ)) (error : Error) → ap
     → HasKind (fault_of command_line ([] ∷ rest)) error
 kinds_at app words rest error app_is e h =
     let P : Kinds → Type 0 = λ kinds. HasKind kinds error in
-    subst P (ap (λ a. fault_of a words) app_is ∙ faults_behind words rest e) (h (ap is_simple_and_free app_is))
+    subst P (ap (λ a. fault_of a words) app_is ∙ faults_behind words rest e) (h (ap is_simple_and_free app_is ∙ line_simple_and_free))
 
 -- words with a fault have no matches
 pub faulty : (app : App) (words rest : List (List ℕ)) (kind : ErrorKind) → app ≡ command_line → drop 1 words ≡ rest
     → (is_simple_and_free app ≡ true → fault_of app words ≡ []) → fault_of command_line ([] ∷ rest) ≡ kind ∷ [] → ⊥
 faulty app words rest kind app_is e h faults =
-    let none : fault_of app words ≡ [] = h (ap is_simple_and_free app_is) in
+    let none : fault_of app words ≡ [] = h (ap is_simple_and_free app_is ∙ line_simple_and_free) in
     let some : fault_of app words ≡ kind ∷ [] = ap (λ a. fault_of a words) app_is ∙ faults_behind words rest e ∙ faults in
     cc (none, some)
 

@@ -120,7 +120,7 @@ program_shape = record (new_app (codes "gatt_shell")).top {
 abbrev pub program_line : App
 program_line = record { top = program_shape; subs = [] }
 
-abbrev pub command_line : App
+unfoldable pub command_line : App
 command_line =
     with_subcommand (with_subcommand (with_subcommand (with_subcommand (with_subcommand (with_subcommand program_line
     att_shape) check_shape) show_shape) run_shape) serve_shape) host_shape

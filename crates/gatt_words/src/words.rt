@@ -194,6 +194,7 @@ fn program<'a>(alloc: Global) -> Result<Command<'a>, AllocError>
 }
 
 /// The command line that the program takes.
+#[tactic(auto, unfolding(crate::specs::CommandLine::command_line))]
 fn command<'a>(alloc: Global) -> Result<Command<'a>, AllocError>
     ensures { IfOk result (λ command. app_of command ≡ command_line) }
 {
