@@ -59,8 +59,10 @@ handles_or_dash (first ∷ rest) = first ∷ rest
 unfoldable pub way_line : List Attr → Option KeyFacts → Way → Octets
 way_line attributes key way = way_word way ++ handles_or_dash (flat_map (handle_text way key) attributes) ++ 10 ∷ []
 
+unfoldable pub way_lines : List Attr → Option KeyFacts → Octets
+way_lines attributes key =
+    way_line attributes key Reading ++ way_line attributes key Writing ++ way_line attributes key Commanding ++ way_line attributes key Hearing
+
 -- a line that names who it is, and those lines
 unfoldable pub holder_lines : Contents → Octets → Option KeyFacts → Octets
-holder_lines table name key =
-    name ++ 10 ∷ way_line table.attributes key Reading ++ way_line table.attributes key Writing
-    ++ way_line table.attributes key Commanding ++ way_line table.attributes key Hearing
+holder_lines table name key = name ++ 10 ∷ way_lines table.attributes key

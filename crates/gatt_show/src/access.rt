@@ -2,7 +2,7 @@
 
 ghost use Rattle.std.specs.Prelude.{◌≡◌, ◌++◌, IfOk, OnOk};
 ghost use Rattle.std.specs.List.{flat_map};
-ghost use Rattle.gatt_show.specs.Access.{handle_text, handles_or_dash, holder_lines, is_role_told, left_need, permits, standing_with_key, way_line, way_word};
+ghost use Rattle.gatt_show.specs.Access.{handle_text, handles_or_dash, holder_lines, is_role_told, left_need, permits, standing_with_key, way_line, way_lines, way_word};
 
 use crate::cells::add_number;
 use crate::line::all_attributes;
@@ -39,6 +39,20 @@ pub fn add_holder(
 {
     text.extend_from_slice(name)?;
     text.extend_from_slice(b"\n")?;
+    add_ways(alloc, text, table, key)
+}
+
+/// Adds the line of each way.
+#[tactic(auto, unfolding(crate::specs::Access::way_lines))]
+fn add_ways(
+    alloc: Global,
+    text: &mut Vec<u8>,
+    table: &Table,
+    key: Option<KeyFacts>,
+) -> Result<(), AllocError>
+    ensures ok { OnOk result (text.new.items
+        ≡ text.old.items ++ way_lines table.now.attributes key) }
+{
     add_way(alloc, text, table, key, Way::Reading)?;
     add_way(alloc, text, table, key, Way::Writing)?;
     add_way(alloc, text, table, key, Way::Commanding)?;

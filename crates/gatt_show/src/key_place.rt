@@ -124,5 +124,5 @@ fn stays_with(
     key: &str,
     good: &str,
 ) -> Result<bool, AllocError> {
-    refused.has_fault(&front.with_keys(&Kept::With(key, good, &[])))
+    refused.has_fault_with(front, &Kept::With(key, good, &[]))
 }

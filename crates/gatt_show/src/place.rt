@@ -55,8 +55,13 @@ fn add_fault(
         format,
         fault,
     };
-    match fault {
-        Fault::Table(fault) => add_table_place(text, &refused, fault),
-        Fault::Keys(fault) => add_key_place(text, &refused, fault),
+    add_place(text, &refused)
+}
+
+/// Adds where a document that is refused has its fault, and what it is.
+fn add_place(text: &mut Vec<u8>, refused: &Refused<'_>) -> Result<(), AllocError> {
+    match refused.fault {
+        Fault::Table(fault) => add_table_place(text, refused, fault),
+        Fault::Keys(fault) => add_key_place(text, refused, fault),
     }
 }

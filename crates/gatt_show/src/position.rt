@@ -20,23 +20,37 @@ pub fn add_no_toml(text: &mut Vec<u8>, octets: &[u8], error: &Error) -> Result<(
     text.extend_from_slice(error.message().as_bytes())
 }
 
-/// Adds the line and the column of the octet at a place, both counted from 1, columns in characters.
-fn add_position(text: &mut Vec<u8>, octets: &[u8], at: usize) -> Result<(), AllocError> {
-    let before = octets.get(..at).unwrap_or(octets);
-    let mut line: u64 = 1;
-    let mut column: u64 = 1;
-    for octet in before {
-        if *octet == b'\n' {
-            line = line.saturating_add(1);
-            column = 1;
-        } else if !is_inside(*octet) {
-            column = column.saturating_add(1);
+/// A place in a text: its line, and its column in characters, both counted from 1.
+#[derive(Clone, Copy)]
+struct Position {
+    line: u64,
+    column: u64,
+}
+
+impl Position {
+    /// The place behind some octets.
+    fn behind(octets: &[u8]) -> Position {
+        let mut line: u64 = 1;
+        let mut column: u64 = 1;
+        for octet in octets {
+            if *octet == b'\n' {
+                line = line.saturating_add(1);
+                column = 1;
+            } else if !is_inside(*octet) {
+                column = column.saturating_add(1);
+            }
         }
+        Position { line, column }
     }
+}
+
+/// Adds the line and the column of the octet at a place.
+fn add_position(text: &mut Vec<u8>, octets: &[u8], at: usize) -> Result<(), AllocError> {
+    let position = Position::behind(octets.get(..at).unwrap_or(octets));
     text.extend_from_slice(b"line ")?;
-    add_number(text, line)?;
+    add_number(text, position.line)?;
     text.extend_from_slice(b", column ")?;
-    add_number(text, column)
+    add_number(text, position.column)
 }
 
 /// Whether an octet goes on with a character that an earlier one has begun.

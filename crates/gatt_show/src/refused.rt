@@ -61,27 +61,32 @@ pub fn fault_of(
     let Ok(file) = toml::table_to_string(alloc, document) else {
         return Err(AllocError);
     };
+    file_fault(alloc, file.as_str(), format)
+}
+
+/// The first fault of a file.
+fn file_fault(alloc: Global, file: &str, format: Format) -> Result<Option<Fault>, AllocError> {
     match format {
-        Format::Table => table_fault(alloc, file.as_str()),
-        Format::Keys => key_fault(alloc, file.as_str()),
+        Format::Table => table_fault(alloc, file),
+        Format::Keys => key_fault(alloc, file),
     }
 }
 
 /// The first fault of a table file.
 fn table_fault(alloc: Global, file: &str) -> Result<Option<Fault>, AllocError> {
-    match att_table::Table::read(alloc, file) {
-        Ok(_) => Ok(None),
-        Err(TableFault::OutOfMemory) => Err(AllocError),
-        Err(fault) => Ok(Some(Fault::Table(fault))),
+    match att_table::Table::read(alloc, file).err() {
+        None => Ok(None),
+        Some(TableFault::OutOfMemory) => Err(AllocError),
+        Some(fault) => Ok(Some(Fault::Table(fault))),
     }
 }
 
 /// The first fault of a key file.
 fn key_fault(alloc: Global, file: &str) -> Result<Option<Fault>, AllocError> {
-    match Keys::read(alloc, file) {
-        Ok(_) => Ok(None),
-        Err(KeyFault::OutOfMemory) => Err(AllocError),
-        Err(fault) => Ok(Some(Fault::Keys(fault))),
+    match Keys::read(alloc, file).err() {
+        None => Ok(None),
+        Some(KeyFault::OutOfMemory) => Err(AllocError),
+        Some(fault) => Ok(Some(Fault::Keys(fault))),
     }
 }
 
@@ -92,9 +97,14 @@ impl Refused<'_> {
         Ok(fault_of(self.alloc, &kept, self.format)? == Some(self.fault))
     }
 
-    /// Whether a front has the fault without some keys of its last element.
+    /// Whether a front has the fault with these keys of its last table.
+    pub fn has_fault_with(&self, front: &Front<'_>, keys: &Kept<'_>) -> Result<bool, AllocError> {
+        self.has_fault(&front.with_keys(keys))
+    }
+
+    /// Whether a front has the fault without some keys of its last table.
     pub fn has_fault_without(&self, front: &Front<'_>, keys: &[&str]) -> Result<bool, AllocError> {
-        self.has_fault(&front.with_keys(&Kept::Without(keys)))
+        self.has_fault_with(front, &Kept::Without(keys))
     }
 
     /// The shortest front of the document that has its first fault, found level by level from the root

@@ -208,13 +208,22 @@ fn add_allowed(
 ) -> Result<(), AllocError> {
     let mut is_first = true;
     for (word, alone) in &PROPERTIES {
-        let with = Kept::With("properties", alone, &["config"]);
-        if !refused.has_fault(&front.with_keys(&with))? {
+        if is_allowed(refused, front, alone)? {
             add_one_of(text, word, is_first)?;
             is_first = false;
         }
     }
     Ok(())
+}
+
+/// Whether the last element of a front may have these properties, without a client configuration.
+fn is_allowed(
+    refused: &Refused<'_>,
+    front: &Front<'_>,
+    properties: &str,
+) -> Result<bool, AllocError> {
+    let with = Kept::With("properties", properties, &["config"]);
+    Ok(!refused.has_fault_with(front, &with)?)
 }
 
 /// Adds a word of several, behind a comma unless it is the first.

@@ -96,7 +96,7 @@ fn add_wrong_key_of(
 
 /// Whether a key of the last table of a front has the fault where it stands alone.
 fn is_wrong_alone(refused: &Refused<'_>, front: &Front<'_>, key: &str) -> Result<bool, AllocError> {
-    refused.has_fault(&front.with_keys(&Kept::Alone(key)))
+    refused.has_fault_with(front, &Kept::Alone(key))
 }
 
 /// Adds why a key is refused where it stands alone.
@@ -108,7 +108,7 @@ fn add_wrong(
     is_integer: bool,
 ) -> Result<(), AllocError> {
     for (value, name) in &TYPES {
-        if !refused.has_fault(&front.with_keys(&Kept::AloneAs(key, value)))? {
+        if !refused.has_fault_with(front, &Kept::AloneAs(key, value))? {
             if is_integer && *name == INTEGER {
                 return add_range(text, refused, front, Others::Left, key, 16);
             }
@@ -189,6 +189,5 @@ fn is_accepted(
 ) -> Result<bool, AllocError> {
     let mut digits = Buffer::new();
     let digits = digits.format(number as u64);
-    let kept = others.with(key, digits);
-    Ok(!refused.has_fault(&front.with_keys(&kept))?)
+    Ok(!refused.has_fault_with(front, &others.with(key, digits))?)
 }
