@@ -101,13 +101,24 @@ impl HostState {
     pub(crate) fn end_event(&mut self, last: LastEvent)
         ensures { self.new ≡ with_last last (after_no_change self.old) }
     {
+        self.hear(None, &[], &[]);
         self.last = last;
+    }
+
+    /// Ends an event: the connections hear of the values that it notified to them, that of the slot
+    /// `own` of those of `here` and the others of `handles`, and of what is then due. Nothing is told of
+    /// it as yet.
+    #[inline(always)]
+    fn hear(&mut self, own: Option<usize>, here: &[u16], handles: &[u16])
+        ensures { self.new ≡ server_after_event own here.now handles.now self.old }
+    {
         let moment = Moment {
             table: &self.table,
             rows: &self.rows,
             now: self.time,
         };
-        self.slots.hear(moment, None, &[], &[]);
+        self.slots.hear(moment, own, here, handles);
+        self.last = LastEvent::Quiet;
     }
 
     /// Time goes by, in milliseconds.
@@ -128,13 +139,7 @@ impl HostState {
         ensures { self.new ≡ after_update handle value.now self.old }
     {
         self.table.set(handle, value);
-        self.last = LastEvent::Quiet;
-        let moment = Moment {
-            table: &self.table,
-            rows: &self.rows,
-            now: self.time,
-        };
-        self.slots.hear(moment, None, &[], &[handle]);
+        self.hear(None, &[], &[handle]);
     }
 
     /// The application authorizes the connection of a slot up to a moment.
@@ -306,16 +311,11 @@ impl HostState {
         ensures { self.new ≡ with_last last (server_after_event (Some place)
             (if due then option_to_list self.old.changer else []) [] self.old) }
     {
-        self.last = last;
-        let moment = Moment {
-            table: &self.table,
-            rows: &self.rows,
-            now: self.time,
-        };
         match self.changer {
-            Some(changer) if due => self.slots.hear(moment, Some(place), &[changer], &[]),
-            _ => self.slots.hear(moment, Some(place), &[], &[]),
+            Some(changer) if due => self.hear(Some(place), &[changer], &[]),
+            _ => self.hear(Some(place), &[], &[]),
         }
+        self.last = last;
     }
 
     /// A table replaces the one that stands, which is given back.
@@ -328,25 +328,12 @@ impl HostState {
         let old = mem::replace(&mut self.table, table);
         self.changer = self.table.changer();
         self.rows.owe_changes(self.changer);
-        self.last = LastEvent::Quiet;
         match self.changer {
             Some(changer) => {
                 self.table.set(changer, &ALL_CHANGED);
-                let moment = Moment {
-                    table: &self.table,
-                    rows: &self.rows,
-                    now: self.time,
-                };
-                self.slots.hear(moment, None, &[], &[changer]);
+                self.hear(None, &[], &[changer]);
             }
-            None => {
-                let moment = Moment {
-                    table: &self.table,
-                    rows: &self.rows,
-                    now: self.time,
-                };
-                self.slots.hear(moment, None, &[], &[]);
-            }
+            None => self.hear(None, &[], &[]),
         }
         old
     }

@@ -1,7 +1,7 @@
 //! Packets from the controller, as what happens to a host.
 
 ghost use Rattle.std.specs.Bool.{OnTrue};
-ghost use Rattle.std.specs.Prelude.{◌≡◌, ◌<◌, false, true, length, get_or, IsSome, IsOk, IfSome, IfErr, Some, OnErr};
+ghost use Rattle.std.specs.Prelude.{◌≡◌, ◌<◌, false, true, length, get_or, IsSome, IsOk, IfSome, IfErr, Ok, Some, OnErr};
 ghost use Rattle.std.specs.Result.{result_err};
 ghost use Rattle.std.specs.Option.{option_and_then, option_map_or};
 ghost use Rattle.gatt_laws.specs.machine.Packets.{fragment_event, frame_event, of_octets, of_frame};
@@ -16,7 +16,7 @@ ghost use Rattle.gatt_slots.specs.Slots.{IsThere};
 ghost use Rattle.le_acl.specs.Fragment.{fragment_of, Beginning};
 ghost use Rattle.le_acl.specs.Frame.{is_frame};
 ghost use Rattle.le_acl.specs.Reassembler.{assembled_of, no_assembly};
-ghost use Rattle.le_hci.specs.Event.{event_of};
+ghost use Rattle.le_hci.specs.Event.{event_of, report_of};
 ghost use Rattle.le_l2cap.specs.Frame.{frame_of};
 
 use crate::frames::Frames;
@@ -74,26 +74,38 @@ impl HostState {
         ensures frames_unchanged { OnErr result (frames.new ≡ frames.old) }
     {
         match read_event(octets) {
-            Ok(
-                Event::CommandComplete {
-                    allowed,
-                    opcode,
-                    parameters,
-                },
-            ) => self.command_complete(allowed, opcode, parameters),
-            Ok(
-                Event::CommandStatus {
-                    status,
-                    allowed,
-                    opcode,
-                },
-            ) => self.command_status(status, allowed, opcode),
-            Ok(Event::HardwareError { code }) => Err(HostFault::Hardware(code)),
-            Ok(event) => {
-                self.reported(frames, &event);
+            Ok(event) => self.take_reported(frames, &event),
+            Err(BadEvent(code)) => Err(HostFault::BadEvent(code)),
+        }
+    }
+
+    /// Takes in an event that has the form of its kind.
+    #[inline(always)]
+    fn take_reported(&mut self, frames: &mut Frames, event: &Event<'_>) -> Result<(), HostFault>
+        ensures taken { IsOk result → TakesEvent (Ok (report_of event.now)) self.old self.new }
+        ensures frames { frames.new
+            ≡ frames_after_event self.old (Ok (report_of event.now)) frames.old }
+        ensures stops { IfErr result
+            (λ fault. event_stop (Ok (report_of event.now)) self.old ≡ Some fault) }
+        ensures unchanged { OnErr result (self.new ≡ self.old) }
+        ensures frames_unchanged { OnErr result (frames.new ≡ frames.old) }
+    {
+        match *event {
+            Event::CommandComplete {
+                allowed,
+                opcode,
+                parameters,
+            } => self.command_complete(allowed, opcode, parameters),
+            Event::CommandStatus {
+                status,
+                allowed,
+                opcode,
+            } => self.command_status(status, allowed, opcode),
+            Event::HardwareError { code } => Err(HostFault::Hardware(code)),
+            _ => {
+                self.reported(frames, event);
                 Ok(())
             }
-            Err(BadEvent(code)) => Err(HostFault::BadEvent(code)),
         }
     }
 
