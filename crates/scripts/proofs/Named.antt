@@ -1,6 +1,6 @@
 -- The phones of a script have names.
-use Rattle.std.proofs.Common.{◌≡◌, ℕ, ◌+◌, ◌<◌, ◌≤◌, ◌==◌, Bool, true, false, not, nat_lt, if◌then◌else◌, List, [], ◌∷◌, ◌++◌, length, Option, Some, None, unwrap_or, Result, Ok, Err, IfOk, refl, sym, ◌∙◌, ap, subst, arith}
-use Rattle.std.specs.List.{All, IsDistinct, list_any, position, position_or_len}
+use Rattle.std.proofs.Common.{◌≡◌, ℕ, ◌+◌, ◌<◌, ◌≤◌, ◌==◌, Bool, true, false, not, nat_lt, if◌then◌else◌, List, [], ◌∷◌, ◌++◌, length, Result, Ok, Err, IfOk, refl, subst, arith}
+use Rattle.std.specs.List.{All, IsDistinct, list_any, position_or_len}
 use Rattle.std.specs.Str.{bytes_eq}
 use Rattle.std.proofs.lemmas.Bool.Decides.{nat_tests}
 use Rattle.std.proofs.lemmas.Cmp.{nat_list_eq_equiv}
@@ -23,22 +23,16 @@ use Rattle.scripts.specs.Line.{line_of}
 use Rattle.scripts.specs.Phones.{IsOfPhoneBelow, HasNamedPhones}
 use Rattle.scripts.specs.Script.{Acts, no_acts, phone_number_in, with_name, with_act, with_act_of, script_with_said, script_with_line, script_with_lines, number_sign, lines_of_script, script_of}
 
--- the place that is found, or else the end
-place_or_end : {X : Type 0} (test : X → Bool) (xs : List X) → unwrap_or (position test xs) (length xs) ≡ position_or_len test xs
-place_or_end test xs =
-    let within = prefix_len-le-length (λ x. not (test x)) xs in
-    elim (nat_lt (position_or_len test xs) (length xs)) as (λ found. nat_lt (position_or_len test xs) (length xs) ≡ found
-    → unwrap_or (if found then Some (position_or_len test xs) else None) (length xs) ≡ position_or_len test xs) [
-      | true ↦ λ found. refl
-      | false ↦ λ missing. grind (arith, nat_tests)
-    ] refl
-
 missing_at_end : {X : Type 0} (test : X → Bool) (xs : List X) → position_or_len test xs ≡ length xs → list_any test xs ≡ false
 missing_at_end test [] at = refl
 missing_at_end test (y ∷ ys) at = grind (arith, common_steps, missing_at_end test ys)
 
 number_within : (names : List Octets) (name : Octets) → phone_number_in names name ≤ length names
-number_within names name = omega (arith, place_or_end (bytes_eq name) names, prefix_len-le-length (λ x. not (bytes_eq name x)) names)
+number_within names name = grind (arith, nat_tests, prefix_len-le-length (λ x. not (bytes_eq name x)) names)
+
+-- a name that is not found has the number behind all of them
+number_at_end : (names : List Octets) (name : Octets) → phone_number_in names name ≡ length names → position_or_len (bytes_eq name) names ≡ length names
+number_at_end names name at = grind (arith, nat_tests, prefix_len-le-length (λ x. not (bytes_eq name x)) names)
 
 below_more : (count more : ℕ) → count ≤ more → (one : Act) → IsOfPhoneBelow count one → IsOfPhoneBelow more one
 below_more count more fits (act.Phone phone does) below = omega (arith, fits, below)
@@ -67,7 +61,7 @@ act_named script name act is below has =
           record {
             few = omega (arith, place, below, longer);
             distinct = IsDistinct-push nat_list_eq_equiv script.names name has.distinct
-                (missing_at_end (bytes_eq name) script.names (sym (place_or_end (bytes_eq name) script.names) ∙ place));
+                (missing_at_end (bytes_eq name) script.names (number_at_end script.names name place));
             named = All-push (IsOfPhoneBelow (length (script.names ++ name ∷ []))) script.acts (act (phone_number_in script.names name))
                 (all_below_more (length script.names) (length (script.names ++ name ∷ [])) (omega (arith, longer)) script.acts has.named)
                 (is (phone_number_in script.names name) (length (script.names ++ name ∷ [])) (omega (arith, place, longer)));
