@@ -28,8 +28,10 @@ pub struct HostConfig {
 /// The configuration as a host takes it; none where the advertising data is too long.
 pub(crate) fn to_config(config: &HostConfig) -> Option<Config>
     ensures config { IfSome result (λ given. given ≡ config_given config.now) }
-    ensures fits { IsSome result → nat_lt MAX_ADVERTISING_DATA config.now.advertising_length ≡ false }
-    ensures too_long { IsNone result → nat_lt MAX_ADVERTISING_DATA config.now.advertising_length ≡ true }
+    ensures fits { IsSome result
+        → nat_lt MAX_ADVERTISING_DATA config.now.advertising_length ≡ false }
+    ensures too_long { IsNone result
+        → nat_lt MAX_ADVERTISING_DATA config.now.advertising_length ≡ true }
 {
     let octets = config
         .advertising

@@ -69,8 +69,10 @@ fn tell_others(waiting: &mut HeapCircularBuffer<Told>, phone: u8, octets: &[u8],
     requires capacity { waiting.old.capacity ≡ MAX_PACKETS }
     requires cut_least { 1 ≤ cut }
     requires cut_most { cut ≤ MAX_ACL_LEN }
-    requires room { length waiting.old.items + length (told_others phone cut octets.now) ≤ MAX_PACKETS }
-    ensures { waiting.new ≡ buffer (waiting.old.items ++ told_others phone cut octets.now) MAX_PACKETS }
+    requires room { length waiting.old.items + length (told_others phone cut octets.now)
+        ≤ MAX_PACKETS }
+    ensures { waiting.new
+        ≡ buffer (waiting.old.items ++ told_others phone cut octets.now) MAX_PACKETS }
 {
     let mut left = octets;
     while !left.is_empty() {
