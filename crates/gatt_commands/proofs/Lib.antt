@@ -3,6 +3,7 @@ pub mod Echoing
 pub mod Exchanging
 pub mod Fronts
 pub mod Hearing
+pub mod Joined
 pub mod Loop
 pub mod LoopExamples
 pub mod Noting
