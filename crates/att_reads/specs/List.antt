@@ -8,6 +8,7 @@ use Rattle.att_attributes.specs.Group.{group_end_at}
 use Rattle.att_table.specs.Table.{Contents}
 use Rattle.att_reads.specs.declared.list.Listing.{Listing}
 use Rattle.att_reads.specs.declared.list.Listing.TheVariants.{Values, Groups}
+use Rattle.att_reads.specs.declared.list.TheConstants.{MAX_ELEMENT}
 use Rattle.att_reads.specs.Access.{read_refusal, value_for}
 use Rattle.att_reads.specs.Listing.{Candidate, first_refusal, size_of_first, elements_within}
 use Rattle.att_reads.specs.Refusals.{unless_refused, not_found}
@@ -22,9 +23,9 @@ abbrev pub head_of : Listing → ℕ
 head_of Values = 2
 head_of Groups = 4
 
--- how much of a value is listed: what fits beside its handles, with a length that one octet tells
+-- how much of a value is listed: what fits beside its handles, in the answer and in the most octets of an element
 abbrev pub cut_of : Listing → Mtu → ℕ
-cut_of listing mtu = min (mtu - 2 - head_of listing) (255 - head_of listing)
+cut_of listing mtu = min (mtu - 2 - head_of listing) (MAX_ELEMENT - head_of listing)
 
 -- an attribute with the front of its value; a group has its last handle too
 abbrev pub element_of : Listing → Contents → Handle → Octets → Element

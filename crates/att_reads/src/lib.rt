@@ -9,3 +9,4 @@ mod reader;
 mod value;
 
 pub use answer::answer_read;
+pub use list::MAX_ELEMENT;

@@ -13,6 +13,10 @@ use att_numbers::{error_code, opcode};
 use att_pdu::PduBuf;
 use att_table::Table;
 
+/// The most octets of an attribute in a list, with its handles: their number is told by one octet.
+/// Core 5.0, Vol 3 Part F, 3.4.4.2 and 3.4.4.10.
+pub const MAX_ELEMENT: u16 = 255;
+
 /// What is listed.
 #[derive(Clone, Copy)]
 pub enum Listing {
@@ -43,13 +47,13 @@ impl Listing {
         }
     }
 
-    /// The front of a value that is listed at an ATT_MTU: what fits beside its handles, with a
-    /// length that one octet tells.
+    /// The front of a value that is listed at an ATT_MTU: what fits beside its handles, in the
+    /// answer and in `MAX_ELEMENT`.
     fn cut<'a>(self, value: &'a [u8], mtu: u16) -> &'a [u8]
         requires { 23 ≤ mtu }
         ensures { result.now ≡ take (cut_of self mtu) value.now }
     {
-        let most = (mtu - 2 - self.head()).min(255 - self.head());
+        let most = (mtu - 2 - self.head()).min(MAX_ELEMENT - self.head());
         &value[..value.len().min(usize::from(most))]
     }
 

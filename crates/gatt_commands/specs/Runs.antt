@@ -5,6 +5,7 @@ use Rattle.att_table.specs.Table.{Contents}
 use Rattle.gatt_host.specs.HostModel.{HostModel}
 use Rattle.gatt_subs.specs.Rows.{Subscriptions}
 use Rattle.gatt_subs.specs.RowsText.{rows_text}
+use Rattle.le_acl.specs.declared.sender.TheConstants.{MIN_ACL_LEN}
 use Rattle.le_security.specs.declared.entry.Entry.{Entry}
 use Rattle.octets.specs.Number.{Octets}
 use Rattle.octets.specs.Stream.{WritesFront}
@@ -17,6 +18,7 @@ use Rattle.gatt_files.specs.declared.fault.ShellFault.{ShellFault}
 use Rattle.gatt_files.specs.declared.fault.ShellFault.TheVariants.{Memory, Unwritten}
 use Rattle.gatt_commands.specs.declared.notes.Notes.{Notes}
 use Rattle.gatt_commands.specs.declared.echo.Shows.{Shows}
+use Rattle.gatt_commands.specs.declared.run.TheConstants.{SIMULATED_PACKETS}
 use Rattle.gatt_commands.specs.Doing.{DoesLine, NotesAct, Stage, stage_of}
 use Rattle.gatt_commands.specs.Echo.{Shown, echo_of, lines_shown, shown_behind, shown_of}
 use Rattle.gatt_commands.specs.Exchange.{ExchangesAll, ExchangesUntil, pair_of}
@@ -29,9 +31,9 @@ use Rattle.gatt_files.specs.Saving.{Save, Saves}
 use Rattle.gatt_files.specs.ScriptFile.{script_in}
 use Rattle.gatt_files.specs.TableFile.{table_in, HasNextTable}
 
--- the controller has buffers for LE connections alone, 8 of 27 octets, and cuts data for the host into pieces of 27 octets
+-- the controller has buffers for LE connections alone, so many of the least length, and cuts data for the host into pieces of that length
 abbrev pub simulated : SimConfig
-simulated = record { acl_len = 27; packets = 8; shared = false; cut = 27 }
+simulated = record { acl_len = MIN_ACL_LEN; packets = SIMULATED_PACKETS; shared = false; cut = MIN_ACL_LEN }
 
 -- a line: what it says is done, and what the host tells of it is noted
 pub record LineIsDone (shows : Bool) (act : Act) (refused : Option Refused) (old acted : Stage) (heard : Notes) : Type 0 where

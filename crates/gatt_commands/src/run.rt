@@ -32,6 +32,7 @@ use gatt_files::{
 };
 use gatt_host::Host;
 use gatt_subs::Rows;
+use le_acl::MIN_ACL_LEN;
 use le_security::Keys;
 use scripts::{Act, Name, Script};
 use sim_controller::{Sim, SimConfig};
@@ -39,12 +40,15 @@ use std::alloc::Global;
 use std::fs::Files;
 use std::io::{Read, Write};
 
+/// How many ACL packets the simulated controller has room for: this profile's own.
+const SIMULATED_PACKETS: u8 = 8;
+
 /// What the simulated controller tells of itself, and how it cuts what it gives.
 const SIMULATED: SimConfig = SimConfig {
-    acl_len: 27,
-    packets: 8,
+    acl_len: MIN_ACL_LEN,
+    packets: SIMULATED_PACKETS,
     shared: false,
-    cut: 27,
+    cut: MIN_ACL_LEN,
 };
 
 /// Reads a table, a table to replace it by, keys, rows and a script, and runs the script with a host

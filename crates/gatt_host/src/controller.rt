@@ -12,6 +12,7 @@ ghost use Rattle.le_hci.specs.declared.peer.Peer.{Peer};
 
 use crate::host_fault::HostFault;
 use arrayvec::ArrayVec;
+use le_acl::MIN_ACL_LEN;
 use le_hci::event_code::COMMAND_COMPLETE;
 use le_hci::{Buffers, Init, InitFault, MAX_ADVERTISING_DATA, opcode};
 use std::marker::Model;
@@ -210,7 +211,7 @@ impl Controller {
 
 /// Stands for a moment where a state of initialisation is taken out.
 const NO_STATE: Init = Init::Ready {
-    length: 27,
+    length: MIN_ACL_LEN,
     packets: 1,
 };
 

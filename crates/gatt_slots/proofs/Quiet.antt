@@ -21,6 +21,7 @@ use Rattle.gatt_slots.specs.SlotState.{SlotState}
 use Rattle.gatt_slots.specs.Places.{is_some_handle, may_listen, waits}
 use Rattle.gatt_slots.specs.Slots.{SlotStates, all_heard, handles_for, slot_heard, heard_from, is_own_place, slot_notified}
 use Rattle.gatt_subs.specs.Rows.{Subscriptions, row_of}
+use Rattle.gatt_subs.specs.declared.pending.TheConstants.{MAX_BACKLOG}
 use Rattle.gatt_subs.specs.declared.pending.Unconfirmed.{Unconfirmed}
 use Rattle.gatt_subs.specs.Indications.{Indications}
 use Rattle.le_acl.specs.Outgoing.{Outgoing}
@@ -37,7 +38,7 @@ none_released : (table : Contents) (ear : HearerFacts) (now : ℕ) (unconfirmed 
 none_released table ear now (Some sent) timed_out outgoing = refl
 none_released table ear now None true outgoing = refl
 none_released table ear now None false outgoing =
-    let few : Bool = nat_lt (length outgoing.queue) 8 in
+    let few : Bool = nat_lt (length outgoing.queue) MAX_BACKLOG in
     let nothing : Option Handle = None in
     let pending : Indications = record { waiting = []; unconfirmed = None; timed_out = false } in
     rw (either few nothing, either few pending) refl
@@ -61,7 +62,7 @@ nothing_heard table now bond slot_state none =
 -- what a value that was notified leaves, by whether it is heard
 abbrev raised-if : Contents → HearerFacts → Handle → Delivery → Bool → Delivery
 raised-if table ear handle told heard = delivery_with_heard told (record {
-  responses = option_to_list (if heard && not (wants_indications ear.row handle) && nat_lt (length told.outgoing.queue) 8
+  responses = option_to_list (if heard && not (wants_indications ear.row handle) && nat_lt (length told.outgoing.queue) MAX_BACKLOG
       then Some (notification_of table.values handle ear.mtu) else None);
   pending = if heard && wants_indications ear.row handle
       then record told.pending { waiting = with_handle told.pending.waiting handle } else told.pending;

@@ -1,4 +1,5 @@
 ghost use Rattle.std.specs.Prelude.{◌≡◌, ◌+◌, ◌≤◌, ◌++◌, length};
+ghost use Rattle.sim_controller.specs.declared.told.TheConstants.{MAX_PARAMETERS};
 ghost use Rattle.sim_controller.specs.Told.{event_octets, sent_octets, sent_of, connection_sent, key_request_sent};
 
 use crate::handle::handle_of;
@@ -141,10 +142,13 @@ impl Told {
     }
 }
 
+/// The most octets of an event's parameters: Core 5.0, Vol 2 Part E, 5.4.4.
+const MAX_PARAMETERS: usize = 255;
+
 /// Writes an event in place of what `out` holds: its code, and its parameters, which stand in two
 /// places. (Core 5.0, Vol 2 Part E, 5.4.4)
 fn write_event(code: u8, first: &[u8], others: &[u8], out: &mut PacketOctets)
-    requires { length first.now + length others.now ≤ 255 }
+    requires { length first.now + length others.now ≤ MAX_PARAMETERS }
     ensures { out.new.items ≡ event_octets code (first.now ++ others.now) }
 {
     out.clear();

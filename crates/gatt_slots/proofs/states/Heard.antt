@@ -19,6 +19,7 @@ use Rattle.gatt_laws.specs.machine.Effect.{values_among}
 use Rattle.gatt_slots.proofs.states.SlotStates.{backlog_kept, becomes, outgoing_live, row_kept, standing_kept}
 use Rattle.gatt_slots.specs.Hearing.{HearerFacts, Delivery, slot_after_hearing, hearer_facts_of, slot_hearer, delivery_in_turn, delivery_of, delivery_when_notifying, delivery_with_heard, with_pdus_queued, with_delivery}
 use Rattle.gatt_slots.specs.SlotState.{SlotState, slot_state_of, slot_state_if_there}
+use Rattle.gatt_subs.specs.declared.pending.TheConstants.{MAX_BACKLOG}
 use Rattle.gatt_subs.specs.Hearing.{bits_for, may_hear_at, wants_indications}
 use Rattle.gatt_subs.specs.Indications.{hears, with_handle}
 use Rattle.gatt_subs.specs.Told.{Hearer, notification_of}
@@ -168,7 +169,7 @@ unheard table ear handle told is =
     let hear : hears told.pending table.attributes ear.row ear.standing handle ≡ false =
     not-first (not told.pending.timed_out) (may_hear_at table.attributes ear.row ear.standing handle) may in
     λ i. delivery_with_heard told (record {
-      responses = option_to_list (if (hear i && not (wants_indications ear.row handle)) && nat_lt (length told.outgoing.queue) 8
+      responses = option_to_list (if (hear i && not (wants_indications ear.row handle)) && nat_lt (length told.outgoing.queue) MAX_BACKLOG
           then Some (notification_of table.values handle ear.mtu) else None);
       pending = if hear i && wants_indications ear.row handle
           then record told.pending { waiting = with_handle told.pending.waiting handle } else told.pending;
