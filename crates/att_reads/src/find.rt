@@ -128,7 +128,8 @@ fn append_matches(reader: Reader<'_>, handles: &[u16], value: &[u8], out: &mut P
     found
 }
 
-/// Appends the group that the attribute at a handle begins, where it fits.
+/// Appends the group that the attribute at a handle begins, where it fits. It stands apart for its
+/// proof.
 fn append_group(table: &Table, handle: u16, out: &mut PduBuf<'_>) -> bool
     requires { IsSome (attribute_at table.now.attributes handle) }
     ensures { AppendsWhereFits out.old out.new (element_octets (group_of table.now handle)) result }

@@ -20,7 +20,7 @@ pub struct Shows {
     pub lines: bool,
 }
 
-/// The text of a script whose lines are shown: none, unless they are.
+/// The text of a script whose lines are shown: none, unless they are. It stands apart for its proof.
 pub(crate) fn shown_text(text: &[u8], shows: bool) -> Option<&[u8]>
     ensures { lines_left result ≡ lines_shown shows text.now }
 {

@@ -188,7 +188,7 @@ fn run_host<V: RowsStore, W: Write>(
     save_after(ran, host.rows(), store)
 }
 
-/// A simulated controller, to which nothing has happened yet.
+/// A simulated controller, to which nothing has happened yet. It stands apart for its proof.
 fn open_sim(alloc: Global) -> Result<Sim, ShellFault>
     ensures start { IfOk result (λ sim. sim ≡ simulated_at_start simulated) }
     ensures faults { IfErr result (λ fault. fault ≡ ShellFault.Memory) }

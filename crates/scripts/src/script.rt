@@ -145,6 +145,7 @@ fn take_name<'a>(names: &mut Vec<Name<'a>>, name: Name<'a>, number: u64) -> Resu
     Ok(place as u8)
 }
 
+/// Adds an act. It stands apart for its proof.
 fn push_act<'a>(acts: &mut Vec<Act<'a>>, act: Act<'a>) -> Result<(), AllocError>
     ensures ok { OnOk result (acts.new.items ≡ acts.old.items ++ act.entry ∷ []) }
     ensures err { OnErr result (acts.new.items ≡ acts.old.items) }
@@ -153,6 +154,7 @@ fn push_act<'a>(acts: &mut Vec<Act<'a>>, act: Act<'a>) -> Result<(), AllocError>
     Ok(())
 }
 
+/// Adds a name. It stands apart for its proof.
 fn push_name<'a>(names: &mut Vec<Name<'a>>, name: Name<'a>) -> Result<(), AllocError>
     ensures ok { OnOk result (names.new.items ≡ names.old.items ++ name.entry ∷ []) }
     ensures err { OnErr result (names.new.items ≡ names.old.items) }
@@ -168,7 +170,7 @@ fn number_in(names: &[Name<'_>], name: &Name<'_>) -> usize
     place_of(names, name).unwrap_or(names.len())
 }
 
-/// Where a name stands among these.
+/// Where a name stands among these. It stands apart for its proof.
 fn place_of(names: &[Name<'_>], name: &Name<'_>) -> Option<usize>
     ensures { result ≡ position (bytes_eq name.now) names.now }
 {
