@@ -65,7 +65,7 @@ number_of_why why.NoServiceChanged = 7
 abbrev pub refused_call : why.Refused → Refused
 refused_call reason = refused.Call (number_of_why reason)
 
--- wherever the host stood, what is told is why the call is refused
+-- wherever the host was, what is told is why the call is refused
 abbrev pub TellsWhy : Call → Option Refused → HostModel → Type 0
 TellsWhy call told old = (start : Start) (input : List Item) (sent : List Octets) → RefinesRun (run start input) sent old
     → told ≡ option_map refused_call (call_refusal (run start input).intake call)

@@ -24,7 +24,7 @@ pub record Known : Type 0 where
 abbrev pub known : Option Octets → Option (List Call) → Option (List HistoryEntry) → Known
 known octets calls history = record { octets = octets; calls = calls; history = history }
 
--- a call is answered as the state machine has it, wherever the host stood
+-- a call is answered as the state machine has it, wherever the host was
 abbrev pub RecordsTheAnswer : Call → HostModel → Option (List HistoryEntry) → Option (List HistoryEntry) → Type 0
 RecordsTheAnswer call old before after = (start : Start) (input : List Item) (sent : List Octets) → RefinesRun (run start input) sent old
     → Records (Answered (call_refusal (run start input).intake call) ∷ []) before after

@@ -51,7 +51,7 @@ pub record EndsKept (entries : List HistoryEntry) : Type 0 where
 abbrev pub KeptBeforeSent : List HistoryEntry → Type 0
 KeptBeforeSent entries = (first rest : List HistoryEntry) (octets : Octets) → entries ≡ first ++ Sent octets ∷ rest → EndsKept first
 
--- where that is so, it stays so, wherever the host stood: after any number of turns
+-- where that is so, it stays so, wherever the host was: after any number of turns
 abbrev pub KeepsTheOrder : Option (List HistoryEntry) → Option (List HistoryEntry) → Type 0
 KeepsTheOrder None after = Unit
 KeepsTheOrder (Some before) None = ⊥

@@ -11,7 +11,7 @@ use Rattle.gatt_laws.specs.machine.Input.{Item, call_refusal, run}
 use Rattle.gatt_laws.specs.machine.Start.{Start}
 use Rattle.octets.specs.Number.{Octets}
 
--- the call is refused, and why, as the run has it: wherever the host stood
+-- the call is refused, and why, as the run has it: wherever the host was
 abbrev pub IsCallRefusedAs : Call → HostModel → Result Unit AppFault → Type 0
 IsCallRefusedAs call old answer = (start : Start) (input : List Item) (sent : List Octets) → RefinesRun (run start input) sent old
     → refusal_in_result answer ≡ call_refusal (run start input).intake call

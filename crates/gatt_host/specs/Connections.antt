@@ -1,4 +1,4 @@
--- The connections that the application can see, wherever a host stands.
+-- The connections that the application can see, wherever a host is.
 use Rattle.std.specs.Prelude.{◌≡◌, ℕ, ◌==◌, not, List, [], ◌∷◌, filter_map, find, Option, Some, None}
 use Rattle.gatt_laws.specs.machine.Event.{Ordinal}
 use Rattle.gatt_laws.specs.machine.ConnectionState.{ConnectionState, is_live, key_of, connection_mtu}

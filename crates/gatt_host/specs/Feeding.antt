@@ -87,7 +87,7 @@ abbrev pub IsUpToAPacket : Octets → ℕ → List Packet → Type 0
 IsUpToAPacket octets used [] = used ≡ length octets
 IsUpToAPacket octets used (packet ∷ packets) = packets ≡ []
 
--- wherever the host stood, behind what was unfinished there
+-- wherever the host was, behind what was unfinished there
 abbrev pub TakesUpToAPacket : Octets → ℕ → HostModel → Type 0
 TakesUpToAPacket octets used host = (start : Start) (input : List Item) (sent : List Octets) → RefinesRun (run start input) sent host
     → host.fault ≡ None → IsUpToAPacket octets used (division ((run start input).intake.unfinished ++ take used octets)).packets
@@ -101,7 +101,7 @@ abbrev pub refused_in : Run → List Item → ℕ
 refused_in run [] = 0
 refused_in run (item ∷ items) = refused_at run item + refused_in (after_item run item) items
 
--- so many of the calls are refused, wherever the host stood
+-- so many of the calls are refused, wherever the host was
 abbrev pub CountsRefused : ℕ → List Item → HostModel → Type 0
 CountsRefused count items host = (start : Start) (input : List Item) (sent : List Octets) → RefinesRun (run start input) sent host
     → count ≡ refused_in (run start input) items

@@ -1,4 +1,4 @@
--- A host as one value, and where it stands after an input.
+-- A host as one value, and where it is after an input.
 use Rattle.std.specs.Prelude.{◌≡◌, is_some, Bool, true, false, ◌||◌, List, [], ◌∷◌, ◌++◌, Option, Some, None, Result, Ok, Err}
 use Rattle.att_table.specs.ConfigRow.{IsRowOf}
 use Rattle.gatt_host.specs.Answers.{told_fault}
@@ -63,13 +63,13 @@ RefinesPacket packet old frames new after fault = (run : Run) (sent : List Octet
 abbrev pub HoldsStream : Run → Deframing → Type 0
 HoldsStream run stream = run.intake.fault ≡ None → (rest : Octets) → still stream rest ≡ division (run.intake.unfinished ++ rest)
 
--- it stands in a run of which these packets have gone out
+-- it is in a run of which these packets have gone out
 pub record RefinesRun (run : Run) (sent : List Octets) (host : HostModel) : Type 0 where
   pub refines : ServerRefinesRun run sent host.server host.frames
   pub same : SameFault run.intake.fault host.fault
   pub stream : HoldsStream run host.stream
 
--- these items are taken in, and these packets go out: wherever the host stood, it stands where they lead
+-- these items are taken in, and these packets go out: wherever the host was, it is where they lead
 abbrev pub Refines : List Item → List Octets → HostModel → HostModel → Type 0
 Refines items packets old new = (start : Start) (input : List Item) (sent : List Octets) → RefinesRun (run start input) sent old
     → RefinesRun (run start (input ++ items)) (sent ++ packets) new
@@ -82,7 +82,7 @@ Takes item old new = Refines (item ∷ []) [] old new
 abbrev pub HasRowsOfTheStart : Start → Type 0
 HasRowsOfTheStart start = (peer : Peer) → IsRowOf start.table.attributes (start.bonds peer)
 
--- every host stands somewhere
+-- every host is somewhere in a run
 pub record IsReached (host : HostModel) : Type 0 where
   pub start : Start
   pub rows : HasRowsOfTheStart start

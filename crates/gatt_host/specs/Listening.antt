@@ -16,7 +16,7 @@ Hears notices None after = Unit
 Hears notices (Some before) None = ⊥
 Hears notices (Some before) (Some after) = after ≡ before ++ notices
 
--- what is told of these items is heard, wherever the host stood
+-- what is told of these items is heard, wherever the host was
 abbrev pub HearsOf : List Item → HostModel → Option (List Notice) → Option (List Notice) → Type 0
 HearsOf items old before after = (start : Start) (input : List Item) (sent : List Octets) → RefinesRun (run start input) sent old
     → Hears (notices_in (run start input) items) before after

@@ -1,4 +1,4 @@
--- What is promised of all that a host takes in, for every start and every input: laws of the state machine at which it stands; and
+-- What is promised of all that a host takes in, for every start and every input: laws of the state machine in whose states it is; and
 -- what goes out from its opening on.
 pub use Rattle.gatt_promise.specs.Promise.{KeepsConnectionsApart, KeepsThePolicy, Promise}
 use Rattle.std.specs.Prelude.{◌≡◌, true, List, ◌++◌, None}

@@ -1,4 +1,4 @@
--- Where a host stands in a run: at its state, with what has gone out by now.
+-- Where a host is in a run: in its state, with what has gone out by now.
 use Rattle.std.specs.Prelude.{◌≡◌, ℕ, ◌≤◌, List, [], ◌++◌, length, get_or, slice_get, Some, Err}
 use Rattle.gatt_host.specs.Answers.{told_fault}
 use Rattle.gatt_host.specs.declared.host_fault.HostFault.{HostFault}

@@ -1,4 +1,4 @@
--- Where a host stands: what it holds is what a state of the whole machine says, but for what is still to go out.
+-- Where a host is: what it holds is what a state of the whole machine says, but for what is still to go out.
 use Rattle.std.specs.Prelude.{◌≡◌, ℕ, suc, true, false, is_some, if◌then◌else◌, unwrap_or, List, [], ◌∷◌, length, replicate, slice_get, Option, Some, None}
 use Rattle.std.specs.Option.{option_map_or}
 use Rattle.att_table.specs.Changer.{changer_of}
@@ -73,7 +73,7 @@ pub record IsSound (state : State) : Type 0 where
   pub queued : HasBoundedQueues state
   pub placed : IsPlaced state
 
--- an event leads a host from where it stands to where it stands next, and what the application is told of it is what the state
+-- an event leads a host from where it is to where it is next, and what the application is told of it is what the state
 -- machine has
 pub record RefinesStep (state : State) (event : Event) (new : ServerState) : Type 0 where
   pub refines : RefinesState (step state event) (out state event) new

@@ -1,4 +1,4 @@
--- What the application is told of what was taken in last, wherever a host stood.
+-- What the application is told of what was taken in last, wherever a host was.
 use Rattle.std.specs.Prelude.{◌≡◌, is_some, if◌then◌else◌, List, [], ◌∷◌, Option, Some, None, Result, Ok, Err}
 use Rattle.gatt_host.specs.declared.host_fault.HostFault.{HostFault}
 use Rattle.gatt_host.specs.declared.last_event.LastEvent.TheVariants as last

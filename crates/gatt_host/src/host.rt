@@ -68,7 +68,7 @@ impl Model for Host {
       fault = h.fault;
     } };
 
-    // It stands where some start and some input lead.
+    // It is where some start and some input lead.
     ghost invariant = { λ h. IsReached
         (record { server = h.state; frames = h.frames; stream = h.deframer; fault = h.fault }) };
 }

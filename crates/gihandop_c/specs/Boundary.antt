@@ -30,7 +30,7 @@ HostRefines items packets = OfTheHost (OpenedRefines items packets)
 abbrev pub untold : Opened → List Notice
 untold opened = drop opened.told (notices_told opened.host)
 
--- wherever the host stood, what is told is what the state machine tells of these items: nothing, where the host stops at them
+-- wherever the host was, what is told is what the state machine tells of these items: nothing, where the host stops at them
 abbrev pub TellsItems : List Item → Opened → Opened → Type 0
 TellsItems items old new = (start : Start) (input : List Item) (sent : List Octets) → RefinesRun (run start input) sent old.host
     → old.host.fault ≡ None → untold new ≡ notices_in (run start input) items
@@ -86,7 +86,7 @@ abbrev pub call_status : Option Refused → ℕ
 call_status None = DONE
 call_status (Some refused) = REFUSED + refusal_number refused
 
--- wherever the host stood, it refuses what the state machine refuses there, and for that
+-- wherever the host was, it refuses what the state machine refuses there, and for that
 abbrev pub AnswersBy : (Run → Option Refused) → ℕ → Opened → Type 0
 AnswersBy refusal status opened = (start : Start) (input : List Item) (sent : List Octets) → RefinesRun (run start input) sent opened.host
     → opened.host.fault ≡ None → status ≡ call_status (refusal (run start input))

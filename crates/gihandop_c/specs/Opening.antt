@@ -29,7 +29,7 @@ config_given config = record {
   advertising = record { items = take config.advertising_length config.advertising };
 }
 
--- the host stands where its files and its configuration have it start, and nothing has gone out
+-- the host is where its files and its configuration have it start, and nothing has gone out
 abbrev pub IsOpenedByFiles : Octets → Octets → Octets → HostConfig → HostModel → Type 0
 IsOpenedByFiles table keys rows config whole = (contents : Contents) (entries : List Entry) (said : Subscriptions)
     → table_given table ≡ Ok contents → keys_given keys ≡ Ok entries → rows_given rows ≡ Ok said
