@@ -6,7 +6,7 @@ use Rattle.std.proofs.lemmas.List.{drop-drop, length-drop, drop_all}
 use Rattle.le_acl.specs.Fragment.{Fragment, Beginning, Continuation}
 use Rattle.le_acl.specs.Packets.{Pdu, pieces_within, pieces, frame_octets, fragments_of_pieces, fragments_of}
 use Rattle.le_acl.specs.Outgoing.{next_of, without_next, acl_octets}
-use Rattle.le_acl.specs.Sending.{fragment_at, fragments_from, queue_of, IsWithin}
+use Rattle.le_acl.specs.Sending.{fragment_at, fragments_from, queue_of, IsWithin, IsOfFirst}
 
 -- what fits behind a header of four octets
 pub take_header : (size a b c d : ℕ) (xs : List ℕ) → 4 ≤ size → a ∷ b ∷ c ∷ d ∷ take (size - 4) xs ≡ take size (a ∷ b ∷ c ∷ d ∷ xs)
@@ -95,18 +95,19 @@ module _ (size gone : ℕ) (pdus : List Pdu) (pdu : Pdu) (front : slice_get pdus
   unfolding first later
   queue-is = ap (queue_of size gone) (first_and_rest pdus pdu front) ∙ ap (λ (xs : List Fragment). xs ∷ later) (fragments-next size gone pdu some left)
 
-  pub gives_first : (handle : ℕ) (octets : List ℕ) → octets ≡ acl_octets handle (fragment_at gone (take size (drop gone (frame_octets pdu))))
-      → option_map (acl_octets handle) (next_of (queue_of size gone pdus)) ≡ Some octets
+  pub gives_first : (handle : ℕ) (given : Fragment) (octets : List ℕ) → given ≡ fragment_at gone (take size (drop gone (frame_octets pdu)))
+      → octets ≡ acl_octets handle given → option_map (acl_octets handle) (next_of (queue_of size gone pdus)) ≡ Some octets
   unfolding first
-  gives_first handle octets is = ap (λ (queue : List (List Fragment)). option_map (acl_octets handle) (next_of queue)) queue-is ∙ ap Some (sym is)
+  gives_first handle given octets is written =
+      ap (λ (queue : List (List Fragment)). option_map (acl_octets handle) (next_of queue)) queue-is ∙ ap Some (sym (written ∙ ap (acl_octets handle) is))
 
-  pub queue-last : length (frame_octets pdu) ≤ gone + size → queue_of size 0 (drop 1 pdus) ≡ without_next (queue_of size gone pdus)
+  queue-last : length (frame_octets pdu) ≤ gone + size → queue_of size 0 (drop 1 pdus) ≡ without_next (queue_of size gone pdus)
   unfolding later
   queue-last ended =
       queue-anew size (drop 1 pdus)
       ∙ sym (ap without_next (queue-is ∙ ap (λ (others : List Fragment). (first ∷ others) ∷ later) (others-none size (gone + size) (frame_octets pdu) ended)))
 
-  pub queue-more : gone + size < length (frame_octets pdu) → queue_of size (gone + size) pdus ≡ without_next (queue_of size gone pdus)
+  queue-more : gone + size < length (frame_octets pdu) → queue_of size (gone + size) pdus ≡ without_next (queue_of size gone pdus)
   unfolding later
   queue-more more =
       let from = others-from size (gone + size) pdu (omega arith) in
@@ -115,6 +116,19 @@ module _ (size gone : ℕ) (pdus : List Pdu) (pdu : Pdu) (front : slice_get pdus
       ∙ ap (λ (xs : List Fragment). xs ∷ later) (sym from)
       ∙ sym (without-next-more first (others_of size (gone + size) (frame_octets pdu)) later _ _ (from ∙ next))
       ∙ sym (ap without_next queue-is)
+
+-- behind a fragment of the first PDU: its last one, or another
+pub passed-last : (size gone count : ℕ) (pdus : List Pdu) → IsOfFirst count pdus → IsWithin size gone pdus → 0 < size → count ≤ gone + size
+    → queue_of size 0 (drop 1 pdus) ≡ without_next (queue_of size gone pdus)
+passed-last size gone count [] first within some ended = absurd first
+passed-last size gone count (pdu ∷ pdus) first within some ended =
+    queue-last size gone (pdu ∷ pdus) pdu refl some (omega (arith, within.0)) (omega (arith, first, ended))
+
+pub passed-more : (size gone count : ℕ) (pdus : List Pdu) → IsOfFirst count pdus → IsWithin size gone pdus → 0 < size → gone + size < count
+    → queue_of size (gone + size) pdus ≡ without_next (queue_of size gone pdus)
+passed-more size gone count [] first within some more = absurd first
+passed-more size gone count (pdu ∷ pdus) first within some more =
+    queue-more size gone (pdu ∷ pdus) pdu refl some (omega (arith, within.0)) (omega (arith, first, more))
 
 -- some of the first frame is left
 pub not_all_gone : (size gone : ℕ) (pdus : List Pdu) (pdu : Pdu) → slice_get pdus 0 ≡ Some pdu → IsWithin size gone pdus

@@ -1,5 +1,6 @@
 pub mod Acts
 pub mod Fragment
+pub mod FragmentRef
 pub mod Frame
 pub mod History
 pub mod Outgoing

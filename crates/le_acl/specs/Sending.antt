@@ -50,3 +50,8 @@ pub record IsSending (queued : Queued) (gone size : ℕ) (lent : Bool) : Type 0 
   pub size_most : size ≤ MAX_ACL_LEN
   pub within : IsWithin size gone queued.pdus
   pub has_room : lent ≡ true → length queued.pdus < MAX_PDUS
+
+-- the frame of the first PDU has so many octets
+abbrev pub IsOfFirst : ℕ → List Pdu → Type 0
+IsOfFirst count [] = ⊥
+IsOfFirst count (pdu ∷ pdus) = count ≡ length (frame_octets pdu)

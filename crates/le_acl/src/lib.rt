@@ -3,6 +3,7 @@
 #![tactic(auto)]
 
 pub mod boundary;
+mod fragment_ref;
 mod frame;
 mod pdus;
 mod reassembler;

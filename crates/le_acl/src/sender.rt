@@ -1,18 +1,19 @@
-ghost use Rattle.std.specs.Prelude.{◌≡◌, ◌+◌, ◌-◌, ◌*◌, ◌^◌, ◌<◌, ◌≤◌, ◌↔◌, [], ◌++◌, length, take, drop, is_some, Some, None, IsSome, IsOk, IfOk, IfSome};
+ghost use Rattle.std.specs.Prelude.{◌≡◌, ◌+◌, ◌^◌, ◌<◌, ◌≤◌, ◌↔◌, [], ◌++◌, length, take, is_some, Some, None, IsSome, IsOk, IfOk, IfSome};
 ghost use Rattle.std.specs.Bool.{OnTrue, OnFalse};
 ghost use Rattle.std.specs.Borrow.{sem};
 ghost use Rattle.std.specs.Option.{option_map};
-ghost use Rattle.le_acl.specs.Packets.{frame_octets};
-ghost use Rattle.le_acl.specs.Outgoing.{with_pdu, next_of, may_give, after_next, with_completed, without_pdus, acl_octets};
+ghost use Rattle.le_acl.specs.Outgoing.{with_pdu, next_of, without_next, may_give, after_next, with_completed, without_pdus, acl_octets};
 ghost use Rattle.le_acl.specs.Acts.{AlwaysGivesWithinQuota};
 ghost use Rattle.le_acl.specs.History.{FollowsHistory};
-ghost use Rattle.le_acl.specs.Sending.{idle, fragment_at};
+ghost use Rattle.le_acl.specs.Sending.{idle, queue_of, IsWithin, IsOfFirst};
+ghost use Rattle.le_acl.specs.declared.frame.TheConstants.{MAX_FRAME};
 ghost use Rattle.le_acl.specs.declared.sender.TheConstants.{MIN_ACL_LEN, MAX_ACL_LEN};
-ghost use Rattle.octets.specs.Number.{Octets, two_octets};
+ghost use Rattle.octets.specs.Number.{Octets};
 ghost use Rattle.le_h4.specs.declared.packet_buf.TheConstants.{MAX_PACKET_OUT};
 ghost use Rattle.octets.specs.declared.pdu.TheConstants.{MAX_PDU};
 
 use crate::boundary::{CONTINUATION, FIRST_NOT_FLUSHED};
+use crate::fragment_ref::FragmentRef;
 use crate::frame::HEADER;
 use crate::pdus::{MAX_PDUS, Pdus};
 use le_h4::{PacketBuf, PacketOctets, acl_into};
@@ -164,14 +165,17 @@ impl Sender {
         let Some((channel, payload)) = self.pdus.front() else {
             return false;
         };
-        let length = HEADER + payload.len();
-        write_fragment(handle, channel, payload, self.gone, self.acl_len, out);
-        self.outstanding += 1;
-        self.gone += self.acl_len;
-        if self.gone >= length {
-            self.pdus.pop();
-            self.gone = 0;
+        let frame_len = HEADER + payload.len();
+        match FragmentRef::at(channel, payload, self.gone, self.acl_len) {
+            FragmentRef::Beginning { header, payload } => {
+                out.acl(handle, FIRST_NOT_FLUSHED, &header, payload);
+            }
+            FragmentRef::Continuation { payload } => {
+                out.acl(handle, CONTINUATION, &[], payload);
+            }
         }
+        self.outstanding += 1;
+        pass_fragment(&mut self.pdus, &mut self.gone, self.acl_len, frame_len);
         true
     }
 
@@ -193,17 +197,18 @@ impl Sender {
         if self.share <= self.outstanding {
             return None;
         }
-        let Some((channel, payload)) = self.pdus.front() else {
-            return None;
+        let (channel, payload) = self.pdus.front()?;
+        let frame_len = HEADER + payload.len();
+        let count = match FragmentRef::at(channel, payload, self.gone, self.acl_len) {
+            FragmentRef::Beginning { header, payload } => {
+                acl_into(handle, FIRST_NOT_FLUSHED, &header, payload, out)
+            }
+            FragmentRef::Continuation { payload } => {
+                acl_into(handle, CONTINUATION, &[], payload, out)
+            }
         };
-        let length = HEADER + payload.len();
-        let count = fragment_into(handle, channel, payload, self.gone, self.acl_len, out);
         self.outstanding += 1;
-        self.gone += self.acl_len;
-        if self.gone >= length {
-            self.pdus.pop();
-            self.gone = 0;
-        }
+        pass_fragment(&mut self.pdus, &mut self.gone, self.acl_len, frame_len);
         Some(count)
     }
 
@@ -253,84 +258,23 @@ impl Sender {
     }
 }
 
-/// Writes the fragment of a PDU's frame that begins with the octet `gone`.
+/// Takes in that a packet of the first PDU was given, whose frame has so many octets. The PDU is
+/// dropped with its last packet.
 #[inline(always)]
-#[tactic(auto, using(crate::proofs::Fragments::take_header, crate::proofs::Fragments::drop_header, crate::proofs::Fragments::fragment_later))]
-fn write_fragment(
-    handle: u16,
-    channel: u16,
-    payload: &[u8],
-    gone: usize,
-    acl_len: usize,
-    out: &mut PacketBuf,
-)
-    requires handle { handle < 2 ^ 12 }
-    requires payload { length payload.now ≤ MAX_PDU }
-    requires gone { 0 < gone → 4 ≤ gone }
-    requires least { 4 ≤ acl_len }
+fn pass_fragment(pdus: &mut Pdus, gone: &mut usize, acl_len: usize, frame_len: usize)
+    requires first { IsOfFirst frame_len pdus.old.pdus }
+    requires frame { frame_len ≤ MAX_FRAME }
+    requires least { 0 < acl_len }
     requires most { acl_len ≤ MAX_ACL_LEN }
-    ensures { out.new
-        ≡ acl_octets handle
-        (fragment_at gone (take acl_len (drop gone (frame_octets (channel, payload.now))))) }
+    requires within { IsWithin acl_len gone.old pdus.old.pdus }
+    ensures queue { queue_of acl_len gone.new pdus.new.pdus
+        ≡ without_next (queue_of acl_len gone.old pdus.old.pdus) }
+    ensures within { IsWithin acl_len gone.new pdus.new.pdus }
+    ensures room { pdus.new.room ≡ pdus.old.room }
 {
-    if gone == 0 {
-        let header = frame_header(channel, payload.len() as u16);
-        let fragment = part(payload, 0, acl_len - HEADER);
-        out.acl(handle, FIRST_NOT_FLUSHED, &header, fragment);
-    } else {
-        let fragment = part(payload, gone - HEADER, acl_len);
-        out.acl(handle, CONTINUATION, &[], fragment);
+    *gone += acl_len;
+    if *gone >= frame_len {
+        pdus.pop();
+        *gone = 0;
     }
-}
-
-/// Writes a fragment of a frame, in its packet, at the front of `out`. Says how many octets the
-/// packet has.
-#[inline(always)]
-#[tactic(auto, using(crate::proofs::Fragments::take_header, crate::proofs::Fragments::drop_header, crate::proofs::Fragments::fragment_later))]
-fn fragment_into(
-    handle: u16,
-    channel: u16,
-    payload: &[u8],
-    gone: usize,
-    acl_len: usize,
-    out: &mut [u8],
-) -> usize
-    requires handle { handle < 2 ^ 12 }
-    requires payload { length payload.now ≤ MAX_PDU }
-    requires gone { 0 < gone → 4 ≤ gone }
-    requires least { 4 ≤ acl_len }
-    requires most { acl_len ≤ MAX_ACL_LEN }
-    requires room { MAX_PACKET_OUT ≤ length out.old }
-    ensures written { take result out.new
-        ≡ acl_octets handle
-        (fragment_at gone (take acl_len (drop gone (frame_octets (channel, payload.now))))) }
-    ensures within { result ≤ length out.old }
-{
-    if gone == 0 {
-        let header = frame_header(channel, payload.len() as u16);
-        let fragment = part(payload, 0, acl_len - HEADER);
-        acl_into(handle, FIRST_NOT_FLUSHED, &header, fragment, out)
-    } else {
-        let fragment = part(payload, gone - HEADER, acl_len);
-        acl_into(handle, CONTINUATION, &[], fragment, out)
-    }
-}
-
-/// The header of a frame: the length of its payload, then its channel.
-#[inline(always)]
-fn frame_header(channel: u16, length: u16) -> [u8; HEADER]
-    ensures { result ≡ two_octets length ++ two_octets channel }
-{
-    let [size_low, size_high] = length.to_le_bytes();
-    let [low, high] = channel.to_le_bytes();
-    [size_low, size_high, low, high]
-}
-
-/// As many octets from `start` on as there are, and at most `count`.
-#[inline(always)]
-fn part(octets: &[u8], start: usize, count: usize) -> &[u8]
-    ensures { result.now ≡ take count (drop start octets.now) }
-{
-    let rest = &octets[start.min(octets.len())..];
-    &rest[..count.min(rest.len())]
 }
