@@ -174,9 +174,8 @@ fn number_in(names: &[Name<'_>], name: &Name<'_>) -> usize
 fn place_of(names: &[Name<'_>], name: &Name<'_>) -> Option<usize>
     ensures { result ≡ position (bytes_eq name.now) names.now }
 {
-    names
-        .iter()
-        .position(|other| name.as_str() == other.as_str())
+    let text = name.as_str();
+    names.iter().position(|other| text == other.as_str())
 }
 
 /// The first line of a text that has another one, and what stands behind its line feed.
