@@ -20,7 +20,7 @@ use sim_controller::{PhoneAct, Sim, SimFault};
 pub(crate) const FIRST_HANDLE: u16 = 0x40;
 
 /// Who refused what a line does, and the number of the fault.
-#[derive(Clone, Copy, Debug, PartialEq, Eq)]
+#[derive(Clone, Copy)]
 pub(crate) enum Refused {
     /// The host refused a call of the application.
     Call(u8),

@@ -12,7 +12,7 @@ use memchr::memchr;
 use std::io::Write;
 
 /// What a run prints beside what the phones hear.
-#[derive(Clone, Copy, Debug, PartialEq, Eq)]
+#[derive(Clone, Copy)]
 pub struct Shows {
     /// What the application is told, behind what each line brings.
     pub notices: bool,
