@@ -1,12 +1,18 @@
 -- The order in which the files of a run are judged.
 use Rattle.std.proofs.Common.{◌≡◌, ◌<◌, ℕ, Bool, List, Option, Some, None, ap, subst, ◌∙◌, arith}
 use Rattle.std.specs.Prelude.{IfSome, IsOk, IsErrAnd, Result, Ok, Err}
+use Rattle.att_table.specs.Table.{Contents}
+use Rattle.gatt_subs.specs.Rows.{Subscriptions}
+use Rattle.le_security.specs.declared.entry.Entry.{Entry}
 use Rattle.scripts.specs.declared.script_fault.ScriptFault.{ScriptFault}
 use Rattle.scripts.specs.declared.script_fault.ScriptFault.TheVariants.{BadLine}
 use Rattle.scripts.specs.Script.{Acts}
 use Rattle.gatt_files.specs.declared.fault.ShellFault.{ShellFault}
 use Rattle.gatt_files.specs.declared.fault.ShellFault.TheVariants.{Table, Keys, Rows, Next, Script, Host, Controller, TooLong, NotHex, Unreadable, Unwritten, Listen, Memory}
+use Rattle.gatt_commands.specs.declared.echo.Shows.{Shows}
 use Rattle.gatt_commands.specs.Echo.{lines_shown}
+use Rattle.gatt_commands.specs.Runs.{RunsFile}
+use Rattle.gatt_files.specs.Saving.{Save}
 use Rattle.gatt_files.specs.ScriptFile.{script_in, IsScriptRefusal}
 use Rattle.gatt_files.specs.Turns.{IsPast, OfScript, turn_place, place_of_fault}
 
@@ -23,6 +29,31 @@ pub shown_all : (known : Option (List ℕ)) (items text : List ℕ) (shows : Boo
     → lines ≡ lines_shown shows text → IfSome known (λ octets. lines ≡ lines_shown shows octets)
 shown_all None items text shows lines all same is = tt
 shown_all (Some input) items text shows lines all same is = is ∙ ap (lines_shown shows) (same ∙ all)
+
+-- so is all that is so of it
+pub known_all : (known : Option (List ℕ)) (items text : List ℕ) (P : List ℕ → Type 0) → IfSome known (λ input. items ≡ input) → text ≡ items
+    → P text → IfSome known P
+known_all None items text P all same is = tt
+known_all (Some input) items text P all same is = subst P (same ∙ all) is
+
+-- and what is run of it
+pub runs_all : (result : Result Unit ShellFault) (shows : Shows) (table : Contents) (next : Option Contents) (keys : List Entry) (rows : Subscriptions)
+    (known : Option (List ℕ)) (items text : List ℕ) (held holds : Option (List ℕ)) (saves saves_then : Option (List Save))
+    → IfSome known (λ input. items ≡ input) → text ≡ items → RunsFile result shows table next keys rows (Some text) held holds saves saves_then
+    → RunsFile result shows table next keys rows known held holds saves saves_then
+runs_all result shows table next keys rows None items text held holds saves saves_then all same runs = record {
+  script = runs.script;
+  has_script = tt;
+  lines = runs.lines;
+  has_lines = tt;
+  host = runs.host;
+  opened = runs.opened;
+  last = runs.last;
+  next_then = runs.next_then;
+  runs = runs.runs;
+}
+runs_all result shows table next keys rows (Some input) items text held holds saves saves_then all same runs =
+    subst (λ (octets : List ℕ). RunsFile result shows table next keys rows (Some octets) held holds saves saves_then) (same ∙ all) runs
 
 -- a script is refused for the line that is told
 pub refused_at : (has_next : Bool) (text : List ℕ) (outer : Result Unit ShellFault) (fault : ShellFault) (line : ℕ)

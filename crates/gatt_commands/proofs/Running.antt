@@ -13,7 +13,7 @@ use Rattle.gatt_files.specs.declared.fault.ShellFault.{ShellFault}
 use Rattle.gatt_files.specs.declared.fault.ShellFault.TheVariants.{Table, Keys, Rows, Next, Script, Host, Controller, TooLong, NotHex, Unreadable, Unwritten, Listen, Memory}
 use Rattle.gatt_commands.specs.declared.notes.Notes.{Notes}
 use Rattle.gatt_commands.specs.Doing.{Stage}
-use Rattle.gatt_commands.specs.Echo.{Shown, lines_behind, echo_of, shown_of}
+use Rattle.gatt_commands.specs.Echo.{Shown, lines_behind, shown_of}
 use Rattle.gatt_commands.specs.Exchange.{ExchangesAll, pair_of}
 use Rattle.gatt_commands.specs.Lines.{IsExchangeFault, with_told_phones}
 use Rattle.gatt_commands.specs.Runs.{EndsAmong, EndsAtLine, EndsAtNext, EndsEarly, Fails, FailsToExchange, FailsToNote, LineIsDone, Runs, RunsAll, RunsLine, RunsNext, line_text}

@@ -123,7 +123,7 @@ pub fn run_script<T: Read, N: Read, K: Read, R: Read, S: Read, V: RowsStore, W: 
 fn run_files<S: Read, V: RowsStore, W: Write>(
     alloc: Global,
     table: Table,
-    mut next: Option<Table>,
+    next: Option<Table>,
     keys: Keys,
     rows: Rows,
     script: &mut S,
@@ -147,19 +147,74 @@ fn run_files<S: Read, V: RowsStore, W: Write>(
 {
     let octets = read_all(alloc, script)?;
     let text = octets.as_slice();
+    run_text(alloc, table, next, keys, rows, text, store, shows, writer)
+}
+
+/// Runs the script of which this is the text, with a host that has these files.
+fn run_text<V: RowsStore, W: Write>(
+    alloc: Global,
+    table: Table,
+    mut next: Option<Table>,
+    keys: Keys,
+    rows: Rows,
+    text: &[u8],
+    store: &mut V,
+    shows: Shows,
+    writer: &mut W,
+) -> Result<(), ShellFault>
+    ensures runs { IsPast OfScript result → RunsFile result shows table next keys rows
+        (Some text.now) (W.contents writer.old) (W.contents writer.new)
+        (V.saves store.old) (V.saves store.new) }
+    ensures unbegun { ((store.new ≡ store.old) × (writer.new ≡ writer.old))
+        ⊎ RunsFile result shows table next keys rows
+        (Some text.now) (W.contents writer.old) (W.contents writer.new)
+        (V.saves store.old) (V.saves store.new) }
+    ensures script { (line : ℕ) → result ≡ Err (ShellFault.Script line)
+        → script_in (is_some next) text.now ≡ Err (BadLine line) }
+    ensures script_last { IsPast OfScript result → IsOk (script_in (is_some next) text.now) }
+    ensures faults { IfErr result IsScriptRunFault }
+{
     let script = judged_script(alloc, text, next.is_some())?;
     let mut host = open_host(alloc, table, keys, rows)?;
-    let mut sim = open_sim(alloc)?;
-    run_host(
+    run_opened(
         alloc,
         &mut host,
-        &mut sim,
         &mut next,
         &script,
         store,
         shows.notices,
         shown_text(text, shows.lines),
         writer,
+    )
+}
+
+/// Runs a script with a host that is open, over a simulated controller to which nothing has happened
+/// yet.
+fn run_opened<V: RowsStore, W: Write>(
+    alloc: Global,
+    host: &mut Host,
+    next: &mut Option<Table>,
+    script: &Script<'_>,
+    store: &mut V,
+    notices: bool,
+    lines: Option<&[u8]>,
+    writer: &mut W,
+) -> Result<(), ShellFault>
+    requires { HasNamedPhones script.now }
+    ensures runs { IsPast OfScript result → HostRuns result
+        (shown_of notices (lines_left lines.entry)) script.now host.old host.new next.old next.new
+        (W.contents writer.old) (W.contents writer.new)
+        (V.saves store.old) (V.saves store.new) }
+    ensures unbegun { ((store.new ≡ store.old) × (writer.new ≡ writer.old))
+        ⊎ HostRuns result
+        (shown_of notices (lines_left lines.entry)) script.now host.old host.new next.old next.new
+        (W.contents writer.old) (W.contents writer.new)
+        (V.saves store.old) (V.saves store.new) }
+    ensures faults { IfErr result IsRunFault }
+{
+    let mut sim = open_sim(alloc)?;
+    run_host(
+        alloc, host, &mut sim, next, script, store, notices, lines, writer,
     )
 }
 
