@@ -40,7 +40,7 @@ elements candidates = map (λ (candidate : Candidate). candidate.element) candid
 abbrev pub elements_within : Mtu → List Candidate → List Element
 elements_within mtu candidates = elements (run_within (mtu - 2) (size_of_first candidates) candidates)
 
--- octets, and the elements that are listed behind them
+-- octets, and the elements that are listed behind them; this and what follows is of the code alone
 abbrev pub with_listed : Mtu → ℕ → Octets → List Candidate → Octets
 with_listed mtu size octets candidates = octets ++ flat_map element_octets (elements (run_within (mtu - length octets) size candidates))
 

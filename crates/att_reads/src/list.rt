@@ -4,6 +4,7 @@
 ghost use Rattle.std.specs.Prelude.{◌≡◌, ◌+◌, ◌≤◌, ◌<◌, ◌∷◌, [], map, length, take, IsSome};
 ghost use Rattle.att_pdu.specs.PduBuf.{contents, mtu_of, IsSameBuffer, AppendsWhereFits};
 ghost use Rattle.att_pdu.specs.Response.{element_octets, sent};
+ghost use Rattle.att_pdu.specs.declared.pdu_buf.TheConstants.{MIN_MTU};
 ghost use Rattle.att_attributes.specs.Attributes.{attribute_at};
 ghost use Rattle.att_reads.specs.List.{listing_request, head_of, cut_of, element_of, candidate_of, list_answer};
 ghost use Rattle.att_reads.specs.Listing.{with_listed, AppendsNext};
@@ -50,7 +51,7 @@ impl Listing {
     /// The front of a value that is listed at an ATT_MTU: what fits beside its handles, in the
     /// answer and in `MAX_ELEMENT`.
     fn cut<'a>(self, value: &'a [u8], mtu: u16) -> &'a [u8]
-        requires { 23 ≤ mtu }
+        requires { MIN_MTU ≤ mtu }
         ensures { result.now ≡ take (cut_of self mtu) value.now }
     {
         let most = (mtu - 2 - self.head()).min(MAX_ELEMENT - self.head());

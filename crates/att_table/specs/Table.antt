@@ -31,7 +31,7 @@ room_at table handle =
     if is_fixed_at table.attributes handle then length (value_at table.values handle)
     else largest_at table.attributes handle
 
--- the values that cells hold
+-- the values that cells hold; this and what follows is of the code alone
 abbrev pub values_of : List Cell → Values
 values_of cells = map (λ (cell : Cell). cell.octets) cells
 

@@ -1,4 +1,4 @@
--- Values that stand in one vector, each from its start on, with room for its largest length.
+-- Values that stand in one vector, each from its start on, with room for its largest length. Of the code alone.
 use Rattle.std.specs.Prelude.{◌≡◌, ℕ, ◌+◌, ◌≤◌, List, [], ◌∷◌, take, drop, map}
 use Rattle.octets.specs.Number.{Octets}
 use Rattle.att_values.specs.declared.flat_store.Place.{Place}

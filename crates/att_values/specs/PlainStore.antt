@@ -1,4 +1,4 @@
--- Values that stand each in a buffer of its own.
+-- Values that stand each in a buffer of its own. Of the code alone.
 use Rattle.std.specs.Prelude.{◌≤◌, List, map}
 use Rattle.arrayvec.specs.ArrayVec.{array_vec_len}
 use Rattle.att_values.specs.declared.plain_store.Slot.{Slot}

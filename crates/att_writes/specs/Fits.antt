@@ -1,4 +1,4 @@
--- That entries can be made, which no policy says.
+-- That entries can be made, which no policy says. Of the code alone.
 use Rattle.std.specs.Prelude.{◌≡◌, List, [], ◌∷◌, length, None, IsSome}
 use Rattle.att_attributes.specs.declared.attr.Attr.{Attr}
 use Rattle.att_attributes.specs.Attributes.{attribute_at}

@@ -33,7 +33,7 @@ once_each (handle ∷ rest) = handle ∷ filter (λ other. not (other == handle)
 abbrev pub handles_of_entries : List Entry → List Handle
 handles_of_entries entries = once_each (map (λ (entry : Entry). entry.handle) entries)
 
--- prepared writes whose parts stand one behind the other
+-- prepared writes whose parts stand one behind the other; this and what follows is of the code alone
 abbrev pub entries_in : List Place → Octets → List Entry
 entries_in [] octets = []
 entries_in (place ∷ places) octets =

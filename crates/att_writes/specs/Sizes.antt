@@ -1,4 +1,4 @@
--- How long a value is once entries before it are written.
+-- How long a value is once entries before it are written. Of the code alone.
 use Rattle.std.specs.Prelude.{ℕ, ◌+◌, ◌==◌, if◌then◌else◌, List, [], ◌∷◌, length}
 use Rattle.att_numbers.specs.Types.{Handle, Values}
 use Rattle.att_attributes.specs.declared.attr.Attr.{Attr}

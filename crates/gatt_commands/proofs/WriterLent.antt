@@ -7,7 +7,8 @@ use Rattle.gatt_host.specs.declared.serving.End.{End}
 use Rattle.gatt_host.specs.Feeding.{Serves}
 use Rattle.gatt_host.specs.HostModel.{HostModel}
 use Rattle.octets.specs.Number.{Octets}
-use Rattle.gatt_commands.specs.Serving.{turns, ServesBy}
+use Rattle.gatt_commands.specs.declared.serve.TheConstants.{TURNS}
+use Rattle.gatt_commands.specs.Serving.{ServesBy}
 
 -- the fault that stands is the one that is answered
 pub stands_by : (result : Result End HostFault) (fault : Option HostFault) → (IsOk result → fault ≡ None) → IfErr result (λ answered. fault ≡ Some answered)
@@ -17,15 +18,15 @@ stands_by (Err answered) fault going stops = stops
 
 pub served_by : {R W : Type 0} (result : Result End HostFault) (old new : HostModel) (remaining : R → Option Octets) (contents : W → Option Octets)
     (reader first_reader last_reader : R) (writer first_writer last_writer : W) → first_reader ≡ reader → first_writer ≡ writer
-    → Serves result turns old new (remaining first_reader) (remaining last_reader) (contents first_writer) (contents last_writer)
+    → Serves result TURNS old new (remaining first_reader) (remaining last_reader) (contents first_writer) (contents last_writer)
     → (IsOk result → new.fault ≡ None) → IfErr result (λ answered. new.fault ≡ Some answered) → ServesBy remaining contents reader writer old new
 served_by result old new remaining contents reader first_reader last_reader writer first_writer last_writer same_reader same_writer serves going stops = record {
   reader_then = last_reader;
   writer_then = last_writer;
   serves = record {
     ended = result;
-    serves = subst (λ (from : _). Serves result turns old new (remaining from) (remaining last_reader) (contents writer) (contents last_writer)) same_reader
-        (subst (λ (from : _). Serves result turns old new (remaining first_reader) (remaining last_reader) (contents from) (contents last_writer)) same_writer serves);
+    serves = subst (λ (from : _). Serves result TURNS old new (remaining from) (remaining last_reader) (contents writer) (contents last_writer)) same_reader
+        (subst (λ (from : _). Serves result TURNS old new (remaining first_reader) (remaining last_reader) (contents from) (contents last_writer)) same_writer serves);
     refines = stands_by result new.fault going stops;
   };
 }

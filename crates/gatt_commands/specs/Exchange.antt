@@ -15,6 +15,7 @@ use Rattle.sim_controller.specs.SimFault.{sim_fault_number}
 use Rattle.sim_controller.specs.Simulated.{Simulated}
 use Rattle.sim_controller.specs.Told.{sent_octets, sent_of}
 use Rattle.gatt_files.specs.declared.fault.ShellFault.{ShellFault}
+use Rattle.gatt_commands.specs.declared.exchange.TheConstants.{MAX_EXCHANGED}
 use Rattle.gatt_commands.specs.declared.notes.Notes.{Notes}
 use Rattle.gatt_commands.specs.Notices.{NotesWhatIsTold}
 use Rattle.gatt_files.specs.declared.fault.ShellFault.TheVariants.{Host, Controller, TooLong}
@@ -151,21 +152,21 @@ Exchanges (suc count) before after = (middle : Pair) × HandsOver before middle 
 -- all of them, until neither has another one
 pub record ExchangesAll (before after : Pair) : Type 0 where
   pub count : ℕ
-  pub most : count ≤ 100000
+  pub most : count ≤ MAX_EXCHANGED
   pub exchanges : Exchanges count before after
   pub quiet : IsQuiet after.host after.sim
 
 -- as many as there may be, with another one to give
 pub record ExchangesTooMany (before : Pair) (host : HostModel) : Type 0 where
   pub last : Pair
-  pub exchanges : Exchanges 100000 before last
+  pub exchanges : Exchanges MAX_EXCHANGED before last
   pub more : IsQuiet last.host last.sim → ⊥
   pub host_then : host ≡ last.host
 
 -- fewer, and then one that ends it
 pub record EndsBy (Ends : Pair → Pair → Type 0) (before after : Pair) : Type 0 where
   pub count : ℕ
-  pub fewer : count < 100000
+  pub fewer : count < MAX_EXCHANGED
   pub last : Pair
   pub exchanges : Exchanges count before last
   pub ends : Ends last after

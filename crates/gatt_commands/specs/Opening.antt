@@ -9,6 +9,7 @@ use Rattle.gatt_laws.specs.machine.Input.{run}
 use Rattle.gatt_subs.specs.Rows.{Subscriptions}
 use Rattle.le_security.specs.declared.entry.Entry.{Entry}
 use Rattle.octets.specs.Number.{Octets}
+use Rattle.gatt_commands.specs.declared.opening.TheConstants.{RX_MTU, SLOTS}
 use Rattle.gatt_files.specs.KeyFile.{keys_in}
 use Rattle.gatt_files.specs.RowsFile.{rows_in}
 use Rattle.gatt_files.specs.TableFile.{table_in}
@@ -17,9 +18,9 @@ use Rattle.gatt_files.specs.TableFile.{table_in}
 abbrev pub flags : ArrayVec ℕ
 flags = record { items = 0x02 ∷ 0x01 ∷ 0x06 ∷ [] }
 
--- it has four connections at most, receives PDUs of at most 247 octets, and has the public address of its controller
+-- so many connections at most, and PDUs of so many octets, and it has the public address of its controller
 abbrev pub command_configuration : Config
-command_configuration = record { slots = 4; rx_mtu = 247; address = None; advertising = flags }
+command_configuration = record { slots = SLOTS; rx_mtu = RX_MTU; address = None; advertising = flags }
 
 -- a host is open: it goes on, nothing has come in, and nothing has gone out
 pub record IsOpened (table : Contents) (keys : List Entry) (rows : Subscriptions) (host : HostModel) : Type 0 where

@@ -10,15 +10,12 @@ use Rattle.octets.specs.Number.{Octets}
 use Rattle.gatt_files.specs.declared.fault.ShellFault.{ShellFault}
 use Rattle.gatt_files.specs.declared.fault.ShellFault.TheVariants.{Table, Keys, Rows, Host, Unreadable, Unwritten, Listen, Memory}
 use Rattle.gatt_files.specs.Saving.{Save, Saves}
+use Rattle.gatt_commands.specs.declared.serve.TheConstants.{TURNS}
 
--- so many reads may be made of a connection
-abbrev pub turns : ℕ
-turns = 1000000000
-
--- a host takes in what it reads and writes what that brings, to the end of the stream or to the fault that stands then
+-- a host takes in what it reads, so many times at most, and writes what that brings, to the end of the stream or to the fault that stands then
 pub record ServesStream (old new : HostModel) (remaining left before after : Option Octets) : Type 0 where
   pub ended : Result End HostFault
-  pub serves : Serves ended turns old new remaining left before after
+  pub serves : Serves ended TURNS old new remaining left before after
   pub refines : new.fault ≡ result_err ended
 
 -- a reader and a writer that began as these have come to this

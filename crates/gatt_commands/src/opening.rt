@@ -12,10 +12,10 @@ use le_security::Keys;
 use std::alloc::Global;
 
 /// As many connections as the host may have at once.
-const SLOTS: usize = 4;
+pub(crate) const SLOTS: usize = 4;
 
 /// The largest PDU of the Attribute Protocol that the host receives, in octets.
-const RX_MTU: u16 = 247;
+pub(crate) const RX_MTU: u16 = 247;
 
 /// The advertising data: flags for general discovery, without BR/EDR.
 const ADVERTISING: [u8; 3] = [0x02, 0x01, 0x06];

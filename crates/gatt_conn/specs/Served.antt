@@ -12,7 +12,7 @@ use Rattle.gatt_conn.specs.Answer.{stored_by, handles_by, conn_after, is_confirm
 use Rattle.gatt_conn.specs.Connection.{Bearer}
 use Rattle.octets.specs.Number.{Octets}
 
--- this is the answer, if one is due, in the same buffer
+-- this is the answer, if one is due, in the same buffer; of the code alone
 pub record ServesPdu (answer : Option Response) (before after : PduBuf) (result : Served) : Type 0 where
   pub content : contents after ≡ sent_if_any answer
   pub due : result.due ≡ is_some answer

@@ -17,7 +17,7 @@ use std::alloc::{AllocError, Global};
 use std::marker::Model;
 
 /// The largest PDU that a server receives unless it is limited, in octets: this profile's own.
-const RX_MTU: u16 = 247;
+pub const RX_MTU: u16 = 247;
 
 /// What the policy sees of an unknown peer over a link that is not encrypted.
 const UNKNOWN: Standing = Standing {

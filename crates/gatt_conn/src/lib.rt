@@ -7,4 +7,4 @@ mod writing;
 
 pub use answered::{Answered, Served, answer, answer_into};
 pub use att_writes::Touched;
-pub use conn::Conn;
+pub use conn::{Conn, RX_MTU};

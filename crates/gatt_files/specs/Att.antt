@@ -14,6 +14,7 @@ use Rattle.att_table.specs.Table.{Contents}
 use Rattle.att_table.specs.file.TableFile.{table_read, no_attributes}
 use Rattle.gatt_conn.specs.Answer.{Question, answer_to, stored_by, conn_after}
 use Rattle.gatt_conn.specs.Connection.{Bearer, new_connection}
+use Rattle.gatt_conn.specs.declared.conn.TheConstants.{RX_MTU}
 use Rattle.octets.specs.Number.{Octets}
 use Rattle.gatt_files.specs.declared.session.TheConstants.{MAX_DIGITS}
 
@@ -88,7 +89,7 @@ door = result_unwrap_or door_read no_attributes
 
 -- that table, and a connection that has done nothing yet
 abbrev pub door_server : Server
-door_server = record { table = door; row = []; conn = new_connection 247 }
+door_server = record { table = door; row = []; conn = new_connection RX_MTU }
 
 -- what is printed for lines: the answers to the PDUs before the first bad one
 abbrev pub printed_by : Server → List Octets → Octets

@@ -1,4 +1,4 @@
--- What a contract sees of a store that writes rows out.
+-- What a contract sees of a store that writes rows out. Of the code alone.
 use Rattle.gatt_files.specs.declared.rows_out.RowsOut.{RowsOut}
 
 -- the writer that it writes to

@@ -1,4 +1,4 @@
--- How far `att` has come with its input.
+-- How far `att` has come with its input. Of the code alone.
 use Rattle.std.specs.Prelude.{◌≡◌, ℕ, ◌+◌, List, [], ◌∷◌, ◌++◌, Option, Some, None}
 use Rattle.std.specs.Io.KnownBytes.{Appends}
 use Rattle.gatt_files.specs.declared.fault.ShellFault.{ShellFault}

@@ -8,21 +8,21 @@ ghost use Rattle.gatt_show.specs.Cells.{left, right};
 use itoa::Buffer;
 use std::alloc::AllocError;
 
-/// The widest cell.
-const WIDEST: usize = 64;
+/// The width of the widest cell.
+pub(crate) const WIDEST: usize = 64;
 
-/// Adds a text, filled up with blanks behind it to a width of at most 64.
+/// Adds a text, filled up with blanks behind it to a width of at most `WIDEST`.
 pub fn add_left(text: &mut Vec<u8>, cell: &[u8], width: usize) -> Result<(), AllocError>
-    requires { width ≤ 64 }
+    requires { width ≤ WIDEST }
     ensures ok { OnOk result (text.new.items ≡ text.old.items ++ left width cell.now) }
 {
     text.extend_from_slice(cell)?;
     add_blanks(text, width.saturating_sub(cell.len()))
 }
 
-/// Adds a number in decimal, filled up with blanks before it to a width of at most 64.
+/// Adds a number in decimal, filled up with blanks before it to a width of at most `WIDEST`.
 pub fn add_right(text: &mut Vec<u8>, number: u64, width: usize) -> Result<(), AllocError>
-    requires { width ≤ 64 }
+    requires { width ≤ WIDEST }
     ensures ok { OnOk result (text.new.items ≡ text.old.items ++ right width (decimal number)) }
 {
     let mut digits = Buffer::new();
@@ -34,7 +34,7 @@ pub fn add_right(text: &mut Vec<u8>, number: u64, width: usize) -> Result<(), Al
 /// Adds so many blanks.
 #[tactic(auto, using(crate::proofs::Blanks::some_blanks))]
 fn add_blanks(text: &mut Vec<u8>, count: usize) -> Result<(), AllocError>
-    requires { count ≤ 64 }
+    requires { count ≤ WIDEST }
     ensures ok { OnOk result (text.new.items ≡ text.old.items ++ replicate count 32) }
 {
     text.extend_from_slice(&[b' '; WIDEST][..count])

@@ -1,4 +1,4 @@
--- The handles of the connections of slots, beside each other, so that one is found without a look at the slots.
+-- The handles of the connections of slots, beside each other, so that one is found without a look at the slots. Of the code alone.
 use Rattle.std.specs.Prelude.{◌≡◌, ℕ, ◌<◌, List, length, get_or, Option, Some, None}
 use Rattle.gatt_slots.specs.SlotState.{SlotState}
 use Rattle.gatt_slots.specs.Slots.{SlotStates, slot_state_at}

@@ -1,4 +1,4 @@
--- A slot that is lent: what is left in it then stands at its place.
+-- A slot that is lent: what is left in it then stands at its place. Of the code alone.
 use Rattle.std.specs.Prelude.{ℕ, Option, set}
 use Rattle.std.specs.Borrow.{Lends, MutBor, Fml}
 use Rattle.gatt_slots.specs.contracts.slots.Slots.{the_row}

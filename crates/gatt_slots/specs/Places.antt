@@ -1,4 +1,4 @@
--- Where something may be due in the slots of a host: sets of places, as the bits of a number, that cover all that is due.
+-- Where something may be due in the slots of a host: sets of places, as the bits of a number, that cover all that is due. Of the code alone.
 use Rattle.std.specs.Prelude.{◌≡◌, ℕ, ◌<◌, ◌≤◌, ◌==◌, ◌&&◌, ◌||◌, Bool, true, false, not, is_none, is_some, List, [], ◌∷◌, length, Option}
 use Rattle.std.specs.Int.{bit_at}
 use Rattle.std.specs.List.{list_any}

@@ -1,4 +1,4 @@
--- What the fields of a slot keep: nothing where it is free, whatever they still hold.
+-- What the fields of a slot keep: nothing where it is free, whatever they still hold. Of the code alone.
 use Rattle.std.specs.Prelude.{ℕ, Bool, true, false, Option, Some, None}
 use Rattle.att_numbers.specs.Types.{Row}
 use Rattle.gatt_conn.specs.Connection.{Bearer}

@@ -25,8 +25,8 @@ use Rattle.le_hci.specs.declared.peer.Peer.{Peer}
 use Rattle.gatt_subs.specs.declared.row_entry.RowEntry.{RowEntry}
 use Rattle.gatt_subs.specs.declared.rows_line.Line.TheVariants.{Entry, Owed}
 use Rattle.gatt_subs.specs.ReadBack.{IsNamed, IsConfigured}
-use Rattle.le_security.specs.Address.{address_of}
-use Rattle.gatt_subs.specs.RowsLine.{space, parts_of, kind_of, peer_of_row, is_from_one, handle_of_row, bits_of, rows_line_of}
+use Rattle.le_security.specs.Address.{address_of, address_type_of_digit, peer_of}
+use Rattle.gatt_subs.specs.RowsLine.{space, parts_of, is_from_one, handle_of_row, bits_of, rows_line_of}
 use Rattle.gatt_subs.specs.RowsText.{address_text, entry_line, joined_by_colons, owed_line}
 
 -- words are of visible characters
@@ -174,14 +174,14 @@ bits_back (suc (suc zero)) some few = rw (decimal_digit 2 (omega arith)) refl
 bits_back (suc (suc (suc zero))) some few = rw (decimal_digit 3 (omega arith)) refl
 bits_back (suc (suc (suc (suc more)))) some few = absurd (omega (arith, few))
 
-pub kind_back : (kind : ℕ) → kind ≤ 1 → kind_of (decimal kind) ≡ Some kind
+pub kind_back : (kind : ℕ) → kind ≤ 1 → address_type_of_digit (decimal kind) ≡ Some kind
 kind_back zero few = rw (decimal_digit 0 (omega arith)) refl
 kind_back (suc zero) few = rw (decimal_digit 1 (omega arith)) refl
 kind_back (suc (suc more)) few = absurd (omega (arith, few))
 
 -- a peer is read from its text
-pub peer_back : (peer : Peer) → IsNamed peer → peer_of_row (decimal peer.kind) (address_text peer.address) ≡ Some peer
-unfolding peer_of_row
+pub peer_back : (peer : Peer) → IsNamed peer → peer_of (decimal peer.kind) (address_text peer.address) ≡ Some peer
+unfolding peer_of
 peer_back peer is = rw (kind_back peer.kind is.kind, address_back peer.address is.address is.octets) refl
 
 -- a line without its line feed

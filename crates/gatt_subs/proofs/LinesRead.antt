@@ -17,12 +17,12 @@ use Rattle.hex.specs.declared.error.FromHexError.{FromHexError}
 use Rattle.hex.proofs.HexLemmas.{decode_of-ok, decode_sized-ok, decode_sized-twice}
 use Rattle.octets.specs.Number.{Octets}
 use Rattle.le_hci.specs.declared.peer.Peer.{Peer}
-use Rattle.le_security.specs.Address.{address_of, is_joined, address_octets, pair}
+use Rattle.le_security.specs.Address.{address_of, address_type_of_digit, is_joined, address_octets, pair, peer_of}
 use Rattle.gatt_subs.specs.declared.rows_line.Line.{Line}
 use Rattle.gatt_subs.specs.declared.rows_line.Line.TheVariants.{Entry, Owed}
 use Rattle.gatt_subs.specs.ReadBack.{IsNamed, IsConfigured}
 use Rattle.octets.specs.Missing.{◌>>=◌}
-use Rattle.gatt_subs.specs.RowsLine.{parts_of, kind_of, peer_of_row, is_from_one, handle_of_row, bits_of, line_behind, rows_line_of}
+use Rattle.gatt_subs.specs.RowsLine.{parts_of, is_from_one, handle_of_row, bits_of, line_behind, rows_line_of}
 
 some-is : {A : Type 0} {x y : A} → Some x ≡ Some y → x ≡ y
 some-is is = cc is
@@ -43,7 +43,7 @@ one_of_two true one kind is = let k : 0 ≡ kind = some-is is in omega (arith, k
 one_of_two false true kind is = let k : 1 ≡ kind = some-is is in omega (arith, k)
 one_of_two false false kind is = cc is
 
-kind_read : (word : Octets) (kind : ℕ) → kind_of word ≡ Some kind → kind ≤ 1
+kind_read : (word : Octets) (kind : ℕ) → address_type_of_digit word ≡ Some kind → kind ≤ 1
 kind_read word kind is = one_of_two (bytes_eq word (codes "0")) (bytes_eq word (codes "1")) kind is
 
 -- its octets
@@ -73,10 +73,10 @@ address_read : (text octets : Octets) → address_of text ≡ Some octets → Is
 address_read text octets is =
     joined_or_none (is_joined text) (pair text 0 ++ pair text 1 ++ pair text 2 ++ pair text 3 ++ pair text 4 ++ pair text 5) octets is
 
-peer_read : (kind address : Octets) (peer : Peer) → peer_of_row kind address ≡ Some peer → IsNamed peer
-unfolding peer_of_row
+peer_read : (kind address : Octets) (peer : Peer) → peer_of kind address ≡ Some peer → IsNamed peer
+unfolding peer_of
 peer_read kind address peer is =
-    let type = found (kind_of kind) (λ type. address_of address >>= (λ octets. Some (record { kind = type; address = octets }))) peer is in
+    let type = found (address_type_of_digit kind) (λ type. address_of address >>= (λ octets. Some (record { kind = type; address = octets }))) peer is in
     let octets = found (address_of address) (λ octets. Some (record { kind = type.x; address = octets })) peer type.then_y in
     let read = address_read address octets.x octets.is in
     subst IsNamed (some-is octets.then_y) (record { kind = kind_read kind type.x type.is; address = read.six; octets = read.small })
@@ -148,9 +148,9 @@ owed_read true (Some peer) line named is = subst CanBeWritten (some-is is) (name
 owed_read false peer line named is = cc is
 
 behind_read : (first second rest : Octets) (last : Option (Octets × Octets)) (line : Line) → line_behind first second rest last ≡ Some line → CanBeWritten line
-behind_read mark kind address None line is = owed_read (bytes_eq mark (codes "!")) (peer_of_row kind address) line (peer_read kind address) is
+behind_read mark kind address None line is = owed_read (bytes_eq mark (codes "!")) (peer_of kind address) line (peer_read kind address) is
 behind_read kind address rest (Some last) line is =
-    let peer = found (peer_of_row kind address) (λ peer. handle_of_row last.0 >>= (λ handle. bits_of last.1 >>= (λ bits. Some (Entry (record { peer = peer; handle = handle; bits = bits }))))) line is in
+    let peer = found (peer_of kind address) (λ peer. handle_of_row last.0 >>= (λ handle. bits_of last.1 >>= (λ bits. Some (Entry (record { peer = peer; handle = handle; bits = bits }))))) line is in
     let handle = found (handle_of_row last.0) (λ handle. bits_of last.1 >>= (λ bits. Some (Entry (record { peer = peer.x; handle = handle; bits = bits })))) line peer.then_y in
     let bits = found (bits_of last.1) (λ bits. Some (Entry (record { peer = peer.x; handle = handle.x; bits = bits }))) line handle.then_y in
     let of_handle = handle_read last.0 handle.x handle.is in

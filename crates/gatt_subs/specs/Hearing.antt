@@ -24,6 +24,7 @@ abbrev pub may_hear_at : List Attr → Row → Standing → Handle → Bool
 may_hear_at attributes row standing handle =
     option_map_or (λ (attr : Attr). is_value attr.role && may_hear_of attr.guard (bits_for row handle) standing) (attribute_at attributes handle) false
 
+-- how a connection is told; of the code alone
 abbrev pub is_indication : Telling → Bool
 is_indication Notification = false
 is_indication Indication = true

@@ -1,4 +1,4 @@
--- A value that was written, by the table that holds it.
+-- A value that was written, by the table that holds it. Of the code alone.
 use Rattle.std.specs.Prelude.{◌≡◌, ◌≤◌, ◌<◌, Bool, true, Some, None}
 use Rattle.att_numbers.specs.Types.{Handle}
 use Rattle.att_policy.specs.declared.guard.Guard.{Guard}

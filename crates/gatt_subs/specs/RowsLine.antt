@@ -9,8 +9,7 @@ use Rattle.octets.specs.Missing.{◌>>=◌}
 use Rattle.octets.specs.Number.{Octets}
 use Rattle.att_numbers.specs.Types.{Handle}
 use Rattle.le_hci.specs.declared.peer.Peer.{Peer}
-use Rattle.le_hci.specs.declared.peer.TheConstants.{PUBLIC_ADDRESS, RANDOM_ADDRESS}
-use Rattle.le_security.specs.Address.{address_of}
+use Rattle.le_security.specs.Address.{peer_of}
 use Rattle.gatt_subs.specs.declared.rows_line.Line.{Line}
 use Rattle.gatt_subs.specs.declared.rows_line.Line.TheVariants.{Entry, Owed}
 
@@ -28,19 +27,6 @@ parts_of text =
 -- the same, as the code has them
 abbrev pub parts_view : Bor Octets × Bor Octets → Octets × Octets
 parts_view parts = (parts.0.now, parts.1.now)
-
--- a type of address is a digit
-abbrev pub kind_of : Octets → Option ℕ
-kind_of word =
-    if bytes_eq word (codes "0") then Some PUBLIC_ADDRESS
-    else if bytes_eq word (codes "1") then Some RANDOM_ADDRESS
-    else None
-
-unfoldable pub peer_of_row : Octets → Octets → Option Peer
-peer_of_row kind address = do
-  type ← kind_of kind
-  octets ← address_of address
-  Some (record { kind = type; address = octets })
 
 -- a handle is decimal digits, the first of them from 1 to 9
 abbrev pub is_from_one : ℕ → Bool
@@ -62,9 +48,9 @@ bits_of word =
 -- behind two words: `! kind address` has one more, and `kind address handle value` two
 abbrev pub line_behind : Octets → Octets → Octets → Option (Octets × Octets) → Option Line
 line_behind mark kind address None =
-    if bytes_eq mark (codes "!") then option_map Owed (peer_of_row kind address) else None
+    if bytes_eq mark (codes "!") then option_map Owed (peer_of kind address) else None
 line_behind kind address rest (Some last) = do
-  peer ← peer_of_row kind address
+  peer ← peer_of kind address
   handle ← handle_of_row last.0
   bits ← bits_of last.1
   Some (Entry (record { peer = peer; handle = handle; bits = bits }))

@@ -76,7 +76,8 @@ impl Pending {
 
     /// Tells the connection that a value was written: `true` where a notification of it is due. With
     /// the indication bit the value waits instead, once and at the end. `row` is what the client has
-    /// configured, and `backlog` how many PDUs are queued for the connection.
+    /// configured, and `backlog` how many PDUs are queued for the connection. This is `raise_value` of
+    /// the value at the handle, where there is one.
     pub fn raise(
         &mut self,
         table: &Table,

@@ -71,7 +71,7 @@ impl Rows {
         Rows::read_unfitted(alloc, text)
     }
 
-    /// Reads a rows file. No peer has a bond yet.
+    /// Reads a rows file. No peer has a bond yet. It stands apart for its proof.
     fn read_unfitted(alloc: Global, text: &str) -> Result<Rows, RowsFault>
         ensures { Gives OutOfMemory (subscriptions_read text.now) result }
     {
@@ -95,7 +95,8 @@ impl Rows {
         self.replace_bonds(alloc, keys, table)
     }
 
-    /// Makes the bonds of the peers of the keys, in place of all that is kept.
+    /// Makes the bonds of the peers of the keys, in place of all that is kept. It stands apart for its
+    /// proof.
     fn replace_bonds(&mut self, alloc: Global, keys: &Keys, table: &Table) -> Result<(), RowsFault>
         ensures fitted { OnOk result (self.new ≡ fitted_rows keys.now table.now self.old) }
         ensures unchanged { OnErr result (self.new ≡ self.old) }

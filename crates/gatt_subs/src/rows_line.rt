@@ -2,11 +2,11 @@
 
 ghost use Rattle.std.specs.Prelude.{◌≡◌, None};
 ghost use Rattle.std.specs.Option.{option_map};
-ghost use Rattle.gatt_subs.specs.RowsLine.{parts_view, parts_of, line_behind, rows_line_of, peer_of_row, handle_of_row, bits_of};
+ghost use Rattle.gatt_subs.specs.RowsLine.{parts_view, parts_of, line_behind, rows_line_of, handle_of_row, bits_of};
 
 use crate::row_entry::RowEntry;
-use le_hci::{PUBLIC_ADDRESS, Peer, RANDOM_ADDRESS};
-use le_security::read_address;
+use le_hci::Peer;
+use le_security::read_peer;
 
 /// What a line says.
 #[derive(Clone, Copy, Debug, PartialEq, Eq)]
@@ -50,22 +50,6 @@ fn read_owed(mark: &str, kind: &str, address: &str) -> Option<Line>
         return None;
     }
     Some(Line::Owed(read_peer(kind, address)?))
-}
-
-/// The peer of a type of address and an address.
-#[tactic(auto, unfolding(crate::specs::RowsLine::peer_of_row))]
-fn read_peer(kind: &str, address: &str) -> Option<Peer>
-    ensures { result ≡ peer_of_row kind.now address.now }
-{
-    let kind = match kind {
-        "0" => PUBLIC_ADDRESS,
-        "1" => RANDOM_ADDRESS,
-        _ => return None,
-    };
-    Some(Peer {
-        kind,
-        address: read_address(address.as_bytes())?,
-    })
 }
 
 /// The handle that decimal digits write, without leading zeros.

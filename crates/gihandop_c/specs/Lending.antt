@@ -1,4 +1,4 @@
--- What the pointer to a host ends as, where the host is lent.
+-- What the pointer to a host ends as, where the host is lent. Of the code alone.
 use Rattle.std.specs.Borrow.{LendsIf, MutBor, Fml}
 use Rattle.std.specs.Prelude.{Option, Some}
 use Rattle.gihandop_c.specs.contracts.host_pointer.HostPointer.{the_row}

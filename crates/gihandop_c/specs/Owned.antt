@@ -1,4 +1,4 @@
--- What the pointer to a host owns: nothing where it is null, and else the box in which the host lies.
+-- What the pointer to a host owns: nothing where it is null, and else the box in which the host lies. Of the code alone.
 use Rattle.std.specs.declared.option.Option.{Option}
 use Rattle.std.specs.declared.option.Option.TheVariants.{None, Some}
 use Rattle.std.specs.contracts.impls.GlobalAllocator.TheImpl.{ghosts}

@@ -1,4 +1,4 @@
--- A fragment to the controller over the payload of its frame.
+-- A fragment to the controller over the payload of its frame. Of the code alone.
 use Rattle.std.specs.Prelude.{ℕ, ◌+◌, ◌++◌, length}
 use Rattle.le_acl.specs.Fragment.{Fragment, Beginning, Continuation}
 use Rattle.le_acl.specs.declared.fragment_ref.FragmentRef.{FragmentRef}

@@ -1,4 +1,4 @@
--- What payloads end as, where one of them is lent.
+-- What payloads end as, where one of them is lent. Of the code alone.
 use Rattle.std.specs.Prelude.{ℕ}
 use Rattle.std.specs.Borrow.{Lends, MutBor, Fml, u8, usize, unit}
 use Rattle.std.specs.Vec.{with_item}

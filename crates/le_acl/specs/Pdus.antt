@@ -1,4 +1,4 @@
--- PDUs in a ring of slots.
+-- PDUs in a ring of slots. Of the code alone.
 use Rattle.std.specs.Prelude.{◌≡◌, ℕ, ◌+◌, ◌%◌, ◌<◌, ◌≤◌, List, [], ◌++◌, length, take, drop, map, get_or}
 use Rattle.std.specs.List.{zip}
 use Rattle.arrayvec.specs.ArrayVec.{ArrayVec}

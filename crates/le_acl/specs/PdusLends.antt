@@ -1,4 +1,4 @@
--- What queued PDUs end as, where the room for the next is lent.
+-- What queued PDUs end as, where the room for the next is lent. Of the code alone.
 use Rattle.std.specs.Borrow.{Lends, MutBor, Fml, u8, usize, unit}
 use Rattle.std.specs.Prelude.{ℕ}
 use Rattle.arrayvec.specs.ArrayVec.{ArrayVec}

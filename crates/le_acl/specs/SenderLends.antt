@@ -1,4 +1,4 @@
--- What a sender ends as, where its room for a PDU is lent.
+-- What a sender ends as, where its room for a PDU is lent. Of the code alone.
 use Rattle.std.specs.Prelude.{ℕ, Result, Some}
 use Rattle.std.specs.Borrow.{LendsIfOk, MutBor, Fml, u8, usize, unit}
 use Rattle.arrayvec.specs.ArrayVec.{ArrayVec}

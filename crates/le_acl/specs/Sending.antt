@@ -1,4 +1,4 @@
--- A sender: what goes out, the room that is lent, and the fields that keep both.
+-- A sender: what goes out, the room that is lent, and the fields that keep both. Of the code alone.
 use Rattle.std.specs.Prelude.{◌≡◌, ℕ, zero, suc, ◌+◌, ◌<◌, ◌≤◌, Bool, true, false, List, [], ◌∷◌, length, drop, map, Option, Some, None}
 use Rattle.octets.specs.Number.{Octets}
 use Rattle.le_acl.specs.Pdus.{Queued}

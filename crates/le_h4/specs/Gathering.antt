@@ -1,4 +1,4 @@
--- What is gathered of one packet.
+-- What is gathered of one packet. Of the code alone.
 use Rattle.std.specs.Prelude.{◌≡◌, ℕ, ◌<◌, ◌≤◌, true, false, [], ◌∷◌, ◌++◌, length, take, None, Result, Ok, Err}
 use Rattle.octets.specs.Number.{Octets}
 use Rattle.le_h4.specs.declared.deframer.Fed.{Fed}

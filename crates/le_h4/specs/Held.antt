@@ -1,4 +1,4 @@
--- The fields of a deframer, as one value.
+-- The fields of a deframer, as one value. Of the code alone.
 use Rattle.std.specs.Prelude.{◌≡◌, ℕ, ◌<◌, Bool, true, false, [], Option, None, IsSome}
 use Rattle.octets.specs.Number.{Octets}
 use Rattle.le_h4.specs.Packet.{Packet, first_of}

@@ -3,16 +3,15 @@ ghost use Rattle.octets.specs.Number.{two_octets};
 ghost use Rattle.le_h4.specs.declared.packet_buf.TheConstants.{MAX_ACL_DATA_OUT, MAX_PACKET_OUT};
 
 use crate::indicator;
-use crate::packet_buf::PacketOctets;
+use crate::packet_buf::{PacketBuf, PacketOctets};
 use octets::{overwrite, write_parts};
 
 /// The octets in front of ACL data.
 pub(crate) const HEADER: usize = 5;
 
 /// Writes an ACL packet in place of what `out` holds: a connection handle of 12 bits, the packet
-/// boundary flag, and at most `MAX_ACL_DATA_OUT` octets of data. Its broadcast flag is 0. It is the
-/// packet of `acl_into` with no header apart, in a buffer of its own length. (Core 5.0, Vol 2 Part E,
-/// 5.4.2)
+/// boundary flag, and at most `MAX_ACL_DATA_OUT` octets of data. Its broadcast flag is 0. This is
+/// `PacketBuf::acl` with no header apart, and a copy of its octets. (Core 5.0, Vol 2 Part E, 5.4.2)
 pub fn write_acl(handle: u16, pb: u8, octets: &[u8], out: &mut PacketOctets)
     requires handle { handle < 2 ^ 12 }
     requires pb { pb ≤ 3 }
@@ -21,8 +20,9 @@ pub fn write_acl(handle: u16, pb: u8, octets: &[u8], out: &mut PacketOctets)
         ≡ 0x02 ∷ two_octets (handle + 2 ^ 12 * pb) ++ two_octets (length octets.now)
         ++ octets.now }
 {
-    let header = acl_header(handle, pb, octets.len() as u16);
-    overwrite(out, &header, octets, &[]);
+    let mut packet = PacketBuf::new();
+    packet.acl(handle, pb, &[], octets);
+    overwrite(out, packet.as_slice(), &[], &[]);
 }
 
 /// Writes an ACL packet at the front of `out`, and says how many octets it has: a connection handle of

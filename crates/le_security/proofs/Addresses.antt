@@ -1,5 +1,5 @@
 -- A text of as many characters as an address has, character by character.
-use Rattle.std.proofs.Common.{◌≡◌, ℕ, zero, suc, ◌+◌, true, if◌then◌else◌, ◌==◌, ◌&&◌, None, List, [], ◌∷◌, length, get_or, drop, ap, drop-cons, arith}
+use Rattle.std.proofs.Common.{◌≡◌, ℕ, zero, suc, ◌+◌, true, if◌then◌else◌, ◌==◌, ◌&&◌, None, [], ◌∷◌, length, get_or, drop, ap, drop-cons, arith}
 use Rattle.std.proofs.lemmas.Grind.{common_steps}
 use Rattle.octets.specs.Number.{Octets}
 use Rattle.le_security.specs.Address.{address_octets, address_of}

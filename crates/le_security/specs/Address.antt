@@ -1,11 +1,13 @@
 -- Device addresses as texts: this profile's own.
-use Rattle.std.specs.Prelude.{ℕ, Bool, ◌==◌, ◌&&◌, ◌*◌, ◌+◌, if◌then◌else◌, List, [], ◌∷◌, ◌++◌, length, take, drop, reverse, slice_index_or, codes, Option, Some, None}
+use Rattle.std.specs.Prelude.{ℕ, Bool, ◌==◌, ◌&&◌, ◌*◌, ◌+◌, if◌then◌else◌, [], ◌∷◌, ◌++◌, length, take, drop, reverse, slice_index_or, codes, Option, Some, None}
 use Rattle.std.specs.List.{list_all}
 use Rattle.std.specs.Option.{option_map}
 use Rattle.std.specs.Result.{result_ok}
 use Rattle.std.specs.Str.{bytes_eq}
 use Rattle.hex.specs.Hex.{decode_sized}
+use Rattle.octets.specs.Missing.{◌>>=◌}
 use Rattle.octets.specs.Number.{Octets}
+use Rattle.le_hci.specs.declared.peer.Peer.{Peer}
 use Rattle.le_hci.specs.declared.peer.TheConstants.{PUBLIC_ADDRESS, RANDOM_ADDRESS}
 
 -- twelve digits, whose octets stand on the wire in the other order
@@ -39,3 +41,17 @@ address_type_of word =
     if bytes_eq word (codes "public") then Some PUBLIC_ADDRESS
     else if bytes_eq word (codes "random") then Some RANDOM_ADDRESS
     else None
+
+-- the digits for them
+abbrev pub address_type_of_digit : Octets → Option ℕ
+address_type_of_digit word =
+    if bytes_eq word (codes "0") then Some PUBLIC_ADDRESS
+    else if bytes_eq word (codes "1") then Some RANDOM_ADDRESS
+    else None
+
+-- a peer by the digit of its type of address, and its address
+unfoldable pub peer_of : Octets → Octets → Option Peer
+peer_of kind address = do
+  type ← address_type_of_digit kind
+  octets ← address_of address
+  Some (record { kind = type; address = octets })

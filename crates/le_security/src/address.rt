@@ -1,9 +1,9 @@
 //! Device addresses, as texts and as on the wire.
 
 ghost use Rattle.std.specs.Prelude.{◌≡◌};
-ghost use Rattle.le_security.specs.Address.{address_octets, address_of, address_type_of};
+ghost use Rattle.le_security.specs.Address.{address_octets, address_of, address_type_of, peer_of};
 
-use le_hci::{PUBLIC_ADDRESS, RANDOM_ADDRESS};
+use le_hci::{PUBLIC_ADDRESS, Peer, RANDOM_ADDRESS};
 
 /// The address that a text writes: six pairs of hexadecimal digits joined by colons, the most
 /// significant one first. The octets are as on the wire, where that is the last one.
@@ -56,4 +56,21 @@ pub fn read_address_type(word: &str) -> Option<u8>
         "random" => Some(RANDOM_ADDRESS),
         _ => None,
     }
+}
+
+/// The peer that a digit and a text name: 0 for a public address or 1 for a random one, and the
+/// address. (Core 5.0, Vol 2 Part E, 7.7.65.1)
+#[tactic(auto, unfolding(crate::specs::Address::peer_of))]
+pub fn read_peer(kind: &str, address: &str) -> Option<Peer>
+    ensures { result ≡ peer_of kind.now address.now }
+{
+    let kind = match kind {
+        "0" => PUBLIC_ADDRESS,
+        "1" => RANDOM_ADDRESS,
+        _ => return None,
+    };
+    Some(Peer {
+        kind,
+        address: read_address(address.as_bytes())?,
+    })
 }

@@ -11,7 +11,7 @@ mod key_file;
 mod keys;
 mod link;
 
-pub use address::read_address;
+pub use address::{read_address, read_peer};
 pub use entry::Key;
 pub use key_fault::KeyFault;
 pub use keys::Keys;

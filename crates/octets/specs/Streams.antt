@@ -1,4 +1,4 @@
--- What a contract sees of the sources and sinks.
+-- What a contract sees of the sources and sinks. Of the code alone.
 use Rattle.std.specs.Prelude.{ℕ, Option}
 use Rattle.octets.specs.Number.{Octets}
 use Rattle.octets.specs.declared.stream.Reader.{Reader}

@@ -1,15 +1,14 @@
 -- What lines and a script say, by computing.
-use Rattle.std.proofs.Common.{◌≡◌, ℕ, true, List, [], ◌∷◌, ◌++◌, Option, Some, None, Ok, Err, codes, refl}
+use Rattle.std.proofs.Common.{◌≡◌, true, [], ◌∷◌, Some, None, Ok, Err, codes, refl}
 use Rattle.hex.specs.Hex.{decode_pairs}
-use Rattle.octets.specs.Number.{Octets}
 use Rattle.scripts.specs.declared.act.Act.TheVariants as act
-use Rattle.scripts.specs.declared.act.ScriptedAct.TheVariants.{Connect, Drop, Encrypt, Clear, Send, Hold, Done}
-use Rattle.scripts.specs.declared.line.Line.TheVariants.{Phone, Authorize, Update, Tick, Replace}
+use Rattle.scripts.specs.declared.act.ScriptedAct.TheVariants.{Drop, Encrypt, Send, Hold}
+use Rattle.scripts.specs.declared.line.Line.TheVariants.{Phone}
 use Rattle.scripts.specs.declared.script_fault.ScriptFault.TheVariants.{BadLine}
 use Rattle.scripts.specs.Name.{is_command_word, is_name, name_of}
 use Rattle.scripts.specs.Numeral.{numeral_of}
 use Rattle.scripts.specs.Payload.{decoded, payload_of}
-use Rattle.scripts.specs.Line.{peer_of_words, random_number_of, channel_of, line_of_one, line_of_two, line_of_three, line_of_four, line_of}
+use Rattle.scripts.specs.Line.{random_number_of, channel_of, line_of_one, line_of_two, line_of_three, line_of_four, line_of}
 use Rattle.scripts.specs.Script.{script_of}
 
 sent : line_of (codes "U < 0a0300") ≡ Some (Phone (codes "U") (Send 4 (10 ∷ 3 ∷ 0 ∷ [])))

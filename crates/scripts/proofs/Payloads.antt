@@ -1,5 +1,5 @@
 -- Digits that write octets.
-use Rattle.std.proofs.Common.{◌≡◌, ℕ, true, false, is_some, List, [], Option, Some, None, unwrap_or, refl}
+use Rattle.std.proofs.Common.{◌≡◌, ℕ, true, is_some, List, [], Option, Some, None, unwrap_or, refl}
 use Rattle.hex.specs.Hex.{decode_pairs}
 use Rattle.scripts.specs.Payload.{decoded, decoded_octets, IsWritten}
 

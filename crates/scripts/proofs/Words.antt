@@ -1,6 +1,5 @@
 -- Lines of more than four words.
-use Rattle.std.proofs.Common.{◌≡◌, ℕ, ◌+◌, ◌<◌, ◌==◌, List, [], ◌∷◌, length, None, refl, sym, ◌∙◌, ap, arith}
-use Rattle.std.specs.List.{slice_split, count_by}
+use Rattle.std.proofs.Common.{◌≡◌, ℕ, ◌<◌, ◌==◌, List, [], ◌∷◌, length, None, refl, sym, ◌∙◌, ap, arith}
 use Rattle.std.proofs.lemmas.List.Splits.{length-slice_split}
 use Rattle.octets.specs.Number.{Octets}
 use Rattle.scripts.specs.Line.{words_of, line_of_words}

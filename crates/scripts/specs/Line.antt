@@ -1,5 +1,5 @@
 -- What one line of a script says: this profile's own.
-use Rattle.std.specs.Prelude.{ℕ, ◌-◌, ◌==◌, ◌^◌, Bool, if◌then◌else◌, List, [], ◌∷◌, codes, Option, Some, None}
+use Rattle.std.specs.Prelude.{ℕ, ◌-◌, ◌==◌, ◌^◌, if◌then◌else◌, List, [], ◌∷◌, codes, Option, Some, None}
 use Rattle.std.specs.List.{slice_split}
 use Rattle.std.specs.Option.{option_map}
 use Rattle.std.specs.Result.{result_ok}
@@ -7,10 +7,8 @@ use Rattle.std.specs.Str.{bytes_eq}
 use Rattle.hex.specs.Hex.{decode_sized}
 use Rattle.octets.specs.Missing.{◌>>=◌}
 use Rattle.octets.specs.Number.{Octets}
-use Rattle.le_hci.specs.declared.peer.Peer.{Peer}
-use Rattle.le_hci.specs.declared.peer.TheConstants.{PUBLIC_ADDRESS, RANDOM_ADDRESS}
 use Rattle.le_l2cap.specs.declared.channel.TheConstants.{ATT, LE_SIGNALLING, SECURITY_MANAGER}
-use Rattle.le_security.specs.Address.{address_of}
+use Rattle.le_security.specs.Address.{peer_of}
 use Rattle.scripts.specs.declared.act.ScriptedAct.{ScriptedAct}
 use Rattle.scripts.specs.declared.act.ScriptedAct.TheVariants.{Connect, Drop, Encrypt, Clear, Send, Hold, Done}
 use Rattle.scripts.specs.declared.line.Line.{Line}
@@ -22,13 +20,6 @@ use Rattle.scripts.specs.Payload.{payload_of}
 -- the words of a line, with a single space between each two
 abbrev pub words_of : Octets → List Octets
 words_of line = slice_split (λ octet. octet == 32) line
-
--- a type of address is a digit, and an address is written as in a key file
-unfoldable pub peer_of_words : Octets → Octets → Option Peer
-peer_of_words kind address = do
-  type ← (if bytes_eq kind (codes "0") then Some PUBLIC_ADDRESS else if bytes_eq kind (codes "1") then Some RANDOM_ADDRESS else None)
-  octets ← address_of address
-  Some (record { kind = type; address = octets })
 
 -- a random number is 16 digits, two an octet
 unfoldable pub random_number_of : Octets → Option Octets
@@ -98,7 +89,7 @@ line_of_three first second third =
 
 -- `connect NAME KIND ADDRESS`
 abbrev pub connect_line : Octets → Octets → Octets → Option Line
-connect_line name kind address = peer_of_words kind address >>= (λ peer. of_phone name (Connect peer))
+connect_line name kind address = peer_of kind address >>= (λ peer. of_phone name (Connect peer))
 
 -- `encrypt NAME RAND EDIV`
 abbrev pub encrypt_line : Octets → Octets → Octets → Option Line

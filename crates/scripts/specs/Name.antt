@@ -4,6 +4,7 @@ use Rattle.std.specs.Char.{is_ascii_alphanumeric}
 use Rattle.std.specs.List.{list_all}
 use Rattle.std.specs.Str.{bytes_eq}
 use Rattle.octets.specs.Number.{Octets}
+use Rattle.scripts.specs.declared.name.TheConstants.{MAX_NAME}
 
 -- the words that begin the lines of commands
 unfoldable pub is_command_word : Octets → Bool
@@ -12,10 +13,10 @@ is_command_word word =
     || (bytes_eq word (codes "hold") || (bytes_eq word (codes "done") || (bytes_eq word (codes "update") || (bytes_eq word (codes "allow")
     || (bytes_eq word (codes "deny") || (bytes_eq word (codes "tick") || bytes_eq word (codes "replace"))))))))))
 
--- 1 to 8 octets, no such word, and letters and digits alone
+-- 1 to `MAX_NAME` octets, no such word, and letters and digits alone
 unfoldable pub is_name : Octets → Bool
 is_name word =
-    (nat_lt 0 (length word) && nat_le (length word) 8) && (not (is_command_word word) && list_all is_ascii_alphanumeric word)
+    (nat_lt 0 (length word) && nat_le (length word) MAX_NAME) && (not (is_command_word word) && list_all is_ascii_alphanumeric word)
 
 unfoldable pub name_of : Octets → Option Octets
 name_of word = if is_name word then Some word else None

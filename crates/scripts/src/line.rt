@@ -1,15 +1,14 @@
 //! The lines of a script.
 
 ghost use Rattle.std.specs.Prelude.{◌≡◌, [], ◌∷◌, IfSome, IfNone};
-ghost use Rattle.scripts.specs.Line.{words_of, peer_of_words, random_number_of, channel_of, line_of_one, line_of_two, line_of_three, line_of_four, of_phone, authorized_until, line_of};
+ghost use Rattle.scripts.specs.Line.{words_of, random_number_of, channel_of, line_of_one, line_of_two, line_of_three, line_of_four, of_phone, authorized_until, line_of};
 
 use crate::act::ScriptedAct;
 use crate::name::Name;
 use crate::numeral::{read_u16, read_u64};
 use crate::payload::Payload;
-use le_hci::{PUBLIC_ADDRESS, Peer, RANDOM_ADDRESS};
 use le_l2cap::channel;
-use le_security::read_address;
+use le_security::read_peer;
 
 /// What a line says.
 #[derive(Drop)]
@@ -176,22 +175,6 @@ fn read_channel(sign: &str) -> Option<u16>
         "<6" => Some(channel::SECURITY_MANAGER),
         _ => None,
     }
-}
-
-/// The peer of a type of address and an address.
-#[tactic(auto, unfolding(crate::specs::Line::peer_of_words))]
-fn read_peer(kind: &str, address: &str) -> Option<Peer>
-    ensures { result ≡ peer_of_words kind.now address.now }
-{
-    let kind = match kind {
-        "0" => PUBLIC_ADDRESS,
-        "1" => RANDOM_ADDRESS,
-        _ => return None,
-    };
-    Some(Peer {
-        kind,
-        address: read_address(address.as_bytes())?,
-    })
 }
 
 /// The octets of a random number.

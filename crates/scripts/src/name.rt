@@ -7,7 +7,10 @@ ghost use Rattle.scripts.specs.Name.{is_command_word, is_name, name_of};
 
 use std::marker::Model;
 
-/// The name of a phone: 1 to 8 ASCII letters and digits, and no word of a command.
+/// The most letters and digits of a name.
+const MAX_NAME: usize = 8;
+
+/// The name of a phone: 1 to `MAX_NAME` ASCII letters and digits, and no word of a command.
 #[derive(Drop)]
 pub struct Name<'a> {
     text: &'a str,
@@ -47,7 +50,7 @@ impl<'a> Name<'a> {
 fn is_name(word: &str) -> bool
     ensures { result ≡ is_name word.now }
 {
-    if word.is_empty() || word.len() > 8 {
+    if word.is_empty() || word.len() > MAX_NAME {
         return false;
     }
     !is_command_word(word) && has_only_letters_and_digits(word)

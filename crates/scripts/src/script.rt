@@ -56,6 +56,7 @@ impl<'a> Script<'a> {
         Script::read_lines(alloc, text, has_next)
     }
 
+    /// Reads a script line by line. It stands apart for its proof.
     #[tactic(auto, unfolding(crate::specs::Script::script_of))]
     fn read_lines(alloc: Global, text: &'a str, has_next: bool) -> Result<Script<'a>, ScriptFault>
         ensures { Gives OutOfMemory (script_of has_next text.now) result }

@@ -1,4 +1,4 @@
--- What the fragments of a frame have come to, as le_acl says it.
+-- What the fragments of a frame have come to, as le_acl says it. Of the code alone.
 use Rattle.std.specs.Prelude.{Some, None}
 use Rattle.octets.specs.Number.{Octets}
 use Rattle.le_acl.specs.Reassembler.{Assembly, no_assembly}

@@ -108,6 +108,7 @@ impl Sim {
         }
     }
 
+    /// A phone connects, which a controller that advertises allows once.
     fn connect(&mut self, phone: u8, peer: Peer) -> Result<(), SimFault>
         requires { phone < PHONES }
         ensures { DoesAct (SimulatedAct.Connect phone peer) self.old self.new result }
@@ -124,6 +125,7 @@ impl Sim {
         Ok(())
     }
 
+    /// A phone drops its connection.
     fn leave(&mut self, phone: u8) -> Result<(), SimFault>
         requires { phone < PHONES }
         ensures { DoesAct (SimulatedAct.Drop phone) self.old self.new result }
@@ -142,6 +144,7 @@ impl Sim {
         Ok(())
     }
 
+    /// A phone asks for the key with which its connection is encrypted.
     fn encrypt(&mut self, phone: u8, rand: [u8; 8], ediv: u16) -> Result<(), SimFault>
         requires { phone < PHONES }
         ensures { DoesAct (SimulatedAct.Encrypt phone rand ediv) self.old self.new result }
@@ -149,6 +152,7 @@ impl Sim {
         self.tell_of(phone, Told::LongTermKeyRequest { phone, rand, ediv })
     }
 
+    /// A phone has its connection encrypted no longer.
     fn clear(&mut self, phone: u8) -> Result<(), SimFault>
         requires { phone < PHONES }
         ensures { DoesAct (SimulatedAct.Clear phone) self.old self.new result }
@@ -156,6 +160,7 @@ impl Sim {
         self.tell_of(phone, Told::EncryptionChange { phone, enabled: 0 })
     }
 
+    /// Packets for a phone are completed.
     fn done(&mut self, phone: u8, packets: u16) -> Result<(), SimFault>
         requires { phone < PHONES }
         ensures { DoesAct (SimulatedAct.Done phone packets) self.old self.new result }
@@ -175,6 +180,7 @@ impl Sim {
         tell(&mut self.waiting, told)
     }
 
+    /// A phone sends a payload on a channel.
     fn send(&mut self, phone: u8, cid: u16, payload: &[u8]) -> Result<(), SimFault>
         requires phone { phone < PHONES }
         requires payload { length payload.now ≤ MAX_PDU }
@@ -188,6 +194,7 @@ impl Sim {
         tell_frame(&mut self.waiting, phone, &frame, cut)
     }
 
+    /// The packets for a phone are completed no longer by themselves.
     fn hold(&mut self, phone: u8) -> Result<(), SimFault>
         requires { phone < PHONES }
         ensures { DoesAct (SimulatedAct.Hold phone) self.old self.new result }
@@ -323,7 +330,7 @@ impl Sim {
 
     /// Has the host told that a packet for a phone is completed, unless its packets are held.
     fn complete(&mut self, phone: u8) -> Result<(), SimFault>
-        requires { phone < 8 }
+        requires { phone < PHONES }
         ensures { IsDone (completion_fault self.old phone)
             (with_told self.old (completions_for self.old phone)) self.old self.new result }
     {

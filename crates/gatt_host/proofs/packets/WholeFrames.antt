@@ -7,6 +7,7 @@ use Rattle.gatt_host.specs.Meaning.{once_heard, with_fragment}
 use Rattle.gatt_host.specs.Packet.{fragment_left}
 use Rattle.le_acl.specs.Frame.{is_enough, is_frame}
 use Rattle.le_acl.specs.Fragment.{Fragment, Beginning, Continuation}
+use Rattle.le_acl.specs.declared.frame.TheConstants.{MAX_FRAME}
 use Rattle.le_acl.specs.Reassembler.{Assembly, assembled_of, no_assembly, with_more}
 use Rattle.octets.specs.Number.{Octets, from_two}
 
@@ -17,7 +18,7 @@ both false y is = is
 pub enough : (octets : Octets) → is_frame octets ≡ true → is_enough octets ≡ true
 enough (low ∷ high ∷ channel_low ∷ channel_high ∷ payload) is =
     let states : (length payload == from_two low high) ≡ true =
-    both (length payload == from_two low high) (nat_le (length (low ∷ high ∷ channel_low ∷ channel_high ∷ payload)) 521) is in
+    both (length payload == from_two low high) (nat_le (length (low ∷ high ∷ channel_low ∷ channel_high ∷ payload)) MAX_FRAME) is in
     grind (arith, nat_tests, states)
 enough [] is = cc is
 enough (a ∷ []) is = cc is
