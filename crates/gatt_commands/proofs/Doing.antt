@@ -3,9 +3,8 @@ use Rattle.std.proofs.Common.{◌≡◌, if◌then◌else◌, List, Option, Some
 use Rattle.std.specs.Prelude.{is_some, IsSome, OnErr}
 use Rattle.std.specs.Option.{option_map}
 use Rattle.att_table.specs.Table.{Contents}
-use Rattle.gatt_host.specs.Asked.{refused_of, refusal_in_result, replacing_refusal_of}
+use Rattle.gatt_host.specs.Asked.{refusal_in_result, replacing_refusal_of}
 use Rattle.gatt_host.specs.declared.app.AppFault.{AppFault}
-use Rattle.gatt_host.specs.declared.app.AppFault.TheVariants.{NoSuchHandle, NotAValue, BadLength, NoSuchConnection, TimeWentBack, Stopped, NoServiceChanged}
 use Rattle.gatt_host.specs.Numbers.{number_of_refusal}
 use Rattle.gatt_host.specs.Telling.{silent}
 use Rattle.gatt_host.specs.HostModel.{RefinesRun, Takes, HostModel}
@@ -15,16 +14,7 @@ use Rattle.gatt_laws.specs.machine.Start.{Start}
 use Rattle.octets.specs.Number.{Octets}
 use Rattle.gatt_commands.specs.declared.acts.Refused.{Refused}
 use Rattle.gatt_commands.specs.declared.acts.Refused.TheVariants as refused
-use Rattle.gatt_commands.specs.Doing.{Calls, ReplacesBy, number_of_why, refused_call}
-
-same_number : (fault : AppFault) → number_of_refusal fault ≡ number_of_why (refused_of fault)
-same_number NoSuchHandle = refl
-same_number NotAValue = refl
-same_number BadLength = refl
-same_number NoSuchConnection = refl
-same_number TimeWentBack = refl
-same_number Stopped = refl
-same_number NoServiceChanged = refl
+use Rattle.gatt_commands.specs.Doing.{Calls, ReplacesBy, refused_call}
 
 -- what is told of an answer of the host
 abbrev pub told_of : {A : Type 0} → Result A AppFault → Option Refused
@@ -37,11 +27,11 @@ told_by (Err fault) = Some (refused.Call (number_of_refusal fault.0))
 
 told-why : (result : Result (Unit {0}) AppFault) → told_of result ≡ option_map refused_call (refusal_in_result result)
 told-why (Ok done) = refl
-told-why (Err fault) = ap (λ number. Some (refused.Call number)) (same_number fault)
+told-why (Err fault) = refl
 
 told-why-not : (result : Result Contents (AppFault × Contents)) → told_by result ≡ option_map refused_call (replacing_refusal_of result)
 told-why-not (Ok table) = refl
-told-why-not (Err fault) = ap (λ number. Some (refused.Call number)) (same_number fault.0)
+told-why-not (Err fault) = refl
 
 still : (old new : HostModel) (told : Option Refused) (result : Result (Unit {0}) AppFault) → told ≡ told_of result → OnErr result (new ≡ silent old) → IsSome told → new ≡ silent old
 still old new told (Ok done) is same some = cc (is, some)

@@ -5,6 +5,7 @@ use Rattle.att_table.specs.Table.{Contents}
 use Rattle.gatt_host.specs.Telling.{silent}
 use Rattle.gatt_host.specs.HostModel.{Takes, HostModel, RefinesRun}
 use Rattle.gatt_laws.specs.machine.Calls.{Call, UpdateCall, AuthorizeCall, TickCall}
+use Rattle.gatt_host.specs.Numbers.{number_of_refused}
 use Rattle.gatt_laws.specs.machine.Calls as why
 use Rattle.gatt_laws.specs.machine.Input.{Item, ACall, ATable, call_refusal, run, replacement_refusal}
 use Rattle.gatt_laws.specs.machine.Start.{Start}
@@ -52,18 +53,9 @@ pub record PhoneActs (act : sim.SimulatedAct) (told : Option Refused) (old new :
   pub refused : told ≡ option_map (refused_act (phone_in act)) (act_fault old act)
   pub after : new ≡ after_call old (Acts act)
 
--- the numbers of refused calls
-abbrev pub number_of_why : why.Refused → ℕ
-number_of_why why.NoSuchHandle = 1
-number_of_why why.NotAValue = 2
-number_of_why why.BadLength = 3
-number_of_why why.NoSuchConnection = 4
-number_of_why why.TimeWentBack = 5
-number_of_why why.Stopped = 6
-number_of_why why.NoServiceChanged = 7
-
+-- a refused call is told by its number
 abbrev pub refused_call : why.Refused → Refused
-refused_call reason = refused.Call (number_of_why reason)
+refused_call reason = refused.Call (number_of_refused reason)
 
 -- wherever the host was, what is told is why the call is refused
 abbrev pub TellsWhy : Call → Option Refused → HostModel → Type 0

@@ -2,10 +2,10 @@
 use Rattle.std.specs.Prelude.{◌≡◌, ℕ, ◌+◌, List, drop, Option, Some, None, IsSome}
 use Rattle.att_table.specs.Table.{Contents}
 use Rattle.gatt_host.specs.declared.host_fault.HostFault.{HostFault}
-use Rattle.gatt_host.specs.Numbers.{number_of_fault}
+use Rattle.gatt_host.specs.Numbers.{number_of_fault, number_of_refused}
 use Rattle.gatt_host.specs.Telling.{notices_told, silent}
 use Rattle.gatt_host.specs.HostModel.{Refines, RefinesRun}
-use Rattle.gatt_laws.specs.machine.Calls.{Call, Refused, NoSuchHandle, NotAValue, BadLength, NoSuchConnection, TimeWentBack, Stopped, NoServiceChanged}
+use Rattle.gatt_laws.specs.machine.Calls.{Call, Refused}
 use Rattle.gatt_laws.specs.machine.Input.{Run, Item, run, call_refusal, replacement_refusal}
 use Rattle.gatt_laws.specs.machine.Notice.{Notice, notices_in, notices_of}
 use Rattle.gatt_laws.specs.machine.Start.{Start}
@@ -73,18 +73,9 @@ abbrev pub fault_status : HostFault → ℕ
 fault_status fault = STOPPED + number_of_fault fault
 
 -- the status of a call: by why it is refused, if it is
-abbrev pub refusal_number : Refused → ℕ
-refusal_number NoSuchHandle = 1
-refusal_number NotAValue = 2
-refusal_number BadLength = 3
-refusal_number NoSuchConnection = 4
-refusal_number TimeWentBack = 5
-refusal_number Stopped = 6
-refusal_number NoServiceChanged = 7
-
 abbrev pub call_status : Option Refused → ℕ
 call_status None = DONE
-call_status (Some refused) = REFUSED + refusal_number refused
+call_status (Some refused) = REFUSED + number_of_refused refused
 
 -- wherever the host was, it refuses what the state machine refuses there, and for that
 abbrev pub AnswersBy : (Run → Option Refused) → ℕ → Opened → Type 0
