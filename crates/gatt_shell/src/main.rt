@@ -142,7 +142,7 @@ fn run_host(
         + Clock
         + Eprint
         + AllocGlobal),
-    choice: HostChoice<'_>,
+    choice: &HostChoice<'_>,
 ) -> u8 {
     let words = HostWords {
         table: choice.table,
@@ -184,10 +184,10 @@ fn carry_out(
         + Eprint
         + Clock
         + AllocGlobal),
-    choice: Choice<'_>,
+    choice: &Choice<'_>,
 ) -> u8 {
-    match choice {
-        Choice::Host(choice) => run_host(rt, choice),
+    match *choice {
+        Choice::Host(ref choice) => run_host(rt, choice),
         Choice::Att => exit_status(rt, run_att(rt)),
         Choice::Check { table, keys } => {
             exit_status(rt, run_check(rt, TablePath(table), KeysPath(keys)))
@@ -251,7 +251,7 @@ fn run_words(
     words: &[String],
 ) -> u8 {
     match gatt_words::chosen(rt.alloc(), words) {
-        Ok(choice) => carry_out(rt, choice),
+        Ok(choice) => carry_out(rt, &choice),
         Err(refusal) => refusal_status(rt, &refusal),
     }
 }
