@@ -134,17 +134,9 @@ fn run_script(
     outcome_of(ran, writer.flush().is_ok())
 }
 
-/// Serves one controller after another, as the words say, and returns the status of the program.
-/// Words that say nothing that can be done are told.
-fn run_host(
-    rt: &(impl Files<File = File>
-        + Net<Listener = TcpListener, Stream = TcpStream>
-        + Clock
-        + Eprint
-        + AllocGlobal),
-    choice: &HostChoice<'_>,
-) -> u8 {
-    let words = HostWords {
+/// What the words of `host` say, as they are given to the host.
+fn host_words<'a>(choice: &'a HostChoice<'a>) -> HostWords<'a> {
+    HostWords {
         table: choice.table,
         keys: choice.keys,
         rows: choice.rows,
@@ -162,12 +154,30 @@ fn run_host(
         slots: choice.slots,
         idle: choice.idle,
         once: choice.once,
-    };
-    match device_host::serve_devices(rt, &words) {
+    }
+}
+
+/// Serves one controller after another, as the words say, and returns the status of the program.
+fn run_host(
+    rt: &(impl Files<File = File>
+        + Net<Listener = TcpListener, Stream = TcpStream>
+        + Clock
+        + Eprint
+        + AllocGlobal),
+    choice: &HostChoice<'_>,
+) -> u8 {
+    match device_host::serve_devices(rt, &host_words(choice)) {
         Ok(()) => exit_status(rt, Ok(())),
-        Err(Stop::Fault(fault)) => exit_status(rt, Err(fault)),
-        Err(Stop::File) => gatt_commands::status(&ShellFault::Unwritten),
-        Err(Stop::Words(wrong)) => {
+        Err(stop) => stop_status(rt, stop),
+    }
+}
+
+/// The status of `host` where it stops. Words that say nothing that can be done are told.
+fn stop_status(rt: &impl Eprint, stop: Stop) -> u8 {
+    match stop {
+        Stop::Fault(fault) => exit_status(rt, Err(fault)),
+        Stop::File => gatt_commands::status(&ShellFault::Unwritten),
+        Stop::Words(wrong) => {
             // Where that cannot be written, nobody can be told.
             let _ = rt.eprintln(wrong);
             Refusal::Misunderstood.status()
