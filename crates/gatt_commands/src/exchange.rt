@@ -75,8 +75,10 @@ fn give_controller(sim: &mut Sim, packet: &[u8]) -> Result<(), ShellFault>
     ensures answers { ControllerAnswers packet.now result sim.old sim.new }
     ensures faults { IfErr result IsExchangeFault }
 {
-    sim.from_host(packet)
-        .map_err(|fault| ShellFault::Controller(fault.number()))
+    match sim.from_host(packet) {
+        Ok(()) => Ok(()),
+        Err(fault) => Err(ShellFault::Controller(fault.number())),
+    }
 }
 
 /// The host takes a packet of the controller, all of which is out.
@@ -86,7 +88,10 @@ fn give_host(host: &mut Host, packet: &[u8], notes: &mut Notes) -> Result<(), Sh
     ensures noted { OnOk result (NotesTaken packet.now host.new notes.old notes.new) }
     ensures faults { IfErr result IsExchangeFault }
 {
-    hear(host, packet, notes).map_err(|fault| ShellFault::Host(fault.number()))
+    match hear(host, packet, notes) {
+        Ok(()) => Ok(()),
+        Err(fault) => Err(ShellFault::Host(fault.number())),
+    }
 }
 
 /// The host takes in the first packet that octets have, and what it tells of it is noted.

@@ -85,7 +85,10 @@ fn listen<N: Net>(net: &N, address: Address<'_>) -> Result<N::Listener, ShellFau
     let Ok(address) = address.0.parse::<SocketAddr>() else {
         return Err(ShellFault::Listen);
     };
-    TcpListener::bind(net, address).map_err(|_| ShellFault::Listen)
+    match TcpListener::bind(net, address) {
+        Ok(listener) => Ok(listener),
+        Err(_) => Err(ShellFault::Listen),
+    }
 }
 
 /// The paths of the files that are served.
