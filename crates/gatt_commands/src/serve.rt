@@ -113,11 +113,23 @@ pub fn serve_paths<F: Files + Net<Listener = TcpListener, Stream = TcpStream>>(
     ensures { IfErr result IsServeFault }
 {
     let mut host = open_paths(alloc, system, paths)?;
+    serve_at(system, &mut host, paths.rows, address)
+}
+
+/// Listens at an address, and serves the first connection with a host that is open.
+fn serve_at<F: Files + Net<Listener = TcpListener, Stream = TcpStream>>(
+    system: &F,
+    host: &mut Host,
+    rows: RowsPath<'_>,
+    address: Address<'_>,
+) -> Result<(), ShellFault>
+    ensures { IfErr result IsServedFault }
+{
     let listener = listen(system, address)?;
     serve_on(
         &listener,
-        &mut host,
-        &mut RowsOut::new(RowsWriter::new(system, paths.rows)),
+        host,
+        &mut RowsOut::new(RowsWriter::new(system, rows)),
     )
 }
 
