@@ -2,7 +2,7 @@
 use Rattle.std.proofs.Common.{◌≡◌, List, [], ◌∷◌, ◌++◌, length, Option, refl, sym, ap, subst, inl, inr}
 use Rattle.std.specs.Prelude.{Bool}
 use Rattle.att_table.specs.Table.{Contents}
-use Rattle.gatt_host.proofs.meaning.Drained.{all_gone}
+use Rattle.gatt_host.proofs.meaning.Drained.{all_sent}
 use Rattle.gatt_host.proofs.model.Items.{drained_where}
 use Rattle.gatt_host.specs.Opening.{start_of}
 use Rattle.gatt_host.specs.HostModel.{HostModel}
@@ -116,8 +116,8 @@ closes_the_loop = record {
       is-joined start new.host new.sim (after_line_done old act so_far) (does-act start so_far act told old new does (joins start old.host old.sim so_far was));
   exchanges = λ start so_far count before after_calls is was.
       is-joined start after_calls.host after_calls.sim so_far (exchanges start so_far count before after_calls is (joins start before.host before.sim so_far was));
-  all_gone = λ start so_far host sim joined none out.
-      all_gone (run start joined.input) (packets_taken simulated joined.calls) host.server host.frames joined.refines.refines (drained_where host none out);
+  all_sent = λ start so_far host sim joined none out.
+      all_sent (run start joined.input) (packets_taken simulated joined.calls) host.server host.frames joined.refines.refines (drained_where host none out);
   each_line = λ start so_far shown names act old new held holds runs was.
       is-joined start new.host new.sim (after_line runs so_far)
       (joins-line start so_far shown names act old new held holds runs (joins start old.host old.sim so_far was));

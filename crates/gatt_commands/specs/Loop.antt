@@ -164,7 +164,7 @@ pub record ClosesTheLoop : Type 0 where
       → IsJoined start old.host old.sim so_far → IsJoined start new.host new.sim (after_line_done old act so_far)
   pub exchanges : (start : Start) (so_far : SoFar) (count : ℕ) (before after_calls : Pair) → Exchanges count before after_calls
       → IsJoined start before.host before.sim so_far → IsJoined start after_calls.host after_calls.sim so_far
-  pub all_gone : (start : Start) (so_far : SoFar) (host : HostModel) (sim : Simulated) (joined : IsJoined start host sim so_far)
+  pub all_sent : (start : Start) (so_far : SoFar) (host : HostModel) (sim : Simulated) (joined : IsJoined start host sim so_far)
       → host.fault ≡ None → all_out host ≡ true → (run start joined.input).sent ≡ packets_taken simulated joined.calls
   pub each_line : (start : Start) (so_far : SoFar) (shows : Bool) (names : List Octets) (act : Act) (old new : Stage) (held holds : Option Octets)
       (runs : RunsLine shows names act old new held holds) → IsJoined start old.host old.sim so_far

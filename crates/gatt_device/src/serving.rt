@@ -2,7 +2,7 @@
 
 ghost use Rattle.std.specs.Prelude.{◌≡◌, ◌∷◌, [], true, None, Some, IsSome, IsOk, IfErr};
 ghost use Rattle.gatt_host.specs.Asked.{call_of};
-ghost use Rattle.gatt_host.specs.Feeding.{comes_of_feeding, is_write_fault, Feeds, WritesAllThatIsDue};
+ghost use Rattle.gatt_host.specs.Feeding.{is_of_feeding, is_write_fault, Feeds, WritesAllThatIsDue};
 ghost use Rattle.gatt_host.specs.Listening.{Hears, Listens};
 ghost use Rattle.gatt_host.specs.Promises.{KeepsConnectionsApart, KeepsThePolicy};
 ghost use Rattle.gatt_host.specs.Telling.{notices_told};
@@ -50,7 +50,7 @@ pub fn serve_happenings<H: Happenings, W: Sink, L: Listener>(
     ensures going_on { IsOk result → host.new.fault ≡ None }
     ensures fault { IfErr result (λ fault. host.new.fault ≡ Some fault) }
     ensures feeding { host.old.fault ≡ None
-        → IfErr result (λ fault. comes_of_feeding fault ≡ true) }
+        → IfErr result (λ fault. is_of_feeding fault ≡ true) }
     ensures out { IsOk result → all_out host.new ≡ true }
     ensures due { host.old.fault ≡ None → WritesAllThatIsDue host.new.fault host.new }
     ensures failures { host.old.fault ≡ None
@@ -97,7 +97,7 @@ fn take_call<H: Happenings, W: Sink, L: Listener>(
     ensures octets { H.octets happenings.new ≡ H.octets happenings.old }
     ensures calls { H.calls happenings.new ≡ H.calls happenings.old }
     ensures outcome { result ≡ fault_outcome host.new.fault }
-    ensures feeding { IfErr result (λ fault. comes_of_feeding fault ≡ true) }
+    ensures feeding { IfErr result (λ fault. is_of_feeding fault ≡ true) }
     ensures out { IsOk result → all_out host.new ≡ true }
     ensures due { WritesAllThatIsDue host.new.fault host.new }
     ensures failures { CountsIf (is_write_fault host.new.fault) (W.failures out.old)

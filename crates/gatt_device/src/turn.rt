@@ -2,7 +2,7 @@
 //! waits.
 
 ghost use Rattle.std.specs.Prelude.{◌≡◌, true, None, Some, IsSome, IsOk, IfErr};
-ghost use Rattle.gatt_host.specs.Feeding.{comes_of_feeding, is_write_fault, WritesAllThatIsDue};
+ghost use Rattle.gatt_host.specs.Feeding.{is_of_feeding, is_write_fault, WritesAllThatIsDue};
 ghost use Rattle.gatt_host.specs.HostModel.{all_out};
 ghost use Rattle.octets.specs.Number.{Octets};
 ghost use Rattle.octets.specs.Stream.{CountsIf};
@@ -44,7 +44,7 @@ pub fn serve_turn<O: Outside<L>, W: Outgoing, L: Listener>(
     ensures going_on { IsOk result.served → host.new.fault ≡ None }
     ensures fault { IfErr result.served (λ fault. host.new.fault ≡ Some fault) }
     ensures feeding { host.old.fault ≡ None
-        → IfErr result.served (λ fault. comes_of_feeding fault ≡ true) }
+        → IfErr result.served (λ fault. is_of_feeding fault ≡ true) }
     ensures out { IsOk result.served → all_out host.new ≡ true }
     ensures due { host.old.fault ≡ None → WritesAllThatIsDue host.new.fault host.new }
     ensures failures { host.old.fault ≡ None

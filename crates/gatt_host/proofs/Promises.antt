@@ -1,6 +1,6 @@
 -- The laws that hold of all that a host takes in, and what goes out from its opening on.
 use Rattle.std.proofs.Common.{[]}
-use Rattle.gatt_host.proofs.meaning.Drained.{all_gone}
+use Rattle.gatt_host.proofs.meaning.Drained.{all_sent}
 use Rattle.gatt_host.proofs.model.Items.{drained_where}
 use Rattle.gatt_host.specs.Promises.{GivesWhatIsDue}
 use Rattle.gatt_host.specs.HostModel.{RefinesRun, HostModel}
@@ -29,6 +29,6 @@ gives_what_is_due start opened refines items packets later leads =
     record {
       rest = there.refines.owed;
       front = there.refines.all;
-      all = λ none out. all_gone (run start items) packets later.server later.frames there.refines (drained_where later none out);
+      all = λ none out. all_sent (run start items) packets later.server later.frames there.refines (drained_where later none out);
       fault = there.same;
     }

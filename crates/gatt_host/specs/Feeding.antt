@@ -52,10 +52,10 @@ WritesAllThatIsDue (Some stop.Write) host = Unit
 WritesAllThatIsDue fault host = IsAllOut host
 
 -- octets alone stop a host for no fault of a reader and of turns
-abbrev pub comes_of_feeding : HostFault → Bool
-comes_of_feeding stop.Read = false
-comes_of_feeding stop.Turns = false
-comes_of_feeding fault = true
+abbrev pub is_of_feeding : HostFault → Bool
+is_of_feeding stop.Read = false
+is_of_feeding stop.Turns = false
+is_of_feeding fault = true
 
 -- whether it is the writer that has failed, or the reader
 abbrev pub is_write_fault : Option HostFault → Bool

@@ -3,7 +3,7 @@ use Rattle.std.specs.Prelude.{◌≡◌, ℕ, List, set, get_or, None, IfSome}
 use Rattle.att_table.specs.ConfigRow.{IsRowOf}
 use Rattle.gatt_host.specs.ServerState.{ServerState, ServesRequest, after_ask_key, after_authorize, after_connection_complete, server_after_packets_completed, server_after_command_complete, after_disconnect, after_disconnection_complete, after_link, after_no_change, after_replacing, server_after_other_channel, server_after_tick, after_update, server_slot_at, row_at}
 use Rattle.gatt_laws.specs.machine.Context.{Context}
-use Rattle.gatt_laws.specs.machine.Event.{Own, Connected, Gone, KeyAsked, Encrypted, Refreshed, Asks, Signals, Authorized, Ended, Happening, Of, Completed, Credit, Update, Tick, Replaced, Nothing}
+use Rattle.gatt_laws.specs.machine.Event.{Own, Connected, Disconnected, KeyAsked, Encrypted, Refreshed, Asks, OtherChannel, Authorized, Ended, Happening, Of, Completed, Credit, Update, Tick, Replaced, Nothing}
 use Rattle.gatt_laws.specs.machine.Packets.{Recombination}
 use Rattle.gatt_slots.specs.Hearing.{slot_row_in_force}
 use Rattle.gatt_slots.specs.SlotState.{SlotState}
@@ -21,18 +21,18 @@ context_in server = record {
   time = server.time;
   serving = place_serving server.slots;
   holding = place_holding server.slots;
-  coming = place_free server.slots;
+  next_free = place_free server.slots;
 }
 
 -- what is held then
 abbrev pub IsAfterOwn : Place → Own → ServerState → ServerState → Type 0
 IsAfterOwn place (Connected handle peer) old new = new ≡ after_connection_complete place handle peer old
-IsAfterOwn place Gone old new = new ≡ after_disconnection_complete place old
+IsAfterOwn place Disconnected old new = new ≡ after_disconnection_complete place old
 IsAfterOwn place (KeyAsked random_number diversifier) old new = new ≡ after_ask_key place random_number diversifier old
 IsAfterOwn place (Encrypted status enabled) old new = new ≡ after_link place (Encryption status enabled) old
 IsAfterOwn place (Refreshed status) old new = new ≡ after_link place (Refresh status) old
 IsAfterOwn place (Asks pdu) old new = IfSome (server_slot_at old place) (λ slot_state. ServesRequest place pdu slot_state old new)
-IsAfterOwn place (Signals channel payload) old new = new ≡ server_after_other_channel place channel payload old
+IsAfterOwn place (OtherChannel channel payload) old new = new ≡ server_after_other_channel place channel payload old
 IsAfterOwn place (Authorized until) old new = new ≡ after_authorize place until old
 IsAfterOwn place Ended old new = new ≡ after_disconnect place old
 

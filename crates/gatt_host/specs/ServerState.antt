@@ -9,7 +9,7 @@ use Rattle.gatt_host.specs.declared.last_event.LastEvent.{LastEvent}
 use Rattle.gatt_host.specs.declared.last_event.LastEvent.TheVariants as last
 use Rattle.gatt_host.specs.GoingOut.{controller_then, next_out, slots_then}
 use Rattle.gatt_laws.specs.machine.Controller.{Controller, is_ready}
-use Rattle.gatt_laws.specs.machine.Event.{Connected, Gone}
+use Rattle.gatt_laws.specs.machine.Event.{Connected, Disconnected}
 use Rattle.gatt_laws.specs.machine.SharedState.{quota_of, fragment_size_of}
 use Rattle.gatt_laws.specs.machine.State.{announced, advertising_after}
 use Rattle.gatt_laws.specs.machine.Effect.{channel_answer, gained_encryption, remote_user_terminated}
@@ -164,7 +164,7 @@ disconnected_event slot_state = last.Disconnected slot_state.handle
 
 abbrev pub after_disconnection_complete : ℕ → ServerState → ServerState
 after_disconnection_complete place server = with_last (option_map_or disconnected_event (server_slot_at server place) last.Quiet) (server_after_event None [] [] (record server {
-  controller = advertising_after Gone server.controller;
+  controller = advertising_after Disconnected server.controller;
   slots = at_place place (λ slot. None) server.slots;
 }))
 

@@ -49,9 +49,9 @@ pub record HasKeysOfItsPeer (keys : List Entry) (connection : ConnectionState) :
   pub key : is_some (key_of connection) ≡ true → is_known keys connection.peer ≡ true
 
 -- how many slots connections may have, once the buffers are told
-abbrev pub slots_told : ℕ → Option Buffers → ℕ
-slots_told slots None = slots
-slots_told slots (Some buffers) = usable slots buffers.packets
+abbrev pub slots_with_buffers : ℕ → Option Buffers → ℕ
+slots_with_buffers slots None = slots
+slots_with_buffers slots (Some buffers) = usable slots buffers.packets
 
 -- before the controller is initialised no slot has a connection
 pub record RefinesState (state : State) (owed : List Octets) (server : ServerState) : Type 0 where
@@ -60,11 +60,11 @@ pub record RefinesState (state : State) (owed : List Octets) (server : ServerSta
   pub keys : server.keys ≡ state.shared.keys
   pub rx_mtu : server.rx_mtu ≡ state.shared.rx_mtu
   pub time : server.time ≡ state.shared.time
-  pub told : state.shared.buffers ≡ told_in state.controller.init
+  pub buffers : state.shared.buffers ≡ told_in state.controller.init
   pub rows : HoldsBonds state.shared.keys server.rows state.bonds state.owed
   pub keyed : (ordinal : Ordinal) → HasKeysOfItsPeer state.shared.keys (state.connections ordinal)
   pub free : is_ready state.controller ≡ false → server.slots ≡ replicate state.shared.slots None
-  pub ready : is_ready state.controller ≡ true → length server.slots ≡ slots_told state.shared.slots state.shared.buffers
+  pub ready : is_ready state.controller ≡ true → length server.slots ≡ slots_with_buffers state.shared.slots state.shared.buffers
   pub owing : IsOwing state owed server.controller (open_slots server)
 
 -- what is so of every state, whatever led to it

@@ -20,18 +20,18 @@ impl HostState {
     pub(crate) fn connect(&mut self, place: usize, handle: u16, peer: Peer)
         requires place { place < length self.old.slots }
         requires handle { handle < 2 ^ 12 }
-        requires told { IsSome (told_in self.old.controller.init) }
+        requires buffers { IsSome (told_in self.old.controller.init) }
         ensures { self.new ≡ after_connection_complete place handle peer self.old }
     {
-        let Some(buffers) = self.controller.told() else {
+        let Some(buffers) = self.controller.buffers() else {
             unreachable!()
         };
-        let share = share(self.slots.len(), buffers.packets);
+        let quota = quota(self.slots.len(), buffers.packets);
         let acl_len = acl_len(buffers.length);
         let key_known = self.keys.known(&peer);
         self.slots
             .at(place)
-            .connect(handle, peer, key_known, self.rx_mtu, share, acl_len);
+            .connect(handle, peer, key_known, self.rx_mtu, quota, acl_len);
         self.controller.note_connected();
         self.end_event(LastEvent::Connected { handle, peer });
     }
@@ -53,7 +53,7 @@ impl HostState {
     {
         let followed = self.controller.command_complete(allowed, opcode, returned)?;
         self.open_slots(followed);
-        self.nothing();
+        self.end_event(LastEvent::Quiet);
         Ok(())
     }
 
@@ -73,7 +73,7 @@ impl HostState {
         ensures unchanged { OnErr result (self.new ≡ self.old) }
     {
         self.controller.command_status(status, allowed, opcode)?;
-        self.nothing();
+        self.end_event(LastEvent::Quiet);
         Ok(())
     }
 
@@ -86,7 +86,7 @@ impl HostState {
         if !followed || !self.controller.is_ready() {
             return;
         }
-        if let Some(buffers) = self.controller.told() {
+        if let Some(buffers) = self.controller.buffers() {
             let count = self.slots.len().min(usize::from(buffers.packets));
             self.slots.truncate(count);
         }
@@ -94,10 +94,10 @@ impl HostState {
 }
 
 /// How many packets of one connection may be outstanding.
-fn share(slots: usize, packets: u16) -> u16
+fn quota(slots: usize, packets: u16) -> u16
     requires slots { 0 < slots }
     requires packets { 0 < packets }
-    ensures share { result ≡ quota slots packets }
+    ensures quota { result ≡ quota slots packets }
     ensures some { 0 < result }
 {
     (usize::from(packets) / slots.min(usize::from(packets))) as u16

@@ -1,6 +1,6 @@
 ghost use Rattle.std.specs.Prelude.{◌≡◌, ℕ, false, IfOk, IfErr, IfSome, IsOk, IsSome, Some, None, Ok};
 ghost use Rattle.gatt_laws.specs.machine.Controller as laws;
-ghost use Rattle.gatt_laws.specs.machine.Event.{Credit, Connected, Gone};
+ghost use Rattle.gatt_laws.specs.machine.Event.{Credit, Connected, Disconnected};
 ghost use Rattle.gatt_laws.specs.machine.Packets.{completed_event, status_event, status_of, is_awaited, init_fault, following_of};
 ghost use Rattle.gatt_laws.specs.machine.State.{advertising_after, is_refusal};
 ghost use Rattle.gatt_host.specs.Answers.{answered_by, following_if, following_stop, stop_of, told_fault};
@@ -97,7 +97,7 @@ impl Controller {
 
     /// A connection has gone, and advertising may be enabled again.
     pub fn note_disconnected(&mut self)
-        ensures { self.new ≡ advertising_after Gone self.old }
+        ensures { self.new ≡ advertising_after Disconnected self.old }
     {
         self.refused = false;
     }
@@ -116,8 +116,8 @@ impl Controller {
     }
 
     /// The buffers that it has told, which are enough for a peripheral.
-    pub fn told(&self) -> Option<Buffers>
-        ensures told { result ≡ told_in self.now.init }
+    pub fn buffers(&self) -> Option<Buffers>
+        ensures buffers { result ≡ told_in self.now.init }
         ensures usable { IfSome result AreUsable }
     {
         buffers_in(&self.init)

@@ -3,7 +3,7 @@
 ghost use Rattle.std.specs.Prelude.{◌≡◌, ◌∷◌, [], None, IsSome, IsOk, IfErr, IfOk, Some, true, if◌then◌else◌};
 ghost use Rattle.std.specs.Result.{result_err};
 ghost use Rattle.gatt_host.specs.Asked.{call_of};
-ghost use Rattle.gatt_host.specs.Feeding.{comes_of_feeding, input_items, is_write_fault, items_of, CountsRefused, Feeds, WritesAllThatIsDue};
+ghost use Rattle.gatt_host.specs.Feeding.{is_of_feeding, input_items, is_write_fault, items_of, CountsRefused, Feeds, WritesAllThatIsDue};
 ghost use Rattle.gatt_host.specs.Listening.{Listens};
 ghost use Rattle.gatt_host.specs.Promises.{KeepsConnectionsApart, KeepsThePolicy};
 ghost use Rattle.gatt_host.specs.HostModel.{all_out};
@@ -41,7 +41,7 @@ pub fn drive<W: Sink>(
         host.new.fault }
     ensures outcome { IfErr result (λ fault. host.new.fault ≡ Some fault) }
     ensures feeding { host.old.fault ≡ None
-        → IfErr result (λ fault. comes_of_feeding fault ≡ true) }
+        → IfErr result (λ fault. is_of_feeding fault ≡ true) }
     ensures going_on { IsOk result → host.new.fault ≡ None }
     ensures refused { IfOk result (λ count. CountsRefused count (items_of inputs.now) host.old) }
     ensures out { IsOk result → all_out host.new ≡ true }
@@ -76,7 +76,7 @@ pub fn drive_to<W: Sink, L: Listener>(
         (L.heard listener.new) }
     ensures outcome { IfErr result (λ fault. host.new.fault ≡ Some fault) }
     ensures feeding { host.old.fault ≡ None
-        → IfErr result (λ fault. comes_of_feeding fault ≡ true) }
+        → IfErr result (λ fault. is_of_feeding fault ≡ true) }
     ensures going_on { IsOk result → host.new.fault ≡ None }
     ensures refused { IfOk result (λ count. CountsRefused count (items_of inputs.now) host.old) }
     ensures out { IsOk result → all_out host.new ≡ true }
@@ -114,7 +114,7 @@ fn take_input<W: Sink, L: Listener>(
     ensures heard { Listens (input_items input.now) host.old host.new host.new.fault
         (L.heard listener.old) (L.heard listener.new) }
     ensures fault { host.new.fault ≡ result_err result }
-    ensures feeding { IfErr result (λ fault. comes_of_feeding fault ≡ true) }
+    ensures feeding { IfErr result (λ fault. is_of_feeding fault ≡ true) }
     ensures out { IsOk result → all_out host.new ≡ true }
     ensures due { WritesAllThatIsDue host.new.fault host.new }
     ensures failures { CountsIf (is_write_fault host.new.fault) (W.failures out.old)

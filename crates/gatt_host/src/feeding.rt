@@ -2,7 +2,7 @@
 
 ghost use Rattle.std.specs.Prelude.{◌≡◌, [], true, None, Some, IsSome, IsOk, IfErr, Err};
 ghost use Rattle.std.specs.Result.{result_err};
-ghost use Rattle.gatt_host.specs.Feeding.{comes_of_feeding, octet_items, is_write_fault, Feeds, WritesAllThatIsDue};
+ghost use Rattle.gatt_host.specs.Feeding.{is_of_feeding, octet_items, is_write_fault, Feeds, WritesAllThatIsDue};
 ghost use Rattle.gatt_host.specs.GoingOut.{is_drained};
 ghost use Rattle.gatt_host.specs.ServerState.{open_slots};
 ghost use Rattle.gatt_host.specs.Meaning.{Frames};
@@ -33,7 +33,7 @@ pub fn feed<W: Sink>(host: &mut Host, octets: &[u8], out: &mut W) -> Result<(), 
     // Whatever stops it but the writer, all that was due before is written.
     ensures due { host.old.fault ≡ None → WritesAllThatIsDue host.new.fault host.new }
     ensures feeding { host.old.fault ≡ None
-        → IfErr result (λ fault. comes_of_feeding fault ≡ true) }
+        → IfErr result (λ fault. is_of_feeding fault ≡ true) }
     ensures failures { host.old.fault ≡ None
         → CountsIf (is_write_fault host.new.fault) (W.failures out.old) (W.failures out.new) }
     ensures stopped { IsSome host.old.fault → host.new ≡ host.old }
@@ -67,7 +67,7 @@ pub fn feed_to<W: Sink, L: Listener>(
     // Whatever stops it but the writer, all that was due before is written.
     ensures due { host.old.fault ≡ None → WritesAllThatIsDue host.new.fault host.new }
     ensures feeding { host.old.fault ≡ None
-        → IfErr result (λ fault. comes_of_feeding fault ≡ true) }
+        → IfErr result (λ fault. is_of_feeding fault ≡ true) }
     ensures failures { host.old.fault ≡ None
         → CountsIf (is_write_fault host.new.fault) (W.failures out.old) (W.failures out.new) }
     ensures stopped { IsSome host.old.fault → host.new ≡ host.old }

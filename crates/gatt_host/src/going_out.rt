@@ -49,7 +49,7 @@ impl Controller {
     #[inline(always)]
     fn init_command_out(&mut self, out: &mut PacketBuf) -> bool
         requires { nat_lt 0 self.old.credit ≡ true }
-        ensures goes { result ≡ is_some (init_command self.old) }
+        ensures some { result ≡ is_some (init_command self.old) }
         ensures octets { OnTrue result
             (option_map command_octets (init_command self.old) ≡ Some out.new) }
         ensures after { (command : Commanded) → init_command self.old ≡ Some command
@@ -122,7 +122,7 @@ fn write_command(command: &Command<'_>, out: &mut PacketBuf)
 /// Writes the packet of the first slot that may give one.
 #[inline(always)]
 fn packet_out(slots: &mut Slots, out: &mut PacketBuf) -> bool
-    ensures goes { result ≡ is_some (first_slot_packet slots.old) }
+    ensures some { result ≡ is_some (first_slot_packet slots.old) }
     ensures octets { OnTrue result (first_slot_packet slots.old ≡ Some out.new) }
     ensures after { slots.new ≡ with_first gives (option_map slot_without_packet) slots.old }
     ensures unchanged { OnFalse result (slots.new ≡ slots.old) }
@@ -178,7 +178,7 @@ fn command_at_out(slots: &mut Slots, place: usize, out: &mut PacketBuf) -> u16
 /// Writes the next command that is due, where the controller takes one, and takes in that it is sent.
 #[inline(always)]
 fn command_out(controller: &mut Controller, slots: &mut Slots, out: &mut PacketBuf) -> bool
-    ensures goes { result ≡ is_some (command_next controller.old slots.old) }
+    ensures some { result ≡ is_some (command_next controller.old slots.old) }
     ensures octets { OnTrue result
         (option_map command_octets (command_next controller.old slots.old) ≡ Some out.new) }
     ensures controller { controller.new ≡ controller_then controller.old slots.old }
@@ -214,7 +214,7 @@ fn command_out(controller: &mut Controller, slots: &mut Slots, out: &mut PacketB
 #[inline(always)]
 #[tactic(auto, using(crate::proofs::places::Entering::owes_what_an_event_brings))]
 pub fn next_out(controller: &mut Controller, slots: &mut Slots, out: &mut PacketBuf) -> bool
-    ensures goes { result ≡ is_some (next_out controller.old slots.old) }
+    ensures some { result ≡ is_some (next_out controller.old slots.old) }
     ensures octets { OnTrue result (next_out controller.old slots.old ≡ Some out.new) }
     ensures controller { controller.new ≡ controller_then controller.old slots.old }
     ensures slots { slots.new ≡ slots_then controller.old slots.old }
@@ -234,10 +234,10 @@ pub fn next_out(controller: &mut Controller, slots: &mut Slots, out: &mut Packet
     either_out(controller, slots, out)
 }
 
-/// Writes the next command, or else the next packet.
+/// Writes the next command, or else the next packet. It stands apart for its proof.
 #[inline(always)]
 fn either_out(controller: &mut Controller, slots: &mut Slots, out: &mut PacketBuf) -> bool
-    ensures goes { result ≡ is_some (next_out controller.old slots.old) }
+    ensures some { result ≡ is_some (next_out controller.old slots.old) }
     ensures octets { OnTrue result (next_out controller.old slots.old ≡ Some out.new) }
     ensures controller { controller.new ≡ controller_then controller.old slots.old }
     ensures slots { slots.new ≡ slots_then controller.old slots.old }
@@ -256,7 +256,7 @@ fn either_out(controller: &mut Controller, slots: &mut Slots, out: &mut PacketBu
 #[inline(always)]
 fn packet_into(slots: &mut Slots, out: &mut [u8]) -> Option<usize>
     requires room { MAX_PACKET_OUT ≤ length out.old }
-    ensures goes { is_some result ≡ is_some (first_slot_packet slots.old) }
+    ensures some { is_some result ≡ is_some (first_slot_packet slots.old) }
     ensures octets { IfSome result
         (λ count. first_slot_packet slots.old ≡ Some (take count out.new)) }
     ensures within { IfSome result (λ count. count ≤ length out.old) }
@@ -280,7 +280,7 @@ pub(crate) fn next_into(
     out: &mut [u8],
 ) -> Option<usize>
     requires room { MAX_PACKET_OUT ≤ length out.old }
-    ensures goes { is_some result ≡ is_some (next_out controller.old slots.old) }
+    ensures some { is_some result ≡ is_some (next_out controller.old slots.old) }
     ensures octets { IfSome result
         (λ count. next_out controller.old slots.old ≡ Some (take count out.new)) }
     ensures within { IfSome result (λ count. count ≤ length out.old) }
@@ -336,7 +336,8 @@ pub fn is_drained(controller: &Controller, slots: &Slots) -> bool
     none_waits(controller, slots)
 }
 
-/// No command is due that the controller takes, and no slot may give a packet.
+/// No command is due that the controller takes, and no slot may give a packet. It stands apart for its
+/// proof.
 fn none_waits(controller: &Controller, slots: &Slots) -> bool
     ensures { result ≡ is_drained controller.now slots.now }
 {
@@ -362,7 +363,7 @@ pub(crate) fn may_owe(controller: &Controller, slots: &Slots) -> bool
 /// Writes what goes out before the controller is initialised, where no slot has a connection: the
 /// command of initialisation.
 pub(crate) fn init_out(controller: &mut Controller, out: &mut PacketBuf) -> bool
-    ensures goes { result ≡ is_some (next_out controller.old []) }
+    ensures some { result ≡ is_some (next_out controller.old []) }
     ensures octets { OnTrue result (next_out controller.old [] ≡ Some out.new) }
     ensures controller { controller.new ≡ controller_then controller.old [] }
     ensures controller_unchanged { OnFalse result (controller.new ≡ controller.old) }

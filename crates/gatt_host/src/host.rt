@@ -97,8 +97,8 @@ impl Host {
     /// Puts the next packet that is to go to the controller in place of what `out` holds, and takes in
     /// that it is out; or answers false where all is out.
     pub fn next_out(&mut self, out: &mut PacketOctets) -> bool
-        ensures goes { result ≡ not (all_out self.old) }
-        ensures leads { OnTrue result (Refines [] (out.new.items ∷ []) self.old self.new) }
+        ensures some { result ≡ not (all_out self.old) }
+        ensures refines { OnTrue result (Refines [] (out.new.items ∷ []) self.old self.new) }
         // Calls without anything else between them come to an end.
         ensures fewer { OnTrue result (most_out self.new.server < most_out self.old.server) }
         ensures no_fault { OnTrue result (self.new.fault ≡ None) }
@@ -116,8 +116,8 @@ impl Host {
     #[inline(always)]
     pub fn next_into(&mut self, out: &mut [u8]) -> Option<usize>
         requires room { MAX_PACKET_OUT ≤ length out.old }
-        ensures goes { is_some result ≡ not (all_out self.old) }
-        ensures leads { IfSome result
+        ensures some { is_some result ≡ not (all_out self.old) }
+        ensures refines { IfSome result
             (λ count. Refines [] (take count out.new ∷ []) self.old self.new) }
         ensures within { IfSome result (λ count. count ≤ length out.old) }
         // Calls without anything else between them come to an end.
@@ -177,7 +177,7 @@ impl Host {
         // No reader and no writer has a part in it.
         ensures not_own { self.old.fault ≡ None
             → IfErr result (λ fault. is_own_fault fault ≡ false) }
-        ensures held { OnErr result (self.new.server ≡ self.old.server) }
+        ensures server { OnErr result (self.new.server ≡ self.old.server) }
         ensures stopped { IsSome self.old.fault → self.new ≡ self.old }
         // And of all that is taken in, for every start and input:
         ensures policy { KeepsThePolicy }
@@ -269,7 +269,7 @@ impl Host {
     /// What each peer has configured, and who is owed that the table has changed.
     #[tactic(auto, using(crate::proofs::model::Rows::rows_where))]
     pub fn rows(&self) -> &Rows
-        ensures held { result.now ≡ self.now.server.rows }
+        ensures server { result.now ≡ self.now.server.rows }
         // As a list: the bond of each peer of the keys, and nothing else.
         ensures run { (start : Start) (input : List Item) (sent : List Octets)
             → RefinesRun (run start input) sent self.now
@@ -280,7 +280,7 @@ impl Host {
 
     /// The table that stands, with its values.
     pub fn table(&self) -> &Table
-        ensures held { result.now ≡ self.now.server.table }
+        ensures server { result.now ≡ self.now.server.table }
         ensures run { (start : Start) (input : List Item) (sent : List Octets)
             → RefinesRun (run start input) sent self.now
             → result.now ≡ (run start input).intake.state.shared.table }
@@ -292,7 +292,7 @@ impl Host {
     /// every one is confirmed. Until then no time has to be told.
     #[tactic(auto, using(crate::proofs::model::Deadlines::tells_from_the_deadline))]
     pub fn deadline(&self) -> Option<u64>
-        ensures held { result ≡ slots_deadline self.now.server.slots }
+        ensures server { result ≡ slots_deadline self.now.server.slots }
         ensures run { (start : Start) (input : List Item) (sent : List Octets)
             → RefinesRun (run start input) sent self.now
             → result ≡ deadline (run start input).intake.state }
@@ -304,7 +304,7 @@ impl Host {
 
     /// Who is connected: each connection that is there, in the order of the slots.
     pub fn connections(&self) -> Connections<'_>
-        ensures held { result ≡ connections_in self.now.server.slots }
+        ensures server { result ≡ connections_in self.now.server.slots }
         ensures run { (start : Start) (input : List Item) (sent : List Octets)
             → RefinesRun (run start input) sent self.now
             → result ≡ connections_of (run start input).intake.state }
@@ -317,7 +317,7 @@ impl Host {
 
     /// The connection with a handle, if one is there.
     pub fn connection(&self, handle: u16) -> Option<Connection>
-        ensures held { result ≡ connection_with handle (connections_in self.now.server.slots) }
+        ensures server { result ≡ connection_with handle (connections_in self.now.server.slots) }
         ensures run { (start : Start) (input : List Item) (sent : List Octets)
             → RefinesRun (run start input) sent self.now
             → result ≡ connection_with handle (connections_of (run start input).intake.state) }
@@ -349,7 +349,7 @@ impl Host {
 /// Puts the next packet that is to go out in place of what `out` holds, by way of `packet`, and takes in
 /// that it is out.
 fn copy_next(state: &mut HostState, packet: &mut PacketBuf, out: &mut PacketOctets) -> bool
-    ensures goes { result ≡ is_some (next_packet_out state.old) }
+    ensures some { result ≡ is_some (next_packet_out state.old) }
     ensures octets { OnTrue result (next_packet_out state.old ≡ Some out.new.items) }
     ensures after { state.new ≡ after_out state.old }
     ensures unchanged { OnFalse result (state.new ≡ state.old) }
@@ -367,7 +367,7 @@ fn copy_next(state: &mut HostState, packet: &mut PacketBuf, out: &mut PacketOcte
 #[inline(always)]
 fn next_into(state: &mut HostState, packet: &mut PacketBuf, out: &mut [u8]) -> Option<usize>
     requires room { MAX_PACKET_OUT ≤ length out.old }
-    ensures goes { is_some result ≡ is_some (next_packet_out state.old) }
+    ensures some { is_some result ≡ is_some (next_packet_out state.old) }
     ensures octets { IfSome result
         (λ count. next_packet_out state.old ≡ Some (take count out.new)) }
     ensures within { IfSome result (λ count. count ≤ length out.old) }

@@ -82,13 +82,6 @@ impl Model for HostState {
 
 // Each event: what it changes, and then what is heard.
 impl HostState {
-    /// Nothing happens that counts. What waits may be indicated.
-    pub(crate) fn nothing(&mut self)
-        ensures { self.new ≡ after_no_change self.old }
-    {
-        self.end_event(LastEvent::Quiet);
-    }
-
     /// Nothing is told any more of the last event.
     pub(crate) fn forget(&mut self)
         ensures { self.new ≡ with_last LastEvent.Quiet self.old }
@@ -149,7 +142,7 @@ impl HostState {
         ensures { self.new ≡ after_authorize place until self.old }
     {
         self.slots.at(place).authorize(until);
-        self.nothing();
+        self.end_event(LastEvent::Quiet);
     }
 
     /// The application ends the connection of a slot.
@@ -177,7 +170,7 @@ impl HostState {
         self.slots
             .at(place)
             .ask_key(&self.keys, random_number, diversifier);
-        self.nothing();
+        self.end_event(LastEvent::Quiet);
     }
 
     /// A payload comes on a channel that is not that of the Attribute Protocol.
@@ -200,7 +193,7 @@ impl HostState {
             (place_holding self.old.slots) (map completed_packets_of entries.now)) self.old }
     {
         self.slots.packets_completed(entries);
-        self.nothing();
+        self.end_event(LastEvent::Quiet);
     }
 
     /// A connection goes.
@@ -343,7 +336,7 @@ impl HostState {
     /// Puts the next packet that is to go out in place of what `out` holds, and takes in that it is out.
     #[inline(always)]
     pub(crate) fn next_out(&mut self, out: &mut PacketBuf) -> bool
-        ensures goes { result ≡ is_some (next_packet_out self.old) }
+        ensures some { result ≡ is_some (next_packet_out self.old) }
         ensures octets { OnTrue result (next_packet_out self.old ≡ Some out.new) }
         ensures after { self.new ≡ after_out self.old }
         ensures unchanged { OnFalse result (self.new ≡ self.old) }
@@ -360,7 +353,7 @@ impl HostState {
     #[inline(always)]
     pub(crate) fn next_into(&mut self, packet: &mut PacketBuf, out: &mut [u8]) -> Option<usize>
         requires room { MAX_PACKET_OUT ≤ length out.old }
-        ensures goes { is_some result ≡ is_some (next_packet_out self.old) }
+        ensures some { is_some result ≡ is_some (next_packet_out self.old) }
         ensures octets { IfSome result
             (λ count. next_packet_out self.old ≡ Some (take count out.new)) }
         ensures within { IfSome result (λ count. count ≤ length out.old) }

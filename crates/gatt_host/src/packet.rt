@@ -22,6 +22,7 @@ ghost use Rattle.le_l2cap.specs.Frame.{frame_of};
 use crate::frames::Frames;
 use crate::host_fault::HostFault;
 use crate::host_state::HostState;
+use crate::last_event::LastEvent;
 use le_acl::boundary::{CONTINUATION, FIRST, FIRST_NOT_FLUSHED};
 use le_acl::{Piece, Reassembler, is_frame};
 use le_h4::PacketRef;
@@ -125,9 +126,9 @@ impl HostState {
                     frame.cid,
                     frame.payload,
                 ),
-                _ => self.nothing(),
+                _ => self.end_event(LastEvent::Quiet),
             },
-            Err(_) => self.nothing(),
+            Err(_) => self.end_event(LastEvent::Quiet),
         }
     }
 }
@@ -149,7 +150,7 @@ pub(crate) fn acl(
 {
     match state.slots.find_serving(handle) {
         Some(place) => fragment(state, &mut frames[place], place, pb, bc, octets),
-        None => state.nothing(),
+        None => state.end_event(LastEvent::Quiet),
     }
 }
 
@@ -198,7 +199,7 @@ fn join_fragment(
             state.frame(place, frame.frame());
             frame.clear();
         }
-        Piece::Nothing => state.nothing(),
+        Piece::Nothing => state.end_event(LastEvent::Quiet),
     }
 }
 
@@ -231,7 +232,7 @@ fn join(frame: &mut Reassembler, pb: u8, bc: u8, octets: &[u8]) -> Piece
     }
 }
 
-/// Takes in a packet, or says why the host stops for good, and leads on in the run.
+/// Takes in a packet, or says why the host stops for good, and refines its run.
 pub(crate) fn packet(
     state: &mut HostState,
     frames: &mut Frames,
@@ -239,7 +240,7 @@ pub(crate) fn packet(
 ) -> Result<(), HostFault>
     requires rows { HasRowsOfTheTable state.old }
     requires drained { is_drained state.old.controller (open_slots state.old) ≡ true }
-    ensures leads { RefinesPacket (packet_of_ref packet.entry) state.old frames.old state.new
+    ensures refines { RefinesPacket (packet_of_ref packet.entry) state.old frames.old state.new
         frames.new
         (result_err result) }
     ensures told { IsOk result
@@ -250,7 +251,7 @@ pub(crate) fn packet(
     take_packet(state, frames, packet)
 }
 
-/// Takes in a packet, or says why the host stops for good.
+/// Takes in a packet, or says why the host stops for good. It stands apart for its proof.
 fn take_packet(
     state: &mut HostState,
     frames: &mut Frames,
@@ -276,7 +277,7 @@ fn take_packet(
         }
         PacketRef::Event(octets) => state.event(frames, octets),
         PacketRef::Sco => {
-            state.nothing();
+            state.end_event(LastEvent::Quiet);
             Ok(())
         }
     }

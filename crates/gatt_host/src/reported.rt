@@ -2,7 +2,7 @@
 
 ghost use Rattle.std.specs.Prelude.{◌≡◌, ◌==◌, ◌<◌, ◌^◌, true, if◌then◌else◌, Some, IsSome, IfSome};
 ghost use Rattle.gatt_laws.specs.machine.Controller as laws;
-ghost use Rattle.gatt_laws.specs.machine.Event.{Connected, Gone, KeyAsked, Encrypted, Refreshed, Asks, Signals, Nothing};
+ghost use Rattle.gatt_laws.specs.machine.Event.{Connected, Disconnected, KeyAsked, Encrypted, Refreshed, Asks, OtherChannel, Nothing};
 ghost use Rattle.gatt_laws.specs.machine.Packets.{connection_complete_event, connection_event, connection_event_if_ready, own_event};
 ghost use Rattle.gatt_host.specs.Meaning.{context_in, frames_after, IsAfter};
 ghost use Rattle.gatt_slots.specs.Slots.{place_holding, place_serving};
@@ -11,6 +11,7 @@ ghost use Rattle.le_hci.specs.InitTold.{told_in};
 
 use crate::frames::Frames;
 use crate::host_state::HostState;
+use crate::last_event::LastEvent;
 use le_acl::Reassembler;
 use le_hci::{Event, LAST_CONNECTION_HANDLE, PERIPHERAL, Peer};
 
@@ -28,7 +29,7 @@ impl HostState {
         if self.controller.is_ready() {
             self.connection_reported(frames, event);
         } else {
-            self.nothing();
+            self.end_event(LastEvent::Quiet);
         }
     }
 
@@ -66,21 +67,21 @@ impl HostState {
                 random_number,
                 diversifier,
             } => self.key_asked(handle, random_number, diversifier),
-            _ => self.nothing(),
+            _ => self.end_event(LastEvent::Quiet),
         }
     }
 
     /// A connection has ended.
     fn disconnection_complete(&mut self, status: u8, handle: u16)
         ensures { IsAfter (if status == 0 then own_event
-            (place_holding self.old.slots handle) Gone else Nothing) self.old self.new }
+            (place_holding self.old.slots handle) Disconnected else Nothing) self.old self.new }
     {
         if status != 0 {
-            return self.nothing();
+            return self.end_event(LastEvent::Quiet);
         }
         match self.slots.find_holding(handle) {
             Some(place) => self.disconnected(place),
-            None => self.nothing(),
+            None => self.end_event(LastEvent::Quiet),
         }
     }
 
@@ -91,7 +92,7 @@ impl HostState {
     {
         match self.slots.find_serving(handle) {
             Some(place) => self.encrypt(place, status, enabled),
-            None => self.nothing(),
+            None => self.end_event(LastEvent::Quiet),
         }
     }
 
@@ -102,7 +103,7 @@ impl HostState {
     {
         match self.slots.find_serving(handle) {
             Some(place) => self.refresh(place, status),
-            None => self.nothing(),
+            None => self.end_event(LastEvent::Quiet),
         }
     }
 
@@ -113,7 +114,7 @@ impl HostState {
     {
         match self.slots.find_serving(handle) {
             Some(place) => self.ask_key(place, random_number, diversifier),
-            None => self.nothing(),
+            None => self.end_event(LastEvent::Quiet),
         }
     }
 
@@ -130,17 +131,17 @@ impl HostState {
             peer) frames.old }
     {
         if status != 0 || role != PERIPHERAL || handle > LAST_CONNECTION_HANDLE {
-            return self.nothing();
+            return self.end_event(LastEvent::Quiet);
         }
         if self.slots.find_holding(handle).is_some() {
-            return self.nothing();
+            return self.end_event(LastEvent::Quiet);
         }
         match self.slots.find_free() {
             Some(place) => {
                 frames[place] = Reassembler::new();
                 self.connect(place, handle, peer);
             }
-            None => self.nothing(),
+            None => self.end_event(LastEvent::Quiet),
         }
     }
 }

@@ -127,7 +127,7 @@ fn read_turn<'a, R: Source>(reader: &mut R, octets: &'a mut [u8; TURN]) -> Resul
     ensures consumed { IfOk result
         (λ read. Consumes (R.remaining reader.old) (R.remaining reader.new) read.now) }
     ensures at_end { IfOk result (λ read. read.now ≡ [] → IsAtEnd (R.remaining reader.new)) }
-    ensures kept { OnErr result (Keeps (R.remaining reader.old) (R.remaining reader.new)) }
+    ensures unread { OnErr result (Keeps (R.remaining reader.old) (R.remaining reader.new)) }
     ensures reads { CountsOne (R.reads reader.old) (R.reads reader.new) }
     ensures ends { IfOk result
         (λ read. CountsIf (length read.now == 0) (R.ends reader.old) (R.ends reader.new)) }
@@ -142,7 +142,7 @@ fn read_turn<'a, R: Source>(reader: &mut R, octets: &'a mut [u8; TURN]) -> Resul
 fn end_stream(host: &mut Host)
     requires none { host.old.fault ≡ None }
     ensures takes { Takes TheEnd host.old host.new }
-    ensures held { host.new.server ≡ with_last LastEvent.Quiet host.old.server }
+    ensures server { host.new.server ≡ with_last LastEvent.Quiet host.old.server }
     ensures fault { host.new.fault ≡ None }
 {
     host.deframer = Deframer::new();

@@ -23,7 +23,7 @@ use le_h4::{Deframer, H4Fault, WholePacket};
 pub(crate) fn take(host: &mut Host, octets: &[u8]) -> Result<usize, HostFault>
     requires no_fault { host.old.fault ≡ None }
     requires drained { all_out host.old ≡ true }
-    ensures leads { Refines (items_taken octets.now result) [] host.old host.new }
+    ensures refines { Refines (items_taken octets.now result) [] host.old host.new }
     ensures told { TellsOfAll (items_taken octets.now result) host.old host.new }
     ensures up_to { IfOk result (λ used. TakesUpToAPacket octets.now used host.old) }
     ensures fault { host.new.fault ≡ result_err result }
@@ -57,7 +57,7 @@ fn take_in(
 ) -> Result<usize, HostFault>
     requires rows { HasRowsOfTheTable state.old }
     requires drained { is_drained state.old.controller (open_slots state.old) ≡ true }
-    ensures leads { Refines (items_taken octets.now result) []
+    ensures refines { Refines (items_taken octets.now result) []
         (record { server = state.old; frames = frames.old; stream = deframer.old; fault = None })
         (record {
           server = state.new;

@@ -47,7 +47,7 @@ use Rattle.octets.specs.Number.{Octets}
 pub tells_only_of_the_live : TellsOnlyOfTheLive
 unfolding noticed
 tells_only_of_the_live state ordinal (event.Connected handle peer) is kind = cc kind
-tells_only_of_the_live state ordinal event.Gone is kind = cc kind
+tells_only_of_the_live state ordinal event.Disconnected is kind = cc kind
 tells_only_of_the_live state ordinal own is kind = rw is refl
 
 -- A request that is refused tells nothing, and neither does what is ignored.

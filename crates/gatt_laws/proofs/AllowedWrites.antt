@@ -222,7 +222,7 @@ module _ (state : State) where
     own-allowed (event.Connected handle peer) =
         either-allowed [] (Connected handle peer ∷ []) (is_there told-part.mark) none-allowed
         (one-allowed (Connected handle peer) tt)
-    own-allowed event.Gone =
+    own-allowed event.Disconnected =
         either-allowed (Disconnected told-part.handle ∷ []) [] (is_there told-part.mark)
         (one-allowed (Disconnected told-part.handle) tt) none-allowed
     own-allowed own = if-live-allowed own (is_live told-part.mark) refl

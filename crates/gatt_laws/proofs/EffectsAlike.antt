@@ -11,7 +11,7 @@ use Rattle.gatt_conn.specs.Connection.{Bearer, mtu_between}
 use Rattle.gatt_conn.specs.Transcript.{Answered, first_exchange, prepared_in}
 use Rattle.gatt_laws.proofs.AnswersAlike.{SameStored, same_stored, same_handles, same_but_reading, same_answer, same_exchange, same_prepared}
 use Rattle.gatt_laws.specs.laws.Alike.{without_reading, erased, is_of}
-use Rattle.gatt_laws.specs.machine.Event.{Own, Connected, Gone, KeyAsked, Encrypted, Refreshed, Asks, Signals, Authorized, Ended}
+use Rattle.gatt_laws.specs.machine.Event.{Own, Connected, Disconnected, KeyAsked, Encrypted, Refreshed, Asks, OtherChannel, Authorized, Ended}
 use Rattle.gatt_laws.specs.machine.ConnectionState.{ConnectionState, no_connection, fresh_connection, is_live, is_there, key_of, row_in_force, standing_of, connection_mtu, bearer_of, with_pdus, after_ending}
 use Rattle.gatt_laws.specs.machine.SharedState.{SharedState}
 use Rattle.gatt_laws.specs.machine.State.{with_values}
@@ -134,7 +134,7 @@ module _ (hidden : Handle → Bool) (shared : SharedState) (ys : Values) (same :
       → OwnTurn hidden (live_effect shared bond owed connection own) (live_effect there bond owed connection own)
   unfolding live_effect
   live-own bond owed connection (Asks pdu) readable = request-own bond owed connection pdu readable
-  live-own bond owed connection (Signals channel payload) readable =
+  live-own bond owed connection (OtherChannel channel payload) readable =
       record {
         turn = record { values = same; bond = refl; to_notify = refl };
         owed = refl;
@@ -151,7 +151,7 @@ module _ (hidden : Handle → Bool) (shared : SharedState) (ys : Values) (same :
   live-own bond owed connection (Authorized until) readable = nothing-changed bond owed (record connection { until = until })
   live-own bond owed connection Ended readable = nothing-changed bond owed (after_ending connection remote_user_terminated)
   live-own bond owed connection (Connected handle peer) readable = nothing-changed bond owed connection
-  live-own bond owed connection Gone readable = nothing-changed bond owed connection
+  live-own bond owed connection Disconnected readable = nothing-changed bond owed connection
 
   live-or-not : (bond : Row) (owed : Bool) (connection : ConnectionState) (own : Own) → (is_live connection.mark ≡ true → IsAlike (standing_of shared connection) shared.table there.table)
       → OwnTurn hidden (if is_live connection.mark then live_effect shared bond owed connection own else effect_on_connection shared bond owed connection)
@@ -164,7 +164,7 @@ module _ (hidden : Handle → Bool) (shared : SharedState) (ys : Values) (same :
   pub own_turn : (bond : Row) (owed : Bool) (connection : ConnectionState) (own : Own) → (is_live connection.mark ≡ true → IsAlike (standing_of shared connection) shared.table there.table)
       → OwnTurn hidden (effect_of shared bond owed connection own) (effect_of there bond owed connection own)
   own_turn bond owed connection (Connected handle peer) readable = nothing-changed bond owed (if is_there connection.mark then connection else fresh_connection handle peer)
-  own_turn bond owed connection Gone readable = nothing-changed bond owed no_connection
+  own_turn bond owed connection Disconnected readable = nothing-changed bond owed no_connection
   own_turn bond owed connection own readable = live-or-not bond owed connection own readable
 
   -- Connections of other peers.
@@ -259,7 +259,7 @@ module _ (hidden : Handle → Bool) (shared : SharedState) (ys : Values) (same :
         → OtherTurn peer hidden (live_effect shared bond owed connection own) (live_effect there bond its other own)
     unfolding live_effect
     live-other (Asks pdu) spared spared_too = request-other pdu spared spared_too
-    live-other (Signals channel payload) spared spared_too =
+    live-other (OtherChannel channel payload) spared spared_too =
         let answer : Option Octets = channel_answer channel payload in
         to-part (after_other_channel shared connection channel answer) (after_other_channel there other channel answer)
         (channel-erased shared connection channel answer spared ∙ parts ∙ sym (channel-erased there other channel answer spared_too))
@@ -274,7 +274,7 @@ module _ (hidden : Handle → Bool) (shared : SharedState) (ys : Values) (same :
         to-part (after_ending connection remote_user_terminated) (after_ending other remote_user_terminated)
         (λ i. after_ending (parts i) remote_user_terminated) foreign
     live-other (Connected handle other_peer) spared spared_too = kept
-    live-other Gone spared spared_too = kept
+    live-other Disconnected spared spared_too = kept
 
     not-live : (test more : Bool) → test ≡ true → (test && more) ≡ false → more ≡ false
     not-live true more is spared = spared
@@ -304,7 +304,7 @@ module _ (hidden : Handle → Bool) (shared : SharedState) (ys : Values) (same :
     pub other_turn : (own : Own) → finds_no_room shared connection own ≡ false → finds_no_room there other own ≡ false
         → OtherTurn peer hidden (effect_of shared bond owed connection own) (effect_of there bond its other own)
     other_turn (Connected handle of) spared spared_too = came handle of
-    other_turn Gone spared spared_too = record {
+    other_turn Disconnected spared spared_too = record {
       turn = record { values = same; bond = refl; to_notify = refl };
       connection = refl;
       own = λ is. refl;
@@ -314,6 +314,6 @@ module _ (hidden : Handle → Bool) (shared : SharedState) (ys : Values) (same :
     other_turn (Encrypted status enabled) spared spared_too = live-or-kept (Encrypted status enabled) spared spared_too
     other_turn (Refreshed status) spared spared_too = live-or-kept (Refreshed status) spared spared_too
     other_turn (Asks pdu) spared spared_too = live-or-kept (Asks pdu) spared spared_too
-    other_turn (Signals channel payload) spared spared_too = live-or-kept (Signals channel payload) spared spared_too
+    other_turn (OtherChannel channel payload) spared spared_too = live-or-kept (OtherChannel channel payload) spared spared_too
     other_turn (Authorized until) spared spared_too = live-or-kept (Authorized until) spared spared_too
     other_turn Ended spared spared_too = live-or-kept Ended spared spared_too

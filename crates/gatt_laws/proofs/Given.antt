@@ -140,22 +140,22 @@ live-there Absent is = cc is
 live-there Live is = refl
 live-there Ending is = refl
 
-module _ (told : Option Buffers) (peer : Peer) (ordinal : Ordinal) where
+module _ (buffers : Option Buffers) (peer : Peer) (ordinal : Ordinal) where
   record IsCounted (state : State) (events : List Event) : Type 0 where
     possible : ArePossible IsAny state events
     settled : IsSettled state
     comes : ComesOnlyFrom peer ordinal events
     place : HasPlace peer (state.connections ordinal)
-    last : (after_events state events).shared.buffers ≡ told
+    last : (after_events state events).shared.buffers ≡ buffers
     given : IsAllGiven state.shared (state.connections ordinal)
-    within : is_there (state.connections ordinal).mark ≡ true → (state.connections ordinal).given ≤ total (fragment_size_of told) (state.connections ordinal).pdus
+    within : is_there (state.connections ordinal).mark ≡ true → (state.connections ordinal).given ≤ total (fragment_size_of buffers) (state.connections ordinal).pdus
 
-  buffers : (state : State) (events : List Event) → IsCounted state events → is_there (state.connections ordinal).mark ≡ true → state.shared.buffers ≡ told
-  buffers state events is there =
+  told-there : (state : State) (events : List Event) → IsCounted state events → is_there (state.connections ordinal).mark ≡ true → state.shared.buffers ≡ buffers
+  told-there state events is there =
       sym (run_told state events is.possible (ready_at state ordinal (is_ready state.controller) refl is.settled there)) ∙ is.last
 
-  has-all : (state : State) (slots : ℕ) → state.shared.slots ≡ slots → (is_there (state.connections ordinal).mark ≡ true → state.shared.buffers ≡ told) → IsAllGiven state.shared (state.connections ordinal)
-      → HasAll told slots (state.connections ordinal)
+  has-all : (state : State) (slots : ℕ) → state.shared.slots ≡ slots → (is_there (state.connections ordinal).mark ≡ true → state.shared.buffers ≡ buffers) → IsAllGiven state.shared (state.connections ordinal)
+      → HasAll buffers slots (state.connections ordinal)
   has-all state slots counts tells all live =
       let connection : ConnectionState = state.connections ordinal in
       all live ∙ (λ i. min (total (fragment_size_of (tells (live-there connection.mark live) i)) connection.pdus) (quota_of (counts i) (tells (live-there connection.mark live) i) + connection.done))
@@ -164,42 +164,42 @@ module _ (told : Option Buffers) (peer : Peer) (ordinal : Ordinal) where
     settles : IsSettled (step state event)
     settles = stays_settled state event is.possible.0 is.settled
 
-    tells : is_there ((step state event).connections ordinal).mark ≡ true → (step state event).shared.buffers ≡ told
+    tells : is_there ((step state event).connections ordinal).mark ≡ true → (step state event).shared.buffers ≡ buffers
     tells there =
         sym (run_told (step state event) events is.possible.1 (ready_at (step state event) ordinal (is_ready (step state event).controller) refl settles there)) ∙ is.last
 
-    all-new : HasAll told state.shared.slots ((step state event).connections ordinal)
+    all-new : HasAll buffers state.shared.slots ((step state event).connections ordinal)
     all-new = has-all (step state event) state.shared.slots (same-slots state event) tells (gives_all_that_it_may state event ordinal)
 
     packets-told : is_there ((step state event).connections ordinal).mark ≡ true
-        → packets_at ordinal state event ≡ packets_given (record (step state event).shared { buffers = told }) (state.connections ordinal) ((step state event).connections ordinal)
+        → packets_at ordinal state event ≡ packets_given (record (step state event).shared { buffers = buffers }) (state.connections ordinal) ((step state event).connections ordinal)
     packets-told there =
         packets-new ordinal state event
         ∙ ap (λ (of : Option Buffers). packets_given (record (step state event).shared { buffers = of }) (state.connections ordinal) ((step state event).connections ordinal)) (tells there)
 
     goes-there : is_there (state.connections ordinal).mark ≡ true → is_there ((step state event).connections ordinal).mark ≡ true
-        → GoesOn told (state.connections ordinal) ((step state event).connections ordinal) (packets_at ordinal state event)
+        → GoesOn buffers (state.connections ordinal) ((step state event).connections ordinal) (packets_at ordinal state event)
     goes-there was there =
         let old : ConnectionState = state.connections ordinal in
         let new : ConnectionState = (step state event).connections ordinal in
-        subst (λ (packets : List Octets). GoesOn told old new packets) (sym (packets-told there))
-        (goes-on told state.shared.slots old new (step-grows state event ordinal was there)
-        (has-all state state.shared.slots refl (buffers state (event ∷ events) is) is.given) all-new (is.within was))
+        subst (λ (packets : List Octets). GoesOn buffers old new packets) (sym (packets-told there))
+        (goes-on buffers state.shared.slots old new (step-grows state event ordinal was there)
+        (has-all state state.shared.slots refl (told-there state (event ∷ events) is) is.given) all-new (is.within was))
 
     goes-come : state.connections ordinal ≡ no_connection → is_there ((step state event).connections ordinal).mark ≡ true
-        → GoesOn told (state.connections ordinal) ((step state event).connections ordinal) (packets_at ordinal state event)
+        → GoesOn buffers (state.connections ordinal) ((step state event).connections ordinal) (packets_at ordinal state event)
     goes-come none there =
         let new : ConnectionState = (step state event).connections ordinal in
-        let given : new.given ≡ min (total (fragment_size_of told) new.pdus) (quota_of state.shared.slots told + new.done) = all-new (step-absent state event ordinal none there) in
+        let given : new.given ≡ min (total (fragment_size_of buffers) new.pdus) (quota_of state.shared.slots buffers + new.done) = all-new (step-absent state event ordinal none there) in
         record {
           given =
-              (λ i. packets_given_by_now told (none i) ++ packets-told there i)
-              ∙ ap (λ (old : ConnectionState). packets_given (record (step state event).shared { buffers = told }) old new) none;
+              (λ i. packets_given_by_now buffers (none i) ++ packets-told there i)
+              ∙ ap (λ (old : ConnectionState). packets_given (record (step state event).shared { buffers = buffers }) old new) none;
           within = omega (arith, given);
         }
 
     goes : (was : Bool) → is_there (state.connections ordinal).mark ≡ was → is_there ((step state event).connections ordinal).mark ≡ true
-        → GoesOn told (state.connections ordinal) ((step state event).connections ordinal) (packets_at ordinal state event)
+        → GoesOn buffers (state.connections ordinal) ((step state event).connections ordinal) (packets_at ordinal state event)
     goes true before there = goes-there before there
     goes false before there = goes-come (is.place.gone before) there
 
@@ -220,7 +220,7 @@ module _ (told : Option Buffers) (peer : Peer) (ordinal : Ordinal) where
     -- it is there before and after, or after alone; or neither; else it does not come again
     given-next : (was there : Bool) → is_there (state.connections ordinal).mark ≡ was → is_there ((step state event).connections ordinal).mark ≡ there
         → is_there ((after_events (step state event) events).connections ordinal).mark ≡ true
-        → packets_given_by_now told (state.connections ordinal) ++ packets_at ordinal state event ≡ packets_given_by_now told ((step state event).connections ordinal)
+        → packets_given_by_now buffers (state.connections ordinal) ++ packets_at ordinal state event ≡ packets_given_by_now buffers ((step state event).connections ordinal)
     given-next was true before now after = (goes was before now).given
     given-next true false before now after =
         let below = next_grows state event ordinal (came-before-at state ordinal (nat_lt ordinal state.next) refl is.settled before) in
@@ -228,16 +228,16 @@ module _ (told : Option Buffers) (peer : Peer) (ordinal : Ordinal) where
     given-next false false before now after =
         let old : state.connections ordinal ≡ no_connection = is.place.gone before in
         let new : (step state event).connections ordinal ≡ no_connection = new-place.gone now in
-        (λ i. packets_given_by_now told (old i) ++ packets-new ordinal state event i)
+        (λ i. packets_given_by_now buffers (old i) ++ packets-new ordinal state event i)
         ∙ (λ i. packets_given (step state event).shared (old i) (new i))
-        ∙ ap (packets_given_by_now told) (sym new)
+        ∙ ap (packets_given_by_now buffers) (sym new)
 
   given-run : (state : State) (events : List Event) → IsCounted state events → is_there ((after_events state events).connections ordinal).mark ≡ true
-      → packets_given_by_now told (state.connections ordinal) ++ packets_given_in_order ordinal state events ≡ packets_given_by_now told ((after_events state events).connections ordinal)
-  given-run state [] is after = append-nil (packets_given_by_now told (state.connections ordinal))
+      → packets_given_by_now buffers (state.connections ordinal) ++ packets_given_in_order ordinal state events ≡ packets_given_by_now buffers ((after_events state events).connections ordinal)
+  given-run state [] is after = append-nil (packets_given_by_now buffers (state.connections ordinal))
   given-run state (event ∷ events) is after =
       let new : State = step state event in
-      sym (append_assoc (packets_given_by_now told (state.connections ordinal)) (packets_at ordinal state event) (packets_given_in_order ordinal new events))
+      sym (append_assoc (packets_given_by_now buffers (state.connections ordinal)) (packets_at ordinal state event) (packets_given_in_order ordinal new events))
       ∙ ap (λ (packets : List Octets). packets ++ packets_given_in_order ordinal new events)
       (given-next state event events is (is_there (state.connections ordinal).mark) (is_there (new.connections ordinal).mark) refl refl after)
       ∙ given-run new events (counted-next state event events is) after
@@ -247,21 +247,21 @@ is_given_the_front start ordinal input there =
     let events : List Event = events_of start input in
     let first : State = state_at start in
     let peer : Peer = peer_in ordinal events in
-    let told : Option Buffers = (run start input).intake.state.shared.buffers in
+    let buffers : Option Buffers = (run start input).intake.state.shared.buffers in
     let leads : (run start input).intake.state ≡ after_events first events = is_where_events_lead start input in
     let none : first.connections ordinal ≡ no_connection = start_absent start ordinal in
     let possible = means_possible_events IsAny start input (any_tables input) in
-    ap (λ (connection : ConnectionState). packets_given_by_now told connection ++ packets_given_in_order ordinal first events) (sym none)
-    ∙ given-run told peer ordinal first events (record {
+    ap (λ (connection : ConnectionState). packets_given_by_now buffers connection ++ packets_given_in_order ordinal first events) (sym none)
+    ∙ given-run buffers peer ordinal first events (record {
       possible = possible;
       settled = settled_at_first start;
       comes = comes_only ordinal first events possible;
       place = subst (λ (connection : ConnectionState). HasPlace peer connection) (sym none) (absent_place peer);
       last = ap (λ (state : State). state.shared.buffers) (sym leads);
       given = subst (λ (connection : ConnectionState). IsAllGiven first.shared connection) (sym none) (λ live. cc live);
-      within = subst (λ (connection : ConnectionState). is_there connection.mark ≡ true → connection.given ≤ total (fragment_size_of told) connection.pdus) (sym none) (λ here. cc here);
+      within = subst (λ (connection : ConnectionState). is_there connection.mark ≡ true → connection.given ≤ total (fragment_size_of buffers) connection.pdus) (sym none) (λ here. cc here);
     }) (ap (λ (state : State). is_there (state.connections ordinal).mark) (sym leads) ∙ there)
-    ∙ ap (λ (state : State). packets_given_by_now told (state.connections ordinal)) (sym leads)
+    ∙ ap (λ (state : State). packets_given_by_now buffers (state.connections ordinal)) (sym leads)
 
 -- what an event gives goes out
 pub brings_what_it_gives : BringsWhatItGives

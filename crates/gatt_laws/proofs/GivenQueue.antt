@@ -16,7 +16,7 @@ use Rattle.gatt_laws.proofs.Ends.{end_keeps}
 use Rattle.le_acl.specs.History.{packets_allowed}
 use Rattle.gatt_laws.proofs.Silence.{only_serves_the_live}
 use Rattle.gatt_laws.specs.machine.Controller.{command_of_init, count_before, without_command}
-use Rattle.gatt_laws.specs.machine.Event.{Ordinal, Own, Event, Connected, Gone, KeyAsked, Encrypted, Refreshed, Asks, Signals, Authorized, Ended, Of, Completed, Credit, Update, Tick, Replaced, Nothing}
+use Rattle.gatt_laws.specs.machine.Event.{Ordinal, Own, Event, Connected, Disconnected, KeyAsked, Encrypted, Refreshed, Asks, OtherChannel, Authorized, Ended, Of, Completed, Credit, Update, Tick, Replaced, Nothing}
 use Rattle.gatt_laws.specs.laws.Given.{packets_given_by_now}
 use Rattle.gatt_laws.specs.machine.Heard.{heard_in_turn, hearer_of, after_hearing, att_pdu}
 use Rattle.gatt_laws.specs.machine.ConnectionState.{ConnectionState, is_live, is_there, key_of, row_in_force, connection_mtu, bearer_of, with_pdus, after_ending}
@@ -75,7 +75,7 @@ link-grows connection step false live = stays connection (with_step connection s
 live-grows : (shared : SharedState) (bond : Row) (owed : Bool) (connection : ConnectionState) (own : Own) → is_live connection.mark ≡ true → Grows connection (live_effect shared bond owed connection own).connection
 unfolding live_effect
 live-grows shared bond owed connection (Asks pdu) live = request-grows shared bond owed connection pdu live
-live-grows shared bond owed connection (Signals channel payload) live = channel-grows shared connection channel (channel_answer channel payload) live
+live-grows shared bond owed connection (OtherChannel channel payload) live = channel-grows shared connection channel (channel_answer channel payload) live
 live-grows shared bond owed connection (KeyAsked random_number diversifier) live =
     stays connection (live_effect shared bond owed connection (KeyAsked random_number diversifier)).connection refl refl refl refl (λ is. live)
 live-grows shared bond owed connection (Encrypted status enabled) live =
@@ -85,7 +85,7 @@ live-grows shared bond owed connection (Refreshed status) live =
 live-grows shared bond owed connection (Authorized until) live = stays connection (record connection { until = until }) refl refl refl refl (λ is. live)
 live-grows shared bond owed connection Ended live = stays connection (after_ending connection remote_user_terminated) refl refl refl refl (λ is. live)
 live-grows shared bond owed connection (Connected handle peer) live = stays connection connection refl refl refl refl (λ is. live)
-live-grows shared bond owed connection Gone live = stays connection connection refl refl refl refl (λ is. live)
+live-grows shared bond owed connection Disconnected live = stays connection connection refl refl refl refl (λ is. live)
 
 if-live-grows : (shared : SharedState) (bond : Row) (owed : Bool) (connection : ConnectionState) (own : Own) (live : Bool) → is_live connection.mark ≡ live
     → Grows connection (if live then live_effect shared bond owed connection own else effect_on_connection shared bond owed connection).connection
@@ -95,7 +95,7 @@ if-live-grows shared bond owed connection own false is = stays connection connec
 turn-grows : (shared : SharedState) (bond : Row) (owed : Bool) (connection : ConnectionState) (own : Own) → is_there connection.mark ≡ true → is_there (effect_of shared bond owed connection own).connection.mark ≡ true
     → Grows connection (effect_of shared bond owed connection own).connection
 turn-grows shared bond owed connection (Connected handle peer) there after = rw there (stays connection connection refl refl refl refl (λ lives. lives))
-turn-grows shared bond owed connection Gone there after = cc after
+turn-grows shared bond owed connection Disconnected there after = cc after
 turn-grows shared bond owed connection own there after = if-live-grows shared bond owed connection own (is_live connection.mark) refl
 
 completed-grows : (ordinal : Ordinal) (entries : List (Ordinal × ℕ)) (old connection : ConnectionState) → Grows old connection → Grows old (after_packets_completed ordinal entries connection)
@@ -186,27 +186,27 @@ front (x ∷ xs) ys (suc m) zero within more = absurd (omega (arith, more))
 front (x ∷ xs) ys (suc m) (suc n) within more = ap (λ zs. x ∷ zs) (front xs ys m n (omega (arith, within)) (omega (arith, more)))
 
 -- the packets that a connection gets, and what is given of its queue by then
-pub record GoesOn (told : Option Buffers) (old new : ConnectionState) (packets : List Octets) : Type 0 where
-  pub given : packets_given_by_now told old ++ packets ≡ packets_given_by_now told new
-  pub within : new.given ≤ total (fragment_size_of told) new.pdus
+pub record GoesOn (buffers : Option Buffers) (old new : ConnectionState) (packets : List Octets) : Type 0 where
+  pub given : packets_given_by_now buffers old ++ packets ≡ packets_given_by_now buffers new
+  pub within : new.given ≤ total (fragment_size_of buffers) new.pdus
 
-module _ (told : Option Buffers) (slots : ℕ) where
+module _ (buffers : Option Buffers) (slots : ℕ) where
   abbrev pub HasAll : ConnectionState → Type 0
-  HasAll connection = is_live connection.mark ≡ true → connection.given ≡ min (total (fragment_size_of told) connection.pdus) (quota_of slots told + connection.done)
+  HasAll connection = is_live connection.mark ≡ true → connection.given ≡ min (total (fragment_size_of buffers) connection.pdus) (quota_of slots buffers + connection.done)
 
-  given-more-at : (old new : ConnectionState) (live : Bool) → is_live new.mark ≡ live → Grows old new → HasAll old → HasAll new → total (fragment_size_of told) old.pdus ≤ total (fragment_size_of told) new.pdus
-      → old.given ≤ total (fragment_size_of told) old.pdus → (old.given ≤ new.given) × (new.given ≤ total (fragment_size_of told) new.pdus)
+  given-more-at : (old new : ConnectionState) (live : Bool) → is_live new.mark ≡ live → Grows old new → HasAll old → HasAll new → total (fragment_size_of buffers) old.pdus ≤ total (fragment_size_of buffers) new.pdus
+      → old.given ≤ total (fragment_size_of buffers) old.pdus → (old.given ≤ new.given) × (new.given ≤ total (fragment_size_of buffers) new.pdus)
   given-more-at old new true is grows was now queued within =
-      let before : old.given ≡ min (total (fragment_size_of told) old.pdus) (quota_of slots told + old.done) = was (grows.live is) in
-      let after : new.given ≡ min (total (fragment_size_of told) new.pdus) (quota_of slots told + new.done) = now is in
+      let before : old.given ≡ min (total (fragment_size_of buffers) old.pdus) (quota_of slots buffers + old.done) = was (grows.live is) in
+      let after : new.given ≡ min (total (fragment_size_of buffers) new.pdus) (quota_of slots buffers + new.done) = now is in
       (omega (arith, before, after, queued, grows.done), omega (arith, after))
   given-more-at old new false is grows was now queued within =
       let same : new.given ≡ old.given = grows.still is in (omega (arith, same), omega (arith, same, queued, within))
 
-  pub goes-on : (old new : ConnectionState) → Grows old new → HasAll old → HasAll new → old.given ≤ total (fragment_size_of told) old.pdus
-      → GoesOn told old new (map (acl_octets new.handle) (drop old.given (take new.given (packets_of (fragment_size_of told) new.pdus))))
+  pub goes-on : (old new : ConnectionState) → Grows old new → HasAll old → HasAll new → old.given ≤ total (fragment_size_of buffers) old.pdus
+      → GoesOn buffers old new (map (acl_octets new.handle) (drop old.given (take new.given (packets_of (fragment_size_of buffers) new.pdus))))
   goes-on old new grows was now within =
-      let size : ℕ = fragment_size_of told in
+      let size : ℕ = fragment_size_of buffers in
       let queued : packets_of size new.pdus ≡ packets_of size old.pdus ++ packets_of size grows.more =
       ap (packets_of size) grows.pdus
       ∙ ap (flat_map (λ (packets : List Fragment). packets)) (map-append (fragments_of size) old.pdus grows.more)

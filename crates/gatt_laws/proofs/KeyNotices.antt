@@ -16,8 +16,9 @@ use Rattle.gatt_laws.proofs.Meant.{first-true, last-true}
 use Rattle.gatt_laws.proofs.Ends.{end_keeps}
 use Rattle.gatt_laws.proofs.Notices.{or-first}
 use Rattle.gatt_laws.proofs.Steady.{completed_steady}
-use Rattle.gatt_laws.specs.machine.Event.{Ordinal, Own, Event, Connected, Gone, Encrypted}
-use Rattle.gatt_laws.specs.machine.Event.{Refreshed, Asks, Signals, Of, Completed, Credit}
+use Rattle.gatt_laws.specs.machine.Event as event
+use Rattle.gatt_laws.specs.machine.Event.{Ordinal, Own, Event, Connected, Encrypted}
+use Rattle.gatt_laws.specs.machine.Event.{Refreshed, Asks, OtherChannel, Of, Completed, Credit}
 use Rattle.gatt_laws.specs.machine.Event.{Replaced}
 use Rattle.gatt_laws.specs.machine.Notice.{Notice, Disconnected, Secured, are_both, are_same_facts}
 use Rattle.gatt_laws.specs.machine.Notice.{link_told}
@@ -128,7 +129,7 @@ module _ (shared : SharedState) (bond : Row) (owed : Bool) (connection : Connect
   unfolding live_effect
   own-key (Connected handle peer) there none =
       ap (λ (is : Bool). key_of (if is then connection else fresh_connection handle peer)) there
-  own-key Gone there none =
+  own-key event.Disconnected there none =
       told-here connection.handle false
       (ap (λ (is : Bool). list_any (tells_key connection.handle)
       (if is then Disconnected connection.handle ∷ [] else [])) (sym there) ∙ none)
@@ -142,8 +143,8 @@ module _ (shared : SharedState) (bond : Row) (owed : Bool) (connection : Connect
       (either-key connection (effect_on_connection shared bond owed (after_ending connection remote_user_terminated))
       (served shared bond owed connection pdu asked)
       (is_due asked && is_full shared connection) refl refl)
-  own-key (Signals channel payload) there none =
-      if-live-keeps (Signals channel payload)
+  own-key (OtherChannel channel payload) there none =
+      if-live-keeps (OtherChannel channel payload)
       (channel-key shared connection channel (channel_answer channel payload))
   own-key own there none = if-live-keeps own refl
 

@@ -19,7 +19,7 @@ use Rattle.gatt_laws.specs.machine.Context.{holding}
 use Rattle.gatt_laws.specs.machine.Controller.{with_freed}
 use Rattle.gatt_laws.specs.machine.Event as event
 use Rattle.gatt_laws.specs.machine.Event.{Ordinal, Event, KeyAsked, Encrypted, Refreshed, Asks}
-use Rattle.gatt_laws.specs.machine.Event.{Signals, Authorized, Ended, Of, Credit, Tick}
+use Rattle.gatt_laws.specs.machine.Event.{OtherChannel, Authorized, Ended, Of, Credit, Tick}
 use Rattle.gatt_laws.specs.machine.Input.{Item, Run, after_item, after_items, run_at_start, run}
 use Rattle.gatt_laws.specs.machine.ItemEvents.{event_at, after_if}
 use Rattle.gatt_laws.specs.machine.Notice.{Notice, Connected, Disconnected, noticed, notices_of, notices_in}
@@ -130,7 +130,7 @@ module _ (state : State) (at : Ordinal) (handle : ℕ) (peer : Peer) (is : IsKno
 
 module _ (state : State) (at : Ordinal) (is : IsKnowing state) where
   abbrev going : Event
-  going = Of at event.Gone
+  going = Of at event.Disconnected
 
   stay-named : (ordinal : Ordinal) → (ordinal == at) ≡ false
       → IsNamedAs (state.connections ordinal) ((step state going).connections ordinal)
@@ -168,7 +168,7 @@ pub tells_who_is_there : TellsWhoIsThere
 unfolding step change_of noticed
 tells_who_is_there state (Of at (event.Connected handle peer)) asked is possible unused =
     coming-peers state at handle peer is possible unused asked
-tells_who_is_there state (Of at event.Gone) asked is possible unused = going-by state at is asked
+tells_who_is_there state (Of at event.Disconnected) asked is possible unused = going-by state at is asked
     (has_slot at state.slots) refl
 tells_who_is_there state (Of at (KeyAsked random_number diversifier)) asked is possible unused =
     let connection : ConnectionState = state.connections at in
@@ -201,14 +201,14 @@ tells_who_is_there state (Of at (Asks pdu)) asked is possible unused =
     (if-live-others state.shared bond connection (Asks pdu)
     (effect_of state.shared bond (state.owed connection.peer) connection (Asks pdu)) (peers_in state))
     ∙ still state (Of at (Asks pdu)) (λ ordinal. and-false (ordinal == at)) asked
-tells_who_is_there state (Of at (Signals channel payload)) asked is possible unused =
+tells_who_is_there state (Of at (OtherChannel channel payload)) asked is possible unused =
     let connection : ConnectionState = state.connections at in
     let bond : Row = state.bonds connection.peer in
     ap (λ (present : Present). present asked)
-    (if-live-others state.shared bond connection (Signals channel payload)
-    (effect_of state.shared bond (state.owed connection.peer) connection (Signals channel payload))
+    (if-live-others state.shared bond connection (OtherChannel channel payload)
+    (effect_of state.shared bond (state.owed connection.peer) connection (OtherChannel channel payload))
     (peers_in state))
-    ∙ still state (Of at (Signals channel payload)) (λ ordinal. and-false (ordinal == at)) asked
+    ∙ still state (Of at (OtherChannel channel payload)) (λ ordinal. and-false (ordinal == at)) asked
 tells_who_is_there state (Of at (Authorized until)) asked is possible unused =
     let connection : ConnectionState = state.connections at in
     let bond : Row = state.bonds connection.peer in
@@ -252,7 +252,7 @@ stay-alone state happens back alone one other has has_too same =
 freed-back : (at ordinal : Ordinal) (state : State) → has_slot ordinal (with_freed at state.slots)
     ≡ true
     → (has_slot ordinal state.slots ≡ true) ×
-    (is_connection_or_disconnection ordinal (Of at event.Gone) ≡ false)
+    (is_connection_or_disconnection ordinal (Of at event.Disconnected) ≡ false)
 freed-back at ordinal state has = (
   freed-has at ordinal state.slots has,
   elim (ordinal == at) as (λ (same : Bool). (ordinal == at) ≡ same → (same && true) ≡ false) [
@@ -271,8 +271,8 @@ keeps-alone : (state : State) (happens : Event) → Possible (λ table. Unit) st
 unfolding step change_of
 keeps-alone state (Of at (event.Connected handle peer)) possible unused is =
     coming-alone state at handle peer is possible unused
-keeps-alone state (Of at event.Gone) possible unused is =
-    stay-alone state (Of at event.Gone) (λ ordinal has. freed-back at ordinal state has) is.handles
+keeps-alone state (Of at event.Disconnected) possible unused is =
+    stay-alone state (Of at event.Disconnected) (λ ordinal has. freed-back at ordinal state has) is.handles
 keeps-alone state (Of at (KeyAsked random_number diversifier)) possible unused is =
     stay-alone state (Of at (KeyAsked random_number diversifier))
     (λ ordinal has. (has, and-false (ordinal == at))) is.handles
@@ -284,8 +284,8 @@ keeps-alone state (Of at (Refreshed status)) possible unused is =
     (λ ordinal has. (has, and-false (ordinal == at))) is.handles
 keeps-alone state (Of at (Asks pdu)) possible unused is =
     stay-alone state (Of at (Asks pdu)) (λ ordinal has. (has, and-false (ordinal == at))) is.handles
-keeps-alone state (Of at (Signals channel payload)) possible unused is =
-    stay-alone state (Of at (Signals channel payload))
+keeps-alone state (Of at (OtherChannel channel payload)) possible unused is =
+    stay-alone state (Of at (OtherChannel channel payload))
     (λ ordinal has. (has, and-false (ordinal == at))) is.handles
 keeps-alone state (Of at (Authorized until)) possible unused is =
     stay-alone state (Of at (Authorized until))
@@ -361,16 +361,16 @@ all-present old (item ∷ items) present is right =
           ∙ later.right;
     }
 
-in-course : (start : Start) (input : List Item)
+in-run : (start : Start) (input : List Item)
     → GoesOn (after_items (run_at_start start) input) nobody_present (notices_in (run_at_start start) input)
-in-course start input =
+in-run start input =
     all-present (run_at_start start) input nobody_present (knowing-at-first start) (λ i asked. None)
 
 pub always_has_one_handle_each : AlwaysHasOneHandleEach
 unfolding run
-always_has_one_handle_each start input = (in-course start input).knowing.handles
+always_has_one_handle_each start input = (in-run start input).knowing.handles
 
 pub knows_who_is_there : KnowsWhoIsThere
 unfolding run
 knows_who_is_there start input handle =
-    ap (λ (present : Present). present handle) (in-course start input).right
+    ap (λ (present : Present). present handle) (in-run start input).right

@@ -20,8 +20,8 @@ use Rattle.gatt_laws.specs.machine.Calls.{disconnect_event, call_event, same_cha
 use Rattle.gatt_laws.specs.machine.Calls.{replacement_event}
 use Rattle.gatt_laws.specs.machine.Context.{context_of, holding, ordinal_where, serving}
 use Rattle.gatt_laws.specs.machine.Controller.{Controller, Slots, has_free, is_ready}
-use Rattle.gatt_laws.specs.machine.Event.{Ordinal, Own, Event, Connected, Gone, KeyAsked, Encrypted}
-use Rattle.gatt_laws.specs.machine.Event.{Refreshed, Asks, Signals, Of}
+use Rattle.gatt_laws.specs.machine.Event.{Ordinal, Own, Event, Connected, Disconnected, KeyAsked, Encrypted}
+use Rattle.gatt_laws.specs.machine.Event.{Refreshed, Asks, OtherChannel, Of}
 use Rattle.gatt_laws.specs.machine.Event.{Credit, Update, Tick, Replaced, Nothing}
 use Rattle.gatt_laws.specs.machine.Packets.{Fault, following_of, is_awaited, answered, own_event}
 use Rattle.gatt_laws.specs.machine.Packets.{peripheral, last_connection_handle, entries_of_connections}
@@ -152,7 +152,7 @@ module _ (Fine : Contents → Type 0) where
   own-meant state (Some ordinal) own may = may ordinal refl
 
   coming-meant : (state : State) (handle : ℕ) (peer : Peer) → holding state handle ≡ None
-      → IsMeant Fine state (own_event (context_of state).coming (Connected handle peer))
+      → IsMeant Fine state (own_event (context_of state).next_free (Connected handle peer))
   coming-meant state handle peer unused =
       elim (has_free state.slots) as (λ (free : Bool). has_free state.slots ≡ free
       → IsMeant Fine state
@@ -181,8 +181,8 @@ module _ (Fine : Contents → Type 0) where
   connection-meant : (state : State) (reported : Reported) → is_ready state.controller ≡ true
       → IsMeant Fine state (connection_event (context_of state) reported)
   connection-meant state (event.DisconnectionComplete status handle reason) ready =
-      either-meant state (status == 0) (own_event (holding state handle) Gone) Nothing
-      (λ is. own-meant state (holding state handle) Gone (holds-a-slot state handle)) tt
+      either-meant state (status == 0) (own_event (holding state handle) Disconnected) Nothing
+      (λ is. own-meant state (holding state handle) Disconnected (holds-a-slot state handle)) tt
   connection-meant state (event.EncryptionChange status handle enabled) ready =
       own-meant state (serving state handle) (Encrypted status enabled)
       (serves_in_a_slot state handle)
@@ -195,7 +195,7 @@ module _ (Fine : Contents → Type 0) where
       let made : Bool =
       (status == 0) && (role == peripheral) && nat_le handle last_connection_handle in
       either-meant state (made && is_none (holding state handle))
-      (own_event (context_of state).coming (Connected handle peer)) Nothing
+      (own_event (context_of state).next_free (Connected handle peer)) Nothing
       (λ is. coming-meant state handle peer
       (none-there (holding state handle) (last-true made (is_none (holding state handle)) is))) tt
   connection-meant state (event.LongTermKeyRequest handle random_number diversifier) ready =
@@ -240,9 +240,9 @@ module _ (Fine : Contents → Type 0) where
       → ServesInASlot state ordinal → IsMeant Fine state (frame_event ordinal (of_frame frame))
   frame-meant state ordinal (Ok frame) serves =
       let signals : Bool = frame.cid == LE_SIGNALLING || frame.cid == SECURITY_MANAGER in
-      if-frame state ordinal (frame.cid == ATT) (Asks frame.payload) (if signals then Some (Signals frame.cid frame.payload) else None)
+      if-frame state ordinal (frame.cid == ATT) (Asks frame.payload) (if signals then Some (OtherChannel frame.cid frame.payload) else None)
       serves
-      (if-frame state ordinal signals (Signals frame.cid frame.payload) None serves tt)
+      (if-frame state ordinal signals (OtherChannel frame.cid frame.payload) None serves tt)
   frame-meant state ordinal (Err skip) serves = tt
 
   octets-meant : (state : State) (ordinal : Ordinal) (octets : Option Octets)

@@ -11,7 +11,7 @@ use Rattle.gatt_conn.specs.Answer.{Question}
 use Rattle.gatt_conn.specs.Transcript.{Dropped}
 use Rattle.gatt_laws.proofs.Ends.{end_keeps}
 use Rattle.gatt_laws.proofs.Steady.{is_asking, live_steady, completed_steady}
-use Rattle.gatt_laws.specs.machine.Event.{Ordinal, Own, Event, Connected, Gone}
+use Rattle.gatt_laws.specs.machine.Event.{Ordinal, Own, Event, Connected, Disconnected}
 use Rattle.gatt_laws.specs.machine.Event.{Asks, Of, Completed, Credit}
 use Rattle.gatt_laws.specs.machine.Event.{Update, Tick, Replaced, Nothing}
 use Rattle.gatt_laws.specs.machine.ConnectionState.{ConnectionState, is_live, connection_mtu, after_ending}
@@ -59,7 +59,7 @@ live-named shared bond owed connection (Asks pdu) =
     (served shared bond owed connection pdu asked) (is_due asked && is_full shared connection)
     (record { handle = refl; peer = refl }) (record { handle = refl; peer = refl })
 live-named shared bond owed connection (Connected handle peer) = itself connection
-live-named shared bond owed connection Gone = itself connection
+live-named shared bond owed connection Disconnected = itself connection
 live-named shared bond owed connection own = steady-named shared bond owed connection own refl
 
 pub if-live-named : (shared : SharedState) (bond : Row) (owed : Bool) (connection : ConnectionState) (own : Own)
@@ -74,7 +74,7 @@ turn-named : (shared : SharedState) (bond : Row) (owed : Bool) (connection : Con
     ≡ false
     → IsNamedAs connection (effect_of shared bond owed connection own).connection
 turn-named shared bond owed connection (Connected handle peer) kind = cc kind
-turn-named shared bond owed connection Gone kind = cc kind
+turn-named shared bond owed connection Disconnected kind = cc kind
 turn-named shared bond owed connection own kind = if-live-named shared bond owed connection own
 
 of-named : (state : State) (at ordinal : Ordinal) (own : Own) (same : Bool) → (ordinal == at) ≡ same

@@ -7,7 +7,7 @@ use Rattle.att_numbers.specs.Types.{Handle, Row}
 use Rattle.att_pdu.specs.Grammar.{request_of, is_due}
 use Rattle.gatt_conn.specs.Transcript.{Dropped}
 use Rattle.gatt_laws.proofs.Silence.{only_serves_the_live}
-use Rattle.gatt_laws.specs.machine.Event.{Ordinal, Own, Event, Connected, Gone, KeyAsked, Encrypted, Refreshed, Asks, Signals, Authorized, Ended, Of, Completed, Credit, Update, Tick, Replaced, Nothing}
+use Rattle.gatt_laws.specs.machine.Event.{Ordinal, Own, Event, Connected, Disconnected, KeyAsked, Encrypted, Refreshed, Asks, OtherChannel, Authorized, Ended, Of, Completed, Credit, Update, Tick, Replaced, Nothing}
 use Rattle.gatt_laws.specs.machine.Heard.{after_hearing}
 use Rattle.gatt_laws.specs.machine.ConnectionState.{ConnectionState, Mark, Absent, Live, Ending, no_connection, fresh_connection, is_live, is_there, key_of, connection_mtu, with_pdus, after_ending}
 use Rattle.gatt_laws.specs.machine.SharedState.{SharedState, fragment_size_of}
@@ -74,14 +74,14 @@ live-stays shared bond owed connection (Asks pdu) =
     let asked = request_of pdu (connection_mtu shared connection) in
     turn-stays connection (effect_on_connection shared bond owed (after_ending connection remote_user_terminated)) (served shared bond owed connection pdu asked) (is_due asked && is_full shared connection)
     (stays-ending connection remote_user_terminated) (record { peer = refl; given = refl; live = λ is. is })
-live-stays shared bond owed connection (Signals channel payload) = channel-stays shared connection channel (channel_answer channel payload)
+live-stays shared bond owed connection (OtherChannel channel payload) = channel-stays shared connection channel (channel_answer channel payload)
 live-stays shared bond owed connection (KeyAsked random_number diversifier) = record { peer = refl; given = refl; live = λ is. is }
 live-stays shared bond owed connection (Encrypted status enabled) = link-stays shared bond owed connection (Encryption status enabled)
 live-stays shared bond owed connection (Refreshed status) = link-stays shared bond owed connection (Refresh status)
 live-stays shared bond owed connection (Authorized until) = record { peer = refl; given = refl; live = λ is. is }
 live-stays shared bond owed connection Ended = stays-ending connection remote_user_terminated
 live-stays shared bond owed connection (Connected handle peer) = stays connection
-live-stays shared bond owed connection Gone = stays connection
+live-stays shared bond owed connection Disconnected = stays connection
 
 live-or-stays : (shared : SharedState) (bond : Row) (owed : Bool) (connection : ConnectionState) (own : Own)
     → Stays connection (if is_live connection.mark then live_effect shared bond owed connection own else effect_on_connection shared bond owed connection).connection
@@ -95,7 +95,7 @@ comes-or-stays connection handle peer false is = Came (record { was_away = is; h
 turn-becomes : (shared : SharedState) (bond : Row) (owed : Bool) (connection : ConnectionState) (own : Own)
     → (let effect = effect_of shared bond owed connection own in Becomes connection effect.connection effect.to_notify_here)
 turn-becomes shared bond owed connection (Connected handle peer) = comes-or-stays connection handle peer (is_there connection.mark) refl
-turn-becomes shared bond owed connection Gone = Went refl
+turn-becomes shared bond owed connection Disconnected = Went refl
 turn-becomes shared bond owed connection own = Stayed (live-or-stays shared bond owed connection own)
 
 completed-stays : (ordinal : Ordinal) (entries : List (Ordinal × ℕ)) (old connection : ConnectionState) → Stays old connection → Stays old (after_packets_completed ordinal entries connection)

@@ -49,7 +49,7 @@ looks-same peer hidden one other alike =
       time = (shared i).time;
       serving = λ handle. ordinal_where (λ ordinal. is_live (others ordinal i).mark && (others ordinal i).handle == handle) (slots i);
       holding = λ handle. ordinal_where (λ ordinal. (others ordinal i).handle == handle) (slots i);
-      coming = if has_free (slots i) then Some (next i) else None;
+      next_free = if has_free (slots i) then Some (next i) else None;
     }
 
 settled-then : (run : Run) (item : Item) → IsSettled run.intake.state → IsSettled (after_item run item).intake.state

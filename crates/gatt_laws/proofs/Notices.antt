@@ -22,7 +22,7 @@ use Rattle.att_writes.specs.SameBut.{is_touched}
 use Rattle.gatt_conn.specs.Answer.{Question, Writing, writing_asked, stored_after_writing, handles_after}
 use Rattle.gatt_conn.specs.Answer.{handles_by, is_confirmation}
 use Rattle.gatt_laws.proofs.Stores.{leaves-configurations, other-value}
-use Rattle.gatt_laws.specs.machine.Event.{Own, Event, Connected, Gone, Asks}
+use Rattle.gatt_laws.specs.machine.Event.{Own, Event, Connected, Disconnected, Asks}
 use Rattle.gatt_laws.specs.machine.Event.{Of, Credit, Update}
 use Rattle.gatt_laws.specs.machine.Event.{Replaced}
 use Rattle.gatt_laws.specs.machine.Notice.{Notice, Configured, Written, write_told, end_told, live_told}
@@ -248,7 +248,7 @@ own-values : (shared : SharedState) (bond : Row) (owed : Bool) (connection : Con
     ≡ value_at shared.table.values attribute
 unfolding live_effect
 own-values shared bond owed connection (Connected handle peer) attribute used none = refl
-own-values shared bond owed connection Gone attribute used none = refl
+own-values shared bond owed connection Disconnected attribute used none = refl
 own-values shared bond owed connection (Asks pdu) attribute used none =
     asks-values shared bond owed connection pdu attribute (is_live connection.mark) refl used none
 own-values shared bond owed connection own attribute used none =

@@ -10,7 +10,7 @@ use Rattle.gatt_conn.specs.Answer.{Question}
 use Rattle.gatt_conn.specs.Transcript.{Dropped}
 use Rattle.gatt_laws.proofs.Always.{always, any_tables}
 use Rattle.gatt_laws.specs.machine.Controller.{Slots, with_taken, with_freed, command_of_init, count_before, without_command}
-use Rattle.gatt_laws.specs.machine.Event.{Ordinal, Own, Event, Connected, Gone, KeyAsked, Encrypted, Refreshed, Asks, Signals, Authorized, Ended, Of, Completed, Credit, Update, Tick, Replaced, Nothing}
+use Rattle.gatt_laws.specs.machine.Event.{Ordinal, Own, Event, Connected, Disconnected, KeyAsked, Encrypted, Refreshed, Asks, OtherChannel, Authorized, Ended, Of, Completed, Credit, Update, Tick, Replaced, Nothing}
 use Rattle.gatt_laws.specs.machine.Heard.{after_hearing}
 use Rattle.gatt_laws.specs.machine.Input.{run_at_start, run}
 use Rattle.gatt_laws.specs.machine.ConnectionState.{ConnectionState, no_connection, fresh_connection, is_live, is_there, key_of, connection_mtu, with_pdus, after_ending, after_giving}
@@ -73,7 +73,7 @@ link-keeps connection step false = record { there = λ there. there; once = λ o
 live-keeps : (shared : SharedState) (bond : Row) (owed : Bool) (connection : ConnectionState) (own : Own) → is_live connection.mark ≡ true → Keeps connection (live_effect shared bond owed connection own).connection
 unfolding live_effect
 live-keeps shared bond owed connection (Asks pdu) live = request-keeps shared bond owed connection pdu
-live-keeps shared bond owed connection (Signals channel payload) live = channel-keeps shared connection channel (channel_answer channel payload)
+live-keeps shared bond owed connection (OtherChannel channel payload) live = channel-keeps shared connection channel (channel_answer channel payload)
 live-keeps shared bond owed connection (KeyAsked random_number diversifier) live =
     record { there = λ there. there; once = λ once. record { serving = once.serving; others = λ other. cc (live, other) } }
 live-keeps shared bond owed connection (Encrypted status enabled) live =
@@ -83,7 +83,7 @@ live-keeps shared bond owed connection (Refreshed status) live =
 live-keeps shared bond owed connection (Authorized until) live = record { there = λ there. there; once = λ once. record { serving = once.serving; others = once.others } }
 live-keeps shared bond owed connection Ended live = ending connection remote_user_terminated
 live-keeps shared bond owed connection (Connected handle peer) live = keeps-same connection
-live-keeps shared bond owed connection Gone live = keeps-same connection
+live-keeps shared bond owed connection Disconnected live = keeps-same connection
 
 if-live : (shared : SharedState) (bond : Row) (owed : Bool) (connection : ConnectionState) (own : Own) (live : Bool) → is_live connection.mark ≡ live
     → Keeps connection (if live then live_effect shared bond owed connection own else effect_on_connection shared bond owed connection).connection
@@ -194,7 +194,7 @@ same-too one other is =
 turn-once : (shared : SharedState) (bond : Row) (owed : Bool) (connection : ConnectionState) (own : Own) → WaitsOnce connection → WaitsOnce (effect_of shared bond owed connection own).connection
 turn-once shared bond owed connection (Connected handle peer) once =
     elim (is_there connection.mark) as (λ (there : Bool). WaitsOnce (if there then connection else fresh_connection handle peer)) [ true ↦ once | false ↦ come-once handle peer ]
-turn-once shared bond owed connection Gone once = absent-once
+turn-once shared bond owed connection Disconnected once = absent-once
 turn-once shared bond owed connection own once = (if-live shared bond owed connection own (is_live connection.mark) refl).once once
 
 -- who has a slot then
@@ -205,13 +205,13 @@ come-there connection handle peer false is = refl
 turn-there : (shared : SharedState) (bond : Row) (owed : Bool) (connection : ConnectionState) (own : Own) (at : Ordinal) (slots : Slots)
     → (has_slot at slots ≡ true → is_there connection.mark ≡ true) → has_slot at (slots_after own at slots) ≡ true → is_there (effect_of shared bond owed connection own).connection.mark ≡ true
 turn-there shared bond owed connection (Connected handle peer) at slots there has = come-there connection handle peer (is_there connection.mark) refl
-turn-there shared bond owed connection Gone at slots there has = cc (has, freed_lacks at slots)
+turn-there shared bond owed connection Disconnected at slots there has = cc (has, freed_lacks at slots)
 turn-there shared bond owed connection own at slots there has =
     (if-live shared bond owed connection own (is_live connection.mark) refl).there (there has)
 
 other-has : (own : Own) (at other : Ordinal) (slots : Slots) → (other == at) ≡ false → has_slot other (slots_after own at slots) ≡ true → has_slot other slots ≡ true
 other-has (Connected handle peer) at other slots differs has = taken-has at other slots differs (same-too other at differs) has
-other-has Gone at other slots differs has = freed-has at other slots has
+other-has Disconnected at other slots differs has = freed-has at other slots has
 other-has own at other slots differs has = has
 
 own-placed : (state : State) (at : Ordinal) (own : Own) → IsPlaced state → IsPlaced (own_change state at own).state

@@ -12,7 +12,7 @@ use Rattle.gatt_conn.specs.Transcript.{Dropped}
 use Rattle.gatt_laws.proofs.Ends.{end_keeps}
 use Rattle.gatt_laws.proofs.Silence.{only_serves_the_live}
 use Rattle.gatt_laws.specs.machine.Controller.{Controller, command_of_init, count_before, without_command, is_ready}
-use Rattle.gatt_laws.specs.machine.Event.{Ordinal, Own, Event, Connected, Gone, KeyAsked, Encrypted, Refreshed, Asks, Signals, Authorized, Ended, Of, Completed, Credit, Update, Tick, Replaced, Nothing}
+use Rattle.gatt_laws.specs.machine.Event.{Ordinal, Own, Event, Connected, Disconnected, KeyAsked, Encrypted, Refreshed, Asks, OtherChannel, Authorized, Ended, Of, Completed, Credit, Update, Tick, Replaced, Nothing}
 use Rattle.gatt_laws.specs.machine.ConnectionState.{Mark, Absent, Live, Ending, ConnectionState, no_connection, fresh_connection, is_live, is_there, key_of, connection_mtu, with_pdus, after_ending}
 use Rattle.gatt_laws.specs.laws.Possible.{Possible}
 use Rattle.gatt_laws.specs.machine.SharedState.{SharedState}
@@ -90,7 +90,7 @@ link-stays connection step false there = record { there = refl; peer = refl }
 live-stays : (shared : SharedState) (bond : Row) (owed : Bool) (connection : ConnectionState) (own : Own) → is_there connection.mark ≡ true → StaysWith connection (live_effect shared bond owed connection own).connection
 unfolding live_effect
 live-stays shared bond owed connection (Asks pdu) there = request-stays shared bond owed connection pdu there
-live-stays shared bond owed connection (Signals channel payload) there = channel-stays shared connection channel (channel_answer channel payload) there
+live-stays shared bond owed connection (OtherChannel channel payload) there = channel-stays shared connection channel (channel_answer channel payload) there
 live-stays shared bond owed connection (KeyAsked random_number diversifier) there = record { there = refl; peer = refl }
 live-stays shared bond owed connection (Encrypted status enabled) there =
     link-stays connection (Encryption status enabled) (lost_encryption (key_of connection) (key_of (with_step connection (Encryption status enabled)))) there
@@ -99,7 +99,7 @@ live-stays shared bond owed connection (Refreshed status) there =
 live-stays shared bond owed connection (Authorized until) there = record { there = refl; peer = refl }
 live-stays shared bond owed connection Ended there = ending-stays connection remote_user_terminated there
 live-stays shared bond owed connection (Connected handle peer) there = stays-itself connection
-live-stays shared bond owed connection Gone there = stays-itself connection
+live-stays shared bond owed connection Disconnected there = stays-itself connection
 
 if-live-place : (peer : Peer) (shared : SharedState) (bond : Row) (owed : Bool) (connection : ConnectionState) (own : Own) (live : Bool) → is_live connection.mark ≡ live → HasPlace peer connection
     → HasPlace peer (if live then live_effect shared bond owed connection own else effect_on_connection shared bond owed connection).connection
@@ -123,7 +123,7 @@ ComesFrom peer coming = (other : Peer) → coming ≡ Some other → other ≡ p
 turn-place : (peer : Peer) (shared : SharedState) (bond : Row) (owed : Bool) (connection : ConnectionState) (own : Own) → ComesFrom peer (own_connecting own) → HasPlace peer connection
     → HasPlace peer (effect_of shared bond owed connection own).connection
 turn-place peer shared bond owed connection (Connected handle other) from place = if-there-place peer other connection handle (is_there connection.mark) (from other refl) place
-turn-place peer shared bond owed connection Gone from place = absent_place peer
+turn-place peer shared bond owed connection Disconnected from place = absent_place peer
 turn-place peer shared bond owed connection own from place = if-live-place peer shared bond owed connection own (is_live connection.mark) refl place
 
 completed-stays : (ordinal : Ordinal) (entries : List (Ordinal × ℕ)) (old connection : ConnectionState) → StaysWith old connection → StaysWith old (after_packets_completed ordinal entries connection)
@@ -264,12 +264,12 @@ next_grows state event ordinal below = below
 came-own : (state : State) (at ordinal : Ordinal) (own : Own) (peer : Peer) (same : Bool) → (ordinal == at) ≡ same → Possible IsAny state (Of at own)
     → (if same then own_connecting own else None) ≡ Some peer → (ordinal ≡ state.next) × (next_after own state.next ≡ state.next + 1)
 came-own state at ordinal (Connected handle other) peer true is may found = (eqb-true ordinal at is ∙ may.next, refl)
-came-own state at ordinal Gone peer true is may found = cc found
+came-own state at ordinal Disconnected peer true is may found = cc found
 came-own state at ordinal (KeyAsked random_number diversifier) peer true is may found = cc found
 came-own state at ordinal (Encrypted status enabled) peer true is may found = cc found
 came-own state at ordinal (Refreshed status) peer true is may found = cc found
 came-own state at ordinal (Asks pdu) peer true is may found = cc found
-came-own state at ordinal (Signals channel payload) peer true is may found = cc found
+came-own state at ordinal (OtherChannel channel payload) peer true is may found = cc found
 came-own state at ordinal (Authorized until) peer true is may found = cc found
 came-own state at ordinal Ended peer true is may found = cc found
 came-own state at ordinal own peer false is may found = absurd (cc found)

@@ -14,7 +14,7 @@ use Rattle.gatt_conn.specs.Answer.{Question, answer_to}
 use Rattle.gatt_conn.specs.Connection.{Bearer}
 use Rattle.gatt_conn.specs.Transcript.{is_exchange, exchange_asked, first_exchange, prepared_in}
 use Rattle.gatt_laws.proofs.Ends.{end_keeps}
-use Rattle.gatt_laws.specs.machine.Event.{Ordinal, Own, Event, Connected, Gone, Encrypted, Refreshed, Asks, Signals, Ended, Of, Completed, Credit, Replaced}
+use Rattle.gatt_laws.specs.machine.Event.{Ordinal, Own, Event, Connected, Disconnected, Encrypted, Refreshed, Asks, OtherChannel, Ended, Of, Completed, Credit, Replaced}
 use Rattle.gatt_laws.specs.machine.ConnectionState.{Live, ConnectionState, no_connection, fresh_connection, is_live, is_there, key_of, row_in_force, connection_mtu, bearer_of, prepared_of, after_ending}
 use Rattle.gatt_laws.specs.laws.Preparing.{Preparing, preparing, preparing_in, Concern, Happens, concern_of, after_asking, while_serving, prepares_nothing, preparing_after_own, after_concern, after_any, is_ending, concerns_of, IsNeverEnded, PreparesByItself, PreparesTheSame}
 use Rattle.gatt_laws.proofs.Runs.{is_where_events_lead}
@@ -99,7 +99,7 @@ live-next : (shared : SharedState) (bond : Row) (owed : Bool) (connection : Conn
     → preparing shared (live_effect shared bond owed connection own).connection ≡ while_serving (preparing shared connection) own
 unfolding live_effect
 live-next shared bond owed connection (Asks pdu) lasts = request-next shared bond owed connection pdu lasts
-live-next shared bond owed connection (Signals channel payload) lasts = channel-next shared connection channel (channel_answer channel payload) lasts
+live-next shared bond owed connection (OtherChannel channel payload) lasts = channel-next shared connection channel (channel_answer channel payload) lasts
 live-next shared bond owed connection (Encrypted status enabled) lasts =
     link-next shared connection (Encryption status enabled) (lost_encryption (key_of connection) (key_of (with_step connection (Encryption status enabled)))) lasts
 live-next shared bond owed connection (Refreshed status) lasts =
@@ -119,7 +119,7 @@ own-next : (shared : SharedState) (bond : Row) (owed : Bool) (connection : Conne
 own-next shared bond owed connection (Connected handle peer) lasts =
     elim (is_there connection.mark) as (λ (there : Bool). preparing shared (if there then connection else fresh_connection handle peer)
     ≡ (if there then preparing shared connection else prepares_nothing (preparing shared connection) Live peer)) [ true ↦ refl | false ↦ refl ]
-own-next shared bond owed connection Gone lasts = refl
+own-next shared bond owed connection Disconnected lasts = refl
 own-next shared bond owed connection own lasts = if-live shared bond owed connection own (is_live connection.mark) lasts
 
 -- and each event

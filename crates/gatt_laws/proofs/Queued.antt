@@ -29,7 +29,7 @@ use Rattle.gatt_subs.specs.Indications.{after_replacement}
 use Rattle.le_acl.specs.History.{packets_allowed}
 use Rattle.le_security.specs.Link.{Step, Encryption, Refresh}
 use Rattle.octets.specs.Number.{Octets}
-use Rattle.gatt_laws.specs.machine.Event.{Ordinal, Own, Event, Connected, Gone, Encrypted, Refreshed, Asks, Signals, Of, Completed, Credit, Update, Tick, Replaced, Nothing}
+use Rattle.gatt_laws.specs.machine.Event.{Ordinal, Own, Event, Connected, Disconnected, Encrypted, Refreshed, Asks, OtherChannel, Of, Completed, Credit, Update, Tick, Replaced, Nothing}
 use Rattle.gatt_laws.specs.machine.Heard.{Heard, hearer_of, after_hearing, heard_when_notifying, hearer_after, heard_in_turn, att_pdu}
 use Rattle.gatt_laws.specs.machine.ConnectionState.{ConnectionState, no_connection, fresh_connection, is_live, is_there, key_of, row_in_force, connection_mtu, bearer_of, backlog_of, with_pdus, after_ending}
 use Rattle.gatt_laws.specs.laws.Queued.{IsWithinBounds, HasBoundedQueues, AlwaysHasBoundedQueues}
@@ -223,13 +223,13 @@ module _ (share size : ℕ) where
     live-within : (bond : Row) (owed : Bool) (connection : ConnectionState) (own : Own) → Within connection → Within (live_effect shared bond owed connection own).connection
     unfolding live_effect
     live-within bond owed connection (Asks pdu) is = request-within bond owed connection pdu is
-    live-within bond owed connection (Signals channel payload) is = channel-within connection channel (channel_answer channel payload) is
+    live-within bond owed connection (OtherChannel channel payload) is = channel-within connection channel (channel_answer channel payload) is
     live-within bond owed connection (Encrypted status enabled) is =
         link-within connection (Encryption status enabled) (lost_encryption (key_of connection) (key_of (with_step connection (Encryption status enabled)))) is
     live-within bond owed connection (Refreshed status) is =
         link-within connection (Refresh status) (lost_encryption (key_of connection) (key_of (with_step connection (Refresh status)))) is
     live-within bond owed connection (Connected handle peer) is = is
-    live-within bond owed connection Gone is = is
+    live-within bond owed connection Disconnected is = is
     live-within bond owed connection own is = record { few = is.few; given = is.given; within = is.within; done = is.done }
 
     if-live : (bond : Row) (owed : Bool) (connection : ConnectionState) (own : Own) (live : Bool) → Within connection
@@ -240,7 +240,7 @@ module _ (share size : ℕ) where
     turn-within : (bond : Row) (owed : Bool) (connection : ConnectionState) (own : Own) → Within connection → Within (effect_of shared bond owed connection own).connection
     turn-within bond owed connection (Connected handle peer) is =
         elim (is_there connection.mark) as (λ (there : Bool). Within (if there then connection else fresh_connection handle peer)) [ true ↦ is | false ↦ nothing-queued (fresh_connection handle peer) refl refl refl ]
-    turn-within bond owed connection Gone is = nothing-queued no_connection refl refl refl
+    turn-within bond owed connection Disconnected is = nothing-queued no_connection refl refl refl
     turn-within bond owed connection own is = if-live bond owed connection own (is_live connection.mark) is
 
     -- and at the end of an event

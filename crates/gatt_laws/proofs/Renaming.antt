@@ -18,7 +18,7 @@ use Rattle.gatt_laws.specs.machine.Calls.{authorize_event, disconnect_event, cal
 use Rattle.gatt_laws.specs.machine.Calls.{same_changer}
 use Rattle.gatt_laws.specs.machine.Context.{Context}
 use Rattle.gatt_laws.specs.machine.Controller.{Controller, is_ready}
-use Rattle.gatt_laws.specs.machine.Event.{Own, Connected, Gone, KeyAsked, Encrypted, Refreshed}
+use Rattle.gatt_laws.specs.machine.Event.{Own, Connected, Disconnected, KeyAsked, Encrypted, Refreshed}
 use Rattle.gatt_laws.specs.machine.Event.{Happening, Completed, Update, Tick, Replaced}
 use Rattle.gatt_laws.specs.machine.Event.{Nothing}
 use Rattle.gatt_laws.specs.machine.Packets.{Fault, following_of, is_awaited, answered, status_of}
@@ -169,19 +169,19 @@ module _ (C D : Type 0) (names : C → D) where
           let made : Bool =
           (status == 0) && (role == peripheral) && nat_le handle last_connection_handle in
           let came : Own = Connected handle peer in
-          ap (λ (unused : Bool). if made && unused then own_event other.coming came else Nothing)
+          ap (λ (unused : Bool). if made && unused then own_event other.next_free came else Nothing)
           (ap (λ (found : Option D). is_none found) (alike.holding ready handle)
           ∙ unused-same (one.holding handle))
-          ∙ if-renamed (made && is_none (one.holding handle)) (own_event other.coming came) Nothing
-          (own_event one.coming came) Nothing
-          (ap (λ (found : Option D). own_event found came) (alike.coming ready)
-          ∙ own-renamed one.coming came) refl
+          ∙ if-renamed (made && is_none (one.holding handle)) (own_event other.next_free came) Nothing
+          (own_event one.next_free came) Nothing
+          (ap (λ (found : Option D). own_event found came) (alike.next_free ready)
+          ∙ own-renamed one.next_free came) refl
 
       connection-renamed : (reported : Reported) → connection_event other reported
           ≡ other_name (connection_event one reported)
       connection-renamed (event.DisconnectionComplete status handle reason) =
-          if-renamed (status == 0) (own_event (other.holding handle) Gone) Nothing
-          (own_event (one.holding handle) Gone) Nothing (holding-renamed handle Gone) refl
+          if-renamed (status == 0) (own_event (other.holding handle) Disconnected) Nothing
+          (own_event (one.holding handle) Disconnected) Nothing (holding-renamed handle Disconnected) refl
       connection-renamed (event.EncryptionChange status handle enabled) =
           serving-renamed handle (Encrypted status enabled)
       connection-renamed (event.NumberOfCompletedPackets entries) =

@@ -24,8 +24,8 @@ use Rattle.gatt_laws.proofs.Notices.{or-first, or-second, both-none, is_among, n
 use Rattle.gatt_laws.proofs.Notices.{none-touched}
 use Rattle.gatt_laws.proofs.Steady.{is_asking, live_steady, completed_steady}
 use Rattle.gatt_laws.proofs.Stores.{set_bits, sets_written}
-use Rattle.gatt_laws.specs.machine.Event.{Ordinal, Own, Event, Connected, Gone, KeyAsked, Encrypted}
-use Rattle.gatt_laws.specs.machine.Event.{Refreshed, Asks, Signals, Authorized, Ended, Of, Completed, Credit}
+use Rattle.gatt_laws.specs.machine.Event.{Ordinal, Own, Event, Connected, Disconnected, KeyAsked, Encrypted}
+use Rattle.gatt_laws.specs.machine.Event.{Refreshed, Asks, OtherChannel, Authorized, Ended, Of, Completed, Credit}
 use Rattle.gatt_laws.specs.machine.Event.{Replaced}
 use Rattle.gatt_laws.specs.machine.Notice.{Notice, Configured, Written, write_told, confirmation_told}
 use Rattle.gatt_laws.specs.machine.Notice.{end_told, own_told, noticed}
@@ -278,7 +278,7 @@ module _ (shared : SharedState) (bond : Row) (owed : Bool) (connection : Connect
       (own_told shared bond connection own (effect_of shared bond owed connection own)) ≡ false)
       → bits_at (effect_of shared bond owed connection own).connection.row attribute ≡ bits_at connection.row attribute
   own-row (Connected handle peer) kind untold = cc kind
-  own-row Gone kind untold = cc kind
+  own-row Disconnected kind untold = cc kind
   own-row (Asks pdu) kind untold =
       asks-own shared bond owed connection pdu attribute (effect_of shared bond owed connection (Asks pdu))
       (is_live connection.mark) refl untold
@@ -286,7 +286,7 @@ module _ (shared : SharedState) (bond : Row) (owed : Bool) (connection : Connect
       (KeyAsked random_number diversifier) refl
   own-row (Encrypted status enabled) kind untold = other-own (Encrypted status enabled) refl
   own-row (Refreshed status) kind untold = other-own (Refreshed status) refl
-  own-row (Signals channel payload) kind untold = other-own (Signals channel payload) refl
+  own-row (OtherChannel channel payload) kind untold = other-own (OtherChannel channel payload) refl
   own-row (Authorized until) kind untold = other-own (Authorized until) refl
   own-row Ended kind untold = other-own Ended refl
 
@@ -310,7 +310,7 @@ module _ (shared : SharedState) (bond : Row) (owed : Bool) (connection : Connect
       → bits_at (effect_of shared bond owed connection own).bond attribute ≡ bits_at bond attribute
   unfolding live_effect
   own-bond (Connected handle peer) untold = refl
-  own-bond Gone untold = refl
+  own-bond Disconnected untold = refl
   own-bond (Asks pdu) untold =
       asks-bond shared bond owed connection pdu attribute (effect_of shared bond owed connection (Asks pdu))
       (is_live connection.mark) refl untold

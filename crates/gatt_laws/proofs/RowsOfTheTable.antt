@@ -21,7 +21,7 @@ use Rattle.gatt_conn.specs.Answer.{Question, Writing, stored_after_writing, stor
 use Rattle.att_pdu.specs.Grammar.{request_of, is_due}
 use Rattle.att_table.specs.Changer.{changer_of}
 use Rattle.gatt_laws.specs.machine.Controller.{command_of_init, count_before, without_command}
-use Rattle.gatt_laws.specs.machine.Event.{Ordinal, Own, Event, Connected, Gone, KeyAsked, Encrypted, Refreshed, Asks, Signals, Authorized, Ended, Of, Completed, Credit, Update, Tick, Replaced, Nothing}
+use Rattle.gatt_laws.specs.machine.Event.{Ordinal, Own, Event, Connected, Disconnected, KeyAsked, Encrypted, Refreshed, Asks, OtherChannel, Authorized, Ended, Of, Completed, Credit, Update, Tick, Replaced, Nothing}
 use Rattle.gatt_laws.specs.machine.Heard.{after_hearing}
 use Rattle.gatt_laws.proofs.Always.{always, any_tables}
 use Rattle.gatt_laws.specs.machine.Input.{run_at_start, run}
@@ -118,7 +118,7 @@ live-rows : (shared : SharedState) (bond : Row) (owed : Bool) (connection : Conn
     → TurnRows shared.table.attributes (live_effect shared bond owed connection own)
 unfolding live_effect
 live-rows shared bond owed connection (Asks pdu) rows = request-rows shared bond owed connection pdu (is_due (request_of pdu (connection_mtu shared connection)) && is_full shared connection) rows
-live-rows shared bond owed connection (Signals channel payload) rows = channel-rows shared bond owed connection channel (channel_answer channel payload) rows
+live-rows shared bond owed connection (OtherChannel channel payload) rows = channel-rows shared bond owed connection channel (channel_answer channel payload) rows
 live-rows shared bond owed connection (KeyAsked random_number diversifier) rows = record { bond = rows.bond; own = rows.own }
 live-rows shared bond owed connection (Encrypted status enabled) rows =
     link-rows shared bond owed connection (Encryption status enabled) (lost_encryption (key_of connection) (key_of (with_step connection (Encryption status enabled)))) rows
@@ -127,7 +127,7 @@ live-rows shared bond owed connection (Refreshed status) rows =
 live-rows shared bond owed connection (Authorized until) rows = record { bond = rows.bond; own = rows.own }
 live-rows shared bond owed connection Ended rows = record { bond = rows.bond; own = rows.own }
 live-rows shared bond owed connection (Connected handle peer) rows = rows
-live-rows shared bond owed connection Gone rows = rows
+live-rows shared bond owed connection Disconnected rows = rows
 
 if-live : (shared : SharedState) (bond : Row) (owed : Bool) (connection : ConnectionState) (own : Own) (live : Bool) → AreRows shared.table.attributes bond connection
     → TurnRows shared.table.attributes (if live then live_effect shared bond owed connection own else effect_on_connection shared bond owed connection)
@@ -142,7 +142,7 @@ come-rows shared bond connection handle peer false rows = record { bond = rows.b
 turn-rows : (shared : SharedState) (bond : Row) (owed : Bool) (connection : ConnectionState) (own : Own) → AreRows shared.table.attributes bond connection
     → TurnRows shared.table.attributes (effect_of shared bond owed connection own)
 turn-rows shared bond owed connection (Connected handle peer) rows = come-rows shared bond connection handle peer (is_there connection.mark) rows
-turn-rows shared bond owed connection Gone rows = record { bond = rows.bond; own = no-row shared.table.attributes }
+turn-rows shared bond owed connection Disconnected rows = record { bond = rows.bond; own = no-row shared.table.attributes }
 turn-rows shared bond owed connection own rows = if-live shared bond owed connection own (is_live connection.mark) rows
 
 -- what an event changes

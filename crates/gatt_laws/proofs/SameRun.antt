@@ -72,26 +72,26 @@ items-peer peer ordinal state (event ∷ events) =
 
 -- So in every run it is known throughout.
 
-module _ (told : Option Buffers) (peer : Peer) (ordinal : Ordinal) where
+module _ (buffers : Option Buffers) (peer : Peer) (ordinal : Ordinal) where
   record IsReached (state : State) (events : List Event) : Type 0 where
     possible : ArePossible IsAny state events
     settled : IsSettled state
     comes : ComesOnlyFrom peer ordinal events
     place : HasPlace peer (state.connections ordinal)
-    last : (after_events state events).shared.buffers ≡ told
+    last : (after_events state events).shared.buffers ≡ buffers
     released : IsIndicated (state.connections ordinal).pending
     given : IsAllGiven state.shared (state.connections ordinal)
 
-  known-at : (state : State) (events : List Event) → IsReached state events → IsKnown told peer ordinal state
+  known-at : (state : State) (events : List Event) → IsReached state events → IsKnown buffers peer ordinal state
   known-at state events is = record {
     peers = is.place.of;
-    buffers = λ there. sym (run_told state events is.possible (ready_at state ordinal (is_ready state.controller) refl is.settled there)) ∙ is.last;
+    told = λ there. sym (run_told state events is.possible (ready_at state ordinal (is_ready state.controller) refl is.settled there)) ∙ is.last;
     gone = is.place.gone;
     released = is.released;
     given = is.given;
   }
 
-  known-throughout : (state : State) (events : List Event) → IsReached state events → IsIndicatedThroughout ordinal state events → IsKnownThroughout told peer ordinal state events
+  known-throughout : (state : State) (events : List Event) → IsReached state events → IsIndicatedThroughout ordinal state events → IsKnownThroughout buffers peer ordinal state events
   known-throughout state [] is released = known-at state [] is
   known-throughout state (event ∷ events) is released = (
     known-at state (event ∷ events) is,
@@ -111,10 +111,10 @@ start-known : (start : Start) (ordinal : Ordinal) (input : List Item) → IsIndi
 start-known start ordinal input released =
     let events : List Event = events_of start input in
     let peer : Peer = peer_in ordinal events in
-    let told : Option Buffers = (run start input).intake.state.shared.buffers in
+    let buffers : Option Buffers = (run start input).intake.state.shared.buffers in
     let none = start_absent start ordinal in
     let possible = means_possible_events IsAny start input (any_tables input) in
-    known-throughout told peer ordinal (state_at start) events (record {
+    known-throughout buffers peer ordinal (state_at start) events (record {
       possible = possible;
       settled = settled_at_first start;
       comes = comes_only ordinal (state_at start) events possible;
@@ -130,16 +130,16 @@ same_view_same_packets start one other input another same released released_too 
     let others : List Event = events_of start another in
     let state : State = state_at start in
     let peer : Peer = peer_in one events in
-    let told : Option Buffers = (run start input).intake.state.shared.buffers in
-    let tells : told ≡ (run start another).intake.state.shared.buffers = ap (λ (of : View). of.told) same in
+    let buffers : Option Buffers = (run start input).intake.state.shared.buffers in
+    let tells : buffers ≡ (run start another).intake.state.shared.buffers = ap (λ (of : View). of.buffers) same in
     let items : shown_in peer one state events ≡ shown_in (peer_in other others) other state others = ap (λ (of : View). of.items) same in
     let peers : peer ≡ peer_in other others =
     sym (items-peer peer one state events) ∙ ap items_peer items ∙ items-peer (peer_in other others) other state others in
-    let known_too : IsKnownThroughout told peer other state others =
-    subst (λ (of : Peer). IsKnownThroughout told of other state others) (sym peers)
+    let known_too : IsKnownThroughout buffers peer other state others =
+    subst (λ (of : Peer). IsKnownThroughout buffers of other state others) (sym peers)
     (subst (λ (of : Option Buffers). IsKnownThroughout of (peer_in other others) other state others) (sym tells) (start-known start other another released_too)) in
-    let alike = same_view_same_packets_of_events told peer one other state state events others (start-known start one input released) known_too
-    (λ i. record (seen_of told peer one state) { connection = without_commands ((start_absent start one ∙ sym (start_absent start other)) i) })
+    let alike = same_view_same_packets_of_events buffers peer one other state state events others (start-known start one input released) known_too
+    (λ i. record (seen_of buffers peer one state) { connection = without_commands ((start_absent start one ∙ sym (start_absent start other)) i) })
     (items ∙ ap (λ (of : Peer). shown_in of other state others) (sym peers)) in
     record {
       packets = alike.packets;

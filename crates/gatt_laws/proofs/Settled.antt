@@ -7,7 +7,7 @@ use Rattle.att_numbers.specs.Types.{Handle}
 use Rattle.gatt_laws.proofs.Always.{always, any_tables}
 use Rattle.gatt_laws.proofs.Silence.{only_serves_the_live}
 use Rattle.gatt_laws.specs.machine.Controller.{Controller, Slots, has_free, with_taken, with_freed, command_of_init, count_before, without_command, is_ready}
-use Rattle.gatt_laws.specs.machine.Event.{Ordinal, Own, Event, Connected, Gone, Of, Completed, Credit, Update, Tick, Replaced, Nothing}
+use Rattle.gatt_laws.specs.machine.Event.{Ordinal, Own, Event, Connected, Disconnected, Of, Completed, Credit, Update, Tick, Replaced, Nothing}
 use Rattle.gatt_laws.specs.machine.Input.{run_at_start, run}
 use Rattle.gatt_laws.specs.machine.ConnectionState.{ConnectionState, no_connection}
 use Rattle.gatt_laws.specs.laws.Possible.{Possible}
@@ -175,8 +175,8 @@ own-gone state at ordinal (Connected handle peer) settled may =
     let taken : has_slot ordinal (with_taken at state.slots) ≡ true = ap (λ (one : Ordinal). has_slot one (with_taken at state.slots)) same ∙ taken-own at state.slots may.free in
     cc (taken, lacks))
     (λ lacks differs. taken-other at ordinal state.slots lacks)
-own-gone state at ordinal Gone settled may =
-    other-gone state at ordinal Gone settled (λ same lacks. rw same (rw (eq-eqb at at refl) refl)) (λ lacks differs. freed-other at ordinal state.slots differs lacks)
+own-gone state at ordinal Disconnected settled may =
+    other-gone state at ordinal Disconnected settled (λ same lacks. rw same (rw (eq-eqb at at refl) refl)) (λ lacks differs. freed-other at ordinal state.slots differs lacks)
 own-gone state at ordinal own settled may = same-slots state at ordinal own settled refl refl
 
 credit-gone : (state : State) (allowed opcode : ℕ) (status : Option ℕ) (init : Init) (ordinal : Ordinal) → IsSettled state → is_ready state.controller ≡ false
@@ -198,14 +198,14 @@ change-gone state Nothing ordinal possible settled lacks = settled.gone ordinal 
 -- the slots
 early-own : (own : Own) (at : Ordinal) (slots : Slots) → slots ≡ [] → slots_after own at slots ≡ []
 early-own (Connected handle peer) at slots is = ap (with_taken at) is
-early-own Gone at slots is = ap (with_freed at) is
+early-own Disconnected at slots is = ap (with_freed at) is
 early-own own at slots is = is
 
 own-slots : (state : State) (at : Ordinal) (own : Own) → HaveOneSlotEach state.next state.slots → Possible (λ table. Unit) state (Of at own)
     → HaveOneSlotEach (own_change state at own).state.next (slots_after own at state.slots)
 own-slots state at (Connected handle peer) each may =
     subst (λ (one : Ordinal). HaveOneSlotEach (state.next + 1) (with_taken one state.slots)) (sym may.next) (with-next state.next state.slots each)
-own-slots state at Gone each may = without-one state.next at state.slots each
+own-slots state at Disconnected each may = without-one state.next at state.slots each
 own-slots state at own each may = each
 
 init-slots : (next count : ℕ) (init : Init) (slots : Slots) → HaveOneSlotEach next slots → HaveOneSlotEach next (slots_when_ready count init slots)

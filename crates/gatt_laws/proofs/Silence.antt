@@ -7,7 +7,7 @@ use Rattle.gatt_laws.specs.machine.Controller.{command_of_init, count_before, wi
 use Rattle.gatt_laws.specs.machine.Heard.{Heard, heard_in_turn, hearer_of, with_heard, after_hearing}
 use Rattle.gatt_laws.specs.machine.ConnectionState.{ConnectionState, is_live, after_giving}
 use Rattle.gatt_laws.specs.machine.SharedState.{SharedState, quota_of, fragment_size_of}
-use Rattle.gatt_laws.specs.machine.Event.{Connected, Gone}
+use Rattle.gatt_laws.specs.machine.Event.{Connected, Disconnected}
 use Rattle.gatt_laws.specs.laws.Silence.{OnlyServesTheLive, OnlyTheLiveAct, IsAllGiven, GivesAllThatItMay}
 use Rattle.gatt_laws.specs.machine.State.{Change, connections_finished, step, change_of}
 use Rattle.gatt_subs.specs.Told.{Hearer}
@@ -61,5 +61,5 @@ gives_all_that_it_may state event ordinal =
 
 pub only_the_live_act : OnlyTheLiveAct
 only_the_live_act shared bond owed connection (Connected handle peer) is kind = cc kind
-only_the_live_act shared bond owed connection Gone is kind = cc kind
+only_the_live_act shared bond owed connection Disconnected is kind = cc kind
 only_the_live_act shared bond owed connection own is kind = rw is refl

@@ -5,8 +5,8 @@ use Rattle.std.specs.Option.{option_map}
 use Rattle.std.specs.Prelude.{◌==◌, if◌then◌else◌}
 use Rattle.att_numbers.specs.Types.{Row}
 use Rattle.gatt_conn.specs.Transcript.{Said, Dropped}
-use Rattle.gatt_laws.specs.machine.Event.{Ordinal, Own, Connected, Gone, KeyAsked, Encrypted, Refreshed}
-use Rattle.gatt_laws.specs.machine.Event.{Asks, Signals, Authorized, Ended}
+use Rattle.gatt_laws.specs.machine.Event.{Ordinal, Own, Connected, Disconnected, KeyAsked, Encrypted, Refreshed}
+use Rattle.gatt_laws.specs.machine.Event.{Asks, OtherChannel, Authorized, Ended}
 use Rattle.gatt_laws.specs.machine.ConnectionState.{Mark, Ending, ConnectionState, KeyReply, key_of, with_pdus, after_ending}
 use Rattle.gatt_laws.specs.machine.SharedState.{SharedState}
 use Rattle.gatt_laws.specs.machine.State.{with_packets_completed, after_packets_completed}
@@ -76,7 +76,7 @@ module _ {A : Type 0} (fact : ConnectionState → A) (steady : IsSteady fact) wh
       → fact (live_effect shared bond owed connection own).connection ≡ fact connection
   unfolding live_effect
   live_steady shared bond owed connection (Asks pdu) kind = cc kind
-  live_steady shared bond owed connection (Signals channel payload) kind =
+  live_steady shared bond owed connection (OtherChannel channel payload) kind =
       channel-steady shared connection channel (channel_answer channel payload)
   live_steady shared bond owed connection (KeyAsked random_number diversifier) kind =
       let found : Option Key = key_asked_for shared.keys connection.peer random_number diversifier in
@@ -95,7 +95,7 @@ module _ {A : Type 0} (fact : ConnectionState → A) (steady : IsSteady fact) wh
       steady connection Ending connection.until connection.steps (Dropped ∷ connection.said) (after_end connection.pending) connection.pdus None
       (Some remote_user_terminated)
   live_steady shared bond owed connection (Connected handle peer) kind = refl
-  live_steady shared bond owed connection Gone kind = refl
+  live_steady shared bond owed connection Disconnected kind = refl
 
 -- packets that are completed leave what does not count them
 pub completed_steady : {A : Type 0} (fact : ConnectionState → A)

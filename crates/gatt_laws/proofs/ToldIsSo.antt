@@ -17,7 +17,7 @@ use Rattle.gatt_laws.proofs.Named.{IsNamedAs, if-live-named, end_named}
 use Rattle.gatt_laws.specs.machine.Controller.{Slots}
 use Rattle.gatt_laws.specs.machine.Event as event
 use Rattle.gatt_laws.specs.machine.Event.{Ordinal, Own, KeyAsked, Encrypted, Refreshed, Asks}
-use Rattle.gatt_laws.specs.machine.Event.{Signals, Authorized, Ended, Of, Tick}
+use Rattle.gatt_laws.specs.machine.Event.{OtherChannel, Authorized, Ended, Of, Tick}
 use Rattle.gatt_laws.specs.machine.Notice.{Notice, Connected, Disconnected, Secured, Unsecured, Written}
 use Rattle.gatt_laws.specs.machine.Notice.{Configured, Confirmed, TimedOut, Ending, are_same_facts}
 use Rattle.gatt_laws.specs.machine.Notice.{link_told, write_told, confirmation_told, end_told, live_told}
@@ -215,12 +215,12 @@ tells_what_is_so state (Of at (event.Connected handle peer)) =
       holds = own-peer state at own
           ∙ ap (λ (of : ConnectionState). of.peer) (comes-named state at handle peer away);
     }))
-tells_what_is_so state (Of at event.Gone) =
+tells_what_is_so state (Of at event.Disconnected) =
     let connection : ConnectionState = state.connections at in
-    either-so (step state (Of at event.Gone)) (Disconnected connection.handle ∷ []) []
+    either-so (step state (Of at event.Disconnected)) (Disconnected connection.handle ∷ []) []
     (is_there connection.mark)
-    (λ there. one-so (step state (Of at event.Gone)) (Disconnected connection.handle) tt)
-    (λ away. none-so (step state (Of at event.Gone)))
+    (λ there. one-so (step state (Of at event.Disconnected)) (Disconnected connection.handle) tt)
+    (λ away. none-so (step state (Of at event.Disconnected)))
 tells_what_is_so state (Of at (Asks pdu)) =
     let own : Own = Asks pdu in
     let connection : ConnectionState = state.connections at in
@@ -250,8 +250,8 @@ tells_what_is_so state (Of at (Refreshed status)) =
 tells_what_is_so state (Of at (KeyAsked random_number diversifier)) =
     let own : Own = KeyAsked random_number diversifier in
     told-so state at own (stays-named state at own) (none-so (step state (Of at own)))
-tells_what_is_so state (Of at (Signals channel payload)) =
-    let own : Own = Signals channel payload in
+tells_what_is_so state (Of at (OtherChannel channel payload)) =
+    let own : Own = OtherChannel channel payload in
     told-so state at own (stays-named state at own) (none-so (step state (Of at own)))
 tells_what_is_so state (Of at (Authorized until)) =
     let own : Own = Authorized until in

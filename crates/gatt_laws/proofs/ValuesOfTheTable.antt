@@ -28,7 +28,7 @@ use Rattle.att_pdu.specs.Grammar.{request_of, is_due}
 use Rattle.att_table.proofs.ServiceBefore.{of_a_changer}
 use Rattle.att_table.specs.Changer.{is_changer}
 use Rattle.gatt_conn.specs.Answer.{writing_asked}
-use Rattle.gatt_laws.specs.machine.Event.{Ordinal, Own, Event, Connected, Gone, KeyAsked, Encrypted, Refreshed, Asks, Signals, Authorized, Ended, Of, Credit, Update, Replaced}
+use Rattle.gatt_laws.specs.machine.Event.{Ordinal, Own, Event, Connected, Disconnected, KeyAsked, Encrypted, Refreshed, Asks, OtherChannel, Authorized, Ended, Of, Credit, Update, Replaced}
 use Rattle.gatt_laws.specs.laws.Headline.{MayUse}
 use Rattle.gatt_laws.proofs.Always.{always}
 use Rattle.gatt_laws.specs.machine.Calls.{has_length}
@@ -169,18 +169,18 @@ turn-table shared bond owed connection (Asks pdu) true is = request-table shared
         let conn = bearer_of shared connection in
         writing-table shared.table (row_in_force bond connection) conn.standing (writing_asked conn.queue (request_of pdu (connection_mtu shared connection))) is
 turn-table shared bond owed connection (Connected handle peer) true is = is
-turn-table shared bond owed connection Gone true is = is
+turn-table shared bond owed connection Disconnected true is = is
 turn-table shared bond owed connection (KeyAsked random_number diversifier) true is = is
 turn-table shared bond owed connection (Encrypted status enabled) true is = is
 turn-table shared bond owed connection (Refreshed status) true is = is
-turn-table shared bond owed connection (Signals channel payload) true is = is
+turn-table shared bond owed connection (OtherChannel channel payload) true is = is
 turn-table shared bond owed connection (Authorized until) true is = is
 turn-table shared bond owed connection Ended true is = is
 turn-table shared bond owed connection own false is = is
 
 own-table : (state : State) (ordinal : Ordinal) (own : Own) → IsTable state.shared.table → IsTable (own_change state ordinal own).state.shared.table
 own-table state ordinal (Connected handle peer) is = is
-own-table state ordinal Gone is = is
+own-table state ordinal Disconnected is = is
 own-table state ordinal own is =
     let connection = state.connections ordinal in turn-table state.shared (state.bonds connection.peer) (state.owed connection.peer) connection own (is_live connection.mark) is
 

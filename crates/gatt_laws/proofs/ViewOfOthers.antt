@@ -17,7 +17,7 @@ use Rattle.gatt_conn.specs.Answer.{Question, Writing, writing_asked, stored_by, 
 use Rattle.gatt_conn.specs.Connection.{Bearer}
 use Rattle.gatt_conn.specs.Transcript.{Dropped}
 use Rattle.gatt_laws.proofs.Stores.{store, set_bits, stores_written, sets_written}
-use Rattle.gatt_laws.specs.machine.Event.{Ordinal, Own, Connected, Gone, KeyAsked, Encrypted, Refreshed, Asks, Signals, Authorized, Ended}
+use Rattle.gatt_laws.specs.machine.Event.{Ordinal, Own, Connected, Disconnected, KeyAsked, Encrypted, Refreshed, Asks, OtherChannel, Authorized, Ended}
 use Rattle.gatt_laws.specs.machine.ConnectionState.{ConnectionState, no_connection, fresh_connection, is_live, is_there, key_of, row_in_force, connection_mtu, bearer_of, after_ending}
 use Rattle.gatt_laws.specs.machine.SharedState.{SharedState, Bonds}
 use Rattle.gatt_laws.specs.laws.SameView.{Seen, without_commands, seen_of}
@@ -31,7 +31,7 @@ use Rattle.le_security.proofs.Peers.{equal_peers}
 use Rattle.le_security.specs.Entry.{same_peer}
 use Rattle.le_security.specs.Link.{Step, Encryption, Refresh}
 use Rattle.octets.specs.Number.{Octets}
-use Rattle.gatt_laws.proofs.ViewOfOwn.{seen_change, seen_end, told_room}
+use Rattle.gatt_laws.proofs.ViewOfOwn.{seen_change, seen_end, with_buffers}
 
 unfoldable pub acknowledged : ConnectionState → List ℕ → ConnectionState
 acknowledged connection [] = connection
@@ -146,7 +146,7 @@ if-writes-nothing shared bond owed connection new false = writes-nothing shared 
 turn-writes : (shared : SharedState) (bond : Row) (owed : Bool) (connection : ConnectionState) (own : Own) → WritesAt shared bond owed connection (effect_of shared bond owed connection own) (handles_written shared bond connection own)
 unfolding live_effect
 turn-writes shared bond owed connection (Connected handle peer) = writes-nothing shared bond owed connection (if is_there connection.mark then connection else fresh_connection handle peer)
-turn-writes shared bond owed connection Gone = writes-nothing shared bond owed connection no_connection
+turn-writes shared bond owed connection Disconnected = writes-nothing shared bond owed connection no_connection
 turn-writes shared bond owed connection (KeyAsked random_number diversifier) =
     if-writes-nothing shared bond owed connection
     (Rattle.gatt_laws.specs.machine.Effect.with_key_asked connection (Rattle.le_security.specs.Keys.key_asked_for shared.keys connection.peer random_number diversifier)) (is_live connection.mark)
@@ -154,7 +154,7 @@ turn-writes shared bond owed connection (Encrypted status enabled) = link-writes
 turn-writes shared bond owed connection (Refreshed status) = link-writes shared bond owed connection (Refresh status) (is_live connection.mark)
 turn-writes shared bond owed connection (Asks pdu) =
     asked-writes shared bond owed connection pdu (is_live connection.mark) (is_due (request_of pdu (connection_mtu shared connection)) && is_full shared connection)
-turn-writes shared bond owed connection (Signals channel payload) =
+turn-writes shared bond owed connection (OtherChannel channel payload) =
     if-writes-nothing shared bond owed connection (after_other_channel shared connection channel (channel_answer channel payload)) (is_live connection.mark)
 turn-writes shared bond owed connection (Authorized until) = if-writes-nothing shared bond owed connection (record connection { until = until }) (is_live connection.mark)
 turn-writes shared bond owed connection Ended = if-writes-nothing shared bond owed connection (after_ending connection remote_user_terminated) (is_live connection.mark)
@@ -223,10 +223,10 @@ write-next old written =
     seen_end (with_values old.shared (store written.values old.shared.table.values)) (set_bits written.bits old.bond) (old.owed && not written.ceases)
     (values_among old.shared.table.attributes (handles_of_values written.values)) old.connection
 
-pub other-seen : (told : Option Buffers) (peer : Peer) (ordinal : Ordinal) (state : State) (at : Ordinal) (own : Own) → (ordinal == at) ≡ false
-    → seen_change told peer ordinal (own_change state at own) ≡ write-next (seen_of told peer ordinal state) (written_in state peer at own)
+pub other-seen : (buffers : Option Buffers) (peer : Peer) (ordinal : Ordinal) (state : State) (at : Ordinal) (own : Own) → (ordinal == at) ≡ false
+    → seen_change buffers peer ordinal (own_change state at own) ≡ write-next (seen_of buffers peer ordinal state) (written_in state peer at own)
 unfolding seen_change write-next
-other-seen told peer ordinal state at own differs =
+other-seen buffers peer ordinal state at own differs =
     let connection : ConnectionState = state.connections at in
     let bond : Row = state.bonds connection.peer in
     let owed : Bool = state.owed connection.peer in
@@ -239,6 +239,6 @@ other-seen told peer ordinal state at own differs =
     let raised : effect.to_notify ≡ values_among state.shared.table.attributes (handles_of_values written.values) =
     writes.raises ∙ sym (seen-raised state.shared.table.attributes effect.values handles) in
     ap (λ (same : Bool).
-    seen_end (told_room (with_values state.shared effect.values) told) (at_peer connection.peer effect.bond state.bonds peer) (at_peer connection.peer effect.owed state.owed peer)
+    seen_end (with_buffers (with_values state.shared effect.values) buffers) (at_peer connection.peer effect.bond state.bonds peer) (at_peer connection.peer effect.owed state.owed peer)
     (if same then effect.to_notify_here else effect.to_notify) (without_commands (if same then effect.connection else state.connections ordinal))) differs
-    ∙ (λ i. seen_end (told_room (with_values state.shared (writes.stores i)) told) (bonds i) (owes i) (raised i) (without_commands (state.connections ordinal)))
+    ∙ (λ i. seen_end (with_buffers (with_values state.shared (writes.stores i)) buffers) (bonds i) (owes i) (raised i) (without_commands (state.connections ordinal)))

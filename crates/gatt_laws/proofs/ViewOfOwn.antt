@@ -11,7 +11,7 @@ use Rattle.gatt_conn.specs.Answer.{Question}
 use Rattle.gatt_laws.proofs.Ends.{end_keeps}
 use Rattle.gatt_laws.proofs.Silence.{only_serves_the_live}
 use Rattle.gatt_laws.specs.machine.Controller.{command_of_init, count_before, without_command}
-use Rattle.gatt_laws.specs.machine.Event.{Ordinal, Own, Event, Connected, Gone, Encrypted, Refreshed, Asks, Signals}
+use Rattle.gatt_laws.specs.machine.Event.{Ordinal, Own, Event, Connected, Disconnected, Encrypted, Refreshed, Asks, OtherChannel}
 use Rattle.gatt_laws.specs.machine.Heard.{Heard, heard_in_turn, hearer_of, with_heard, after_hearing}
 use Rattle.gatt_laws.specs.machine.ConnectionState.{Mark, Absent, Live, Ending, ConnectionState, no_connection, fresh_connection, is_live, is_there, key_of, connection_mtu, with_pdus, after_giving, after_ending}
 use Rattle.gatt_laws.specs.machine.SharedState.{SharedState, Bonds, quota_of, fragment_size_of}
@@ -34,8 +34,8 @@ unfoldable pub seen_end : SharedState → Row → Bool → List Handle → Conne
 seen_end shared bond owed handles connection =
     record { shared = shared; bond = bond; owed = owed; connection = finished shared (λ (peer : Peer). bond) handles connection }
 
-abbrev pub told_room : SharedState → Option Buffers → SharedState
-told_room shared told = record shared { buffers = told }
+abbrev pub with_buffers : SharedState → Option Buffers → SharedState
+with_buffers shared buffers = record shared { buffers = buffers }
 
 pub commands-kept : (connection : ConnectionState) (sent : Bool) → without_commands (if sent then without_command connection else connection) ≡ without_commands connection
 commands-kept connection true =
@@ -57,14 +57,14 @@ finish-silent shared bond handles connection =
     let heard : ConnectionState = after_hearing shared bond handles connection in
     given-silent heard (packets_allowed (quota_of shared.slots shared.buffers) (fragment_size_of shared.buffers) heard.pdus heard.done) (is_live heard.mark)
 
-end-alike : (told : Option Buffers) (peer : Peer) (shared : SharedState) (bonds : Bonds) (handles : List Handle) (connection : ConnectionState) (live : Bool) → is_live connection.mark ≡ live
-    → (is_live connection.mark ≡ true → connection.peer ≡ peer) → (is_live connection.mark ≡ true → shared.buffers ≡ told)
-    → finished shared bonds handles connection ≡ finished (told_room shared told) (λ (other : Peer). bonds peer) handles connection
-end-alike told peer shared bonds handles connection false is peers buffers =
-    only_serves_the_live shared bonds handles connection is ∙ sym (only_serves_the_live (told_room shared told) (λ (other : Peer). bonds peer) handles connection is)
-end-alike told peer shared bonds handles connection true is peers buffers =
+end-alike : (buffers : Option Buffers) (peer : Peer) (shared : SharedState) (bonds : Bonds) (handles : List Handle) (connection : ConnectionState) (live : Bool) → is_live connection.mark ≡ live
+    → (is_live connection.mark ≡ true → connection.peer ≡ peer) → (is_live connection.mark ≡ true → shared.buffers ≡ buffers)
+    → finished shared bonds handles connection ≡ finished (with_buffers shared buffers) (λ (other : Peer). bonds peer) handles connection
+end-alike buffers peer shared bonds handles connection false is peers told =
+    only_serves_the_live shared bonds handles connection is ∙ sym (only_serves_the_live (with_buffers shared buffers) (λ (other : Peer). bonds peer) handles connection is)
+end-alike buffers peer shared bonds handles connection true is peers told =
     ap (λ (of : Peer). after_giving shared (after_hearing shared (bonds of) handles connection)) (peers is)
-    ∙ ap (λ (of : Option Buffers). after_giving (told_room shared of) (after_hearing (told_room shared of) (bonds peer) handles connection)) (buffers is)
+    ∙ ap (λ (of : Option Buffers). after_giving (with_buffers shared of) (after_hearing (with_buffers shared of) (bonds peer) handles connection)) (told is)
 
 pub there-if-live : (mark : Mark) → is_live mark ≡ true → is_there mark ≡ true
 there-if-live Absent is = cc is
@@ -72,14 +72,14 @@ there-if-live Live is = refl
 there-if-live Ending is = refl
 
 unfoldable pub seen_change : Option Buffers → Peer → Ordinal → Change → Seen
-seen_change told peer ordinal change =
-    seen_end (told_room change.state.shared told) (change.state.bonds peer) (change.state.owed peer) (change.to_notify ordinal) (without_commands (change.state.connections ordinal))
+seen_change buffers peer ordinal change =
+    seen_end (with_buffers change.state.shared buffers) (change.state.bonds peer) (change.state.owed peer) (change.to_notify ordinal) (without_commands (change.state.connections ordinal))
 
-part-at-end : (told : Option Buffers) (peer : Peer) (ordinal : Ordinal) (state : State) (event : Event) → IsKnown told peer ordinal (step state event)
+part-at-end : (buffers : Option Buffers) (peer : Peer) (ordinal : Ordinal) (state : State) (event : Event) → IsKnown buffers peer ordinal (step state event)
     → without_commands ((step state event).connections ordinal)
-    ≡ finished (told_room (change_of state event).state.shared told) (λ (other : Peer). (change_of state event).state.bonds peer) ((change_of state event).to_notify ordinal) (without_commands ((change_of state event).state.connections ordinal))
+    ≡ finished (with_buffers (change_of state event).state.shared buffers) (λ (other : Peer). (change_of state event).state.bonds peer) ((change_of state event).to_notify ordinal) (without_commands ((change_of state event).state.connections ordinal))
 unfolding step
-part-at-end told peer ordinal state event known =
+part-at-end buffers peer ordinal state event known =
     let change : Change = change_of state event in
     let connection : ConnectionState = change.state.connections ordinal in
     let marks : ((step state event).connections ordinal).mark ≡ connection.mark = end_keeps (λ (of : ConnectionState). of.mark) (λ of pdus pending given reply reason. refl) state event ordinal in
@@ -89,16 +89,16 @@ part-at-end told peer ordinal state event known =
     commands-kept (connections_finished change ordinal)
     (nat_lt (length (command_of_init change.state.controller) + count_before ordinal (connections_finished change) change.state.slots) change.state.controller.credit)
     ∙ finish-silent change.state.shared (change.state.bonds connection.peer) (change.to_notify ordinal) connection
-    ∙ end-alike told peer change.state.shared change.state.bonds (change.to_notify ordinal) (without_commands connection) (is_live connection.mark) refl
-    (λ live. sym peers ∙ known.peers (there live)) (λ live. known.buffers (there live))
+    ∙ end-alike buffers peer change.state.shared change.state.bonds (change.to_notify ordinal) (without_commands connection) (is_live connection.mark) refl
+    (λ live. sym peers ∙ known.peers (there live)) (λ live. known.told (there live))
 
-pub seen-at-end : (told : Option Buffers) (peer : Peer) (ordinal : Ordinal) (state : State) (event : Event) → IsKnown told peer ordinal (step state event)
-    → seen_of told peer ordinal (step state event) ≡ seen_change told peer ordinal (change_of state event)
+pub seen-at-end : (buffers : Option Buffers) (peer : Peer) (ordinal : Ordinal) (state : State) (event : Event) → IsKnown buffers peer ordinal (step state event)
+    → seen_of buffers peer ordinal (step state event) ≡ seen_change buffers peer ordinal (change_of state event)
 unfolding step seen_change seen_end
-seen-at-end told peer ordinal state event known =
+seen-at-end buffers peer ordinal state event known =
     let change : Change = change_of state event in
-    let same = part-at-end told peer ordinal state event known in
-    λ i. record { shared = told_room change.state.shared told; bond = change.state.bonds peer; owed = change.state.owed peer; connection = same i }
+    let same = part-at-end buffers peer ordinal state event known in
+    λ i. record { shared = with_buffers change.state.shared buffers; bond = change.state.bonds peer; owed = change.state.owed peer; connection = same i }
 
 -- Where nothing is notified and nothing waits, the end of an event changes nothing.
 
@@ -192,7 +192,7 @@ live-silent : (shared : SharedState) (bond : Row) (owed : Bool) (connection : Co
     → silent (live_effect shared bond owed (without_commands connection) own) ≡ silent (live_effect shared bond owed connection own)
 unfolding live_effect silent
 live-silent shared bond owed connection (Asks pdu) = request-silent shared bond owed connection pdu
-live-silent shared bond owed connection (Signals channel payload) =
+live-silent shared bond owed connection (OtherChannel channel payload) =
     let same = channel-silent shared connection channel (channel_answer channel payload) in λ i. effect_on_connection shared bond owed (same i)
 live-silent shared bond owed connection (Encrypted status enabled) =
     let same = link-silent connection (Encryption status enabled) (lost_encryption (key_of connection) (key_of (with_step connection (Encryption status enabled)))) in
@@ -215,20 +215,20 @@ unfolding silent
 turn-silent shared bond owed connection (Connected handle peer) =
     elim (is_there connection.mark) as (λ (there : Bool). silent (effect_on_connection shared bond owed (if there then without_commands connection else fresh_connection handle peer))
     ≡ silent (effect_on_connection shared bond owed (if there then connection else fresh_connection handle peer))) [ true ↦ refl | false ↦ refl ]
-turn-silent shared bond owed connection Gone = refl
+turn-silent shared bond owed connection Disconnected = refl
 turn-silent shared bond owed connection own = if-live-silent shared bond owed connection own (is_live connection.mark)
 
 -- who does not serve comes or goes, and else stays
 idle_part : ConnectionState → Own → ConnectionState
 idle_part connection (Connected handle peer) = if is_there connection.mark then connection else fresh_connection handle peer
-idle_part connection Gone = no_connection
+idle_part connection Disconnected = no_connection
 idle_part connection own = connection
 
 turn-idle : (shared : SharedState) (bond : Row) (owed : Bool) (connection : ConnectionState) (own : Own) → is_live connection.mark ≡ false
     → effect_of shared bond owed connection own ≡ effect_on_connection shared bond owed (idle_part connection own)
 unfolding idle_part
 turn-idle shared bond owed connection (Connected handle peer) is = refl
-turn-idle shared bond owed connection Gone is = refl
+turn-idle shared bond owed connection Disconnected is = refl
 turn-idle shared bond owed connection own is = rw is refl
 
 -- what a turn leaves to be seen, where it is the connection's own
@@ -250,48 +250,48 @@ unchanged-at peer old other =
 changed-at : {A : Type 0} (peer other : Peer) (new : A) (old : Peer → A) → other ≡ peer → at_peer other new old peer ≡ new
 changed-at peer other new old same = ap (λ (of : Peer). if same_peer peer of then new else old peer) same ∙ ap (λ test. if test then new else old peer) (same_as_itself peer)
 
-own-at : (told : Option Buffers) (peer : Peer) (ordinal : Ordinal) (state : State) (own : Own) (live : Bool) → is_live (state.connections ordinal).mark ≡ live → IsKnown told peer ordinal state
+own-at : (buffers : Option Buffers) (peer : Peer) (ordinal : Ordinal) (state : State) (own : Own) (live : Bool) → is_live (state.connections ordinal).mark ≡ live → IsKnown buffers peer ordinal state
     → let connection : ConnectionState = state.connections ordinal in
     let effect : Effect = effect_of state.shared (state.bonds connection.peer) (state.owed connection.peer) connection own in
-    seen_end (told_room (with_values state.shared effect.values) told) (at_peer connection.peer effect.bond state.bonds peer) (at_peer connection.peer effect.owed state.owed peer) effect.to_notify_here (without_commands effect.connection)
-    ≡ seen_turn (told_room state.shared told) (effect_of (told_room state.shared told) (state.bonds peer) (state.owed peer) connection own)
+    seen_end (with_buffers (with_values state.shared effect.values) buffers) (at_peer connection.peer effect.bond state.bonds peer) (at_peer connection.peer effect.owed state.owed peer) effect.to_notify_here (without_commands effect.connection)
+    ≡ seen_turn (with_buffers state.shared buffers) (effect_of (with_buffers state.shared buffers) (state.bonds peer) (state.owed peer) connection own)
 unfolding seen_turn
-own-at told peer ordinal state own true is known =
+own-at buffers peer ordinal state own true is known =
     let connection : ConnectionState = state.connections ordinal in
     let there : is_there connection.mark ≡ true = there-if-live connection.mark is in
     let effect : Effect = effect_of state.shared (state.bonds connection.peer) (state.owed connection.peer) connection own in
-    let same : effect ≡ effect_of (told_room state.shared told) (state.bonds peer) (state.owed peer) connection own =
-    (λ i. effect_of (told_room state.shared (known.buffers there i)) (state.bonds (known.peers there i)) (state.owed (known.peers there i)) connection own) in
+    let same : effect ≡ effect_of (with_buffers state.shared buffers) (state.bonds peer) (state.owed peer) connection own =
+    (λ i. effect_of (with_buffers state.shared (known.told there i)) (state.bonds (known.peers there i)) (state.owed (known.peers there i)) connection own) in
     let bonds = changed-at peer connection.peer effect.bond state.bonds (known.peers there) in
     let owed = changed-at peer connection.peer effect.owed state.owed (known.peers there) in
-    (λ i. seen_end (told_room (with_values state.shared effect.values) told) (bonds i) (owed i) effect.to_notify_here (without_commands effect.connection))
-    ∙ ap (seen_turn (told_room state.shared told)) same
-own-at told peer ordinal state own false is known =
+    (λ i. seen_end (with_buffers (with_values state.shared effect.values) buffers) (bonds i) (owed i) effect.to_notify_here (without_commands effect.connection))
+    ∙ ap (seen_turn (with_buffers state.shared buffers)) same
+own-at buffers peer ordinal state own false is known =
     let connection : ConnectionState = state.connections ordinal in
     let effect : Effect = effect_of state.shared (state.bonds connection.peer) (state.owed connection.peer) connection own in
     let new : ConnectionState = idle_part connection own in
     let bonds = unchanged-at connection.peer state.bonds peer in
     let owed = unchanged-at connection.peer state.owed peer in
-    ap (λ (of : Effect). seen_end (told_room (with_values state.shared of.values) told) (at_peer connection.peer of.bond state.bonds peer) (at_peer connection.peer of.owed state.owed peer) of.to_notify_here (without_commands of.connection))
+    ap (λ (of : Effect). seen_end (with_buffers (with_values state.shared of.values) buffers) (at_peer connection.peer of.bond state.bonds peer) (at_peer connection.peer of.owed state.owed peer) of.to_notify_here (without_commands of.connection))
     (turn-idle state.shared (state.bonds connection.peer) (state.owed connection.peer) connection own is)
-    ∙ (λ i. seen_end (told_room state.shared told) (bonds i) (owed i) [] (without_commands new))
-    ∙ ap (seen_turn (told_room state.shared told)) (sym (turn-idle (told_room state.shared told) (state.bonds peer) (state.owed peer) connection own is))
+    ∙ (λ i. seen_end (with_buffers state.shared buffers) (bonds i) (owed i) [] (without_commands new))
+    ∙ ap (seen_turn (with_buffers state.shared buffers)) (sym (turn-idle (with_buffers state.shared buffers) (state.bonds peer) (state.owed peer) connection own is))
 
 pub own-next : Seen → Own → Seen
 own-next old own = seen_turn old.shared (effect_of old.shared old.bond old.owed old.connection own)
 
-pub own-seen : (told : Option Buffers) (peer : Peer) (ordinal : Ordinal) (state : State) (own : Own) → IsKnown told peer ordinal state
-    → seen_change told peer ordinal (own_change state ordinal own) ≡ own-next (seen_of told peer ordinal state) own
+pub own-seen : (buffers : Option Buffers) (peer : Peer) (ordinal : Ordinal) (state : State) (own : Own) → IsKnown buffers peer ordinal state
+    → seen_change buffers peer ordinal (own_change state ordinal own) ≡ own-next (seen_of buffers peer ordinal state) own
 unfolding seen_change own-next
-own-seen told peer ordinal state own known =
+own-seen buffers peer ordinal state own known =
     let connection : ConnectionState = state.connections ordinal in
     let effect : Effect = effect_of state.shared (state.bonds connection.peer) (state.owed connection.peer) connection own in
-    let shared : SharedState = told_room state.shared told in
+    let shared : SharedState = with_buffers state.shared buffers in
     let itself : (ordinal == ordinal) ≡ true = eq-eqb ordinal ordinal refl in
     ap (λ (same : Bool).
-    seen_end (told_room (with_values state.shared effect.values) told) (at_peer connection.peer effect.bond state.bonds peer) (at_peer connection.peer effect.owed state.owed peer)
+    seen_end (with_buffers (with_values state.shared effect.values) buffers) (at_peer connection.peer effect.bond state.bonds peer) (at_peer connection.peer effect.owed state.owed peer)
     (if same then effect.to_notify_here else effect.to_notify) (without_commands (if same then effect.connection else connection))) itself
-    ∙ own-at told peer ordinal state own (is_live connection.mark) refl known
+    ∙ own-at buffers peer ordinal state own (is_live connection.mark) refl known
     ∙ sym (seen-silent shared (effect_of shared (state.bonds peer) (state.owed peer) connection own))
     ∙ ap (seen_turn shared) (sym (turn-silent shared (state.bonds peer) (state.owed peer) connection own))
     ∙ seen-silent shared (effect_of shared (state.bonds peer) (state.owed peer) (without_commands connection) own)

@@ -107,7 +107,7 @@ nothing_crosses_to_one ordinal peer hidden one other (event ∷ events) alike ag
     (keeps_alike_to_one ordinal peer hidden one other event alike agree.0) agree.1 in
     λ i. first i ++ later i
 
-pub nothing_crosses_to_one_in_courses : NothingCrossesToOneInRuns
-nothing_crosses_to_one_in_courses ordinal peer hidden one other input another alike same agree =
+pub nothing_crosses_to_one_in_runs : NothingCrossesToOneInRuns
+nothing_crosses_to_one_in_runs ordinal peer hidden one other input another alike same agree =
     nothing_crosses_to_one ordinal peer hidden (state_at one) (state_at other) (events_of one input) alike agree
     ∙ ap (packets_given_in_order ordinal (state_at other)) same

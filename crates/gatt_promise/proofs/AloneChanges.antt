@@ -12,7 +12,7 @@ use Rattle.gatt_laws.proofs.EffectsAlike.{both_choices, either_choice, SameTurn,
 use Rattle.gatt_laws.specs.laws.Alike.{erased}
 use Rattle.gatt_laws.specs.laws.RowNotices.{is_replacement}
 use Rattle.gatt_laws.specs.laws.TwoWorlds.{finds_no_room, is_answer_due}
-use Rattle.gatt_laws.specs.machine.Event.{Ordinal, Own, Event, Connected, Gone, KeyAsked, Encrypted, Refreshed, Asks, Signals, Authorized, Ended, Of, Completed, Credit, Update, Tick, Replaced, Nothing}
+use Rattle.gatt_laws.specs.machine.Event.{Ordinal, Own, Event, Connected, Disconnected, KeyAsked, Encrypted, Refreshed, Asks, OtherChannel, Authorized, Ended, Of, Completed, Credit, Update, Tick, Replaced, Nothing}
 use Rattle.gatt_laws.specs.machine.ConnectionState.{Mark, ConnectionState, Absent, Live, Ending, is_live, is_there, row_in_force, connection_mtu, standing_of, after_ending}
 use Rattle.gatt_laws.specs.machine.SharedState.{SharedState, ServiceChangedPending}
 use Rattle.gatt_laws.specs.machine.State.{State, Change, with_values, at_peer, own_change, with_packets_completed, after_packets_completed, change_of}
@@ -48,9 +48,9 @@ live-unowed shared bond connection own false is = refl
 unowed : (shared : SharedState) (bond : Row) (connection : ConnectionState) (own : Own) → (effect_of shared bond false connection own).owed ≡ false
 unfolding live_effect
 unowed shared bond connection (Connected handle peer) = refl
-unowed shared bond connection Gone = refl
+unowed shared bond connection Disconnected = refl
 unowed shared bond connection (Asks pdu) = served-unowed shared bond connection pdu (is_due (request_of pdu (connection_mtu shared connection)) && is_full shared connection) (is_live connection.mark)
-unowed shared bond connection (Signals channel payload) = live-unowed shared bond connection (Signals channel payload) (is_live connection.mark) refl
+unowed shared bond connection (OtherChannel channel payload) = live-unowed shared bond connection (OtherChannel channel payload) (is_live connection.mark) refl
 unowed shared bond connection (KeyAsked random_number diversifier) = live-unowed shared bond connection (KeyAsked random_number diversifier) (is_live connection.mark) refl
 unowed shared bond connection (Encrypted status enabled) = live-unowed shared bond connection (Encrypted status enabled) (is_live connection.mark) refl
 unowed shared bond connection (Refreshed status) = live-unowed shared bond connection (Refreshed status) (is_live connection.mark) refl
@@ -96,9 +96,9 @@ module _ (shared there : SharedState) (bond : Row) (owed its : Bool) (connection
 
   away-here : (own : Own) → SameHere (effect_of shared bond owed connection own) (effect_of there bond its connection own)
   away-here (Connected handle peer) = record { connection = refl; to_notify_here = refl }
-  away-here Gone = record { connection = refl; to_notify_here = refl }
+  away-here Disconnected = record { connection = refl; to_notify_here = refl }
   away-here (Asks pdu) = kept-here (Asks pdu)
-  away-here (Signals channel payload) = kept-here (Signals channel payload)
+  away-here (OtherChannel channel payload) = kept-here (OtherChannel channel payload)
   away-here (KeyAsked random_number diversifier) = kept-here (KeyAsked random_number diversifier)
   away-here (Encrypted status enabled) = kept-here (Encrypted status enabled)
   away-here (Refreshed status) = kept-here (Refreshed status)

@@ -20,7 +20,7 @@ use Rattle.gatt_laws.proofs.Headline.{writes_what_may_be_written}
 use Rattle.gatt_laws.proofs.Notices.{is_among, none-once, none-touched}
 use Rattle.gatt_laws.proofs.Stores.{other-value}
 use Rattle.gatt_laws.specs.laws.Headline.{Each, MayUse}
-use Rattle.gatt_laws.specs.machine.Event.{Ordinal, Own, Event, Connected, Gone, KeyAsked, Encrypted, Refreshed, Asks, Signals, Authorized, Ended, Of, Completed, Credit, Update, Tick, Replaced, Nothing}
+use Rattle.gatt_laws.specs.machine.Event.{Ordinal, Own, Event, Connected, Disconnected, KeyAsked, Encrypted, Refreshed, Asks, OtherChannel, Authorized, Ended, Of, Completed, Credit, Update, Tick, Replaced, Nothing}
 use Rattle.gatt_laws.specs.machine.ConnectionState.{ConnectionState, fresh_connection, is_live, is_there, key_of, row_in_force, connection_mtu, standing_of, bearer_of, prepared_of, after_ending}
 use Rattle.gatt_laws.specs.machine.SharedState.{SharedState}
 use Rattle.gatt_laws.specs.machine.State.{State, with_packets_completed, after_packets_completed, change_of, step}
@@ -205,10 +205,10 @@ module _ (shared : SharedState) (bond : Row) (owed : Bool) (connection : Connect
   turn-right : (own : Own) (attribute : Handle) → TurnsByRight own attribute (effect_of shared bond owed connection own)
   unfolding live_effect
   turn-right (Connected handle peer) attribute = left (Connected handle peer) attribute (effect_of shared bond owed connection (Connected handle peer)) refl refl
-  turn-right Gone attribute = left Gone attribute (effect_of shared bond owed connection Gone) refl refl
+  turn-right Disconnected attribute = left Disconnected attribute (effect_of shared bond owed connection Disconnected) refl refl
   turn-right (Asks pdu) attribute =
       asks-right pdu attribute (is_live connection.mark) (is_due (request_of pdu (connection_mtu shared connection)) && is_full shared connection) refl
-  turn-right (Signals channel payload) attribute = live-left (Signals channel payload) attribute (is_live connection.mark) refl refl
+  turn-right (OtherChannel channel payload) attribute = live-left (OtherChannel channel payload) attribute (is_live connection.mark) refl refl
   turn-right (KeyAsked random_number diversifier) attribute = live-left (KeyAsked random_number diversifier) attribute (is_live connection.mark) refl refl
   turn-right (Encrypted status enabled) attribute = live-left (Encrypted status enabled) attribute (is_live connection.mark) refl refl
   turn-right (Refreshed status) attribute = live-left (Refreshed status) attribute (is_live connection.mark) refl refl
@@ -231,16 +231,16 @@ module _ (shared : SharedState) (bond : Row) (owed : Bool) (connection : Connect
 
   abbrev OwnRowBy : Own → Handle → Type 0
   OwnRowBy (Connected handle peer) attribute = Unit
-  OwnRowBy Gone attribute = Unit
+  OwnRowBy Disconnected attribute = Unit
   OwnRowBy own attribute = OwnByRight own attribute (effect_of shared bond owed connection own)
 
   turn-own : (own : Own) (attribute : Handle) → OwnRowBy own attribute
   unfolding live_effect
   turn-own (Connected handle peer) attribute = tt
-  turn-own Gone attribute = tt
+  turn-own Disconnected attribute = tt
   turn-own (Asks pdu) attribute = asks-own pdu attribute (is_live connection.mark) (is_due (request_of pdu (connection_mtu shared connection)) && is_full shared connection) refl
-  turn-own (Signals channel payload) attribute =
-      live-own (Signals channel payload) attribute (is_live connection.mark) (channel-row channel (channel_answer channel payload) (is_full shared connection) refl)
+  turn-own (OtherChannel channel payload) attribute =
+      live-own (OtherChannel channel payload) attribute (is_live connection.mark) (channel-row channel (channel_answer channel payload) (is_full shared connection) refl)
   turn-own (KeyAsked random_number diversifier) attribute = live-own (KeyAsked random_number diversifier) attribute (is_live connection.mark) refl
   turn-own (Encrypted status enabled) attribute =
       live-own (Encrypted status enabled) attribute (is_live connection.mark)
@@ -318,9 +318,9 @@ module _ (state : State) (at : Ordinal) where
   own-right-at (Connected handle peer) attribute differs =
       ap (λ (row : Row). bits_at row attribute) (row-then (Connected handle peer))
       ∙ come-anew handle peer attribute (is_there (state.connections at).mark) differs
-  own-right-at Gone attribute differs = ap (λ (row : Row). bits_at row attribute) (row-then Gone)
+  own-right-at Disconnected attribute differs = ap (λ (row : Row). bits_at row attribute) (row-then Disconnected)
   own-right-at (Asks pdu) attribute differs = its-own (Asks pdu) attribute (turn-own state.shared (state.bonds (state.connections at).peer) (state.owed (state.connections at).peer) (state.connections at) (Asks pdu) attribute differs)
-  own-right-at (Signals channel payload) attribute differs = its-own (Signals channel payload) attribute (turn-own state.shared (state.bonds (state.connections at).peer) (state.owed (state.connections at).peer) (state.connections at) (Signals channel payload) attribute differs)
+  own-right-at (OtherChannel channel payload) attribute differs = its-own (OtherChannel channel payload) attribute (turn-own state.shared (state.bonds (state.connections at).peer) (state.owed (state.connections at).peer) (state.connections at) (OtherChannel channel payload) attribute differs)
   own-right-at (KeyAsked random_number diversifier) attribute differs = its-own (KeyAsked random_number diversifier) attribute (turn-own state.shared (state.bonds (state.connections at).peer) (state.owed (state.connections at).peer) (state.connections at) (KeyAsked random_number diversifier) attribute differs)
   own-right-at (Encrypted status enabled) attribute differs = its-own (Encrypted status enabled) attribute (turn-own state.shared (state.bonds (state.connections at).peer) (state.owed (state.connections at).peer) (state.connections at) (Encrypted status enabled) attribute differs)
   own-right-at (Refreshed status) attribute differs = its-own (Refreshed status) attribute (turn-own state.shared (state.bonds (state.connections at).peer) (state.owed (state.connections at).peer) (state.connections at) (Refreshed status) attribute differs)

@@ -10,7 +10,7 @@ use Rattle.att_table.specs.Table.{Contents}
 use Rattle.gatt_conn.proofs.Dues.{answered_where_due}
 use Rattle.gatt_conn.specs.Answer.{Question, answer_to, handles_by, is_confirmation}
 use Rattle.gatt_conn.specs.Transcript.{Dropped}
-use Rattle.gatt_laws.specs.machine.Event.{Ordinal, Own, Event, Connected, Gone, KeyAsked, Encrypted, Refreshed, Asks, Signals, Authorized, Ended, Of, Completed, Credit, Update, Tick, Replaced, Nothing}
+use Rattle.gatt_laws.specs.machine.Event.{Ordinal, Own, Event, Connected, Disconnected, KeyAsked, Encrypted, Refreshed, Asks, OtherChannel, Authorized, Ended, Of, Completed, Credit, Update, Tick, Replaced, Nothing}
 use Rattle.gatt_laws.specs.machine.Heard.{att_pdu}
 use Rattle.gatt_laws.specs.machine.ConnectionState.{ConnectionState, fresh_connection, is_live, is_there, key_of, row_in_force, connection_mtu, bearer_of, with_pdus, after_ending}
 use Rattle.gatt_laws.specs.machine.SharedState.{SharedState}
@@ -103,12 +103,12 @@ module _ (state : State) (at : Ordinal) where
         | true ↦ as-it-was (state.connections at).pdus (is_answered state at)
         | false ↦ as-it-was [] (is_answered state at)
       ]
-  own-queue Gone = as-it-was [] (is_answered state at)
+  own-queue Disconnected = as-it-was [] (is_answered state at)
   own-queue (Asks pdu) =
       if-live-queue (Asks pdu) _ (is_live (state.connections at).mark) (is_full state.shared (state.connections at))
       (request-queue state.shared (state.bonds (state.connections at).peer) (state.owed (state.connections at).peer) (state.connections at) pdu)
-  own-queue (Signals channel payload) =
-      if-live-queue (Signals channel payload) _ (is_live (state.connections at).mark) (is_full state.shared (state.connections at))
+  own-queue (OtherChannel channel payload) =
+      if-live-queue (OtherChannel channel payload) _ (is_live (state.connections at).mark) (is_full state.shared (state.connections at))
       (channel-queue state.shared (state.connections at) channel (channel_answer channel payload) (is_full state.shared (state.connections at)) refl)
   own-queue (KeyAsked random_number diversifier) =
       if-live-queue (KeyAsked random_number diversifier) [] (is_live (state.connections at).mark) (is_full state.shared (state.connections at))
@@ -194,14 +194,14 @@ module _ (state : State) (at : Ordinal) where
       ≡ to_notify_by_own state at own
   unfolding live_effect
   raised-here (Connected handle peer) = refl
-  raised-here Gone = refl
+  raised-here Disconnected = refl
   raised-here (Asks pdu) =
       let connection : ConnectionState = state.connections at in
       let asked : Question = request_of pdu (connection_mtu state.shared connection) in
       served-here state.shared (state.bonds connection.peer) (state.owed connection.peer) connection pdu asked (is_live connection.mark) (is_due asked && is_full state.shared connection)
-  raised-here (Signals channel payload) =
+  raised-here (OtherChannel channel payload) =
       let connection : ConnectionState = state.connections at in
-      live-here state.shared (state.bonds connection.peer) (state.owed connection.peer) connection (Signals channel payload) (is_live connection.mark) [] refl
+      live-here state.shared (state.bonds connection.peer) (state.owed connection.peer) connection (OtherChannel channel payload) (is_live connection.mark) [] refl
       ∙ none-raised (is_live connection.mark) []
   raised-here (KeyAsked random_number diversifier) =
       let connection : ConnectionState = state.connections at in
@@ -242,11 +242,11 @@ raised-by : (shared : SharedState) (bond : Row) (owed : Bool) (connection : Conn
     → (effect_of shared bond owed connection own).to_notify ≡ values_among shared.table.attributes (handles_written shared bond connection own)
 unfolding live_effect
 raised-by shared bond owed connection (Connected handle peer) = refl
-raised-by shared bond owed connection Gone = refl
+raised-by shared bond owed connection Disconnected = refl
 raised-by shared bond owed connection (Asks pdu) =
     let asked : Question = request_of pdu (connection_mtu shared connection) in
     served-raises shared bond owed connection pdu asked (is_live connection.mark) (is_due asked && is_full shared connection)
-raised-by shared bond owed connection (Signals channel payload) = raises-none shared bond owed connection (Signals channel payload) (is_live connection.mark) refl
+raised-by shared bond owed connection (OtherChannel channel payload) = raises-none shared bond owed connection (OtherChannel channel payload) (is_live connection.mark) refl
 raised-by shared bond owed connection (KeyAsked random_number diversifier) =
     raises-none shared bond owed connection (KeyAsked random_number diversifier) (is_live connection.mark) refl
 raised-by shared bond owed connection (Encrypted status enabled) = raises-none shared bond owed connection (Encrypted status enabled) (is_live connection.mark) refl
@@ -308,12 +308,12 @@ turn-waited shared bond owed connection (Connected at peer) handle =
       | true ↦ λ waits. waits
       | false ↦ λ waits. cc waits
     ]
-turn-waited shared bond owed connection Gone handle = λ waits. cc waits
+turn-waited shared bond owed connection Disconnected handle = λ waits. cc waits
 turn-waited shared bond owed connection (Asks pdu) handle =
     let asked : Question = request_of pdu (connection_mtu shared connection) in
     served-waited shared bond owed connection pdu asked handle (is_live connection.mark) (is_due asked && is_full shared connection) (is_confirmation pdu) refl
-turn-waited shared bond owed connection (Signals channel payload) handle =
-    live-waited shared bond owed connection (Signals channel payload) handle (is_live connection.mark)
+turn-waited shared bond owed connection (OtherChannel channel payload) handle =
+    live-waited shared bond owed connection (OtherChannel channel payload) handle (is_live connection.mark)
     (channel-waited shared connection channel (channel_answer channel payload) handle (is_full shared connection) refl)
 turn-waited shared bond owed connection (KeyAsked random_number diversifier) handle =
     live-waited shared bond owed connection (KeyAsked random_number diversifier) handle (is_live connection.mark) (λ waits. waits)

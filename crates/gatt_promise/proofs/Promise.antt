@@ -21,7 +21,7 @@ use Rattle.gatt_laws.proofs.Runs.{is_where_events_lead}
 use Rattle.gatt_laws.proofs.SameRun.{same_view_same_packets}
 use Rattle.gatt_laws.proofs.Silence.{gives_all_that_it_may, only_serves_the_live, only_the_live_act}
 use Rattle.gatt_laws.proofs.Telling.{tells_the_application}
-use Rattle.gatt_promise.proofs.Alone.{gives_the_same_to_one, keeps_alike_to_one, nothing_crosses_to_one_in_courses}
+use Rattle.gatt_promise.proofs.Alone.{gives_the_same_to_one, keeps_alike_to_one, nothing_crosses_to_one_in_runs}
 use Rattle.gatt_promise.proofs.Changed.{changes_bonds_by_right, changes_own_rows_by_right, changes_values_by_right}
 use Rattle.gatt_promise.proofs.FirstCase.{ignored_changes_nothing, refused_changes_nothing, refuses_by_the_first_case}
 use Rattle.gatt_promise.proofs.Front.{is_always_given_the_front}
@@ -75,7 +75,7 @@ keeps_connections_apart = record {
   leaves = leaves_connections_the_same;
   keeps_alike = keeps_alike;
   gives_the_same = gives_the_same;
-  crosses_to_one = nothing_crosses_to_one_in_courses;
+  crosses_to_one = nothing_crosses_to_one_in_runs;
   keeps_alike_to_one = keeps_alike_to_one;
   gives_the_same_to_one = gives_the_same_to_one;
   views = same_view_same_packets;

@@ -8,7 +8,7 @@ use Rattle.att_table.specs.ConfigRow.{kept_row}
 use Rattle.att_table.specs.Table.{Contents}
 use Rattle.gatt_conn.specs.Transcript.{Dropped}
 use Rattle.gatt_laws.proofs.Ends.{end_keeps, KeepsAtEnd}
-use Rattle.gatt_laws.specs.machine.Event.{Ordinal, Own, Event, Connected, Gone, KeyAsked, Encrypted, Refreshed, Asks, Signals, Authorized, Ended, Of, Completed, Credit, Update, Tick, Replaced, Nothing}
+use Rattle.gatt_laws.specs.machine.Event.{Ordinal, Own, Event, Connected, Disconnected, KeyAsked, Encrypted, Refreshed, Asks, OtherChannel, Authorized, Ended, Of, Completed, Credit, Update, Tick, Replaced, Nothing}
 use Rattle.gatt_laws.specs.machine.ConnectionState.{ConnectionState, is_live, key_of, connection_mtu, with_pdus, after_ending}
 use Rattle.gatt_laws.specs.machine.SharedState.{SharedState}
 use Rattle.gatt_laws.specs.machine.State.{State, with_packets_completed, after_packets_completed, connection_after_replacement, change_of, step}
@@ -114,13 +114,13 @@ module _ (shared : SharedState) (bond : Row) (owed : Bool) (connection : Connect
   by-application : (own : Own) → ((effect_of shared bond owed connection own).connection.until ≡ connection.until → ⊥) → Authorizes own
   unfolding live_effect
   by-application (Connected handle peer) differs = tt
-  by-application Gone differs = tt
+  by-application Disconnected differs = tt
   by-application (Authorized moment) differs = tt
   by-application (Asks pdu) differs =
       differs (asked-keeps until (λ one reason. refl) (λ of pdus pending given reply reason. refl) (λ shared bond owed connection pdu. refl) shared bond owed connection pdu (is_live connection.mark)
       (is_due (request_of pdu (connection_mtu shared connection)) && is_full shared connection))
-  by-application (Signals channel payload) differs =
-      differs (live-keeps until (λ one reason. refl) (λ of pdus pending given reply reason. refl) shared bond owed connection (Signals channel payload) (is_live connection.mark)
+  by-application (OtherChannel channel payload) differs =
+      differs (live-keeps until (λ one reason. refl) (λ of pdus pending given reply reason. refl) shared bond owed connection (OtherChannel channel payload) (is_live connection.mark)
       (channel-keeps until (λ one reason. refl) (λ of pdus pending given reply reason. refl) (λ one channel answer. refl) shared connection channel (channel_answer channel payload) (is_full shared connection) refl))
   by-application (KeyAsked random_number diversifier) differs =
       differs (live-keeps until (λ one reason. refl) (λ of pdus pending given reply reason. refl) shared bond owed connection (KeyAsked random_number diversifier) (is_live connection.mark) refl)
@@ -139,14 +139,14 @@ module _ (shared : SharedState) (bond : Row) (owed : Bool) (connection : Connect
   by-controller : (own : Own) → (key_of (effect_of shared bond owed connection own).connection ≡ key_of connection → ⊥) → Encrypts own
   unfolding live_effect
   by-controller (Connected handle peer) differs = tt
-  by-controller Gone differs = tt
+  by-controller Disconnected differs = tt
   by-controller (Encrypted status enabled) differs = tt
   by-controller (Refreshed status) differs = tt
   by-controller (Asks pdu) differs =
       differs (asked-keeps key_of (λ one reason. refl) (λ of pdus pending given reply reason. refl) (λ shared bond owed connection pdu. refl) shared bond owed connection pdu (is_live connection.mark)
       (is_due (request_of pdu (connection_mtu shared connection)) && is_full shared connection))
-  by-controller (Signals channel payload) differs =
-      differs (live-keeps key_of (λ one reason. refl) (λ of pdus pending given reply reason. refl) shared bond owed connection (Signals channel payload) (is_live connection.mark)
+  by-controller (OtherChannel channel payload) differs =
+      differs (live-keeps key_of (λ one reason. refl) (λ of pdus pending given reply reason. refl) shared bond owed connection (OtherChannel channel payload) (is_live connection.mark)
       (channel-keeps key_of (λ one reason. refl) (λ of pdus pending given reply reason. refl) (λ one channel answer. refl) shared connection channel (channel_answer channel payload) (is_full shared connection) refl))
   by-controller (KeyAsked random_number diversifier) differs =
       differs (live-keeps key_of (λ one reason. refl) (λ of pdus pending given reply reason. refl) shared bond owed connection (KeyAsked random_number diversifier) (is_live connection.mark) refl)

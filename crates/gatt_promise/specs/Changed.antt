@@ -9,7 +9,7 @@ use Rattle.att_writes.specs.SameBut.{is_touched}
 use Rattle.gatt_conn.specs.Answer.{Writing, writing_asked}
 use Rattle.gatt_laws.specs.laws.Headline.{MayUse}
 use Rattle.gatt_laws.specs.laws.Possible.{Possible}
-use Rattle.gatt_laws.specs.machine.Event.{Ordinal, Own, Event, Connected, Gone, Asks, Of, Update, Replaced}
+use Rattle.gatt_laws.specs.machine.Event.{Ordinal, Own, Event, Connected, Disconnected, Asks, Of, Update, Replaced}
 use Rattle.gatt_laws.specs.machine.ConnectionState.{is_live, key_of, connection_mtu, prepared_of, standing_of}
 use Rattle.gatt_laws.specs.machine.State.{State, step}
 use Rattle.le_hci.specs.declared.peer.Peer.{Peer}
@@ -55,7 +55,7 @@ HasNothing state ordinal own attribute = bits_at ((step state (Of ordinal own)).
 
 abbrev pub ConfiguresOwn : State → Ordinal → Own → Handle → Type 0
 ConfiguresOwn state ordinal (Connected handle peer) attribute = HasNothing state ordinal (Connected handle peer) attribute
-ConfiguresOwn state ordinal Gone attribute = HasNothing state ordinal Gone attribute
+ConfiguresOwn state ordinal Disconnected attribute = HasNothing state ordinal Disconnected attribute
 ConfiguresOwn state ordinal own attribute = ConfiguresItsOwn state ordinal own attribute
 
 abbrev pub ChangesAnOwnRow : State → Event → Ordinal → Handle → Type 0

@@ -9,7 +9,7 @@ use Rattle.att_table.specs.Changer.{changer_of}
 use Rattle.gatt_conn.specs.Answer.{answer_to}
 use Rattle.gatt_laws.specs.laws.Headline.{Each}
 use Rattle.gatt_laws.specs.laws.OwnWrites.{row_of_connection}
-use Rattle.gatt_laws.specs.machine.Event.{Ordinal, Own, Event, Connected, Gone, Encrypted, Refreshed, Asks, Signals, Of, Update, Replaced}
+use Rattle.gatt_laws.specs.machine.Event.{Ordinal, Own, Event, Connected, Disconnected, Encrypted, Refreshed, Asks, OtherChannel, Of, Update, Replaced}
 use Rattle.gatt_laws.specs.machine.Heard.{att_pdu}
 use Rattle.gatt_laws.specs.machine.ConnectionState.{ConnectionState, is_live, is_there, key_of, connection_mtu, standing_of, bearer_of}
 use Rattle.gatt_laws.specs.machine.State.{State, change_of, step}
@@ -23,7 +23,7 @@ use Rattle.le_security.specs.Link.{Step, Encryption, Refresh}
 -- what is kept of a queue: nothing of a connection that comes, or goes
 abbrev pub queue_kept_by : ConnectionState → Own → List Pdu
 queue_kept_by connection (Connected handle peer) = if is_there connection.mark then connection.pdus else []
-queue_kept_by connection Gone = []
+queue_kept_by connection Disconnected = []
 queue_kept_by connection own = connection.pdus
 
 abbrev pub kept_queue : State → Ordinal → Event → List Pdu
@@ -36,7 +36,7 @@ abbrev pub answer_to_own : State → Ordinal → Own → List Pdu
 answer_to_own state ordinal (Asks pdu) =
     let connection = state.connections ordinal in
     map att_pdu (option_to_list (answer_to state.shared.table (row_of_connection state ordinal) (bearer_of state.shared connection) (request_of pdu (connection_mtu state.shared connection))))
-answer_to_own state ordinal (Signals channel payload) = option_to_list (option_map (λ answer. (channel, answer)) (channel_answer channel payload))
+answer_to_own state ordinal (OtherChannel channel payload) = option_to_list (option_map (λ answer. (channel, answer)) (channel_answer channel payload))
 answer_to_own state ordinal own = []
 
 -- one that serves is answered, where there is room

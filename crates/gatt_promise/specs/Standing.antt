@@ -2,7 +2,7 @@
 -- time. No phone changes them by what it asks.
 use Rattle.std.specs.Prelude.{◌≡◌, false}
 use Rattle.gatt_laws.specs.laws.RowNotices.{is_replacement}
-use Rattle.gatt_laws.specs.machine.Event.{Ordinal, Own, Event, Connected, Gone, Encrypted, Refreshed, Authorized, Of, Tick}
+use Rattle.gatt_laws.specs.machine.Event.{Ordinal, Own, Event, Connected, Disconnected, Encrypted, Refreshed, Authorized, Of, Tick}
 use Rattle.gatt_laws.specs.machine.ConnectionState.{key_of}
 use Rattle.gatt_laws.specs.machine.State.{State, step}
 
@@ -26,7 +26,7 @@ TellsTheTimeAlone = (state : State) (event : Event) → ((step state event).shar
 abbrev pub Authorizes : Own → Type 0
 Authorizes (Authorized until) = Unit
 Authorizes (Connected handle peer) = Unit
-Authorizes Gone = Unit
+Authorizes Disconnected = Unit
 Authorizes own = ⊥
 
 abbrev pub AuthorizesOne : Ordinal → Event → Type 0
@@ -42,7 +42,7 @@ abbrev pub Encrypts : Own → Type 0
 Encrypts (Encrypted status enabled) = Unit
 Encrypts (Refreshed status) = Unit
 Encrypts (Connected handle peer) = Unit
-Encrypts Gone = Unit
+Encrypts Disconnected = Unit
 Encrypts own = ⊥
 
 abbrev pub EncryptsOne : Ordinal → Event → Type 0

@@ -17,7 +17,7 @@ use Rattle.le_acl.specs.declared.pdus.TheConstants.{MAX_PDUS}
 
 -- a connection that has just come
 abbrev pub new_slot_state : ℕ → Peer → Bool → Mtu → ℕ → ℕ → SlotState
-new_slot_state handle peer key_known rx_mtu share size = record {
+new_slot_state handle peer key_known rx_mtu quota size = record {
   live = true;
   handle = handle;
   peer = peer;
@@ -30,7 +30,7 @@ new_slot_state handle peer key_known rx_mtu share size = record {
   exchanged = false;
   queue = [];
   pending = no_indications;
-  outgoing = none_queued share size;
+  outgoing = none_queued quota size;
   reply = None;
   reason = None;
 }

@@ -120,7 +120,7 @@ pub(crate) fn replace_all(slots: &mut [Slot], old: &Table, new: &Table)
 
 /// Counts packets as completed, each entry at most those that are outstanding. Entries of unknown
 /// handles are ignored.
-pub(crate) fn complete_all(
+pub(crate) fn packets_completed(
     slots: &mut [Slot],
     handles: &Handles,
     marks: &mut Marks,
@@ -134,12 +134,12 @@ pub(crate) fn complete_all(
     ensures noted { AreNotedIfAny slots.new handles.now.noted }
 {
     for octets in entries {
-        complete_entry(slots, handles, marks, &CompletedPackets::read(octets));
+        entry_completed(slots, handles, marks, &CompletedPackets::read(octets));
     }
 }
 
 /// Counts the packets of one entry as completed.
-fn complete_entry(
+fn entry_completed(
     slots: &mut [Slot],
     handles: &Handles,
     marks: &mut Marks,
@@ -155,6 +155,6 @@ fn complete_entry(
         let slot = &mut slots[place];
         slot.packets_completed(entry.packets);
         let giving = slot.gives();
-        marks.go_on(place, giving);
+        marks.mark_giving(place, giving);
     }
 }

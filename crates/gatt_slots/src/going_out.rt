@@ -176,7 +176,7 @@ impl Slots {
         let slot = &mut self.slots[place];
         let given = slot.next_packet(out);
         let giving = slot.gives();
-        self.marks.go_on(place, giving);
+        self.marks.mark_giving(place, giving);
         given
     }
 
@@ -199,7 +199,7 @@ impl Slots {
         let slot = &mut self.slots[place];
         let given = slot.next_into(out);
         let giving = slot.gives();
-        self.marks.go_on(place, giving);
+        self.marks.mark_giving(place, giving);
         given
     }
 

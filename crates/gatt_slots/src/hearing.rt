@@ -99,7 +99,7 @@ impl Slot {
     /// the value waits.
     #[inline(always)]
     pub(crate) fn notify(&mut self, raised: &Raised<'_>, moment: Moment<'_>) -> bool
-        ensures raised { self.new
+        ensures notified { self.new
             ≡ slot_notified raised.now.table moment.entry.now moment.entry.rows.now
             raised.now.handle self.old }
         ensures unnotified { OnFalse result (gives self.new ≡ gives self.old) }

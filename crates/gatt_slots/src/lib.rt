@@ -4,6 +4,7 @@
 
 mod connection;
 mod each;
+mod effects;
 mod going_out;
 mod handles;
 mod hearing;
@@ -14,7 +15,6 @@ mod request;
 mod slot;
 mod slots;
 mod telling;
-mod turn;
 
 pub use connection::Connection;
 pub use moment::Moment;

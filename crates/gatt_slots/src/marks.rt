@@ -72,7 +72,7 @@ impl Marks {
 
     /// Takes in whether a packet may be given at a slot, whose connection goes on.
     #[inline(always)]
-    pub(crate) fn go_on(&mut self, place: usize, giving: bool)
+    pub(crate) fn mark_giving(&mut self, place: usize, giving: bool)
         requires { place < MAX_SLOTS }
         ensures { (slots : SlotStates) (slot : Option SlotState) → place < length slots
             → IsMarked slots self.old → WaitsForNothingNew (slot_state_at slots place) slot

@@ -16,7 +16,9 @@ ghost use Rattle.gatt_subs.specs.Rows.{row_of, ChangesBond, Subscriptions};
 ghost use Rattle.le_hci.specs.Event.{completed_packets_of};
 
 use crate::connection::{Connection, next_connection};
-use crate::each::{complete_all, find_free, find_serving, first_deadline, replace_all, tick_all};
+use crate::each::{
+    find_free, find_serving, first_deadline, packets_completed, replace_all, tick_all,
+};
 use crate::handles::Handles;
 use crate::marks::Marks;
 use crate::moment::Moment;
@@ -204,7 +206,7 @@ impl Slots {
     pub fn packets_completed(&mut self, entries: &[[u8; 4]])
         ensures { self.new ≡ slots_after_entries (map completed_packets_of entries.now) self.old }
     {
-        complete_all(
+        packets_completed(
             self.slots.as_mut_slice(),
             &self.handles,
             &mut self.marks,

@@ -54,7 +54,7 @@ pub(crate) fn notify_all(
 )
     requires few { length slots.old ≤ MAX_SLOTS }
     requires covered { CoversHeard slots.old heard.old }
-    ensures raised { slots.new
+    ensures notified { slots.new
         ≡ all_notified_in_turn moment.entry.table.now moment.entry.now moment.entry.rows.now own
         others handles.now slots.old }
     ensures covered { CoversHeard slots.new heard.new }
@@ -78,7 +78,7 @@ fn notify_for(
 )
     requires few { length slots.old ≤ MAX_SLOTS }
     requires covered { CoversHeard slots.old heard.old }
-    ensures raised { slots.new
+    ensures notified { slots.new
         ≡ all_notified moment.entry.table.now moment.entry.now moment.entry.rows.now own others
         handle slots.old }
     ensures covered { CoversHeard slots.new heard.new }

@@ -68,7 +68,7 @@ pub(crate) fn nothing(opened: &mut Opened, count: &mut usize) -> u32
 #[inline(never)]
 pub(crate) fn next_out(opened: &mut Opened, out: &mut [u8], count: &mut usize) -> u32
     ensures status { result ≡ out_status (length out.old) opened.old }
-    ensures goes { result ≡ DONE
+    ensures some { result ≡ DONE
         → OpenedRefines [] (take count.new out.new ∷ []) opened.old opened.new }
     ensures within { result ≡ DONE → count.new ≤ length out.old }
     ensures needs { result ≡ SHORT_BUFFER → count.new ≡ LONGEST_PACKET }

@@ -21,5 +21,5 @@ module _ (run : Run) (sent : List Octets) (server : ServerState) (frames : Frame
     together = is.together;
   }
 
-  pub all_gone : run.sent ≡ sent
-  all_gone = is.all ∙ ap (λ (owed : List Octets). sent ++ owed) none-owed ∙ append-nil sent
+  pub all_sent : run.sent ≡ sent
+  all_sent = is.all ∙ ap (λ (owed : List Octets). sent ++ owed) none-owed ∙ append-nil sent

@@ -30,7 +30,7 @@ use Rattle.gatt_laws.specs.laws.Renaming.{renamed, renamed_if}
 use Rattle.gatt_laws.specs.machine.Context.{context_of, serving}
 use Rattle.gatt_laws.specs.machine.Controller.{is_ready}
 use Rattle.gatt_laws.specs.machine.Event.{Ordinal, Event, Connected}
-use Rattle.gatt_laws.specs.machine.Event.{Asks, Signals, Happening}
+use Rattle.gatt_laws.specs.machine.Event.{Asks, OtherChannel, Happening}
 use Rattle.gatt_laws.specs.machine.Event.{Of, Nothing}
 use Rattle.gatt_laws.specs.machine.Input.{Run, packet_taken}
 use Rattle.gatt_laws.specs.machine.Notice.{noticed}
@@ -119,12 +119,12 @@ frame-frames : (place : Place) (frame : Result BasicFrame Skip) (frames : Frames
 frame-frames place (Ok frame) frames =
     elim (frame.cid == ATT) as (λ (asks : Bool). frames
     ≡ frames_after (frame_event place (if asks then Some (Asks frame.payload)
-    else if frame.cid == LE_SIGNALLING || frame.cid == SECURITY_MANAGER then Some (Signals frame.cid frame.payload) else None)) frames) [
+    else if frame.cid == LE_SIGNALLING || frame.cid == SECURITY_MANAGER then Some (OtherChannel frame.cid frame.payload) else None)) frames) [
       | true ↦ refl
       | false ↦
           elim (frame.cid == LE_SIGNALLING || frame.cid == SECURITY_MANAGER) as (λ (signals : Bool).
           frames ≡ frames_after
-          (frame_event place (if signals then Some (Signals frame.cid frame.payload) else None))
+          (frame_event place (if signals then Some (OtherChannel frame.cid frame.payload) else None))
           frames) [ true ↦ refl | false ↦ refl ]
     ]
 frame-frames place (Err skip) frames = refl

@@ -12,9 +12,9 @@ use Rattle.gatt_host.specs.ServerState.{ServerState}
 use Rattle.gatt_host.specs.Meaning.{Frames, once_heard}
 use Rattle.gatt_host.specs.Owing.{all_given, slot_state_handed}
 use Rattle.gatt_host.specs.RunRefinement.{IsPutTogether}
-use Rattle.gatt_host.specs.StateRefinement.{IsSound, RefinesState, place_among, slots_told}
+use Rattle.gatt_host.specs.StateRefinement.{IsSound, RefinesState, place_among, slots_with_buffers}
 use Rattle.gatt_laws.specs.machine.Controller.{Slots, has_free, is_ready, with_freed, with_taken}
-use Rattle.gatt_laws.specs.machine.Event.{Ordinal, Own, Event, Connected, Gone, Of, Credit}
+use Rattle.gatt_laws.specs.machine.Event.{Ordinal, Own, Event, Connected, Disconnected, Of, Credit}
 use Rattle.gatt_laws.specs.machine.Packets.{Fragments}
 use Rattle.gatt_laws.specs.laws.Settled.{has_slot}
 use Rattle.gatt_laws.specs.machine.State.{State, change_of, slots_when_ready, step}
@@ -29,7 +29,7 @@ use Rattle.le_hci.specs.declared.init.Init.TheVariants.{Ready}
 use Rattle.le_hci.specs.declared.peer.Peer.{Peer}
 
 -- no more slots are opened than a host was opened with
-within : (slots : ℕ) (told : Option Buffers) → slots_told slots told ≤ slots
+within : (slots : ℕ) (buffers : Option Buffers) → slots_with_buffers slots buffers ≤ slots
 within slots None = omega arith
 within slots (Some buffers) = omega arith
 
@@ -41,7 +41,7 @@ few_slots state server sound refines = by (is_ready state.controller) refl
 
     by : (ready : Bool) → is_ready state.controller ≡ ready → length state.slots ≤ state.shared.slots
     by true ready =
-        let count : length state.slots ≡ slots_told state.shared.slots state.shared.buffers =
+        let count : length state.slots ≡ slots_with_buffers state.shared.slots state.shared.buffers =
         sym (each_length (slot_state_handed state (all_given state)) state.slots)
         ∙ sym (ap (λ (slots : List (Option SlotState)). length slots) (were_open state (all_given state) server is ready)) ∙ is.ready ready in
         omega (arith, count, within state.shared.slots state.shared.buffers)
@@ -92,7 +92,7 @@ pub record KeepsOrFrees (old new : State) : Type 0 where
 pub keeps_or_frees : (state : State) (event : Event) → is_coming event ≡ false → KeepsOrFrees state (step state event)
 unfolding step change_of
 keeps_or_frees state (Of own (Connected handle peer)) other = absurd (clash (sym other))
-keeps_or_frees state (Of own Gone) other = record { there = λ place ordinal is. freed-before own state.slots place ordinal is; next = refl }
+keeps_or_frees state (Of own Disconnected) other = record { there = λ place ordinal is. freed-before own state.slots place ordinal is; next = refl }
 keeps_or_frees state (Credit allowed opcode status (Some init)) other =
     record { there = λ place ordinal is. opened-before state.shared.slots init state.slots place ordinal is; next = refl }
 keeps_or_frees state (Credit allowed opcode status None) other = record { there = λ place ordinal is. is; next = refl }

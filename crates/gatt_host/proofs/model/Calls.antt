@@ -4,7 +4,7 @@ use Rattle.std.specs.Prelude.{IsOk, IsOkAnd, IfOk, IfErr, OnErr, OnOk, if◌then
 use Rattle.att_table.specs.Changer.{changer_of}
 use Rattle.att_table.specs.Table.{Contents}
 use Rattle.gatt_host.proofs.asking.Calls.{call_is_refused, call_led, call_refusal_same, table_is_refused, table_led, table_refusal_same}
-use Rattle.gatt_host.proofs.meaning.Drained.{all_gone, drained_in}
+use Rattle.gatt_host.proofs.meaning.Drained.{all_sent, drained_in}
 use Rattle.gatt_host.proofs.model.Silence.{stands_in_silence}
 use Rattle.gatt_host.proofs.model.Items.{drained_where, no_fault, takes_item}
 use Rattle.gatt_host.specs.Asked.{call_happening, refused_of, refusal_in_result, replacement_happening, replacing_refusal_of}
@@ -55,7 +55,7 @@ module _ (call : Call) (old new : HostModel) (none : old.fault ≡ None) (out : 
       → ServerRefinesRun (after_result run (call_event run.intake.state call)) sent new.server old.frames
   call-stands (Ok done) after refused same run sent is =
       subst (λ (packets : List Octets). ServerRefinesRun (after_result run (call_event run.intake.state call)) packets new.server old.frames)
-      (all_gone run sent old.server old.frames is (drained_where old none out))
+      (all_sent run sent old.server old.frames is (drained_where old none out))
       (call_led run old.server old.frames (drained-there run sent is) new.server call (after refl)).refines
   call-stands (Err fault) after refused same run sent is =
       let refusal = call_is_refused run old.server old.frames (drained-there run sent is) call (refused_of fault) refused in
@@ -93,9 +93,9 @@ pub call_refused : (call : Call) (old : HostModel) (P : Happening Place → Type
     → (IsOk result → IsOkAnd (call_happening old.server call) P) → IfErr result (λ fault. call_happening old.server call ≡ Err (refused_of fault))
     → (run : Run) (sent : List Octets) → RefinesRun run sent old → refusal_in_result result ≡ call_refusal run.intake call
 call_refused call old P result none out after refused run sent is =
-    let in_course : IsDrainedIn run old.server old.frames = drained_in run sent old.server old.frames is.refines (drained_where old none out) in
+    let in_run : IsDrainedIn run old.server old.frames = drained_in run sent old.server old.frames is.refines (drained_where old none out) in
     call-reason old.server call P result after refused
-    ∙ sym (call_refusal_same run old.server old.frames in_course call)
+    ∙ sym (call_refusal_same run old.server old.frames in_run call)
     ∙ sym (ap (λ (why : Option Fault). refusal_in why (call_event run.intake.state call)) (no_fault run sent old none is))
 
 -- a table that is accepted replaces the other
@@ -113,7 +113,7 @@ module _ {A : Type 0} (table : Contents) (old new : HostModel) (none : old.fault
   table-stands (Ok given) after accepts refused same run sent is =
       let drained = drained_where old none out in
       subst (λ (packets : List Octets). ServerRefinesRun (after_result run (replacement_event run.intake.state table)) packets new.server old.frames)
-      (all_gone run sent old.server old.frames is drained)
+      (all_sent run sent old.server old.frames is drained)
       (table_led run old.server old.frames (drained_in run sent old.server old.frames is drained) new.server table
       (if-same (same_changer old.server.changer (changer_of table)) table (λ happening. IsAfter happening old.server new.server) (accepts refl) after)).refines
   table-stands (Err fault) after accepts refused same run sent is =
@@ -155,9 +155,9 @@ pub table_refused : {A : Type 0} (table : Contents) (old : HostModel) (result : 
     → IfErr result (λ fault. replacement_happening old.server table ≡ Err (refused_of fault.0))
     → (run : Run) (sent : List Octets) → RefinesRun run sent old → replacing_refusal_of result ≡ replacement_refusal run.intake table
 table_refused table old result none out accepts refused run sent is =
-    let in_course : IsDrainedIn run old.server old.frames = drained_in run sent old.server old.frames is.refines (drained_where old none out) in
+    let in_run : IsDrainedIn run old.server old.frames = drained_in run sent old.server old.frames is.refines (drained_where old none out) in
     table-reason old.server table result accepts refused
-    ∙ sym (table_refusal_same run old.server old.frames in_course table)
+    ∙ sym (table_refusal_same run old.server old.frames in_run table)
     ∙ sym (ap (λ (why : Option Fault). refusal_in why (replacement_event run.intake.state table)) (no_fault run sent old none is))
 
 -- what is held once a table has replaced another

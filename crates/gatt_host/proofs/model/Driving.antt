@@ -7,7 +7,7 @@ use Rattle.gatt_host.specs.Asked.{refusal_in_result}
 use Rattle.gatt_host.specs.declared.app.AppFault.{AppFault}
 use Rattle.gatt_host.specs.declared.driving.Input.{Input}
 use Rattle.gatt_host.specs.declared.host_fault.HostFault.{HostFault}
-use Rattle.gatt_host.specs.Feeding.{CountsRefused, Feeds, TakesAll, comes_of_feeding, input_items, items_of, octet_items, refused_at, refused_in}
+use Rattle.gatt_host.specs.Feeding.{CountsRefused, Feeds, TakesAll, is_of_feeding, input_items, items_of, octet_items, refused_at, refused_in}
 use Rattle.gatt_host.specs.HostModel.{Refines, RefinesRun, Takes, HostModel}
 use Rattle.gatt_laws.proofs.Inputs.{items_append}
 use Rattle.gatt_laws.specs.machine.Calls.{Call, Refused}
@@ -16,9 +16,9 @@ use Rattle.gatt_laws.specs.machine.Start.{Start}
 use Rattle.octets.specs.Number.{Octets}
 
 -- none of the octets is a call
-none-of-octets : (at_course : Run) (octets : Octets) → 0 ≡ refused_in at_course (octet_items octets)
-none-of-octets at_course [] = refl
-none-of-octets at_course (octet ∷ octets) = omega (arith, none-of-octets (after_item at_course (AnOctet octet)) octets)
+none-of-octets : (at_run : Run) (octets : Octets) → 0 ≡ refused_in at_run (octet_items octets)
+none-of-octets at_run [] = refl
+none-of-octets at_run (octet ∷ octets) = omega (arith, none-of-octets (after_item at_run (AnOctet octet)) octets)
 
 pub none_refused : (octets : Octets) (host : HostModel) → CountsRefused 0 (octet_items octets) host
 none_refused octets host start input sent is = none-of-octets (run start input) octets
@@ -50,9 +50,9 @@ call_feeds item old mid new before after found takes feeds =
     feeds_then (item ∷ []) [] old mid new before before after found (takes_silently (item ∷ []) old mid before takes) feeds
 
 -- calls of one part, and then of the other
-refused-append : (at_course : Run) (items more : List Item) → refused_in at_course items + refused_in (after_items at_course items) more ≡ refused_in at_course (items ++ more)
-refused-append at_course [] more = omega arith
-refused-append at_course (item ∷ items) more = omega (arith, refused-append (after_item at_course item) items more)
+refused-append : (at_run : Run) (items more : List Item) → refused_in at_run items + refused_in (after_items at_run items) more ≡ refused_in at_run (items ++ more)
+refused-append at_run [] more = omega arith
+refused-append at_run (item ∷ items) more = omega (arith, refused-append (after_item at_run item) items more)
 
 pub counts_then : (count next : ℕ) (items more : List Item) (packets : List Octets) (old mid : HostModel) → CountsRefused count items old → Refines items packets old mid
     → CountsRefused next more mid → CountsRefused (count + next) (items ++ more) old
@@ -66,7 +66,7 @@ counts_then count next items more packets old mid first leads second start input
     omega (arith, one, other, refused-append before items more)
 
 -- what follows a fault changes nothing
-pub past_fault : (items more : List Item) (old new : HostModel) (before after : Option Octets) (fault : HostFault) → new.fault ≡ Some fault → comes_of_feeding fault ≡ true
+pub past_fault : (items more : List Item) (old new : HostModel) (before after : Option Octets) (fault : HostFault) → new.fault ≡ Some fault → is_of_feeding fault ≡ true
     → Feeds items old new before after new.fault → Feeds (items ++ more) old new before after new.fault
 past_fault items more old new before after fault stopped comes feeds =
     subst (λ (found : Option HostFault). Feeds (items ++ more) old new before after found) (sym stopped)
@@ -108,7 +108,7 @@ module _ (inputs : List Input) (index : ℕ) (last : Input) (within : index < le
   }
 
   -- the host stops at it
-  pub driven_stops : (fault : HostFault) → new.fault ≡ Some fault → comes_of_feeding fault ≡ true
+  pub driven_stops : (fault : HostFault) → new.fault ≡ Some fault → is_of_feeding fault ≡ true
       → Feeds (input_items (get_or inputs index last)) mid new between after new.fault → Feeds (items_of inputs) old new before after new.fault
   driven_stops fault stopped comes feeds =
       let input : Input = get_or inputs index last in

@@ -2,7 +2,7 @@
 use Rattle.std.proofs.Common.{◌≡◌, true, false, Option, Some, None, Result, Ok, Err, refl, sym, subst}
 use Rattle.std.specs.Prelude.{is_err, IsOk}
 use Rattle.gatt_host.proofs.owing.Nexts.{clash}
-use Rattle.gatt_host.proofs.meaning.Drained.{all_gone}
+use Rattle.gatt_host.proofs.meaning.Drained.{all_sent}
 use Rattle.gatt_host.proofs.model.Items.{drained_where}
 use Rattle.gatt_host.specs.declared.host_fault.HostFault.{HostFault}
 use Rattle.gatt_host.specs.declared.host_fault.HostFault.TheVariants as stop
@@ -29,7 +29,7 @@ pub due_where_held : (old new : HostModel) (fault : Option HostFault) → old.fa
     → WritesAllThatIsDue fault new
 due_where_held old new fault none out same =
     due-by fault new (λ start input sent is.
-    all_gone (run start input) sent new.server new.frames is.refines
+    all_sent (run start input) sent new.server new.frames is.refines
     (subst (λ (server : ServerState). is_drained server.controller (open_slots server) ≡ true) (sym same) (drained_where old none out)))
 
 pub due_where_out : (host : HostModel) → host.fault ≡ None → all_out host ≡ true → WritesAllThatIsDue host.fault host
@@ -43,7 +43,7 @@ due_where_broken fault host is = subst (λ (fault : Option HostFault). WritesAll
 pub due_where_drained : (host : HostModel) (fault : Option HostFault) → is_drained host.server.controller (open_slots host.server) ≡ true
     → WritesAllThatIsDue fault host
 due_where_drained host fault drained =
-    due-by fault host (λ start input sent is. all_gone (run start input) sent host.server host.frames is.refines drained)
+    due-by fault host (λ start input sent is. all_sent (run start input) sent host.server host.frames is.refines drained)
 
 -- of which nothing is told any more
 pub due_in_silence : (old new : HostModel) (fault : Option HostFault) → old.fault ≡ None → all_out old ≡ true → new.server ≡ with_last last.Quiet old.server

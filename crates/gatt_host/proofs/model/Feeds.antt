@@ -9,7 +9,7 @@ use Rattle.gatt_host.proofs.owing.Nexts.{clash}
 use Rattle.gatt_host.proofs.model.Items.{leads_nowhere, leads_on, leads_stopped}
 use Rattle.gatt_host.specs.declared.host_fault.HostFault.{HostFault}
 use Rattle.gatt_host.specs.declared.host_fault.HostFault.TheVariants as stop
-use Rattle.gatt_host.specs.Feeding.{BreaksOff, Feeds, TakesAll, comes_of_feeding, is_write_fault, joined, octet_items}
+use Rattle.gatt_host.specs.Feeding.{BreaksOff, Feeds, TakesAll, is_of_feeding, is_write_fault, joined, octet_items}
 use Rattle.gatt_host.specs.HostModel.{Refines, SameFault, RefinesRun, HostModel, is_own_fault, fault_outcome}
 use Rattle.gatt_laws.proofs.Inputs.{items_append}
 use Rattle.gatt_laws.proofs.Streams.{stays_stopped}
@@ -81,21 +81,21 @@ feeds_then items more old mid new before between after (Some stop.Write) first s
 
 -- a host that has stopped as its run has takes in what follows and nothing changes
 module _ (items more : List Item) (packets : List Octets) (old new : HostModel) (fault : HostFault) (stopped : new.fault ≡ Some fault) (other : is_own_fault fault ≡ false) where
-  stays-by : (input : List Item) (sent : List Octets) (at_course : Run) (why : Option Fault) → at_course.intake.fault ≡ why → SameFault why (Some fault)
-      → RefinesRun at_course sent new → RefinesRun (after_items at_course more) sent new
-  stays-by input sent at_course None none same is = absurd (clash (sym other ∙ same))
-  stays-by input sent at_course (Some why) refines same is =
-      subst (λ (after : Run). RefinesRun after sent new) (sym (stays_stopped at_course why more refines)) is
+  stays-by : (input : List Item) (sent : List Octets) (at_run : Run) (why : Option Fault) → at_run.intake.fault ≡ why → SameFault why (Some fault)
+      → RefinesRun at_run sent new → RefinesRun (after_items at_run more) sent new
+  stays-by input sent at_run None none same is = absurd (clash (sym other ∙ same))
+  stays-by input sent at_run (Some why) refines same is =
+      subst (λ (after : Run). RefinesRun after sent new) (sym (stays_stopped at_run why more refines)) is
 
   pub leads_past : Refines items packets old new → Refines (items ++ more) packets old new
   unfolding run
   leads_past leads start input sent is =
-      let at_course : Run = run start (input ++ items) in
-      let there : RefinesRun at_course (sent ++ packets) new = leads start input sent is in
+      let at_run : Run = run start (input ++ items) in
+      let there : RefinesRun at_run (sent ++ packets) new = leads start input sent is in
       subst (λ (all : List Item). RefinesRun (run start all) (sent ++ packets) new) (append_assoc input items more)
       (subst (λ (after : Run). RefinesRun after (sent ++ packets) new) (sym (items_append (run_at_start start) (input ++ items) more))
-      (stays-by input (sent ++ packets) at_course at_course.intake.fault refl
-      (subst (λ (refines : Option HostFault). SameFault at_course.intake.fault refines) stopped there.same) there))
+      (stays-by input (sent ++ packets) at_run at_run.intake.fault refl
+      (subst (λ (refines : Option HostFault). SameFault at_run.intake.fault refines) stopped there.same) there))
 
 pub takes_past : (items more : List Item) (old new : HostModel) (before after : Option Octets) (fault : HostFault) → new.fault ≡ Some fault → is_own_fault fault ≡ false
     → TakesAll items old new before after → TakesAll (items ++ more) old new before after
@@ -112,7 +112,7 @@ pub record HasTaken (octets rest : Octets) (old new : HostModel) (before after :
   pub takes : TakesAll (octet_items taken) old new before after
 
 -- so one that has stopped at what it was fed
-pub feeds_past : (items more : List Item) (old new : HostModel) (before after : Option Octets) (fault : HostFault) → new.fault ≡ Some fault → comes_of_feeding fault ≡ true
+pub feeds_past : (items more : List Item) (old new : HostModel) (before after : Option Octets) (fault : HostFault) → new.fault ≡ Some fault → is_of_feeding fault ≡ true
     → Feeds items old new before after (Some fault) → Feeds (items ++ more) old new before after (Some fault)
 feeds_past items more old new before after (stop.Desync indicator) stopped comes feeds = takes_past items more old new before after (stop.Desync indicator) stopped refl feeds
 feeds_past items more old new before after (stop.BadEvent code) stopped comes feeds = takes_past items more old new before after (stop.BadEvent code) stopped refl feeds

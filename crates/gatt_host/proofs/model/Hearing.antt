@@ -6,7 +6,7 @@ use Rattle.gatt_host.proofs.model.Feeds.{HasTaken, all_items, items_append_octet
 use Rattle.gatt_host.proofs.model.Items.{leads_on}
 use Rattle.gatt_host.specs.declared.host_fault.HostFault.{HostFault}
 use Rattle.gatt_host.specs.declared.host_fault.HostFault.TheVariants as stop
-use Rattle.gatt_host.specs.Feeding.{BreaksOff, Feeds, TakesAll, comes_of_feeding, octet_items}
+use Rattle.gatt_host.specs.Feeding.{BreaksOff, Feeds, TakesAll, is_of_feeding, octet_items}
 use Rattle.gatt_host.specs.Listening.{Hears, HearsOf, HearsTheFront, Listens}
 use Rattle.gatt_host.specs.Notices.{last_notices}
 use Rattle.gatt_host.specs.Telling.{TellsOf, TellsOfAll, notices_told}
@@ -176,7 +176,7 @@ listens_then items more packets old mid new before between after (Some stop.Writ
 
 -- one that stops at them tells nothing of what follows
 pub listens_past : (items more : List Item) (old new : HostModel) (server holds : Option Octets) (before after : Option (List Notice)) (fault : HostFault)
-    → new.fault ≡ Some fault → comes_of_feeding fault ≡ true → Feeds items old new server holds (Some fault) → Listens items old new (Some fault) before after
+    → new.fault ≡ Some fault → is_of_feeding fault ≡ true → Feeds items old new server holds (Some fault) → Listens items old new (Some fault) before after
     → Listens (items ++ more) old new (Some fault) before after
 listens_past items more old new server holds before after (stop.Desync indicator) stopped comes feeds listens =
     hears_more items more feeds.packets old new feeds.leads before after after listens (stopped-hears more new (stop.Desync indicator) after stopped refl)
@@ -198,7 +198,7 @@ listens_past items more old new server holds before after stop.Write stopped com
 }
 
 pub past_heard : (items more : List Item) (old new : HostModel) (server holds : Option Octets) (before after : Option (List Notice)) (fault : HostFault)
-    → new.fault ≡ Some fault → comes_of_feeding fault ≡ true → Feeds items old new server holds new.fault → Listens items old new new.fault before after
+    → new.fault ≡ Some fault → is_of_feeding fault ≡ true → Feeds items old new server holds new.fault → Listens items old new new.fault before after
     → Listens (items ++ more) old new new.fault before after
 past_heard items more old new server holds before after fault stopped comes feeds listens =
     subst (λ (found : Option HostFault). Listens (items ++ more) old new found before after) (sym stopped)

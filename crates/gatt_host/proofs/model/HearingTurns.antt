@@ -10,7 +10,7 @@ use Rattle.gatt_host.proofs.model.Serving.{HasServed, served_more, served_none}
 use Rattle.gatt_host.specs.declared.driving.Input.{Input}
 use Rattle.gatt_host.specs.declared.host_fault.HostFault.{HostFault}
 use Rattle.gatt_host.specs.declared.host_fault.HostFault.TheVariants as stop
-use Rattle.gatt_host.specs.Feeding.{CountsRefused, Feeds, TakesAll, comes_of_feeding, input_items, is_write_fault, items_of, octet_items}
+use Rattle.gatt_host.specs.Feeding.{CountsRefused, Feeds, TakesAll, is_of_feeding, input_items, is_write_fault, items_of, octet_items}
 use Rattle.gatt_host.specs.Listening.{HearsOf, Listens, ListensServing}
 use Rattle.gatt_host.specs.HostModel.{HostModel}
 use Rattle.gatt_laws.specs.machine.Input.{Item}
@@ -51,7 +51,7 @@ module _ (inputs : List Input) (index : ℕ) (last : Input) (within : index < le
   }
 
   -- the host stops at it
-  pub driven_to_stops : (fault : HostFault) → new.fault ≡ Some fault → comes_of_feeding fault ≡ true
+  pub driven_to_stops : (fault : HostFault) → new.fault ≡ Some fault → is_of_feeding fault ≡ true
       → Feeds (input_items (get_or inputs index last)) mid new between holds new.fault → Listens (input_items (get_or inputs index last)) mid new new.fault heard after
       → Listens (items_of inputs) old new new.fault before after
   driven_to_stops fault stopped comes feeds listens =

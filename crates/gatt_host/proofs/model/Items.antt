@@ -66,8 +66,8 @@ leads_nowhere old new same start input sent is =
 -- each row in force of a host is one of its table
 pub rows_hold : (host : HostModel) → IsReached host → is_drained host.server.controller (open_slots host.server) ≡ true → HasRowsOfTheTable host.server
 rows_hold host reached drained =
-    let at_course : Run = run reached.start reached.input in
-    holds_rows_of_the_table at_course host.server host.frames (drained_in at_course reached.sent host.server host.frames reached.refines.refines drained)
+    let at_run : Run = run reached.start reached.input in
+    holds_rows_of_the_table at_run host.server host.frames (drained_in at_run reached.sent host.server host.frames reached.refines.refines drained)
     (always_has_rows_of_its_table reached.start reached.input reached.rows)
 
 -- nothing is to go out, where all is out and no fault stands
@@ -82,9 +82,9 @@ none_unless (Some why) never = absurd (never why refl)
 -- a host that stops for a reason of its own stands where it stood
 pub leads_stopped : (old : HostModel) (fault : HostFault) → old.fault ≡ None → is_own_fault fault ≡ true → Refines [] [] old (record old { fault = Some fault })
 leads_stopped old fault none own start input sent is =
-    let at_course : Run = run start input in
-    let no_why = no_fault at_course sent old none is in
-    let stopped : RefinesRun at_course sent (record old { fault = Some fault }) = record {
+    let at_run : Run = run start input in
+    let no_why = no_fault at_run sent old none is in
+    let stopped : RefinesRun at_run sent (record old { fault = Some fault }) = record {
       refines = is.refines;
       same = subst (λ (why : Option Fault). SameFault why (Some fault)) (sym no_why) own;
       stream = is.stream;

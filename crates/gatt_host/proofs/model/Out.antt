@@ -93,7 +93,7 @@ module _ (old new : HostModel) (octets : Octets) (next : next_packet_out old.ser
         keys = refines.keys;
         rx_mtu = refines.rx_mtu;
         time = refines.time;
-        told = refines.told;
+        buffers = refines.buffers;
         rows = refines.rows;
         keyed = refines.keyed;
         free = λ early. slots-where old.server (sym same ∙ early) ∙ refines.free early;
@@ -107,21 +107,21 @@ module _ (old new : HostModel) (octets : Octets) (next : next_packet_out old.ser
 
   pub goes_out : new.frames ≡ old.frames → new.stream ≡ old.stream → new.fault ≡ old.fault → Refines [] (octets ∷ []) old new
   goes_out frames stream fault start input sent is =
-      let at_course : Run = run start input in
-      let rest = goes at_course.intake.state is.refines.owed is.refines.refines in
-      let server : ServerRefinesRun at_course (sent ++ octets ∷ []) (after_out old.server) old.frames = record {
+      let at_run : Run = run start input in
+      let rest = goes at_run.intake.state is.refines.owed is.refines.refines in
+      let server : ServerRefinesRun at_run (sent ++ octets ∷ []) (after_out old.server) old.frames = record {
         owed = rest.others;
         all = is.refines.all ∙ ap (λ (owed : List Octets). sent ++ owed) rest.first ∙ sym (append_assoc sent (octets ∷ []) rest.others);
         sound = is.refines.sound;
-        refines = stands-out at_course.intake.state is.refines.owed is.refines.refines rest;
+        refines = stands-out at_run.intake.state is.refines.owed is.refines.refines rest;
         together = is.refines.together;
       } in
       subst (λ (items : List Item). RefinesRun (run start items) (sent ++ octets ∷ []) new) (sym (append-nil input))
       (record {
-        refines = subst (λ (slot_state : Frames). ServerRefinesRun at_course (sent ++ octets ∷ []) new.server slot_state) (sym frames)
-            (subst (λ (slot_state : ServerState). ServerRefinesRun at_course (sent ++ octets ∷ []) slot_state old.frames) (sym is_after) server);
-        same = subst (λ (why : Option HostFault). SameFault at_course.intake.fault why) (sym fault) is.same;
-        stream = subst (λ (slot_state : Deframing). HoldsStream at_course slot_state) (sym stream) is.stream;
+        refines = subst (λ (slot_state : Frames). ServerRefinesRun at_run (sent ++ octets ∷ []) new.server slot_state) (sym frames)
+            (subst (λ (slot_state : ServerState). ServerRefinesRun at_run (sent ++ octets ∷ []) slot_state old.frames) (sym is_after) server);
+        same = subst (λ (why : Option HostFault). SameFault at_run.intake.fault why) (sym fault) is.same;
+        stream = subst (λ (slot_state : Deframing). HoldsStream at_run slot_state) (sym stream) is.stream;
       })
 
 -- something goes out just where not all is out
@@ -131,10 +131,10 @@ not-none (Some x) = refl
 
 pub goes_where_not_out : (old : HostModel) → IsReached old → old.fault ≡ None → is_some (next_packet_out old.server) ≡ not (all_out old)
 goes_where_not_out old reached none =
-    let at_course : Run = run reached.start reached.input in
+    let at_run : Run = run reached.start reached.input in
     let owing = reached.refines.refines.refines.owing in
     not-none (next_packet_out old.server)
-    ∙ sym (ap not (is_drained_where_nothing_goes_out at_course.intake.state reached.refines.refines.owed old.server.controller (open_slots old.server) owing))
+    ∙ sym (ap not (is_drained_where_nothing_goes_out at_run.intake.state reached.refines.refines.owed old.server.controller (open_slots old.server) owing))
     ∙ sym (ap (λ (fault : Option HostFault). not (is_some fault || is_drained old.server.controller (open_slots old.server))) none)
 
 -- and the host is reached then, whether anything goes out or not

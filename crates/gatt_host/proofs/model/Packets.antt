@@ -2,7 +2,7 @@
 use Rattle.std.proofs.Common.{◌≡◌, Bool, true, false, List, Option, Some, None, Result, Ok, Err, refl, sym, ap, subst, ◌∙◌}
 use Rattle.std.specs.Prelude.{if◌then◌else◌, IsOk, IfErr, OnErr}
 use Rattle.std.specs.Result.{result_err}
-use Rattle.gatt_host.proofs.meaning.Drained.{all_gone, drained_in}
+use Rattle.gatt_host.proofs.meaning.Drained.{all_sent, drained_in}
 use Rattle.gatt_host.proofs.meaning.Refining.{packet_led, packet_stops}
 use Rattle.gatt_host.proofs.model.Items.{takes_item}
 use Rattle.gatt_host.proofs.model.Silence.{stands_at_in_silence}
@@ -30,7 +30,7 @@ use Rattle.octets.specs.Number.{Octets}
 stands-all : (run after : Run) (sent : List Octets) (server new : ServerState) (frames then_frames : Frames) → ServerRefinesRun run sent server frames
     → is_drained server.controller (open_slots server) ≡ true → ServerRefinesRun after run.sent new then_frames → ServerRefinesRun after sent new then_frames
 stands-all run after sent server new frames then_frames is drained refines =
-    subst (λ (packets : List Octets). ServerRefinesRun after packets new then_frames) (all_gone run sent server frames is drained) refines
+    subst (λ (packets : List Octets). ServerRefinesRun after packets new then_frames) (all_sent run sent server frames is drained) refines
 
 same-none : (why : Option Fault) → why ≡ None → SameFault why None
 same-none None none = tt

@@ -13,7 +13,7 @@ use Rattle.gatt_host.proofs.owing.Nexts.{clash}
 use Rattle.gatt_host.specs.declared.host_fault.HostFault.TheVariants as stop
 use Rattle.gatt_host.specs.declared.last_event.LastEvent.TheVariants as last
 use Rattle.gatt_host.specs.declared.serving.End.{End}
-use Rattle.gatt_host.specs.Feeding.{Feeds, IsReadIn, Reads, Serves, TakesAll, comes_of_feeding, is_write_fault, octet_items}
+use Rattle.gatt_host.specs.Feeding.{Feeds, IsReadIn, Reads, Serves, TakesAll, is_of_feeding, is_write_fault, octet_items}
 use Rattle.gatt_host.specs.ServerState.{with_last}
 use Rattle.gatt_host.specs.HostModel.{RefinesRun, Takes, HostModel, is_own_fault}
 use Rattle.gatt_laws.specs.machine.Input.{Run, Item, TheEnd, run}
@@ -95,8 +95,8 @@ err-is {fault = fault} is = ap (λ (result : Result End HostFault). fault-of res
     fault-of (Ok end) = fault
     fault-of (Err why) = why
 
-no-turns : (fault : HostFault) → fault ≡ stop.Turns → comes_of_feeding fault ≡ true → ⊥
-no-turns fault is comes = clash (sym (ap comes_of_feeding is) ∙ comes)
+no-turns : (fault : HostFault) → fault ≡ stop.Turns → is_of_feeding fault ≡ true → ⊥
+no-turns fault is comes = clash (sym (ap is_of_feeding is) ∙ comes)
 
 -- a fault of the reader or of the turns
 own_feeds : (items : List Item) (old new : HostModel) (before after : Option Octets) (fault : HostFault) → is_write_fault (Some fault) ≡ false
@@ -142,7 +142,7 @@ serves_ended turns given old mid new remaining between left before after none no
 
 -- or the host stops at what is read
 pub serves_broken : (result : Result End HostFault) (fault : HostFault) (turns given : ℕ) (octets : Octets) (old mid new : HostModel) (remaining between left before server after : Option Octets)
-    → result ≡ Err fault → comes_of_feeding fault ≡ true → Consumes between left octets → (served : HasServed given old mid remaining between before server)
+    → result ≡ Err fault → is_of_feeding fault ≡ true → Consumes between left octets → (served : HasServed given old mid remaining between before server)
     → Feeds (octet_items octets) mid new server after new.fault → Serves result turns old new remaining left before after
 serves_broken result fault turns given octets old mid new remaining between left before server after answers comes consumed served feeds =
     subst (λ (result : Result End HostFault). Serves result turns old new remaining left before after) (sym answers) (record {
@@ -161,7 +161,7 @@ reads_stopped result fault made turns before after answers counted most over =
     subst (λ (result : Result End HostFault). Reads result turns before after) (sym answers)
     (record { made = made; counted = counted; most = most; told = tt; over = λ is_over. over (err-is is_over) })
 
-pub no_turns : {P : Type 0} (fault : HostFault) → comes_of_feeding fault ≡ true → fault ≡ stop.Turns → P
+pub no_turns : {P : Type 0} (fault : HostFault) → is_of_feeding fault ≡ true → fault ≡ stop.Turns → P
 no_turns fault comes is = absurd (no-turns fault is comes)
 
 -- what a read that failed leaves

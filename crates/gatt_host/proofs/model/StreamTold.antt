@@ -44,10 +44,10 @@ stream-told : (old new : HostModel) (octets : Octets)
     → let packets = (division (run.intake.unfinished ++ octets)).packets in AreKept packets → notices_told new ≡ notices_in run (map APacket packets))
     → TellsOfAll (octet_items octets) old new
 stream-told old new octets told start input sent is none =
-    let at_course : Run = run start input in
-    let no_why = no_fault at_course sent old none is in
-    told at_course sent no_why is (all_kept (at_course.intake.unfinished ++ octets))
-    ∙ sym (tells_of_the_division at_course octets no_why (leaves_less_than_a_packet start input))
+    let at_run : Run = run start input in
+    let no_why = no_fault at_run sent old none is in
+    told at_run sent no_why is (all_kept (at_run.intake.unfinished ++ octets))
+    ∙ sym (tells_of_the_division at_run octets no_why (leaves_less_than_a_packet start input))
 
 module _ (packets : List Packet) (old new : HostModel) (octets : Octets) (ends : EndsIn packets old.stream new.stream octets) where
   divided-into : (run : Run) (sent : List Octets) → run.intake.fault ≡ None → RefinesRun run sent old

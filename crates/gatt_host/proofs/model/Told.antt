@@ -26,11 +26,11 @@ result_told state (Ok event) = refl
 result_told state (Err fault) = refl
 
 -- an item that means the event of a result
-pub told_in_course : {E : Type 0} (item : Item) (run : Run) (sent : List Octets) (old new : HostModel) → old.fault ≡ None
+pub told_in_run : {E : Type 0} (item : Item) (run : Run) (sent : List Octets) (old new : HostModel) → old.fault ≡ None
     → (result : Result Event E) → event_taken run.intake item ≡ event_if result → new.fault ≡ None → RefinesRun run sent old
     → (ServerRefinesRun run sent old.server old.frames → last_notices new.server ≡ noticed_in run.intake.state result)
     → notices_told new ≡ notices_of run item
-told_in_course item run sent old new none result means same is told =
+told_in_run item run sent old new none result means same is told =
     ap (λ (fault : Option HostFault). if is_some fault then [] else last_notices new.server) same
     ∙ told is.refines ∙ result_told run.intake.state result
     ∙ ap (λ (event : Option Event). option_map_or (noticed run.intake.state) event []) (sym means)

@@ -14,7 +14,7 @@ use Rattle.gatt_laws.proofs.Placed.{freed_lacks, placed_before_commands}
 use Rattle.gatt_laws.proofs.Queued.{change-queued, heard-within}
 use Rattle.gatt_laws.proofs.Settled.{none_next, settled_before_commands}
 use Rattle.gatt_laws.specs.machine.Controller.{Slots}
-use Rattle.gatt_laws.specs.machine.Event.{Ordinal, Own, Event, Connected, Gone, Encrypted, Refreshed, Asks, Signals, Of, Completed, Credit, Replaced}
+use Rattle.gatt_laws.specs.machine.Event.{Ordinal, Own, Event, Connected, Disconnected, Encrypted, Refreshed, Asks, OtherChannel, Of, Completed, Credit, Replaced}
 use Rattle.gatt_laws.specs.machine.Heard.{after_hearing}
 use Rattle.gatt_laws.specs.machine.ConnectionState.{ConnectionState, fresh_connection, is_live, is_there, key_of, connection_mtu, with_pdus, after_ending}
 use Rattle.gatt_laws.specs.laws.Possible.{Possible}
@@ -51,7 +51,7 @@ link-same connection step false = refl
 live-same : (shared : SharedState) (bond : Row) (owed : Bool) (connection : ConnectionState) (own : Own) → Same connection (live_effect shared bond owed connection own).connection
 unfolding live_effect
 live-same shared bond owed connection (Asks pdu) = request-same shared bond owed connection pdu
-live-same shared bond owed connection (Signals channel payload) = channel-same shared connection channel (channel_answer channel payload)
+live-same shared bond owed connection (OtherChannel channel payload) = channel-same shared connection channel (channel_answer channel payload)
 live-same shared bond owed connection (Encrypted status enabled) =
     link-same connection (Encryption status enabled) (lost_encryption (key_of connection) (key_of (with_step connection (Encryption status enabled))))
 live-same shared bond owed connection (Refreshed status) = link-same connection (Refresh status) (lost_encryption (key_of connection) (key_of (with_step connection (Refresh status))))
@@ -70,7 +70,7 @@ own-same state at (Connected handle peer) settled may has =
     ap (λ (one : Ordinal). has_slot one state.slots) may.next ∙ none_next state.next state.next state.slots (omega arith) settled.slots in
     let none : 0 ≡ (state.connections at).given = sym (ap (λ (connection : ConnectionState). connection.given) (settled.gone at lacks)) in
     elim (is_there (state.connections at).mark) as (λ (there : Bool). Same (state.connections at) (if there then state.connections at else fresh_connection handle peer)) [ true ↦ refl | false ↦ none ]
-own-same state at Gone settled may has = absurd (clash (sym (freed_lacks at state.slots) ∙ has))
+own-same state at Disconnected settled may has = absurd (clash (sym (freed_lacks at state.slots) ∙ has))
 own-same state at own settled may has = if-live _ _ _ (state.connections at) own (is_live (state.connections at).mark)
 
 completed-same : (ordinal : Ordinal) (entries : List (Ordinal × ℕ)) (connection : ConnectionState) → Same connection (after_packets_completed ordinal entries connection)

@@ -73,13 +73,13 @@ both_brought pdu brought None ends confirms = tt
 both_brought pdu brought (Some slot_state) ends confirms = λ i. record { confirmed = confirms i; ended = ends i }
 
 -- a connection that takes a slot
-pub come_then_heard : (old self : ServerState) → old ≡ self → (place handle : ℕ) (peer : Peer) (share size : ℕ) (known : Bool) (controller : Controller)
-    (slots : List (Option SlotState)) → share ≡ quota_in old → size ≡ fragment_size_in old → known ≡ is_known old.keys peer
-    → slots ≡ at_place place (λ slot. Some (new_slot_state handle peer known old.rx_mtu share size)) old.slots → controller ≡ advertising_after (Connected handle peer) old.controller
+pub come_then_heard : (old self : ServerState) → old ≡ self → (place handle : ℕ) (peer : Peer) (quota size : ℕ) (known : Bool) (controller : Controller)
+    (slots : List (Option SlotState)) → quota ≡ quota_in old → size ≡ fragment_size_in old → known ≡ is_known old.keys peer
+    → slots ≡ at_place place (λ slot. Some (new_slot_state handle peer known old.rx_mtu quota size)) old.slots → controller ≡ advertising_after (Connected handle peer) old.controller
     → with_last (last.Connected handle peer) (after_no_change (record old { controller = controller; slots = slots })) ≡ after_connection_complete place handle peer self
-come_then_heard old self view place handle peer share size known controller slots share-is size-is known-is changes told =
+come_then_heard old self view place handle peer quota size known controller slots quota-is size-is known-is changes told =
     (λ i. with_last (last.Connected handle peer) (after_no_change (record old {
       controller = told i;
-      slots = (changes ∙ (λ j. at_place place (λ slot. Some (new_slot_state handle peer (known-is j) old.rx_mtu (share-is j) (size-is j))) old.slots)) i;
+      slots = (changes ∙ (λ j. at_place place (λ slot. Some (new_slot_state handle peer (known-is j) old.rx_mtu (quota-is j) (size-is j))) old.slots)) i;
     })))
     ∙ ap (λ (server : ServerState). after_connection_complete place handle peer server) view

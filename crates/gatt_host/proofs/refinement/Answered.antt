@@ -63,7 +63,7 @@ module _ (state : State) (server : ServerState) (allowed opcode : ℕ) (status :
         keys = is.keys;
         rx_mtu = is.rx_mtu;
         time = is.time;
-        told = is.told ∙ ap told_in (sym (same-init state.controller allowed opcode status));
+        buffers = is.buffers ∙ ap told_in (sym (same-init state.controller allowed opcode status));
         rows = is.rows;
         keyed = is.keyed;
         controller = ap (λ (controller : Controller). answered_by controller allowed opcode status None) is.controller;
@@ -91,7 +91,7 @@ module _ (state : State) (server : ServerState) (allowed opcode : ℕ) (status :
           keys = is.keys;
           rx_mtu = is.rx_mtu;
           time = is.time;
-          told = refl;
+          buffers = refl;
           rows = is.rows;
           keyed = is.keyed;
           controller = ap (λ (controller : Controller). answered_by controller allowed opcode status (Some init)) is.controller;
@@ -116,7 +116,7 @@ module _ (state : State) (server : ServerState) (allowed opcode : ℕ) (status :
           keys = is.keys;
           rx_mtu = is.rx_mtu;
           time = is.time;
-          told = refl;
+          buffers = refl;
           rows = is.rows;
           keyed = is.keyed;
           controller = ap (λ (controller : Controller). answered_by controller allowed opcode status (Some (Ready told packets))) is.controller;

@@ -74,7 +74,7 @@ stands_at_the_start start server is =
       keys = is.keys;
       rx_mtu = is.rx_mtu;
       time = is.time;
-      told = refl;
+      buffers = refl;
       rows = subst (λ (bonds : Bonds). HoldsBonds start.keys server.rows bonds start.owed) (sym is.bonds)
           (subst (λ (owed : ServiceChangedPending). HoldsBonds start.keys server.rows (bonds_of server.rows) owed) (sym is.owed) (bonds-held start.keys server.rows is.rows is.listed));
       keyed = λ ordinal.

@@ -58,7 +58,7 @@ module _ (state : State) (server : ServerState) (entries : List (Ordinal × ℕ)
         keys = is.keys;
         rx_mtu = is.rx_mtu;
         time = is.time;
-        told = is.told;
+        buffers = is.buffers;
         rows = is.rows;
         keyed = λ ordinal.
             keyed_alike state.shared.keys (state.connections ordinal) (after_packets_completed ordinal entries (state.connections ordinal)) (completed-link ordinal entries (state.connections ordinal)) (is.keyed ordinal);

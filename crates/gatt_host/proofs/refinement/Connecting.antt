@@ -12,10 +12,10 @@ use Rattle.gatt_host.proofs.refinement.Effects.{at_own_peer, bonds_alike}
 use Rattle.gatt_host.specs.declared.last_event.LastEvent.TheVariants as last
 use Rattle.gatt_host.specs.ServerState.{ServerState, server_slot_at, disconnected_event, after_connection_complete, after_disconnection_complete, quota_in, fragment_size_in}
 use Rattle.gatt_host.specs.Owing.{all_given, slot_state_handed}
-use Rattle.gatt_host.specs.StateRefinement.{HasKeysOfItsPeer, slots_told, RefinesStep, RefinesState, IsSound}
+use Rattle.gatt_host.specs.StateRefinement.{HasKeysOfItsPeer, slots_with_buffers, RefinesStep, RefinesState, IsSound}
 use Rattle.gatt_laws.proofs.Settled.{none_next}
 use Rattle.gatt_laws.specs.machine.Controller.{Controller, Slots, has_free, is_ready, with_freed, with_taken}
-use Rattle.gatt_laws.specs.machine.Event.{Ordinal, Of, Connected, Gone}
+use Rattle.gatt_laws.specs.machine.Event.{Ordinal, Of, Connected, Disconnected}
 use Rattle.gatt_laws.specs.machine.Notice as notice
 use Rattle.gatt_laws.specs.machine.Notice.{noticed}
 use Rattle.gatt_laws.specs.machine.ConnectionState as laws
@@ -62,7 +62,7 @@ module _ (state : State) (server : ServerState) (place : ℕ) (ordinal : Ordinal
   is = holds state server refines
 
   abbrev without_it : ServerState
-  without_it = record server { controller = advertising_after Gone server.controller; slots = at_place place (λ slot. None) server.slots }
+  without_it = record server { controller = advertising_after Disconnected server.controller; slots = at_place place (λ slot. None) server.slots }
 
   ready : is_ready state.controller ≡ true
   ready = ready_where state sound.settled place ordinal there
@@ -79,10 +79,10 @@ module _ (state : State) (server : ServerState) (place : ℕ) (ordinal : Ordinal
       ∙ ap (λ slot. set (map keep state.slots) place slot) (sym none)
       ∙ one_freed keep after (sym none) state.next state.slots place ordinal sound.settled.slots there (λ other has differs. others other differs)
 
-  going-holds : Holds (change_of state (Of ordinal Gone)).state (all_given state) without_it
+  going-holds : Holds (change_of state (Of ordinal Disconnected)).state (all_given state) without_it
   unfolding change_of
   going-holds =
-      let new : State = (change_of state (Of ordinal Gone)).state in
+      let new : State = (change_of state (Of ordinal Disconnected)).state in
       let peer : Peer = (state.connections ordinal).peer in
       record {
         table = is.table;
@@ -90,7 +90,7 @@ module _ (state : State) (server : ServerState) (place : ℕ) (ordinal : Ordinal
         keys = is.keys;
         rx_mtu = is.rx_mtu;
         time = is.time;
-        told = is.told;
+        buffers = is.buffers;
         rows = bonds_alike state.shared.keys server.rows state.bonds new.bonds state.owed new.owed
             (λ other. at_own_peer peer other (state.bonds peer) state.bonds refl) (λ other. at_own_peer peer other (state.owed peer) state.owed refl) is.rows;
         keyed = λ other.
@@ -98,7 +98,7 @@ module _ (state : State) (server : ServerState) (place : ℕ) (ordinal : Ordinal
               | true ↦ keyed_anew state.shared.keys no_connection refl
               | false ↦ is.keyed other
             ];
-        controller = ap (advertising_after Gone) is.controller;
+        controller = ap (advertising_after Disconnected) is.controller;
         free = λ early. absurd (clash (sym early ∙ ready));
         ready = λ now. placed-length server.slots place (λ slot. None) (slice_get server.slots place) ∙ is.ready ready;
         slots = ap (λ (open_now : Bool). if open_now then at_place place (λ slot. None) server.slots else []) (ap is_ready is.controller ∙ ready)
@@ -106,17 +106,17 @@ module _ (state : State) (server : ServerState) (place : ℕ) (ordinal : Ordinal
             ap (λ (same : Bool). slot_state_if_there state.shared (if same then no_connection else state.connections other) (state.connections other).given) (sym differs));
       }
 
-  pub going_leads : RefinesStep state (Of ordinal Gone) (after_disconnection_complete place server)
+  pub going_leads : RefinesStep state (Of ordinal Disconnected) (after_disconnection_complete place server)
   unfolding change_of
   going_leads =
-      ends_with state (Of ordinal Gone) sound tt without_it going-holds None [] []
+      ends_with state (Of ordinal Disconnected) sound tt without_it going-holds None [] []
       (none_raised_at state.shared.table state.shared.time (with_freed ordinal state.slots) ordinal [] [] refl refl)
       (option_map_or disconnected_event (server_slot_at server place) last.Quiet) (gone_told state server place ordinal sound refines there (after_disconnection_complete place server))
 
 -- one comes
-share-kept : (slots : ℕ) (told : Option Buffers) → quota_of (slots_told slots told) told ≡ quota_of slots told
-share-kept slots None = refl
-share-kept slots (Some buffers) =
+quota-kept : (slots : ℕ) (buffers : Option Buffers) → quota_of (slots_with_buffers slots buffers) buffers ≡ quota_of slots buffers
+quota-kept slots None = refl
+quota-kept slots (Some buffers) =
     let same : min (min slots buffers.packets) buffers.packets ≡ min slots buffers.packets = omega arith in
     ap (λ (count : ℕ). buffers.packets / count) same
 
@@ -161,16 +161,16 @@ module _ (state : State) (server : ServerState) (place handle : ℕ) (peer : Pee
   coming-kept : slot_state_if_there state.shared coming_part (state.connections next).given ≡ Some newcomer
   coming-kept =
       (λ i. slot_state_if_there state.shared (coming-is i) (nobody-yet i).given)
-      ∙ λ i. Some (new_slot_state handle peer (is_known (sym came-is.keys i) peer) (sym came-is.rx_mtu i) (share-is i) (size-is i))
+      ∙ λ i. Some (new_slot_state handle peer (is_known (sym came-is.keys i) peer) (sym came-is.rx_mtu i) (quota-is i) (size-is i))
     where
-      told-is : told_in server.controller.init ≡ state.shared.buffers
-      told-is = ap (λ (controller : Controller). told_in controller.init) came-is.controller ∙ sym came-is.told
+      buffers-is : told_in server.controller.init ≡ state.shared.buffers
+      buffers-is = ap (λ (controller : Controller). told_in controller.init) came-is.controller ∙ sym came-is.buffers
 
-      share-is : quota_of state.shared.slots state.shared.buffers ≡ quota_in server
-      share-is = sym (share-kept state.shared.slots state.shared.buffers) ∙ λ i. quota_of (sym (came-is.ready came-ready) i) (sym told-is i)
+      quota-is : quota_of state.shared.slots state.shared.buffers ≡ quota_in server
+      quota-is = sym (quota-kept state.shared.slots state.shared.buffers) ∙ λ i. quota_of (sym (came-is.ready came-ready) i) (sym buffers-is i)
 
       size-is : fragment_size_of state.shared.buffers ≡ fragment_size_in server
-      size-is = ap fragment_size_of (sym told-is)
+      size-is = ap fragment_size_of (sym buffers-is)
 
   others-differ : (other : Ordinal) → has_slot other state.slots ≡ true → (other == next) ≡ false
   others-differ other has = elim (other == next) as (λ (is : Bool). (other == next) ≡ is → is ≡ false) [
@@ -206,7 +206,7 @@ module _ (state : State) (server : ServerState) (place handle : ℕ) (peer : Pee
         keys = came-is.keys;
         rx_mtu = came-is.rx_mtu;
         time = came-is.time;
-        told = came-is.told;
+        buffers = came-is.buffers;
         rows = bonds_alike state.shared.keys server.rows state.bonds new.bonds state.owed new.owed
             (λ other. at_own_peer old other (state.bonds old) state.bonds refl) (λ other. at_own_peer old other (state.owed old) state.owed refl) came-is.rows;
         keyed = λ other.

@@ -110,7 +110,7 @@ module _ (state : State) (server : ServerState) (is : Holds state (all_given sta
     keys = is.keys;
     rx_mtu = is.rx_mtu;
     time = is.time;
-    told = is.told;
+    buffers = is.buffers;
     rows = rows_are;
     keyed = keyed-turned keyed;
     controller = is.controller;

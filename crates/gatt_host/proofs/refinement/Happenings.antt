@@ -11,7 +11,7 @@ use Rattle.gatt_host.proofs.refinement.Holding.{Holds, holds}
 use Rattle.gatt_host.proofs.refinement.Links.{encryption_leads, refresh_leads}
 use Rattle.gatt_host.proofs.refinement.Names.{knows_the_same, place_there}
 use Rattle.gatt_host.proofs.refinement.OwnEvents.{authorized_leads, disconnected_leads, key_asked_leads}
-use Rattle.gatt_host.proofs.refinement.OwnEvents.{signal_leads}
+use Rattle.gatt_host.proofs.refinement.OwnEvents.{other_channel_leads}
 use Rattle.gatt_host.proofs.refinement.Replacements.{replacement_leads}
 use Rattle.gatt_host.proofs.refinement.Requests.{request_leads}
 use Rattle.gatt_host.proofs.refinement.Effects.{kept_here}
@@ -23,8 +23,8 @@ use Rattle.gatt_host.specs.StateRefinement.{IsServing, IsSound, RefinesStep, Ref
 use Rattle.gatt_laws.specs.laws.Possible.{IsMeant, ServesInASlot}
 use Rattle.gatt_laws.specs.laws.Renaming.{renamed}
 use Rattle.gatt_laws.specs.machine.Controller.{has_free}
-use Rattle.gatt_laws.specs.machine.Event.{Ordinal, Event, Of, Connected, Gone, KeyAsked, Encrypted}
-use Rattle.gatt_laws.specs.machine.Event.{Refreshed, Asks, Signals, Authorized, Ended, Completed}
+use Rattle.gatt_laws.specs.machine.Event.{Ordinal, Event, Of, Connected, Disconnected, KeyAsked, Encrypted}
+use Rattle.gatt_laws.specs.machine.Event.{Refreshed, Asks, OtherChannel, Authorized, Ended, Completed}
 use Rattle.gatt_laws.specs.machine.Event.{Credit, Update, Tick, Replaced, Nothing}
 use Rattle.gatt_laws.specs.machine.ConnectionState.{ConnectionState}
 use Rattle.gatt_laws.specs.machine.State.{State}
@@ -66,7 +66,7 @@ module _ (state : State) (server : ServerState) (sound : IsSound state) (refines
       (after_connection_complete (place_of_connection state ordinal) handle peer server)
   came-leads ordinal handle peer next free =
       let found : place_free server.slots ≡ Some (place_of_connection state state.next) =
-      (knows_the_same state server sound refines).coming (ready_where_free state sound free)
+      (knows_the_same state server sound refines).next_free (ready_where_free state sound free)
       ∙ ap (λ (free : Bool). option_map (place_of_connection state) (if free then Some state.next else None))
       free in
       subst (λ (one : Ordinal). RefinesStep state (Of one (Connected handle peer))
@@ -82,7 +82,7 @@ module _ (state : State) (server : ServerState) (sound : IsSound state) (refines
       → IsAfter (renamed (place_of_connection state) event) server new → RefinesStep state event new
   event-leads (Of ordinal (Connected handle peer)) new meant after =
       leads-by after (came-leads ordinal handle peer meant.may.next meant.may.free)
-  event-leads (Of ordinal Gone) new meant after =
+  event-leads (Of ordinal Disconnected) new meant after =
       leads-by after (going_leads state server (place_of_connection state ordinal) ordinal sound refines
       (place_there state server sound refines ordinal meant))
   event-leads (Of ordinal (KeyAsked random_number diversifier)) new meant after =
@@ -96,8 +96,8 @@ module _ (state : State) (server : ServerState) (sound : IsSound state) (refines
       (serves-there ordinal meant) status)
   event-leads (Of ordinal (Asks pdu)) new meant after =
       asked-leads (place_of_connection state ordinal) ordinal pdu new (serves-there ordinal meant) after
-  event-leads (Of ordinal (Signals channel payload)) new meant after =
-      leads-by after (signal_leads state server (place_of_connection state ordinal) ordinal sound refines
+  event-leads (Of ordinal (OtherChannel channel payload)) new meant after =
+      leads-by after (other_channel_leads state server (place_of_connection state ordinal) ordinal sound refines
       (serves-there ordinal meant) channel payload)
   event-leads (Of ordinal (Authorized until)) new meant after =
       leads-by after (authorized_leads state server (place_of_connection state ordinal) ordinal sound refines

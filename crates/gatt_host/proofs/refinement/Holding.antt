@@ -12,7 +12,7 @@ use Rattle.gatt_host.specs.ServerState.{ServerState, open_slots, server_after_ev
 use Rattle.gatt_host.specs.Owing.{Handed, all_given, slot_state_handed, slot_states_handed, IsOwing, IsAllSent, SendsTheNext}
 use Rattle.gatt_host.specs.declared.last_event.LastEvent.{LastEvent}
 use Rattle.gatt_host.specs.Notices.{notices_by}
-use Rattle.gatt_host.specs.StateRefinement.{bond_in, HoldsBonds, HasKeysOfItsPeer, slots_told, RefinesState, IsSound, RefinesStep}
+use Rattle.gatt_host.specs.StateRefinement.{bond_in, HoldsBonds, HasKeysOfItsPeer, slots_with_buffers, RefinesState, IsSound, RefinesStep}
 use Rattle.gatt_laws.proofs.Queued.{change-queued}
 use Rattle.gatt_laws.specs.machine.Controller.{Controller, Slots, is_ready, command_of_init, count_before, without_command}
 use Rattle.gatt_laws.specs.machine.Event.{Ordinal, Event}
@@ -44,12 +44,12 @@ pub record Holds (state : State) (handed : Handed) (server : ServerState) : Type
   pub keys : server.keys ≡ state.shared.keys
   pub rx_mtu : server.rx_mtu ≡ state.shared.rx_mtu
   pub time : server.time ≡ state.shared.time
-  pub told : state.shared.buffers ≡ told_in state.controller.init
+  pub buffers : state.shared.buffers ≡ told_in state.controller.init
   pub rows : HoldsBonds state.shared.keys server.rows state.bonds state.owed
   pub keyed : (ordinal : Ordinal) → HasKeysOfItsPeer state.shared.keys (state.connections ordinal)
   pub controller : server.controller ≡ state.controller
   pub free : is_ready state.controller ≡ false → server.slots ≡ replicate state.shared.slots None
-  pub ready : is_ready state.controller ≡ true → length server.slots ≡ slots_told state.shared.slots state.shared.buffers
+  pub ready : is_ready state.controller ≡ true → length server.slots ≡ slots_with_buffers state.shared.slots state.shared.buffers
   pub slots : open_slots server ≡ slot_states_handed state handed
 
 pub some-is : {A : Type 0} {x y : A} → Some x ≡ Some y → x ≡ y
@@ -75,7 +75,7 @@ holds state server refines = record {
   keys = refines.keys;
   rx_mtu = refines.rx_mtu;
   time = refines.time;
-  told = refines.told;
+  buffers = refines.buffers;
   rows = refines.rows;
   keyed = refines.keyed;
   controller = (all_done state server.controller (open_slots server) refines.owing).controller_is;
@@ -93,7 +93,7 @@ holds_with_written state handed server written is = record {
   keys = is.keys;
   rx_mtu = is.rx_mtu;
   time = is.time;
-  told = is.told;
+  buffers = is.buffers;
   rows = is.rows;
   keyed = is.keyed;
   controller = is.controller;
@@ -115,7 +115,7 @@ stands_with_last state owed server last is = record {
   keys = is.keys;
   rx_mtu = is.rx_mtu;
   time = is.time;
-  told = is.told;
+  buffers = is.buffers;
   rows = is.rows;
   keyed = is.keyed;
   free = is.free;
@@ -297,7 +297,7 @@ module _ (state : State) (event : Event) (sound : IsSound state) (possible : Pos
     keys = is.keys;
     rx_mtu = is.rx_mtu;
     time = is.time;
-    told = is.told;
+    buffers = is.buffers;
     rows = is.rows;
     keyed = keyed-then;
     free = λ early. ap (heard_from 0 hear) (is.free early) ∙ heard_free hear (λ place. refl) 0 changed.shared.slots;

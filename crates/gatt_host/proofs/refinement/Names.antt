@@ -160,5 +160,5 @@ knows_the_same state server sound refines =
       holding = λ ready handle.
           named state server sound refines (holding state handle) (place_holding server.slots handle)
           (finds-holder state server sound refines ready handle);
-      coming = λ ready. comes-to state server sound refines ready (has_free state.slots) refl;
+      next_free = λ ready. comes-to state server sound refines ready (has_free state.slots) refl;
     }

@@ -7,18 +7,18 @@ use Rattle.std.specs.Option.{option_map, option_map_or}
 use Rattle.gatt_host.proofs.owing.Nexts.{clash}
 use Rattle.gatt_host.proofs.refinement.Holding.{Holds, ends, ends_with, holds, keyed_alike, SameLink}
 use Rattle.gatt_host.proofs.refinement.OneSlot.{none_raised_at}
-use Rattle.gatt_host.proofs.refinement.Told.{authorized_told, disconnected_told, key_asked_told, signal_told}
+use Rattle.gatt_host.proofs.refinement.Told.{authorized_told, disconnected_told, key_asked_told, other_channel_told}
 use Rattle.gatt_host.proofs.refinement.Effects.{holds_alone}
 use Rattle.gatt_host.specs.declared.last_event.LastEvent.TheVariants as last
 use Rattle.gatt_host.specs.ServerState.{ServerState, server_slot_at, end_event, other_channel_event, after_authorize, after_ask_key, after_disconnect, server_after_other_channel}
 use Rattle.gatt_slots.specs.Slots.{slots_at}
 use Rattle.gatt_host.specs.Owing.{all_given}
 use Rattle.gatt_host.specs.StateRefinement.{HasKeysOfItsPeer, IsServing, RefinesStep, RefinesState, IsSound}
-use Rattle.gatt_laws.specs.machine.Event.{Ordinal, Own, Of, Authorized, Ended, KeyAsked, Signals}
+use Rattle.gatt_laws.specs.machine.Event.{Ordinal, Own, Of, Authorized, Ended, KeyAsked, OtherChannel}
 use Rattle.gatt_laws.specs.machine.ConnectionState.{ConnectionState, is_live, is_there, with_pdus, after_ending}
 use Rattle.gatt_laws.specs.machine.State.{State, change_of}
 use Rattle.gatt_laws.specs.machine.Effect.{Effect, live_effect, effect_of, effect_on_connection, with_key_asked, after_other_channel, channel_answer, is_full, remote_user_terminated}
-use Rattle.gatt_slots.proofs.states.Effects.{authorized_kept, disconnected_kept, key_asked_kept, live_turned, signal_kept}
+use Rattle.gatt_slots.proofs.states.Effects.{authorized_kept, disconnected_kept, key_asked_kept, live_turned, other_channel_kept}
 use Rattle.gatt_slots.specs.SlotState.{SlotState, slot_state_of, slot_state_if_there}
 use Rattle.gatt_slots.specs.SlotEffects.{after_authorizing, slot_after_ending, after_key_asked, slot_after_other_channel}
 use Rattle.le_hci.specs.declared.peer.Peer.{Peer}
@@ -166,22 +166,22 @@ module _ (state : State) (server : ServerState) (place : ℕ) (ordinal : Ordinal
         | false ↦ (refl, refl)
       ]
 
-  signal-holds : (channel : ℕ) (payload : Octets) → Holds (change_of state (Of ordinal (Signals channel payload))).state (all_given state)
+  other_channel-holds : (channel : ℕ) (payload : Octets) → Holds (change_of state (Of ordinal (OtherChannel channel payload))).state (all_given state)
       (record server { slots = slots_at place (slot_after_other_channel channel payload) server.slots })
   unfolding change_of live_effect
-  signal-holds channel payload =
-      let own : Own = Signals channel payload in
+  other_channel-holds channel payload =
+      let own : Own = OtherChannel channel payload in
       holds_alone state server (holds state server refines) sound.settled place ordinal serving.there (effect own) (slot_after_other_channel channel payload)
       (ap (λ (effect : Effect). effect.values) (turn-is own)) (ap (λ (effect : Effect). effect.bond) (turn-is own)) (ap (λ (effect : Effect). effect.owed) (turn-is own))
       (keyed-by own (keyed_alike state.shared.keys connection (live own).connection (channel-link channel (channel_answer channel payload)) is-keyed))
-      (signal_kept state.shared (state.bonds connection.peer) (state.owed connection.peer) connection serving.live (sound.queued ordinal) channel payload)
+      (other_channel_kept state.shared (state.bonds connection.peer) (state.owed connection.peer) connection serving.live (sound.queued ordinal) channel payload)
 
-  pub signal_leads : (channel : ℕ) (payload : Octets)
-      → RefinesStep state (Of ordinal (Signals channel payload)) (server_after_other_channel place channel payload server)
+  pub other_channel_leads : (channel : ℕ) (payload : Octets)
+      → RefinesStep state (Of ordinal (OtherChannel channel payload)) (server_after_other_channel place channel payload server)
   unfolding change_of live_effect
-  signal_leads channel payload =
-      let own : Own = Signals channel payload in
-      ends_with state (Of ordinal own) sound tt (record server { slots = slots_at place (slot_after_other_channel channel payload) server.slots }) (signal-holds channel payload) None [] []
+  other_channel_leads channel payload =
+      let own : Own = OtherChannel channel payload in
+      ends_with state (Of ordinal own) sound tt (record server { slots = slots_at place (slot_after_other_channel channel payload) server.slots }) (other_channel-holds channel payload) None [] []
       (none_raised_at (record state.shared.table { values = (effect own).values }) state.shared.time state.slots ordinal (effect own).to_notify_here (effect own).to_notify
       (ap (λ (effect : Effect). effect.to_notify_here) (turn-is own)) (ap (λ (effect : Effect). effect.to_notify) (turn-is own)))
-      (option_map_or (other_channel_event channel payload) (server_slot_at server place) last.Quiet) (signal_told state server place ordinal sound refines serving channel payload (server_after_other_channel place channel payload server))
+      (option_map_or (other_channel_event channel payload) (server_slot_at server place) last.Quiet) (other_channel_told state server place ordinal sound refines serving channel payload (server_after_other_channel place channel payload server))

@@ -102,7 +102,7 @@ module _ (state : State) (server : ServerState) (table : Contents) (sound : IsSo
         keys = is.keys;
         rx_mtu = is.rx_mtu;
         time = is.time;
-        told = is.told;
+        buffers = is.buffers;
         rows = subst (λ (old : Contents). HoldsBonds state.shared.keys (rows_replaced old table server.rows) new.bonds new.owed) (sym is.table)
             (bonds-replaced state.shared.keys server.rows state.bonds state.owed state.shared.table table is.rows);
         keyed = λ ordinal.

@@ -13,7 +13,8 @@ use Rattle.gatt_host.specs.Notices.{link_change_told, notices_by}
 use Rattle.gatt_host.specs.Owing.{all_given, slot_state_handed}
 use Rattle.gatt_host.specs.StateRefinement.{IsServing, IsSound, RefinesState}
 use Rattle.gatt_laws.specs.machine.Controller.{Slots, is_ready}
-use Rattle.gatt_laws.specs.machine.Event.{Ordinal, Own, Of, Gone, Authorized, Ended, KeyAsked, Encrypted, Refreshed, Signals, Tick}
+use Rattle.gatt_laws.specs.machine.Event.{Ordinal, Own, Of, Authorized, Ended, KeyAsked, Encrypted, Refreshed, OtherChannel, Tick}
+use Rattle.gatt_laws.specs.machine.Event as event
 use Rattle.gatt_laws.specs.machine.Notice.{Notice, Disconnected, TimedOut, Ending, end_told, late_told, link_told, noticed, slot_told}
 use Rattle.gatt_laws.specs.machine.ConnectionState.{ConnectionState, is_live, is_there, key_of, after_ending, with_pdus}
 use Rattle.gatt_laws.specs.laws.Settled.{has_slot}
@@ -101,11 +102,11 @@ module _ (state : State) (server : ServerState) (place : ℕ) (ordinal : Ordinal
         | false ↦ sym (serves-on connection.handle queued serving.live)
       ]
 
-  pub signal_told : (channel : ℕ) (payload : Octets) (any : ServerState)
-      → notices_by any (option_map_or (other_channel_event channel payload) (server_slot_at server place) last.Quiet) ≡ noticed state (Of ordinal (Signals channel payload))
+  pub other_channel_told : (channel : ℕ) (payload : Octets) (any : ServerState)
+      → notices_by any (option_map_or (other_channel_event channel payload) (server_slot_at server place) last.Quiet) ≡ noticed state (Of ordinal (OtherChannel channel payload))
   unfolding noticed live_effect
-  signal_told channel payload any =
-      let own : Own = Signals channel payload in
+  other_channel_told channel payload any =
+      let own : Own = OtherChannel channel payload in
       ap (notices_by any) (event-is (other_channel_event channel payload))
       ∙ channel-told any channel (channel_answer channel payload)
       ∙ sym (if-live (end_told connection.handle (effect own).connection) ∙ end-is (effect own) (live own) (turn-is own))
@@ -159,14 +160,14 @@ module _ (state : State) (server : ServerState) (place : ℕ) (ordinal : Ordinal
 -- a connection is gone
 pub gone_told : (state : State) (server : ServerState) (place : ℕ) (ordinal : Ordinal) → IsSound state → RefinesState state [] server
     → slice_get state.slots place ≡ Some (Some ordinal) → (any : ServerState)
-    → notices_by any (option_map_or disconnected_event (server_slot_at server place) last.Quiet) ≡ noticed state (Of ordinal Gone)
+    → notices_by any (option_map_or disconnected_event (server_slot_at server place) last.Quiet) ≡ noticed state (Of ordinal event.Disconnected)
 unfolding noticed
 gone_told state server place ordinal sound refines there any =
     let connection : ConnectionState = state.connections ordinal in
     let has : is_there connection.mark ≡ true = sound.placed.there ordinal (has_slot_there ordinal state.slots place there) in
     ap (λ (slot : Option SlotState). notices_by any (option_map_or disconnected_event slot last.Quiet))
     (kept_at_place state server (holds state server refines) sound.settled place ordinal there
-    (effect_of state.shared (state.bonds connection.peer) (state.owed connection.peer) connection Gone) (λ slot_state. slot_state) has)
+    (effect_of state.shared (state.bonds connection.peer) (state.owed connection.peer) connection event.Disconnected) (λ slot_state. slot_state) has)
     ∙ ap (λ (is : Bool). if is then Disconnected connection.handle ∷ [] else []) (sym has)
 
 -- the time is told: slot by slot, the connections that it times out

@@ -56,7 +56,7 @@ tablet_first =
 -- what the phone sees
 seen_by_the_phone : View
 seen_by_the_phone = record {
-  told = Some (record { length = 27; packets = 4 });
+  buffers = Some (record { length = 27; packets = 4 });
   items =
       Happens (Connected 0x40 phone)
       ∷ Happens (Asks subscribes)

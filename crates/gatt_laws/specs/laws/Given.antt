@@ -13,13 +13,17 @@ use Rattle.le_acl.specs.Packets.{packets_of}
 use Rattle.le_hci.specs.declared.buffers.Buffers.{Buffers}
 use Rattle.octets.specs.Number.{Octets}
 
--- at an event, at events in their order, and by an input
+-- what is given at each of some events, in their order
+abbrev pub packets_in : (State → Event → List Octets) → State → List Event → List Octets
+packets_in given state [] = []
+packets_in given state (event ∷ events) = given state event ++ packets_in given (step state event) events
+
+-- to a connection at an event, at events in their order, and by an input
 abbrev pub packets_at : Ordinal → State → Event → List Octets
 packets_at ordinal state event = slot_out state (before_commands state event) (Some ordinal)
 
 abbrev pub packets_given_in_order : Ordinal → State → List Event → List Octets
-packets_given_in_order ordinal state [] = []
-packets_given_in_order ordinal state (event ∷ events) = packets_at ordinal state event ++ packets_given_in_order ordinal (step state event) events
+packets_given_in_order ordinal = packets_in (packets_at ordinal)
 
 abbrev pub packets_to : Ordinal → Start → List Item → List Octets
 packets_to ordinal start input = packets_given_in_order ordinal (state_at start) (events_of start input)
@@ -36,7 +40,7 @@ BringsWhatItGives = (state : State) (event : Event) →
 
 -- the packets of what was queued, as many as count as given
 abbrev pub packets_given_by_now : Option Buffers → ConnectionState → List Octets
-packets_given_by_now told connection = map (acl_octets connection.handle) (take connection.given (packets_of (fragment_size_of told) connection.pdus))
+packets_given_by_now buffers connection = map (acl_octets connection.handle) (take connection.given (packets_of (fragment_size_of buffers) connection.pdus))
 
 -- the packets that were given to a connection that is there are these
 abbrev pub IsGivenTheFront : Type 0

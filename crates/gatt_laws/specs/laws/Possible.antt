@@ -8,7 +8,7 @@ use Rattle.gatt_laws.specs.laws.Settled.{has_slot}
 use Rattle.gatt_laws.specs.machine.Calls.{has_length}
 use Rattle.gatt_laws.specs.machine.Context.{holding}
 use Rattle.gatt_laws.specs.machine.Controller.{Slots, has_free, is_ready}
-use Rattle.gatt_laws.specs.machine.Event.{Ordinal, Own, Event, Connected, Gone, Of, Completed}
+use Rattle.gatt_laws.specs.machine.Event.{Ordinal, Own, Event, Connected, Disconnected, Of, Completed}
 use Rattle.gatt_laws.specs.machine.Event.{Credit, Update, Tick, Replaced, Nothing}
 use Rattle.gatt_laws.specs.machine.Input.{Item, AnOctet, APacket, ACall, ATable, TheEnd}
 use Rattle.gatt_laws.specs.machine.ConnectionState.{is_live}
@@ -55,7 +55,7 @@ pub record ServesInASlot (state : State) (ordinal : Ordinal) : Type 0 where
 
 abbrev pub OwnIsMeant : State → Ordinal → Own → Type 0
 OwnIsMeant state ordinal (Connected handle peer) = ConnectsUnusedNext state ordinal handle
-OwnIsMeant state ordinal Gone = has_slot ordinal state.slots ≡ true
+OwnIsMeant state ordinal Disconnected = has_slot ordinal state.slots ≡ true
 OwnIsMeant state ordinal own = ServesInASlot state ordinal
 
 abbrev pub HaveSlots : Slots → List (Ordinal × ℕ) → Type 0

@@ -10,7 +10,7 @@ use Rattle.att_writes.specs.Entry.{Entry}
 use Rattle.gatt_conn.specs.Answer.{conn_after}
 use Rattle.gatt_conn.specs.Connection.{Bearer, mtu_between}
 use Rattle.gatt_conn.specs.Transcript.{first_exchange, exchange_asked}
-use Rattle.gatt_laws.specs.machine.Event.{Ordinal, Own, Event, Connected, Gone, KeyAsked, Encrypted, Refreshed, Asks, Authorized, Of, Tick, Replaced}
+use Rattle.gatt_laws.specs.machine.Event.{Ordinal, Own, Event, Connected, Disconnected, KeyAsked, Encrypted, Refreshed, Asks, Authorized, Of, Tick, Replaced}
 use Rattle.gatt_laws.specs.machine.ConnectionState.{Mark, Absent, Live, Ending, ConnectionState, no_connection, is_live, is_there, prepared_of}
 use Rattle.gatt_laws.specs.machine.SharedState.{SharedState}
 use Rattle.gatt_laws.specs.machine.Input.{Item, run}
@@ -104,7 +104,7 @@ prepares_nothing old mark peer = record old { mark = mark; peer = peer; until = 
 
 abbrev pub preparing_after_own : Preparing → Own → Preparing
 preparing_after_own old (Connected handle peer) = if is_there old.mark then old else prepares_nothing old Live peer
-preparing_after_own old Gone = prepares_nothing old Absent no_connection.peer
+preparing_after_own old Disconnected = prepares_nothing old Absent no_connection.peer
 preparing_after_own old own = if is_live old.mark then while_serving old own else old
 
 unfoldable pub after_concern : Preparing → Concern → Preparing

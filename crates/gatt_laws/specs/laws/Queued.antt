@@ -10,10 +10,10 @@ use Rattle.le_acl.specs.Packets.{fragments_of, total, rest}
 
 -- at most 16 PDUs wait; of the packets of what was queued some are given, no more than a quota beyond those that are done,
 -- and of these some are done
-pub record IsWithinBounds (share size : ℕ) (connection : ConnectionState) : Type 0 where
+pub record IsWithinBounds (quota size : ℕ) (connection : ConnectionState) : Type 0 where
   pub few : length (rest connection.given (map (fragments_of size) connection.pdus)) ≤ most_pdus
   pub given : connection.given ≤ total size connection.pdus
-  pub within : connection.given ≤ share + connection.done
+  pub within : connection.given ≤ quota + connection.done
   pub done : connection.done ≤ connection.given
 
 abbrev pub HasBoundedQueues : State → Type 0

@@ -39,7 +39,7 @@ pub record AreAlike (C D : Type 0) (names : C → D) (one : Context C) (other : 
   pub serving : (handle : ℕ) → other.serving handle ≡ option_map names (one.serving handle)
   pub holding : is_ready one.controller ≡ true → (handle : ℕ)
       → other.holding handle ≡ option_map names (one.holding handle)
-  pub coming : is_ready one.controller ≡ true → other.coming ≡ option_map names one.coming
+  pub next_free : is_ready one.controller ≡ true → other.next_free ≡ option_map names one.next_free
 
 -- so a call and a table mean the same
 abbrev pub CallsMeanTheSame : Type 1

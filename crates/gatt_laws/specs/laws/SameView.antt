@@ -28,8 +28,8 @@ without_commands connection = record connection { reply = None; reason = None }
 
 -- of a connection of a peer, once the controller has told its buffers
 abbrev pub seen_of : Option Buffers → Peer → Ordinal → State → Seen
-seen_of told peer ordinal state = record {
-  shared = record state.shared { buffers = told };
+seen_of buffers peer ordinal state = record {
+  shared = record state.shared { buffers = buffers };
   bond = state.bonds peer;
   owed = state.owed peer;
   connection = without_commands (state.connections ordinal);
@@ -41,57 +41,57 @@ IsIndicated pending = is_some pending.unconfirmed ≡ false → pending.waiting 
 
 -- a connection that is there is of this peer, and the controller has told these buffers; of one that is not, nothing is
 -- kept; no indication waits that nothing holds back; and all that may be given is given
-pub record IsKnown (told : Option Buffers) (peer : Peer) (ordinal : Ordinal) (state : State) : Type 0 where
+pub record IsKnown (buffers : Option Buffers) (peer : Peer) (ordinal : Ordinal) (state : State) : Type 0 where
   pub peers : is_there (state.connections ordinal).mark ≡ true → (state.connections ordinal).peer ≡ peer
-  pub buffers : is_there (state.connections ordinal).mark ≡ true → state.shared.buffers ≡ told
+  pub told : is_there (state.connections ordinal).mark ≡ true → state.shared.buffers ≡ buffers
   pub gone : is_there (state.connections ordinal).mark ≡ false → state.connections ordinal ≡ no_connection
   pub released : IsIndicated (state.connections ordinal).pending
   pub given : IsAllGiven state.shared (state.connections ordinal)
 
 -- an event of which a connection sees nothing leaves what decides, and gives it nothing
-pub record LeavesAlone (told : Option Buffers) (peer : Peer) (ordinal : Ordinal) (state : State) (event : Event) : Type 0 where
-  pub seen : seen_of told peer ordinal (step state event) ≡ seen_of told peer ordinal state
+pub record LeavesAlone (buffers : Option Buffers) (peer : Peer) (ordinal : Ordinal) (state : State) (event : Event) : Type 0 where
+  pub seen : seen_of buffers peer ordinal (step state event) ≡ seen_of buffers peer ordinal state
   pub packets : packets_at ordinal state event ≡ []
 
 abbrev pub LeavesWhoSeesNothing : Type 0
-LeavesWhoSeesNothing = (told : Option Buffers) (peer : Peer) (ordinal : Ordinal) (state : State) (event : Event)
-    → IsKnown told peer ordinal state → IsKnown told peer ordinal (step state event)
-    → shown peer ordinal state event ≡ None → LeavesAlone told peer ordinal state event
+LeavesWhoSeesNothing = (buffers : Option Buffers) (peer : Peer) (ordinal : Ordinal) (state : State) (event : Event)
+    → IsKnown buffers peer ordinal state → IsKnown buffers peer ordinal (step state event)
+    → shown peer ordinal state event ≡ None → LeavesAlone buffers peer ordinal state event
 
 -- events of which two connections see the same, where the same decides, leave that the same, and give the same packets
-pub record DoesTheSame (told : Option Buffers) (peer : Peer) (one other : Ordinal) (state another : State) (event further : Event)
+pub record DoesTheSame (buffers : Option Buffers) (peer : Peer) (one other : Ordinal) (state another : State) (event further : Event)
     : Type 0 where
-  pub seen : seen_of told peer one (step state event) ≡ seen_of told peer other (step another further)
+  pub seen : seen_of buffers peer one (step state event) ≡ seen_of buffers peer other (step another further)
   pub packets : packets_at one state event ≡ packets_at other another further
 
 abbrev pub DoesTheSameToWhoSeesTheSame : Type 0
 DoesTheSameToWhoSeesTheSame =
-    (told : Option Buffers) (peer : Peer) (one other : Ordinal) (state another : State) (event further : Event) (item : ShownEvent)
-    → IsKnown told peer one state → IsKnown told peer one (step state event)
-    → IsKnown told peer other another → IsKnown told peer other (step another further)
-    → seen_of told peer one state ≡ seen_of told peer other another
+    (buffers : Option Buffers) (peer : Peer) (one other : Ordinal) (state another : State) (event further : Event) (item : ShownEvent)
+    → IsKnown buffers peer one state → IsKnown buffers peer one (step state event)
+    → IsKnown buffers peer other another → IsKnown buffers peer other (step another further)
+    → seen_of buffers peer one state ≡ seen_of buffers peer other another
     → shown peer one state event ≡ Some item → shown peer other another further ≡ Some item
-    → DoesTheSame told peer one other state another event further
+    → DoesTheSame buffers peer one other state another event further
 
 -- so in every run
 abbrev pub IsKnownThroughout : Option Buffers → Peer → Ordinal → State → List Event → Type 0
-IsKnownThroughout told peer ordinal state [] = IsKnown told peer ordinal state
-IsKnownThroughout told peer ordinal state (event ∷ events) =
-    IsKnown told peer ordinal state × IsKnownThroughout told peer ordinal (step state event) events
+IsKnownThroughout buffers peer ordinal state [] = IsKnown buffers peer ordinal state
+IsKnownThroughout buffers peer ordinal state (event ∷ events) =
+    IsKnown buffers peer ordinal state × IsKnownThroughout buffers peer ordinal (step state event) events
 
 -- runs that lead to the same and give the same packets
-pub record EndsTheSame (told : Option Buffers) (peer : Peer) (one other : Ordinal) (state another : State) (events further : List Event)
+pub record EndsTheSame (buffers : Option Buffers) (peer : Peer) (one other : Ordinal) (state another : State) (events further : List Event)
     : Type 0 where
-  pub seen : seen_of told peer one (after_events state events) ≡ seen_of told peer other (after_events another further)
+  pub seen : seen_of buffers peer one (after_events state events) ≡ seen_of buffers peer other (after_events another further)
   pub packets : packets_given_in_order one state events ≡ packets_given_in_order other another further
 
 abbrev pub SameViewSamePacketsOfEvents : Type 0
 SameViewSamePacketsOfEvents =
-    (told : Option Buffers) (peer : Peer) (one other : Ordinal) (state another : State) (events further : List Event)
-    → IsKnownThroughout told peer one state events → IsKnownThroughout told peer other another further
-    → seen_of told peer one state ≡ seen_of told peer other another
+    (buffers : Option Buffers) (peer : Peer) (one other : Ordinal) (state another : State) (events further : List Event)
+    → IsKnownThroughout buffers peer one state events → IsKnownThroughout buffers peer other another further
+    → seen_of buffers peer one state ≡ seen_of buffers peer other another
     → shown_in peer one state events ≡ shown_in peer other another further
-    → EndsTheSame told peer one other state another events further
+    → EndsTheSame buffers peer one other state another events further
 
 -- and in every run: no event ends with an indication that waits for the connection and that nothing holds back
 abbrev pub IsIndicatedThroughout : Ordinal → State → List Event → Type 0

@@ -1,7 +1,7 @@
 -- What holds of each connection at the end of each event.
 use Rattle.std.specs.Prelude.{◌≡◌, Bool, true, false, List}
 use Rattle.att_numbers.specs.Types.{Handle, Row}
-use Rattle.gatt_laws.specs.machine.Event.{Ordinal, Own, Event, Connected, Gone}
+use Rattle.gatt_laws.specs.machine.Event.{Ordinal, Own, Event, Connected, Disconnected}
 use Rattle.gatt_laws.specs.machine.ConnectionState.{ConnectionState, is_live}
 use Rattle.gatt_laws.specs.machine.SharedState.{SharedState, Bonds, quota_of, fragment_size_of}
 use Rattle.gatt_laws.specs.machine.State.{State, finished, step}
@@ -16,7 +16,7 @@ OnlyServesTheLive = (shared : SharedState) (bonds : Bonds) (handles : List Handl
 -- but for coming and going, nothing that happens to it changes anything
 abbrev pub is_for_all : Own → Bool
 is_for_all (Connected handle peer) = true
-is_for_all Gone = true
+is_for_all Disconnected = true
 is_for_all own = false
 
 abbrev pub OnlyTheLiveAct : Type 0

@@ -7,8 +7,8 @@ use Rattle.att_table.specs.Changer.{changer_of}
 use Rattle.att_table.specs.Table.{Contents}
 use Rattle.att_writes.specs.SameBut.{SameBut}
 use Rattle.gatt_laws.specs.laws.Alike.{is_of, Alike, Hides}
-use Rattle.gatt_laws.specs.laws.Given.{packets_at}
-use Rattle.gatt_laws.specs.machine.Event.{Ordinal, Own, Event, Asks, Signals, Of, Replaced}
+use Rattle.gatt_laws.specs.laws.Given.{packets_at, packets_in}
+use Rattle.gatt_laws.specs.machine.Event.{Ordinal, Own, Event, Asks, OtherChannel, Of, Replaced}
 use Rattle.gatt_laws.specs.machine.ConnectionState.{ConnectionState, is_live, is_there, connection_mtu}
 use Rattle.gatt_laws.specs.machine.SharedState.{SharedState}
 use Rattle.gatt_laws.specs.machine.State.{State, step}
@@ -36,7 +36,7 @@ Matched hidden following event other = (event ≡ other) × (hidden ≡ followin
 -- an answer to what happens is due, and there is no room for it
 abbrev pub is_answer_due : SharedState → ConnectionState → Own → Bool
 is_answer_due shared connection (Asks pdu) = is_due (request_of pdu (connection_mtu shared connection))
-is_answer_due shared connection (Signals channel payload) = is_some (channel_answer channel payload)
+is_answer_due shared connection (OtherChannel channel payload) = is_some (channel_answer channel payload)
 is_answer_due shared connection own = false
 
 abbrev pub finds_no_room : SharedState → ConnectionState → Own → Bool
@@ -82,8 +82,7 @@ abbrev pub packets_given_at : Peer → Ordinal → State → Event → List Octe
 packets_given_at peer ordinal state event = if is_of peer (state.connections ordinal) then packets_at ordinal state event else []
 
 abbrev pub packets_given_in : Peer → Ordinal → State → List Event → List Octets
-packets_given_in peer ordinal state [] = []
-packets_given_in peer ordinal state (event ∷ events) = packets_given_at peer ordinal state event ++ packets_given_in peer ordinal (step state event) events
+packets_given_in peer ordinal = packets_in (packets_given_at peer ordinal)
 
 -- two runs agree at each of their events; what is hidden stays so until the table is replaced
 abbrev pub EventsAgree : Peer → (Handle → Bool) → State → State → List Event → List Event → Type 0

@@ -106,13 +106,13 @@ peer_in ordinal (event ∷ events) = option_map_or (λ peer. peer) (peer_connect
 
 -- the view of a connection: the buffers that the controller told, and then what it sees of the events
 pub record View : Type 0 where
-  pub told : Option Buffers
+  pub buffers : Option Buffers
   pub items : List ShownEvent
 
 abbrev pub view : Ordinal → Start → List Item → View
 view ordinal start input =
     let events = events_of start input in
     record {
-      told = (run start input).intake.state.shared.buffers;
+      buffers = (run start input).intake.state.shared.buffers;
       items = shown_in (peer_in ordinal events) ordinal (state_at start) events;
     }

@@ -18,7 +18,7 @@ pub record Context (C : Type 0) : Type 0 where
   pub time : ℕ
   pub serving : ℕ → Option C
   pub holding : ℕ → Option C
-  pub coming : Option C
+  pub next_free : Option C
 
 -- the connection in a slot that a test finds
 abbrev pub ordinal_where : (Ordinal → Bool) → Slots → Option Ordinal
@@ -46,5 +46,5 @@ context_of state = record {
   time = state.shared.time;
   serving = serving state;
   holding = holding state;
-  coming = if has_free state.slots then Some state.next else None;
+  next_free = if has_free state.slots then Some state.next else None;
 }

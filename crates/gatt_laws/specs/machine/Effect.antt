@@ -10,7 +10,7 @@ use Rattle.att_attributes.specs.declared.attr.Attr.{Attr}
 use Rattle.att_attributes.specs.Attributes.{is_value_at}
 use Rattle.gatt_conn.specs.Answer.{Question, answer_to, stored_by, handles_by, is_confirmation}
 use Rattle.gatt_conn.specs.Transcript.{Answered}
-use Rattle.gatt_laws.specs.machine.Event.{Own, Connected, Gone, KeyAsked, Encrypted, Refreshed, Asks, Signals, Authorized, Ended}
+use Rattle.gatt_laws.specs.machine.Event.{Own, Connected, Disconnected, KeyAsked, Encrypted, Refreshed, Asks, OtherChannel, Authorized, Ended}
 use Rattle.gatt_laws.specs.machine.Heard.{att_pdu}
 use Rattle.gatt_laws.specs.machine.ConnectionState.{ConnectionState, no_connection, fresh_connection, is_live, is_there, key_of, row_in_force, connection_mtu, bearer_of, backlog_of, most_pdus, with_pdus, after_ending}
 use Rattle.gatt_laws.specs.machine.SharedState.{SharedState}
@@ -144,7 +144,7 @@ link_effect shared bond owed connection step =
 -- what a connection that serves makes of what happens to it
 unfoldable pub live_effect : SharedState → Row → Bool → ConnectionState → Own → Effect
 live_effect shared bond owed connection (Asks pdu) = request_effect shared bond owed connection pdu
-live_effect shared bond owed connection (Signals channel payload) =
+live_effect shared bond owed connection (OtherChannel channel payload) =
     effect_on_connection shared bond owed (after_other_channel shared connection channel (channel_answer channel payload))
 live_effect shared bond owed connection (KeyAsked random_number diversifier) =
     effect_on_connection shared bond owed (with_key_asked connection (key_asked_for shared.keys connection.peer random_number diversifier))
@@ -153,12 +153,12 @@ live_effect shared bond owed connection (Refreshed status) = link_effect shared 
 live_effect shared bond owed connection (Authorized until) = effect_on_connection shared bond owed (record connection { until = until })
 live_effect shared bond owed connection Ended = effect_on_connection shared bond owed (after_ending connection remote_user_terminated)
 live_effect shared bond owed connection (Connected handle peer) = effect_on_connection shared bond owed connection
-live_effect shared bond owed connection Gone = effect_on_connection shared bond owed connection
+live_effect shared bond owed connection Disconnected = effect_on_connection shared bond owed connection
 
 -- a connection comes where none is, and goes where one is, also one that is ending; all else is for one that serves
 abbrev pub effect_of : SharedState → Row → Bool → ConnectionState → Own → Effect
 effect_of shared bond owed connection (Connected handle peer) = effect_on_connection shared bond owed (if is_there connection.mark then connection else fresh_connection handle peer)
-effect_of shared bond owed connection Gone = effect_on_connection shared bond owed no_connection
+effect_of shared bond owed connection Disconnected = effect_on_connection shared bond owed no_connection
 effect_of shared bond owed connection own =
     if is_live connection.mark then live_effect shared bond owed connection own else effect_on_connection shared bond owed connection
 

@@ -15,12 +15,12 @@ Ordinal = ℕ
 -- ends it
 pub data Own : Type 0 where
   Connected : (handle : ℕ) (peer : Peer) → Own
-  Gone : Own
+  Disconnected : Own
   KeyAsked : (random_number : Octets) (diversifier : ℕ) → Own
   Encrypted : (status enabled : ℕ) → Own
   Refreshed : (status : ℕ) → Own
   Asks : (pdu : Octets) → Own
-  Signals : (channel : ℕ) (payload : Octets) → Own
+  OtherChannel : (channel : ℕ) (payload : Octets) → Own
   Authorized : (until : ℕ) → Own
   Ended : Own
 

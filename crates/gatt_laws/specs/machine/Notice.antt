@@ -90,7 +90,7 @@ live_told shared bond connection own effect = []
 abbrev pub own_told : SharedState → Row → ConnectionState → Own → Effect → List Notice
 own_told shared bond connection (event.Connected handle peer) effect =
     if is_there connection.mark then [] else Connected handle peer ∷ []
-own_told shared bond connection event.Gone effect =
+own_told shared bond connection event.Disconnected effect =
     if is_there connection.mark then Disconnected connection.handle ∷ [] else []
 own_told shared bond connection own effect =
     if is_live connection.mark

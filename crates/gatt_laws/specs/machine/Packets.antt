@@ -5,7 +5,7 @@ use Rattle.std.specs.List.{flat_map}
 use Rattle.std.specs.Option.{option_map, option_map_or, option_to_list}
 use Rattle.gatt_laws.specs.machine.Context.{Context, context_of, serving}
 use Rattle.gatt_laws.specs.machine.Controller.{Controller, is_ready}
-use Rattle.gatt_laws.specs.machine.Event.{Ordinal, Own, Happening, Event, Connected, Gone, KeyAsked, Encrypted, Refreshed, Asks, Signals, Of, Completed, Credit, Nothing}
+use Rattle.gatt_laws.specs.machine.Event.{Ordinal, Own, Happening, Event, Connected, Disconnected, KeyAsked, Encrypted, Refreshed, Asks, OtherChannel, Of, Completed, Credit, Nothing}
 use Rattle.gatt_laws.specs.machine.State.{State}
 use Rattle.le_acl.specs.Fragment.{Fragment, fragment_of}
 use Rattle.le_acl.specs.Frame.{frame_at}
@@ -89,7 +89,7 @@ last_connection_handle = LAST_CONNECTION_HANDLE
 abbrev pub connection_complete_event : {C : Type 0} → Context C → ℕ → ℕ → ℕ → Peer → Happening C
 connection_complete_event context status handle role peer =
     if (status == 0) && (role == peripheral) && nat_le handle last_connection_handle && is_none (context.holding handle)
-    then own_event context.coming (Connected handle peer) else Nothing
+    then own_event context.next_free (Connected handle peer) else Nothing
 
 -- packets are completed of the connections of handles that are found: an entry of any other counts for nothing
 abbrev pub entries_of_connections : {C : Type 0} → (ℕ → Option C) → List CompletedPackets → List (C × ℕ)
@@ -99,7 +99,7 @@ entries_of_connections found entries =
 -- what is reported of connections
 abbrev pub connection_event : {C : Type 0} → Context C → Reported → Happening C
 connection_event context (event.DisconnectionComplete status handle reason) =
-    if status == 0 then own_event (context.holding handle) Gone else Nothing
+    if status == 0 then own_event (context.holding handle) Disconnected else Nothing
 connection_event context (event.EncryptionChange status handle enabled) =
     own_event (context.serving handle) (Encrypted status enabled)
 connection_event context (event.EncryptionKeyRefreshComplete status handle) =
@@ -129,7 +129,7 @@ event_or_bad context (Err bad) = Err (bad_event bad)
 abbrev pub frame_own : BasicFrame → Option Own
 frame_own frame =
     if frame.cid == ATT then Some (Asks frame.payload)
-    else if frame.cid == LE_SIGNALLING || frame.cid == SECURITY_MANAGER then Some (Signals frame.cid frame.payload)
+    else if frame.cid == LE_SIGNALLING || frame.cid == SECURITY_MANAGER then Some (OtherChannel frame.cid frame.payload)
     else None
 
 abbrev pub of_frame : Result BasicFrame Skip → Option Own

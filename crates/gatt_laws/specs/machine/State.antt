@@ -8,7 +8,7 @@ use Rattle.att_table.specs.ConfigRow.{kept_row}
 use Rattle.att_table.specs.Table.{Contents, with_value}
 use Rattle.gatt_conn.specs.Transcript.{Dropped}
 use Rattle.gatt_laws.specs.machine.Controller.{Controller, Slots, is_ready, with_taken, with_freed, commands_sent, after_sending, controller_after}
-use Rattle.gatt_laws.specs.machine.Event.{Ordinal, Own, Event, Connected, Gone, Of, Completed, Credit, Update, Tick, Replaced, Nothing}
+use Rattle.gatt_laws.specs.machine.Event.{Ordinal, Own, Event, Connected, Disconnected, Of, Completed, Credit, Update, Tick, Replaced, Nothing}
 use Rattle.gatt_laws.specs.machine.Heard.{after_hearing}
 use Rattle.gatt_laws.specs.machine.ConnectionState.{ConnectionState, is_live, after_giving}
 use Rattle.gatt_laws.specs.machine.SharedState.{SharedState, Bonds, ServiceChangedPending, fragment_size_of}
@@ -64,7 +64,7 @@ with_values shared values = record shared { table = record shared.table { values
 -- may be tried again
 abbrev pub slots_after : Own → Ordinal → Slots → Slots
 slots_after (Connected handle peer) ordinal slots = with_taken ordinal slots
-slots_after Gone ordinal slots = with_freed ordinal slots
+slots_after Disconnected ordinal slots = with_freed ordinal slots
 slots_after own ordinal slots = slots
 
 abbrev pub next_after : Own → Ordinal → Ordinal
@@ -73,7 +73,7 @@ next_after own next = next
 
 abbrev pub advertising_after : Own → Controller → Controller
 advertising_after (Connected handle peer) controller = record controller { advertising = false }
-advertising_after Gone controller = record controller { refused = false }
+advertising_after Disconnected controller = record controller { refused = false }
 advertising_after own controller = controller
 
 abbrev pub after_effect : State → Ordinal → Own → Effect → Change

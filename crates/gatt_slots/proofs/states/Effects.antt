@@ -6,7 +6,7 @@ use Rattle.std.proofs.lemmas.Bool.{eq-eqb, ne_eqb, leb-true}
 use Rattle.att_numbers.specs.Types.{Mtu, Row}
 use Rattle.gatt_conn.specs.Connection.{mtu_between}
 use Rattle.gatt_conn.specs.Transcript.{first_exchange}
-use Rattle.gatt_laws.specs.machine.Event.{Own, KeyAsked, Encrypted, Refreshed, Signals, Authorized, Ended}
+use Rattle.gatt_laws.specs.machine.Event.{Own, KeyAsked, Encrypted, Refreshed, OtherChannel, Authorized, Ended}
 use Rattle.gatt_laws.specs.machine.ConnectionState.{ConnectionState, is_live, is_there, key_of, with_pdus, after_ending, backlog_of}
 use Rattle.gatt_laws.specs.laws.Queued.{IsWithinBounds}
 use Rattle.gatt_laws.specs.machine.SharedState.{SharedState, quota_of, fragment_size_of}
@@ -156,17 +156,17 @@ module _ (shared : SharedState) (bond : Row) (owed : Bool) (connection : Connect
     full_kept = full_same (backlog_of shared connection) bounds.few ∙ ap (λ (count : ℕ). count == 16) (sym (backlog_kept shared connection is))
 
     -- a PDU of another channel
-    signal-there : (channel : ℕ) (answer : Option Octets) → is_there (after_other_channel shared connection channel answer).mark ≡ true
-    signal-there channel None = there
-    signal-there channel (Some answer) =
+    other_channel-there : (channel : ℕ) (answer : Option Octets) → is_there (after_other_channel shared connection channel answer).mark ≡ true
+    other_channel-there channel None = there
+    other_channel-there channel (Some answer) =
         elim (is_full shared connection) as (λ (full : Bool). is_there (if full then after_ending connection remote_user_terminated else with_pdus connection ((channel, answer) ∷ [])).mark ≡ true) [
           | true ↦ refl
           | false ↦ there
         ]
 
-    signal-kept : (channel : ℕ) (answer : Option Octets) → slot_state_of shared (after_other_channel shared connection channel answer) connection.given ≡ with_channel_answer channel answer slot_state
-    signal-kept channel None = refl
-    signal-kept channel (Some answer) =
+    other_channel-kept : (channel : ℕ) (answer : Option Octets) → slot_state_of shared (after_other_channel shared connection channel answer) connection.given ≡ with_channel_answer channel answer slot_state
+    other_channel-kept channel None = refl
+    other_channel-kept channel (Some answer) =
         let queued : SlotState = record slot_state { outgoing = with_pdus_queued slot_state.outgoing ((channel, answer) ∷ []) } in
         (elim (is_full shared connection) as (λ (full : Bool). slot_state_of shared (if full then after_ending connection remote_user_terminated else with_pdus connection ((channel, answer) ∷ [])) connection.given
         ≡ (if full then slot_after_ending remote_user_terminated slot_state else queued)) [
@@ -175,9 +175,9 @@ module _ (shared : SharedState) (bond : Row) (owed : Bool) (connection : Connect
         ])
         ∙ ap (λ (full : Bool). if full then slot_after_ending remote_user_terminated slot_state else queued) full_kept
 
-    pub signal_kept : (channel : ℕ) (payload : Octets)
-        → slot_state_if_there shared (effect_of shared bond owed connection (Signals channel payload)).connection connection.given
+    pub other_channel_kept : (channel : ℕ) (payload : Octets)
+        → slot_state_if_there shared (effect_of shared bond owed connection (OtherChannel channel payload)).connection connection.given
         ≡ option_map (slot_after_other_channel channel payload) (slot_state_if_there shared connection connection.given)
     unfolding live_effect
-    signal_kept channel payload =
-        turned (Signals channel payload) (slot_after_other_channel channel payload) (signal-there channel (channel_answer channel payload)) (signal-kept channel (channel_answer channel payload))
+    other_channel_kept channel payload =
+        turned (OtherChannel channel payload) (slot_after_other_channel channel payload) (other_channel-there channel (channel_answer channel payload)) (other_channel-kept channel (channel_answer channel payload))

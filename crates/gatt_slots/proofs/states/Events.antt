@@ -6,7 +6,7 @@ use Rattle.att_numbers.specs.Types.{Handle, Row}
 use Rattle.att_table.specs.ConfigRow.{kept_row}
 use Rattle.att_table.specs.Table.{Contents}
 use Rattle.gatt_conn.specs.Transcript.{Dropped, first_exchange}
-use Rattle.gatt_laws.specs.machine.Event.{Connected, Gone}
+use Rattle.gatt_laws.specs.machine.Event.{Connected, Disconnected}
 use Rattle.gatt_laws.specs.machine.ConnectionState.{ConnectionState, is_live, is_there, fresh_connection}
 use Rattle.gatt_laws.specs.machine.SharedState.{SharedState, quota_of, fragment_size_of}
 use Rattle.gatt_laws.specs.machine.State.{with_packets_completed, connection_after_replacement}
@@ -36,7 +36,7 @@ pub comes : (shared : SharedState) (bond : Row) (owed : Bool) (connection : Conn
 comes shared bond owed connection handle peer is = ap (λ (there : Bool). effect_on_connection shared bond owed (if there then connection else fresh_connection handle peer)) is
 
 -- and nothing is kept of one that is gone
-pub gone_kept : (shared : SharedState) (bond : Row) (owed : Bool) (connection : ConnectionState) (handed : ℕ) → slot_state_if_there shared (effect_of shared bond owed connection Gone).connection handed ≡ None
+pub gone_kept : (shared : SharedState) (bond : Row) (owed : Bool) (connection : ConnectionState) (handed : ℕ) → slot_state_if_there shared (effect_of shared bond owed connection Disconnected).connection handed ≡ None
 gone_kept shared bond owed connection handed = refl
 
 -- packets are completed

@@ -48,7 +48,7 @@ pub extern "C" fn gh_take(host: &mut HostPointer, octets: &[u8], used: &mut usiz
 #[unsafe(no_mangle)]
 pub extern "C" fn gh_next_out(host: &mut HostPointer, out: &mut [u8], count: &mut usize) -> u32
     ensures status { result ≡ if_open (out_status (length out.old)) host.old.host }
-    ensures goes { result ≡ DONE → HostRefines [] (take count.new out.new ∷ [])
+    ensures some { result ≡ DONE → HostRefines [] (take count.new out.new ∷ [])
         host.old.host host.new.host }
     ensures within { result ≡ DONE → count.new ≤ length out.old }
     ensures needs { result ≡ SHORT_BUFFER → count.new ≡ LONGEST_PACKET }

@@ -8,5 +8,5 @@ use Rattle.device_lines.specs.Told.{connection_lines}
 pub loop-connection-init : goal.loop-connection-init
 loop-connection-init c = record {
   told = ap (λ left. c.args.text.now.items ++ flat_map connection_lines left)
-      (c.into_iter-connection-iterator.ensures.into_iter_gives ∙ c.connections-connection-items.ensures.held);
+      (c.into_iter-connection-iterator.ensures.into_iter_gives ∙ c.connections-connection-items.ensures.server);
 }

@@ -12,7 +12,7 @@ returns-in_err-give_controller-clause-hands c =
     hands_refused c.as_slice.result.now (pair_of c.args.host.now c.args.sim.now c.args.notes.now) (pair_of c.next_out.new.self c.give_controller.new.sim c.args.notes.now) c.in_err-give_controller.field-0.0
     c.from_residual.result (failed.1 ∙ ap (λ (fault : ShellFault). Err fault) failed.2)
     (gives_next c.args.host.now c.next_out.new.self c.next_out.new.out.items c.as_slice.result.now c.as_slice.ensures.value
-    c.if-next_out.ensures.goes c.if-next_out.ensures.leads c.if-next_out.ensures.no_fault)
+    c.if-next_out.ensures.some c.if-next_out.ensures.refines c.if-next_out.ensures.no_fault)
     c.in_err-give_controller.ensures.answers
 
 pub returns-then-next_out-clause-hands : goal.returns-then-next_out-clause-hands
@@ -20,7 +20,7 @@ returns-then-next_out-clause-hands c = inl (record {
   packet = c.as_slice.result.now;
   gives =
       gives_next c.args.host.now c.next_out.new.self c.next_out.new.out.items c.as_slice.result.now c.as_slice.ensures.value
-      c.if-next_out.ensures.goes c.if-next_out.ensures.leads c.if-next_out.ensures.no_fault;
+      c.if-next_out.ensures.some c.if-next_out.ensures.refines c.if-next_out.ensures.no_fault;
   takes = c.in_ok-give_controller.ensures.answers;
   same = refl;
 })

@@ -21,7 +21,7 @@ returns-in_err-write_out-clause-feeds g c = λ none.
 pub returns-in_err-used-clause-feeds : goal.returns-in_err-used-clause-feeds
 returns-in_err-used-clause-feeds g c = λ none.
     taken_stops c.args.octets.now c.loop-rest.rest.now c.args.host.now c.loop-rest.host c.take.new.host (g.W.Sink.contents c.args.out.now) (g.W.Sink.contents c.loop-rest.out)
-    c.take.new.host.fault c.in_err-used.field-0.0 c.loop-rest.invariant.takes c.in_err-used.ensures.leads c.in_err-used.ensures.fault c.in_err-used.ensures.not_own
+    c.take.new.host.fault c.in_err-used.field-0.0 c.loop-rest.invariant.takes c.in_err-used.ensures.refines c.in_err-used.ensures.fault c.in_err-used.ensures.not_own
 
 pub loop-rest-preserved : goal.loop-rest-preserved
 loop-rest-preserved g c =
@@ -38,14 +38,14 @@ loop-rest-preserved g c =
     record {
       takes = subst (λ (left : Octets). HasTaken c.args.octets.now left old new before after) (sym c.split_at.ensures.back)
           (taken_then c.args.octets.now (drop used rest) old mid new before between after
-          (taken_silently c.args.octets.now rest used old at mid before between c.loop-rest.invariant.takes c.in_ok-used.ensures.leads)
+          (taken_silently c.args.octets.now rest used old at mid before between c.loop-rest.invariant.takes c.in_ok-used.ensures.refines)
           (going_takes [] mid new between after new.fault none c.write_out-in-loop-rest.ensures.feeds));
       none = none;
       drained = c.in_ok-write_out-2.ensures.out refl;
       failures = counts_none _ _ _ c.loop-rest.invariant.failures (counts_where_going new.fault _ _ none c.write_out-in-loop-rest.ensures.failures);
       heard = subst (λ (left : Octets). HasHeard c.args.octets.now left old new before after (g.L.Listener.heard c.args.listener.now) (g.L.Listener.heard c.tell.new.listener)) (sym c.split_at.ensures.back)
           (heard_then c.args.octets.now rest used old at mid new before between after (g.L.Listener.heard c.args.listener.now) (g.L.Listener.heard c.loop-rest.listener)
-          (g.L.Listener.heard c.tell.new.listener) c.loop-rest.invariant.heard c.loop-rest.invariant.none c.in_ok-used.ensures.leads c.in_ok-used.ensures.told c.tell.ensures.hears
+          (g.L.Listener.heard c.tell.new.listener) c.loop-rest.invariant.heard c.loop-rest.invariant.none c.in_ok-used.ensures.refines c.in_ok-used.ensures.told c.tell.ensures.hears
           (going_takes [] mid new between after new.fault none c.write_out-in-loop-rest.ensures.feeds));
     }
 
@@ -60,7 +60,7 @@ returns-in_err-write_out-2-clause-feeds g c = λ none.
     let between : Option Octets = g.W.Sink.contents c.loop-rest.out in
     let after : Option Octets = g.W.Sink.contents c.write_out-in-loop-rest.new.out in
     taken_breaks c.args.octets.now (drop used rest) old mid new before between after new.fault
-    (taken_silently c.args.octets.now rest used old c.loop-rest.host mid before between c.loop-rest.invariant.takes c.in_ok-used.ensures.leads)
+    (taken_silently c.args.octets.now rest used old c.loop-rest.host mid before between c.loop-rest.invariant.takes c.in_ok-used.ensures.refines)
     (fault_answered new.fault c.in_err-write_out-2.field-0.0 c.in_err-write_out-2.ensures.fault ∙ ap (λ (why : HostFault). Some why) c.in_err-write_out-2.ensures.write)
     c.write_out-in-loop-rest.ensures.feeds
 
@@ -91,7 +91,7 @@ returns-in_err-write_out-2-clause-heard g c = λ none.
     heard_breaks c.args.octets.now c.loop-rest.rest.now c.in_ok-used.used c.args.host.now c.loop-rest.host c.take.new.host new
     (g.W.Sink.contents c.args.out.now) (g.W.Sink.contents c.loop-rest.out) (g.W.Sink.contents c.write_out-in-loop-rest.new.out)
     (g.L.Listener.heard c.args.listener.now) (g.L.Listener.heard c.loop-rest.listener) (g.L.Listener.heard c.tell.new.listener)
-    c.loop-rest.invariant.heard c.loop-rest.invariant.none c.in_ok-used.ensures.leads c.in_ok-used.ensures.told c.tell.ensures.hears
+    c.loop-rest.invariant.heard c.loop-rest.invariant.none c.in_ok-used.ensures.refines c.in_ok-used.ensures.told c.tell.ensures.hears
     new.fault (fault_answered new.fault c.in_err-write_out-2.field-0.0 c.in_err-write_out-2.ensures.fault ∙ ap (λ (why : HostFault). Some why) c.in_err-write_out-2.ensures.write)
     c.write_out-in-loop-rest.ensures.feeds
 

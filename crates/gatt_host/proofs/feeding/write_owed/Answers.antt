@@ -67,4 +67,4 @@ loop-packet-preserved g c =
 pub returns-clause-out : goal.returns-clause-out
 returns-clause-out g c = λ ok.
     subst (λ (server : ServerState). is_drained server.controller (open_slots server) ≡ true) (sym (OnFalse_at c.loop-packet-test.false c.next_out.ensures.unchanged))
-    (drained_then c.loop-packet.state c.loop-packet.invariant.server (sym c.next_out.ensures.goes ∙ c.loop-packet-test.false))
+    (drained_then c.loop-packet.state c.loop-packet.invariant.server (sym c.next_out.ensures.some ∙ c.loop-packet-test.false))

@@ -7,6 +7,6 @@ pub returns-then-init_command_out-clause-controller : goal.returns-then-init_com
 returns-then-init_command_out-clause-controller c =
     let controller = c.args.controller.now in
     let slots = c.args.slots.now in
-    let first = there_where (init_command controller) (sym c.init_command_out.ensures.goes ∙ c.if-init_command_out.true) in
+    let first = there_where (init_command controller) (sym c.init_command_out.ensures.some ∙ c.if-init_command_out.true) in
     c.init_command_out.ensures.after first.x first.is
     ∙ sym (then_controller controller slots (Some first.x) (takes_init controller slots first.x (sym c.takes.ensures ∙ c.if-not-takes.false) first.is))

@@ -5,11 +5,11 @@ use Rattle.gatt_host.proofs.owing.Nexts.{no_command_next, packet_next}
 use Rattle.gatt_host.specs.GoingOut.{first_slot_packet}
 use Rattle.gatt_host.proofs.going_out.either_out.Goals as goal
 
-pub returns-clause-goes : goal.returns-clause-goes
-returns-clause-goes c =
+pub returns-clause-some : goal.returns-clause-some
+returns-clause-some c =
     let controller = c.args.controller.now in
     let slots = c.args.slots.now in
-    let none = no_command_next controller slots c.command_out.result c.command_out.ensures.goes c.if-command_out.false in
-    c.packet_out.ensures.goes
+    let none = no_command_next controller slots c.command_out.result c.command_out.ensures.some c.if-command_out.false in
+    c.packet_out.ensures.some
     ∙ ap (λ server. is_some (first_slot_packet server)) (OnFalse_at c.if-command_out.false c.command_out.ensures.unchanged)
     ∙ sym (ap is_some (packet_next controller slots none))

@@ -10,4 +10,4 @@ returns-clause-first c = λ final owed owing. OnTrue_from _ _ (λ goes.
 
 pub returns-clause-done : goal.returns-clause-done
 returns-clause-done c = λ final owed owing. OnFalse_from _ _ (λ stays.
-    none_is_owed final owed c.args.controller.now c.args.slots.now owing (sym c.either_out.ensures.goes ∙ stays))
+    none_is_owed final owed c.args.controller.now c.args.slots.now owing (sym c.either_out.ensures.some ∙ stays))

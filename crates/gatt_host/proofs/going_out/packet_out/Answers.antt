@@ -11,11 +11,11 @@ returns-in_default-clause-after c =
     c.first_that_gives.ensures.unchanged
     ∙ sym (none_changed gives (option_map slot_without_packet) c.args.slots.now (sym c.first_that_gives.ensures.place ∙ c.in_default.is))
 
-pub returns-in_default-clause-goes : goal.returns-in_default-clause-goes
-returns-in_default-clause-goes c = sym (ap is_some (no_packet c.args.slots.now (sym c.first_that_gives.ensures.place ∙ c.in_default.is)))
+pub returns-in_default-clause-some : goal.returns-in_default-clause-some
+returns-in_default-clause-some c = sym (ap is_some (no_packet c.args.slots.now (sym c.first_that_gives.ensures.place ∙ c.in_default.is)))
 
-pub returns-clause-goes : goal.returns-clause-goes
-returns-clause-goes c =
+pub returns-clause-some : goal.returns-clause-some
+returns-clause-some c =
     let slots = c.args.slots.now in
     let first = c.first_that_gives in
     let at = sym first.ensures.place ∙ c.in-Some.is in

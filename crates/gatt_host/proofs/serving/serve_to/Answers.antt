@@ -22,7 +22,7 @@ returns-in_default-clause-serves g c = λ none.
     (g.R.Source.remaining c.args.reader.now) (g.R.Source.remaining c.loop-turn.reader) (g.R.Source.remaining c.read_turn.new.reader)
     (g.W.Sink.contents c.args.writer.now) (g.W.Sink.contents c.loop-turn.writer)
     c.stop.ensures.fault c.loop-turn.invariant.none c.stop.ensures.stopped refl refl
-    (kept_where_failed c.read_turn.result c.in_default.not-Ok c.read_turn.ensures.kept) c.loop-turn.invariant.served (λ is. cc is)
+    (kept_where_failed c.read_turn.result c.in_default.not-Ok c.read_turn.ensures.unread) c.loop-turn.invariant.served (λ is. cc is)
 
 pub returns-in_default-clause-reads : goal.returns-in_default-clause-reads
 returns-in_default-clause-reads g c = λ none.
@@ -106,7 +106,7 @@ returns-in_default-clause-due g c = λ none.
 pub returns-then-is_empty-clause-due : goal.returns-then-is_empty-clause-due
 returns-then-is_empty-clause-due g c = λ none.
     due_in_silence c.loop-turn.host c.end_stream.new.host c.end_stream.new.host.fault c.loop-turn.invariant.none c.loop-turn.invariant.drained
-    c.end_stream.ensures.held
+    c.end_stream.ensures.server
 
 pub returns-clause-due : goal.returns-clause-due
 returns-clause-due g c = λ none.
@@ -128,7 +128,7 @@ returns-in_default-clause-heard g c = λ none.
     (g.R.Source.remaining c.args.reader.now) (g.R.Source.remaining c.loop-turn.reader) (g.R.Source.remaining c.read_turn.new.reader)
     (g.W.Sink.contents c.args.writer.now) (g.W.Sink.contents c.loop-turn.writer) (g.L.Listener.heard c.args.listener.now) (g.L.Listener.heard c.loop-turn.listener)
     (Some stop.Read) (ap (λ (host : HostModel). host.fault) c.stop.ensures.stopped) refl c.loop-turn.invariant.heard
-    (kept_where_failed c.read_turn.result c.in_default.not-Ok c.read_turn.ensures.kept)
+    (kept_where_failed c.read_turn.result c.in_default.not-Ok c.read_turn.ensures.unread)
 
 pub returns-then-is_empty-clause-heard : goal.returns-then-is_empty-clause-heard
 returns-then-is_empty-clause-heard g c = λ none.

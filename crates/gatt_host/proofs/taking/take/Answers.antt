@@ -14,13 +14,13 @@ take_in-requires-clause-rows c =
     let none : old.fault ≡ None = subst (λ (host : HostModel). host.fault ≡ None) (sym c.host.view_is) c.requires.no_fault in
     rows_hold old c.host.invariant (drained_where old none out)
 
-pub returns-in-Ok-clause-leads : goal.returns-in-Ok-clause-leads
-returns-in-Ok-clause-leads c =
+pub returns-in-Ok-clause-refines : goal.returns-in-Ok-clause-refines
+returns-in-Ok-clause-refines c =
     let old : HostModel = the_view c.host.inside in
     let new : HostModel = record old { server = c.take_in.new.state; frames = c.take_in.new.frames; stream = c.take_in.new.deframer } in
     let none : old.fault ≡ None = subst (λ (host : HostModel). host.fault ≡ None) (sym c.host.view_is) c.requires.no_fault in
     subst (λ (host : HostModel). Refines (items_taken c.args.octets.now (Ok c.in-Ok.used)) [] host new) c.host.view_is
-    (leads_from old new (items_taken c.args.octets.now (Ok c.in-Ok.used)) None none none c.in-Ok.ensures.leads)
+    (leads_from old new (items_taken c.args.octets.now (Ok c.in-Ok.used)) None none none c.in-Ok.ensures.refines)
 
 pub invariant_of-host-in-Err : goal.invariant_of-host-in-Err
 invariant_of-host-in-Err c =
@@ -28,15 +28,15 @@ invariant_of-host-in-Err c =
     let new : HostModel = record { server = c.take_in.new.state; frames = c.take_in.new.frames; stream = c.take_in.new.deframer; fault = Some c.in-Err.fault } in
     let none : old.fault ≡ None = subst (λ (host : HostModel). host.fault ≡ None) (sym c.host.view_is) c.requires.no_fault in
     reached_by (items_taken c.args.octets.now (Err c.in-Err.fault)) [] old new c.host.invariant
-    (leads_from old new (items_taken c.args.octets.now (Err c.in-Err.fault)) (Some c.in-Err.fault) none refl c.in-Err.ensures.leads)
+    (leads_from old new (items_taken c.args.octets.now (Err c.in-Err.fault)) (Some c.in-Err.fault) none refl c.in-Err.ensures.refines)
 
-pub returns-in-Err-clause-leads : goal.returns-in-Err-clause-leads
-returns-in-Err-clause-leads c =
+pub returns-in-Err-clause-refines : goal.returns-in-Err-clause-refines
+returns-in-Err-clause-refines c =
     let old : HostModel = the_view c.host.inside in
     let new : HostModel = record { server = c.take_in.new.state; frames = c.take_in.new.frames; stream = c.take_in.new.deframer; fault = Some c.in-Err.fault } in
     let none : old.fault ≡ None = subst (λ (host : HostModel). host.fault ≡ None) (sym c.host.view_is) c.requires.no_fault in
     subst (λ (host : HostModel). Refines (items_taken c.args.octets.now (Err c.in-Err.fault)) [] host new) c.host.view_is
-    (leads_from old new (items_taken c.args.octets.now (Err c.in-Err.fault)) (Some c.in-Err.fault) none refl c.in-Err.ensures.leads)
+    (leads_from old new (items_taken c.args.octets.now (Err c.in-Err.fault)) (Some c.in-Err.fault) none refl c.in-Err.ensures.refines)
 
 pub invariant_of-host : goal.invariant_of-host
 invariant_of-host c =
@@ -44,7 +44,7 @@ invariant_of-host c =
     let new : HostModel = record old { server = c.take_in.new.state; frames = c.take_in.new.frames; stream = c.take_in.new.deframer } in
     let none : old.fault ≡ None = subst (λ (host : HostModel). host.fault ≡ None) (sym c.host.view_is) c.requires.no_fault in
     reached_by (items_taken c.args.octets.now (Ok c.in-Ok.used)) [] old new c.host.invariant
-    (leads_from old new (items_taken c.args.octets.now (Ok c.in-Ok.used)) None none none c.in-Ok.ensures.leads)
+    (leads_from old new (items_taken c.args.octets.now (Ok c.in-Ok.used)) None none none c.in-Ok.ensures.refines)
 
 pub returns-in-Ok-clause-told : goal.returns-in-Ok-clause-told
 returns-in-Ok-clause-told c =

@@ -19,14 +19,14 @@ use Rattle.le_h4.specs.Packet.{packet_of_ref}
 use Rattle.octets.specs.Number.{Octets}
 use Rattle.gatt_host.proofs.taking.take_in.Goals as goal
 
-pub returns-in-Err-clause-leads : goal.returns-in-Err-clause-leads
-returns-in-Err-clause-leads c =
+pub returns-in-Err-clause-refines : goal.returns-in-Err-clause-refines
+returns-in-Err-clause-refines c =
     let old : HostModel = record { server = c.args.state.now; frames = c.args.frames.now; stream = c.args.deframer.now; fault = None } in
     subst (λ (fault : HostFault). Refines (octet_items c.args.octets.now) [] old (record old { stream = c.feed.new.self; fault = Some fault })) (sym c.lost_fault.ensures)
     (lost_leads old c.args.octets.now c.feed.new.self c.in-Err.fault refl c.in-Err.ensures.desync c.in-Err.ensures.desynced)
 
-pub returns-then-not-fed-clause-leads : goal.returns-then-not-fed-clause-leads
-returns-then-not-fed-clause-leads c = λ start input sent is.
+pub returns-then-not-fed-clause-refines : goal.returns-then-not-fed-clause-refines
+returns-then-not-fed-clause-refines c = λ start input sent is.
     let old : HostModel = record { server = c.args.state.now; frames = c.args.frames.now; stream = c.args.deframer.now; fault = None } in
     let octets : Octets = take c.in-Ok.fed.used c.args.octets.now in
     let items : List Item = octet_items octets in
@@ -56,8 +56,8 @@ returns-then-not-fed-clause-up_to c =
     (ends_none c.args.deframer.now c.feed.new.self (take c.in-Ok.fed.used c.args.octets.now) none c.in-Ok.ensures.divided c.in-Ok.ensures.unfinished)
     (c.in-Ok.ensures.used_all (is_none_marked c.feed.new.self.marked none))
 
-pub returns-in_err-packet-clause-leads : goal.returns-in_err-packet-clause-leads
-returns-in_err-packet-clause-leads c =
+pub returns-in_err-packet-clause-refines : goal.returns-in_err-packet-clause-refines
+returns-in_err-packet-clause-refines c =
     let host : WholePacket = c.lent_or_marked-whole.result in
     let used : ℕ = host.used in
     let octets : Octets = c.args.octets.now in
@@ -79,10 +79,10 @@ returns-in_err-packet-clause-leads c =
     subst (λ (result : Result ℕ HostFault). Refines (items_taken octets result) [] old (record new { fault = result_err result })) (sym (stopped.1 ∙ ap (λ (why : HostFault). Err why) stopped.2))
     (subst (λ (all : Octets). Refines (octet_items all) [] old new) (take-append-drop used octets)
     (octets_stop_whole old new (take used octets) (drop used octets) (packet_of_ref host.packet) fault refl ends.divided
-    c.in_err-packet.ensures.leads refl c.in_err-packet.ensures.not_own))
+    c.in_err-packet.ensures.refines refl c.in_err-packet.ensures.not_own))
 
-pub returns-clause-leads : goal.returns-clause-leads
-returns-clause-leads c =
+pub returns-clause-refines : goal.returns-clause-refines
+returns-clause-refines c =
     let host : WholePacket = c.lent_or_marked-whole.result in
     let used : ℕ = host.used in
     let octets : Octets = c.args.octets.now in
@@ -99,7 +99,7 @@ returns-clause-leads c =
           (c.is_none.ensures ∙ ap not w.if-is_none.false) w.deframer-is c.whole_packet-lent.ensures.divided c.whole_packet-lent.ensures.unfinished
           c.lent_or_marked-whole.ensures.lent c.lent_or_marked-whole.ensures.lent_used
     ] in
-    octets_bring_whole old new (take used octets) (packet_of_ref host.packet) refl ends.divided ends.last c.in_ok-packet.ensures.leads
+    octets_bring_whole old new (take used octets) (packet_of_ref host.packet) refl ends.divided ends.last c.in_ok-packet.ensures.refines
 
 pub returns-clause-told : goal.returns-clause-told
 returns-clause-told c =
@@ -171,4 +171,4 @@ returns-in_err-packet-clause-told c =
     subst (λ (result : Result ℕ HostFault). TellsOfAll (items_taken octets result) old (record new { fault = result_err result })) (sym (stopped.1 ∙ ap (λ (why : HostFault). Err why) stopped.2))
     (subst (λ (all : Octets). TellsOfAll (octet_items all) old new) (take-append-drop used octets)
     (stopped_told old new (take used octets) (drop used octets) (packet_of_ref host.packet) fault ends.divided
-    c.in_err-packet.ensures.leads refl c.in_err-packet.ensures.not_own))
+    c.in_err-packet.ensures.refines refl c.in_err-packet.ensures.not_own))

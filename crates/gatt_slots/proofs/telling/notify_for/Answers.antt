@@ -31,7 +31,7 @@ loop-place-preserved c =
           let lent : Option SlotState = get_or slots place w.index-slots-place.result in
           let read : lent ≡ slot = get_or_default slots place w.index-slots-place.result None there ∙ sym (kept-is slots place there) in
           let notified : w.notify-notified.new.self ≡ slot_notified table now rows a.handle slot =
-          w.notify-notified.ensures.raised ∙ ap (λ (it : InTable). slot_notified it.table now rows it.handle lent) c.in-Some.ensures.raised
+          w.notify-notified.ensures.notified ∙ ap (λ (it : InTable). slot_notified it.table now rows it.handle lent) c.in-Some.ensures.raised
           ∙ ap (λ (it : Option SlotState). slot_notified table now rows a.handle it) read in (
             w.slots-is ∙ ap (λ (it : Option SlotState). set slots place it) notified
                 ∙ ap (λ (among : Bool). set slots place (one among)) (sym w.if-is_among.true ∙ c.is_among.ensures) ∙ more,

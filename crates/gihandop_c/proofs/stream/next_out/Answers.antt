@@ -20,5 +20,5 @@ done false false goes fits = refl
 
 pub returns-in-Some-clause-status : goal.returns-in-Some-clause-status
 returns-in-Some-clause-status c =
-    done (all_out c.args.opened.now.host) (nat_lt (length c.args.out.now) 260) c.in-Some.ensures.goes
+    done (all_out c.args.opened.now.host) (nat_lt (length c.args.out.now) 260) c.in-Some.ensures.some
     (fits (length c.args.out.now) c.if-out-lt-LONGEST_PACKET.false)

@@ -1,7 +1,7 @@
 use Rattle.std.proofs.Common.{◌≡◌, true, ◌∷◌, [], None, refl, sym, subst, ◌∙◌}
 use Rattle.gatt_host.proofs.owing.Nexts.{is_none_where}
 use Rattle.gatt_host.proofs.model.Calls.{call_refused, call_told, takes_call}
-use Rattle.gatt_host.proofs.model.Told.{told_in_course}
+use Rattle.gatt_host.proofs.model.Told.{told_in_run}
 use Rattle.gatt_host.proofs.model.Items.{reached_by}
 use Rattle.gatt_host.specs.Asked.{call_of}
 use Rattle.gatt_host.specs.contracts.host.Host.{the_view}
@@ -43,6 +43,6 @@ returns-clause-told c = λ start input sent is none still.
     let new : HostModel = record old { server = c.app.new.self } in
     let out : all_out old ≡ true = subst (λ (host : HostModel). all_out host ≡ true) (sym c.self.view_is) c.requires.drained in
     let going : old.fault ≡ None = subst (λ (host : HostModel). host.fault ≡ None) (sym c.self.view_is) none in
-    told_in_course (ACall (call_of c.args.call)) (run start input) sent old new going (call_event (run start input).intake.state (call_of c.args.call))
+    told_in_run (ACall (call_of c.args.call)) (run start input) sent old new going (call_event (run start input).intake.state (call_of c.args.call))
     refl still (subst (λ (host : HostModel). RefinesRun (run start input) sent host) (sym c.self.view_is) is) (λ refines.
     call_told (call_of c.args.call) old new going out c.app.result c.app.ensures.after c.app.ensures.refused c.app.ensures.silent (run start input) sent refines)

@@ -5,17 +5,17 @@ use Rattle.gatt_host.specs.Connections.{connection_with}
 
 pub loop-connection-init : goal.loop-connection-init
 loop-connection-init c = record {
-  left = ap (connection_with c.args.handle) (sym (c.into_iter-connection-iterator.ensures.into_iter_gives ∙ c.connections-connection-items.ensures.held));
+  left = ap (connection_with c.args.handle) (sym (c.into_iter-connection-iterator.ensures.into_iter_gives ∙ c.connections-connection-items.ensures.server));
 }
 
-pub returns-then-connection-handle-clause-held : goal.returns-then-connection-handle-clause-held
-returns-then-connection-handle-clause-held c =
+pub returns-then-connection-handle-clause-server : goal.returns-then-connection-handle-clause-server
+returns-then-connection-handle-clause-server c =
     found_here c.args.handle c.in-Some.connection c.loop-connection.connection-iterator c.next.new.self c.in-Some.ensures.steps c.if-connection-handle.true
     ∙ sym c.loop-connection.invariant.left
 
 pub returns-then-connection-handle-clause-run : goal.returns-then-connection-handle-clause-run
 returns-then-connection-handle-clause-run c =
-    found_where c.args.handle c.args.self.now _ (returns-then-connection-handle-clause-held c)
+    found_where c.args.handle c.args.self.now _ (returns-then-connection-handle-clause-server c)
 
 pub loop-connection-preserved : goal.loop-connection-preserved
 loop-connection-preserved c = record {
@@ -23,8 +23,8 @@ loop-connection-preserved c = record {
       ∙ found_later c.args.handle c.in-Some.connection c.loop-connection.connection-iterator c.next.new.self c.in-Some.ensures.steps c.if-connection-handle.false;
 }
 
-pub returns-clause-held : goal.returns-clause-held
-returns-clause-held c = sym (c.loop-connection.invariant.left ∙ ap (connection_with c.args.handle) c.in-None.ensures.steps.0)
+pub returns-clause-server : goal.returns-clause-server
+returns-clause-server c = sym (c.loop-connection.invariant.left ∙ ap (connection_with c.args.handle) c.in-None.ensures.steps.0)
 
 pub returns-clause-run : goal.returns-clause-run
-returns-clause-run c = found_where c.args.handle c.args.self.now None (returns-clause-held c)
+returns-clause-run c = found_where c.args.handle c.args.self.now None (returns-clause-server c)

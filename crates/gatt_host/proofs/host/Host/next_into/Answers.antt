@@ -15,14 +15,14 @@ invariant_of-self c =
     reached_into old (record old { server = c.next_into.new.state }) c.next_into.result c.next_into.new.out c.self.invariant c.next_into.ensures.octets
     c.next_into.ensures.after c.next_into.ensures.unchanged refl refl refl
 
-pub returns-clause-goes : goal.returns-clause-goes
-returns-clause-goes c =
+pub returns-clause-some : goal.returns-clause-some
+returns-clause-some c =
     let old : HostModel = the_view c.self.inside in
     subst (λ (host : HostModel). is_some c.next_into.result ≡ not (all_out host)) c.self.view_is
-    (c.next_into.ensures.goes ∙ goes_where_not_out old c.self.invariant (is_none_where old.fault (sym c.is_some.ensures ∙ c.if-is_some.false)))
+    (c.next_into.ensures.some ∙ goes_where_not_out old c.self.invariant (is_none_where old.fault (sym c.is_some.ensures ∙ c.if-is_some.false)))
 
-pub returns-clause-leads : goal.returns-clause-leads
-returns-clause-leads c =
+pub returns-clause-refines : goal.returns-clause-refines
+returns-clause-refines c =
     let old : HostModel = the_view c.self.inside in
     let new : HostModel = record old { server = c.next_into.new.state } in
     subst (λ (host : HostModel). IfSome c.next_into.result (λ count. Refines [] (take count c.next_into.new.out ∷ []) host new)) c.self.view_is

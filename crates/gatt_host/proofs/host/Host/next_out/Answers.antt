@@ -16,14 +16,14 @@ invariant_of-self c =
     reached_out old (record old { server = c.copy_next.new.state }) c.copy_next.result c.copy_next.new.out.items c.self.invariant c.copy_next.ensures.octets c.copy_next.ensures.after
     c.copy_next.ensures.unchanged refl refl refl
 
-pub returns-clause-goes : goal.returns-clause-goes
-returns-clause-goes c =
+pub returns-clause-some : goal.returns-clause-some
+returns-clause-some c =
     let old : HostModel = the_view c.self.inside in
     subst (λ (host : HostModel). c.copy_next.result ≡ not (all_out host)) c.self.view_is
-    (c.copy_next.ensures.goes ∙ goes_where_not_out old c.self.invariant (is_none_where old.fault (sym c.is_some.ensures ∙ c.if-is_some.false)))
+    (c.copy_next.ensures.some ∙ goes_where_not_out old c.self.invariant (is_none_where old.fault (sym c.is_some.ensures ∙ c.if-is_some.false)))
 
-pub returns-clause-leads : goal.returns-clause-leads
-returns-clause-leads c = OnTrue_from _ _ (λ goes.
+pub returns-clause-refines : goal.returns-clause-refines
+returns-clause-refines c = OnTrue_from _ _ (λ goes.
     let old : HostModel = the_view c.self.inside in
     let new : HostModel = record old { server = c.copy_next.new.state } in
     subst (λ (host : HostModel). Refines [] (c.copy_next.new.out.items ∷ []) host new) c.self.view_is

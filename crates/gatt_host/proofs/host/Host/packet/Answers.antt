@@ -2,7 +2,7 @@ use Rattle.std.proofs.Common.{◌≡◌, true, ◌∷◌, [], None, refl, sym, s
 use Rattle.std.specs.Prelude.{IsOk}
 use Rattle.gatt_host.proofs.model.Items.{drained_where, none_unless, reached_by, rows_hold}
 use Rattle.gatt_host.proofs.model.Packets.{passes_long, takes_packet}
-use Rattle.gatt_host.proofs.model.Told.{long_told, not_long, ok_where, told_in_course}
+use Rattle.gatt_host.proofs.model.Told.{long_told, not_long, ok_where, told_in_run}
 use Rattle.gatt_host.specs.contracts.host.Host.{the_view}
 use Rattle.gatt_host.specs.HostModel.{RefinesPacket, RefinesRun, Takes, HostModel, all_out}
 use Rattle.gatt_laws.specs.machine.Input.{APacket, run}
@@ -21,7 +21,7 @@ invariant_of-self-2 c =
     let old : HostModel = the_view c.self.inside in
     let new : HostModel = record old { server = c.packet-taken.new.state; frames = c.packet-taken.new.frames; fault = c.err-self-inside.result } in
     reached_by (APacket (packet_of_ref c.args.packet) ∷ []) [] old new c.self.invariant (takes_packet (packet_of_ref c.args.packet) old new (sym c.is_long.ensures ∙ c.if-is_long.false) (none_unless old.fault c.in_default.not-Some) refl
-    (subst (RefinesPacket (packet_of_ref c.args.packet) old.server old.frames new.server new.frames) (sym c.err-self-inside.ensures.value) c.packet-taken.ensures.leads))
+    (subst (RefinesPacket (packet_of_ref c.args.packet) old.server old.frames new.server new.frames) (sym c.err-self-inside.ensures.value) c.packet-taken.ensures.refines))
 
 pub invariant_of-self : goal.invariant_of-self
 invariant_of-self c =
@@ -50,7 +50,7 @@ returns-clause-takes c =
     let new : HostModel = record old { server = c.packet-taken.new.state; frames = c.packet-taken.new.frames; fault = c.err-self-inside.result } in
     subst (λ (host : HostModel). host.fault ≡ None → Takes (APacket (packet_of_ref c.args.packet)) host new) c.self.view_is (λ none.
     takes_packet (packet_of_ref c.args.packet) old new (sym c.is_long.ensures ∙ c.if-is_long.false) none refl
-    (subst (RefinesPacket (packet_of_ref c.args.packet) old.server old.frames new.server new.frames) (sym c.err-self-inside.ensures.value) c.packet-taken.ensures.leads))
+    (subst (RefinesPacket (packet_of_ref c.args.packet) old.server old.frames new.server new.frames) (sym c.err-self-inside.ensures.value) c.packet-taken.ensures.refines))
 
 pub returns-clause-told : goal.returns-clause-told
 returns-clause-told c = λ start input sent is none still.
@@ -58,7 +58,7 @@ returns-clause-told c = λ start input sent is none still.
     let new : HostModel = record old { server = c.packet-taken.new.state; frames = c.packet-taken.new.frames; fault = c.err-self-inside.result } in
     let going : old.fault ≡ None = subst (λ (host : HostModel). host.fault ≡ None) (sym c.self.view_is) none in
     let done : IsOk c.packet-taken.result = ok_where c.packet-taken.result (sym c.err-self-inside.ensures.value ∙ still) in
-    told_in_course (APacket (packet_of_ref c.args.packet)) (run start input) sent old new going
+    told_in_run (APacket (packet_of_ref c.args.packet)) (run start input) sent old new going
     (packet_event (run start input).intake.state (run start input).intake.fragments (packet_of_ref c.args.packet))
     (not_long (run start input).intake.state (run start input).intake.fragments (packet_of_ref c.args.packet) (sym c.is_long.ensures ∙ c.if-is_long.false)) still
     (subst (λ (host : HostModel). RefinesRun (run start input) sent host) (sym c.self.view_is) is) (λ refines.

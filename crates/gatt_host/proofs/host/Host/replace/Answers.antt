@@ -1,7 +1,7 @@
 use Rattle.std.proofs.Common.{◌≡◌, true, ◌∷◌, [], None, refl, sym, subst, ◌∙◌}
 use Rattle.gatt_host.proofs.owing.Nexts.{is_none_where}
 use Rattle.gatt_host.proofs.model.Calls.{replaced_after, table_told, takes_table}
-use Rattle.gatt_host.proofs.model.Told.{told_in_course}
+use Rattle.gatt_host.proofs.model.Told.{told_in_run}
 use Rattle.gatt_host.proofs.model.Items.{reached_by}
 use Rattle.gatt_host.specs.contracts.host.Host.{the_view}
 use Rattle.gatt_host.specs.HostModel.{RefinesRun, Takes, HostModel, all_out}
@@ -35,7 +35,7 @@ returns-clause-told c = λ start input sent is none still.
     let new : HostModel = record old { server = c.replace_table.new.self } in
     let out : all_out old ≡ true = subst (λ (host : HostModel). all_out host ≡ true) (sym c.self.view_is) c.requires.drained in
     let going : old.fault ≡ None = subst (λ (host : HostModel). host.fault ≡ None) (sym c.self.view_is) none in
-    told_in_course (ATable c.args.table) (run start input) sent old new going (replacement_event (run start input).intake.state c.args.table)
+    told_in_run (ATable c.args.table) (run start input) sent old new going (replacement_event (run start input).intake.state c.args.table)
     refl still (subst (λ (host : HostModel). RefinesRun (run start input) sent host) (sym c.self.view_is) is) (λ refines.
     table_told c.args.table old new going out c.replace_table.result
     (replaced_after c.args.table old.server new.server c.replace_table.result c.replace_table.ensures.after) c.replace_table.ensures.accepted c.replace_table.ensures.refused

@@ -26,7 +26,7 @@ invariant_of-self c =
     let heard : new ≡ all_heard table now rows own here handles old =
     c.indicate_due.ensures.heard
     ∙ ap (λ (it : SlotStates). all_heard table now rows None [] [] it)
-    (c.notify_all-2.ensures.raised ∙ ap (λ (it : SlotStates). all_notified_in_turn table now rows own true handles it) c.notify_all.ensures.raised)
+    (c.notify_all-2.ensures.notified ∙ ap (λ (it : SlotStates). all_notified_in_turn table now rows own true handles it) c.notify_all.ensures.notified)
     ∙ all_in_turn table now rows own here handles lent
     ∙ ap (λ (it : SlotStates). all_heard table now rows own here handles it) is in
     let count : length new ≡ length old =
@@ -64,6 +64,6 @@ returns-clause-heard c =
     written_over c.self.inside.slots.len old new count (ap (λ (it : SlotStates). length it) (sym is) ∙ c.as_mut_slice-slots.ensures.len)
     ∙ c.indicate_due.ensures.heard
     ∙ ap (λ (it : SlotStates). all_heard table now rows None [] [] it)
-    (c.notify_all-2.ensures.raised ∙ ap (λ (it : SlotStates). all_notified_in_turn table now rows own true handles it) c.notify_all.ensures.raised)
+    (c.notify_all-2.ensures.notified ∙ ap (λ (it : SlotStates). all_notified_in_turn table now rows own true handles it) c.notify_all.ensures.notified)
     ∙ all_in_turn table now rows own here handles lent
     ∙ ap (λ (it : SlotStates). all_heard table now rows own here handles it) (is ∙ c.self.view_is)

@@ -26,7 +26,7 @@ invariant_of-self c =
     let within : place < length slots = subst (λ (it : SlotStates). place < length it) (sym c.self.view_is) c.requires.place in
     let there = there_at slots slots (λ i. slots) place slot within c.index_mut-slot.ensures.value in
     let goes = given_goes_on slot c.next_into-given.new.self (is_some c.next_into-given.result) c.next_into-given.ensures.after c.next_into-given.ensures.unchanged in (
-      c.go_on.ensures slots c.next_into-given.new.self within c.self.invariant.0
+      c.mark_giving.ensures slots c.next_into-given.new.self within c.self.invariant.0
           (subst (λ (it : Option SlotState). WaitsForNothingNew it c.next_into-given.new.self) there goes)
           (λ listens. sym (ap may_listen there) ∙ given_listens slot c.next_into-given.new.self (is_some c.next_into-given.result) c.next_into-given.ensures.after c.next_into-given.ensures.unchanged listens)
           (λ none. sym c.gives-giving.ensures ∙ none),

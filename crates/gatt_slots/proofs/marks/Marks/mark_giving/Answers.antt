@@ -1,7 +1,7 @@
 use Rattle.std.proofs.Common.{refl}
 use Rattle.gatt_slots.proofs.Covering.{covered_still, marked_off, marked_on}
 use Rattle.gatt_slots.specs.declared.places.Due.TheVariants.{Value}
-use Rattle.gatt_slots.proofs.marks.Marks.go_on.Goals as goal
+use Rattle.gatt_slots.proofs.marks.Marks.mark_giving.Goals as goal
 
 pub returns-then-giving : goal.returns-then-giving
 returns-then-giving c = λ slots slot within marked goes listens giving.

@@ -47,7 +47,7 @@ impl Slot {
         })
     }
 
-    /// Takes in a new connection, to a server that receives PDUs of `rx_mtu` octets. At most `share`
+    /// Takes in a new connection, to a server that receives PDUs of `rx_mtu` octets. At most `quota`
     /// of its packets may be outstanding, with at most `acl_len` octets of data each.
     pub fn connect(
         &mut self,
@@ -55,16 +55,16 @@ impl Slot {
         peer: Peer,
         key_known: bool,
         rx_mtu: u16,
-        share: u16,
+        quota: u16,
         acl_len: u16,
     )
         requires handle { handle < 2 ^ 12 }
         requires rx_mtu_least { MIN_MTU ≤ rx_mtu }
         requires rx_mtu_most { rx_mtu ≤ MAX_MTU }
-        requires share { 0 < share }
+        requires quota { 0 < quota }
         requires acl_len_least { MIN_ACL_LEN ≤ acl_len }
         requires acl_len_most { acl_len ≤ MAX_ACL_LEN }
-        ensures { self.new ≡ Some (new_slot_state handle peer key_known rx_mtu share acl_len) }
+        ensures { self.new ≡ Some (new_slot_state handle peer key_known rx_mtu quota acl_len) }
     {
         self.used = Use::Live;
         self.handle = handle;
@@ -76,7 +76,7 @@ impl Slot {
         self.conn.renew();
         self.conn.limit(rx_mtu);
         self.pending = Pending::new();
-        self.sender.reset(share, acl_len);
+        self.sender.reset(quota, acl_len);
         self.reply = None;
         self.reason = None;
     }

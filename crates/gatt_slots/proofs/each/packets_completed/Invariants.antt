@@ -3,7 +3,7 @@ use Rattle.le_hci.specs.Event.{completed_packets_of}
 use Rattle.gatt_slots.specs.Handles.{AreNotedIfAny}
 use Rattle.gatt_slots.specs.Places.{IsMarked}
 use Rattle.gatt_slots.specs.Slots.{slots_after_entries}
-use Rattle.gatt_slots.proofs.each.complete_all.Given as goal
+use Rattle.gatt_slots.proofs.each.packets_completed.Given as goal
 
 abbrev pub invariant-loop-octets : goal.invariant-loop-octets
 invariant-loop-octets l =
