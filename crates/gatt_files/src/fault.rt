@@ -9,7 +9,7 @@ use itoa::Buffer;
 use std::alloc::AllocError;
 
 /// Why a command of the program ended before its work was done.
-#[derive(Clone, Copy, Debug, PartialEq, Eq)]
+#[derive(Clone, Copy, PartialEq, Eq)]
 pub enum ShellFault {
     /// The table file was refused, with the number of its fault.
     Table(u8),
