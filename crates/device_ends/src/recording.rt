@@ -69,17 +69,17 @@ impl Recording {
 
     /// Logs once that no more packets are recorded, and why.
     fn tell<R: Clock + Eprint>(&mut self, log: &Log<'_, R>) {
-        let fault = match &self.capture {
-            Some(capture) => capture.fault(),
-            None => None,
-        };
-        if self.is_told || fault.is_none() {
+        let Some(capture) = &self.capture else {
             return;
-        }
-        self.is_told = true;
-        log.say(match fault {
+        };
+        let words = match capture.fault() {
+            None => return,
             Some(CaptureFault::Packet) => "capture: no packet of at most 1029 octets begins so",
-            _ => "capture: not written any more",
-        });
+            Some(_) => "capture: not written any more",
+        };
+        if !self.is_told {
+            self.is_told = true;
+            log.say(words);
+        }
     }
 }

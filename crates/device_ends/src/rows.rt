@@ -12,7 +12,8 @@ use std::{fs, io};
 pub struct RowsFile<'a> {
     alloc: Global,
     path: Option<&'a str>,
-    saved: Vec<u8>,
+    /// The text that was written last, once one was.
+    saved: Option<Vec<u8>>,
 }
 
 impl<'a> RowsFile<'a> {
@@ -21,35 +22,41 @@ impl<'a> RowsFile<'a> {
         RowsFile {
             alloc,
             path,
-            saved: Vec::new(alloc),
+            saved: None,
         }
     }
 
     /// Puts the rows in place of what the file has, where they are not known to be there: at each
-    /// moment it has the old ones or the new ones, whole.
+    /// moment it has the old ones or the new ones, whole. So the first time it is seen whether that can
+    /// be done.
     pub fn save<R: Files<File = File>>(&mut self, rt: &R, rows: &Rows) -> io::Result<()> {
         let Some(path) = self.path else {
             return Ok(());
         };
-        let mut text = Vec::new(self.alloc);
-        if rows.text(&mut Writer::new(&mut text)).is_err() {
-            return Err(io::Error::from(ErrorKind::OutOfMemory));
-        }
-        if text.as_slice() == self.saved.as_slice() {
+        let text = text_of(self.alloc, rows)?;
+        if self.has(text.as_slice()) {
             return Ok(());
         }
         write_in_place(rt, self.alloc, path, text.as_slice())?;
-        self.saved = text;
+        self.saved = Some(text);
         Ok(())
     }
 
-    /// Writes the rows, whether they are there or not: so it is seen whether that can be done.
-    pub fn save_first<R: Files<File = File>>(&mut self, rt: &R, rows: &Rows) -> io::Result<()> {
-        self.saved.clear();
-        if self.saved.extend_from_slice(b"unsaved").is_err() {
-            return Err(io::Error::from(ErrorKind::OutOfMemory));
+    /// Whether a text is known to be saved.
+    fn has(&self, text: &[u8]) -> bool {
+        match &self.saved {
+            Some(saved) => saved.as_slice() == text,
+            None => false,
         }
-        self.save(rt, rows)
+    }
+}
+
+/// The text of a rows file.
+fn text_of(alloc: Global, rows: &Rows) -> io::Result<Vec<u8>> {
+    let mut text = Vec::new(alloc);
+    match rows.text(&mut Writer::new(&mut text)) {
+        Ok(()) => Ok(text),
+        Err(_) => Err(io::Error::from(ErrorKind::OutOfMemory)),
     }
 }
 
@@ -61,15 +68,31 @@ fn write_in_place<R: Files<File = File>>(
     text: &[u8],
 ) -> io::Result<()> {
     let beside = format!(in alloc; "{path}.new")?;
-    let mut file = File::create(rt, beside.as_str())?;
-    if let Ok(found) = fs::metadata(rt, path) {
-        fs::set_permissions(rt, beside.as_str(), found.permissions())?;
-    }
-    file.write_all(text)?;
-    file.sync_all()?;
+    write_beside(rt, path, beside.as_str(), text)?;
     fs::rename(rt, beside.as_str(), path)?;
     sync_folder(rt, path);
     Ok(())
+}
+
+/// Writes a file beside another, with its permission, and has it on the disk.
+fn write_beside<R: Files<File = File>>(
+    rt: &R,
+    path: &str,
+    beside: &str,
+    text: &[u8],
+) -> io::Result<()> {
+    let mut file = File::create(rt, beside)?;
+    copy_permission(rt, path, beside)?;
+    file.write_all(text)?;
+    file.sync_all()
+}
+
+/// Gives a file the permission of another, if that is there.
+fn copy_permission<R: Files<File = File>>(rt: &R, from: &str, to: &str) -> io::Result<()> {
+    match fs::metadata(rt, from) {
+        Ok(found) => fs::set_permissions(rt, to, found.permissions()),
+        Err(_) => Ok(()),
+    }
 }
 
 /// Has the folder of a file on the disk too, as far as that can be done.

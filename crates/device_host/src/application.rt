@@ -1,67 +1,20 @@
 //! The application: one at a time, which says lines and hears lines.
 
-ghost use Rattle.std.specs.Prelude.{◌≤◌, length, IfOk};
-
+use crate::ends::listen;
+use crate::line::{Line, Listener, Retry, bind_at_path, retry_after};
 use arrayvec::ArrayVec;
 use device_ends::{Source, Waiting};
 use device_lines::{Found, Inbox, LONGEST, Outbox};
 use std::alloc::Global;
-use std::fs::{Files, Permissions};
-use std::io::{ErrorKind, Read, Write};
+use std::fs::Files;
+use std::io;
 use std::net::{Net, SocketAddr, TcpListener, TcpStream};
-use std::os::unix::fs::{FileTypeExt, PermissionsExt};
-use std::os::unix::net::{UnixListener, UnixStream};
-use std::{fs, io};
 
 /// As many octets may wait for an application that does not read.
 const LIMIT: usize = 65_536;
 
 /// As many octets are read at once.
 const ROOM: usize = 512;
-
-/// What the owner of a socket may do, and nobody else.
-const OWNER_ALONE: u32 = 0o600;
-
-/// Where applications connect.
-#[derive(Drop)]
-enum Listener {
-    Path(UnixListener),
-    Port(TcpListener),
-}
-
-/// The connection of an application.
-#[derive(Drop)]
-enum Line {
-    Path(UnixStream),
-    Port(TcpStream),
-}
-
-impl Line {
-    fn read(&mut self, buffer: &mut [u8]) -> io::Result<usize>
-        ensures { IfOk result (λ count. count ≤ length buffer.old) }
-    {
-        match self {
-            Line::Path(stream) => stream.read(buffer),
-            Line::Port(stream) => stream.read(buffer),
-        }
-    }
-
-    fn write(&mut self, octets: &[u8]) -> io::Result<usize>
-        ensures { IfOk result (λ count. count ≤ length octets.now) }
-    {
-        match self {
-            Line::Path(stream) => stream.write(octets),
-            Line::Port(stream) => stream.write(octets),
-        }
-    }
-
-    fn watch(&self, waiting: &Waiting) -> io::Result<()> {
-        match self {
-            Line::Path(stream) => waiting.watch(stream, Source::Application),
-            Line::Port(stream) => waiting.watch(stream, Source::Application),
-        }
-    }
-}
 
 /// The application, if there is one, and what it says and hears.
 #[derive(Drop)]
@@ -97,13 +50,7 @@ impl Application {
         waiting: &Waiting,
         path: &str,
     ) -> io::Result<()> {
-        if UnixStream::connect(rt, path).is_ok() {
-            return Err(io::Error::from(ErrorKind::AddrInUse));
-        }
-        remove_left_socket(rt, path);
-        let listener = UnixListener::bind(rt, path)?;
-        fs::set_permissions(rt, path, Permissions::from_mode(OWNER_ALONE))?;
-        listener.set_nonblocking(true)?;
+        let listener = bind_at_path(rt, path)?;
         waiting.watch(&listener, Source::Applications)?;
         self.listener = Some(Listener::Path(listener));
         Ok(())
@@ -116,9 +63,7 @@ impl Application {
         waiting: &Waiting,
         address: SocketAddr,
     ) -> io::Result<SocketAddr> {
-        let listener = TcpListener::bind(rt, address)?;
-        listener.set_nonblocking(true)?;
-        waiting.watch(&listener, Source::Applications)?;
+        let listener = listen(rt, waiting, address, Source::Applications)?;
         let bound = listener.local_addr()?;
         self.listener = Some(Listener::Port(listener));
         Ok(bound)
@@ -126,32 +71,18 @@ impl Application {
 
     /// Takes the next application that connects, if one does, in place of the one before.
     pub(crate) fn accept(&mut self, waiting: &Waiting) -> io::Result<bool> {
-        let line = match &self.listener {
-            Some(Listener::Path(listener)) => {
-                let accepted = listener.accept();
-                waiting.again(listener, Source::Applications)?;
-                match accepted {
-                    Ok((stream, _)) => {
-                        stream.set_nonblocking(true)?;
-                        Line::Path(stream)
-                    }
-                    Err(error) => return nobody(error),
-                }
-            }
-            Some(Listener::Port(listener)) => {
-                let accepted = listener.accept();
-                waiting.again(listener, Source::Applications)?;
-                match accepted {
-                    Ok((stream, _)) => {
-                        stream.set_nonblocking(true)?;
-                        stream.set_nodelay(true)?;
-                        Line::Port(stream)
-                    }
-                    Err(error) => return nobody(error),
-                }
-            }
-            None => return Ok(false),
+        let accepted = match &self.listener {
+            Some(listener) => listener.accept(waiting)?,
+            None => None,
         };
+        match accepted {
+            Some(line) => self.take_line(line, waiting),
+            None => Ok(false),
+        }
+    }
+
+    /// Takes an application that has connected, in place of the one before.
+    fn take_line(&mut self, line: Line, waiting: &Waiting) -> io::Result<bool> {
         self.end();
         line.watch(waiting)?;
         self.line = Some(line);
@@ -200,10 +131,10 @@ impl Application {
                 // There is room, as was asked before.
                 let _ = self.inbox.take(&buffer[..count]);
             }
-            Err(error) => match error.kind() {
-                ErrorKind::Interrupted => {}
-                ErrorKind::WouldBlock => self.is_readable = false,
-                _ => self.end(),
+            Err(error) => match retry_after(&error) {
+                Retry::Now => {}
+                Retry::Later => self.is_readable = false,
+                Retry::Never => self.end(),
             },
         }
     }
@@ -231,46 +162,33 @@ impl Application {
     /// Writes as much as it takes.
     pub(crate) fn flush(&mut self) {
         for _write in 0..u64::MAX {
-            let Some(line) = &mut self.line else {
+            if !self.write() {
                 return;
-            };
-            let waiting = self.outbox.waiting();
-            if waiting.is_empty() {
-                return;
-            }
-            match line.write(waiting) {
-                Ok(0) => {
-                    self.end();
-                    return;
-                }
-                Ok(count) => self.outbox.sent(count),
-                Err(error) => match error.kind() {
-                    ErrorKind::Interrupted => {}
-                    ErrorKind::WouldBlock => return,
-                    _ => {
-                        self.end();
-                        return;
-                    }
-                },
             }
         }
     }
-}
 
-/// Removes a socket at a path, and nothing else. Where that cannot be done, whoever then binds the path
-/// is told so.
-fn remove_left_socket<R: Files>(rt: &R, path: &str) {
-    if let Ok(found) = fs::symlink_metadata(rt, path) {
-        if found.file_type().is_socket() {
-            let _ = fs::remove_file(rt, path);
+    /// Writes once: whether it may take more.
+    fn write(&mut self) -> bool {
+        let Some(line) = &mut self.line else {
+            return false;
+        };
+        let waiting = self.outbox.waiting();
+        if waiting.is_empty() {
+            return false;
         }
-    }
-}
-
-/// Nobody connects as yet, or it cannot be told who does.
-fn nobody(error: io::Error) -> io::Result<bool> {
-    match error.kind() {
-        ErrorKind::WouldBlock | ErrorKind::Interrupted => Ok(false),
-        _ => Err(error),
+        match line.write(waiting) {
+            Ok(0) => self.end(),
+            Ok(count) => {
+                self.outbox.sent(count);
+                return true;
+            }
+            Err(error) => match retry_after(&error) {
+                Retry::Now => return true,
+                Retry::Later => {}
+                Retry::Never => self.end(),
+            },
+        }
+        false
     }
 }

@@ -5,17 +5,26 @@
 
 mod advertising;
 mod application;
+mod controller;
 mod device;
+mod ends;
 mod heard;
+mod line;
+mod opening;
 mod outgoing;
 mod outside;
 mod places;
+mod said;
+mod saved;
 mod serving;
 mod settings;
+mod stop;
 mod strangers;
 mod telling;
+mod turns;
 mod unknown;
 mod words;
 
-pub use serving::{Stop, serve_devices};
+pub use serving::serve_devices;
+pub use stop::Stop;
 pub use words::HostWords;

@@ -14,7 +14,7 @@ impl<
 > Outside<Heard> for Device<'_, R> {
     fn keep(&mut self, host: &Host, heard: &mut Heard) -> bool {
         settle(self, host, heard);
-        self.is_kept
+        self.rows.is_kept()
     }
 
     #[tactic(auto, using(gatt_device::proofs::Unknown::sends_unknown))]
@@ -22,13 +22,13 @@ impl<
         if octets.is_empty() {
             return Sending::Done;
         }
-        let Some(stream) = &mut self.stream else {
-            return Sending::Waits;
-        };
-        if stream.write(octets, &self.log).is_err() {
-            return Sending::Failed;
+        match self.controller.write(octets, &self.log) {
+            Ok(true) => {
+                self.recording.went(octets, &self.log);
+                Sending::Done
+            }
+            Ok(false) => Sending::Waits,
+            Err(_) => Sending::Failed,
         }
-        self.recording.went(octets, &self.log);
-        Sending::Done
     }
 }

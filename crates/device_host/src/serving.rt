@@ -1,41 +1,24 @@
 //! One controller after another is served.
 
 use crate::application::Application;
-use crate::device::{Device, Question};
+use crate::device::Device;
+use crate::ends::{open_ends, reaching};
 use crate::heard::Heard;
+use crate::opening::{read_host, reopen};
 use crate::outgoing::ToController;
-use crate::settings::{Door, Reached, Settings};
-use crate::strangers::Strangers;
+use crate::settings::Settings;
+use crate::stop::Stop;
 use crate::telling::tell;
-use crate::unknown::unknown_peer;
 use crate::words::HostWords;
-use device_ends::{Log, Recording, RowsFile, Source, Waiting, Way};
+use device_ends::Log;
 use device_lines::Told;
 use gatt_device::{End, Sending, serve_turn};
-use gatt_files::{LazyFile, RowsPath, RowsReader, ShellFault};
-use gatt_host::{Host, HostFault, Keys, Rows, Table};
+use gatt_files::ShellFault;
+use gatt_host::{Host, HostFault};
 use std::alloc::Global;
 use std::fs::{File, Files};
-use std::io;
 use std::net::{Net, TcpListener, TcpStream};
 use std::time::Clock;
-
-/// Why a device serves no longer.
-#[derive(Clone, Copy, Debug, PartialEq, Eq)]
-pub enum Stop {
-    /// The words of the command line say nothing that can be done: what is wrong.
-    Words(&'static str),
-    /// A file is refused, or cannot be written, for what was told on standard error.
-    File,
-    /// For the same reasons as other commands.
-    Fault(ShellFault),
-}
-
-impl From<ShellFault> for Stop {
-    fn from(fault: ShellFault) -> Stop {
-        Stop::Fault(fault)
-    }
-}
 
 /// Why a controller is served no longer.
 #[derive(Clone, Copy)]
@@ -44,6 +27,16 @@ enum Over {
     Gone(&'static str),
     /// The host has stopped.
     Stopped(HostFault),
+}
+
+impl Over {
+    /// What it comes to, where no other controller is served.
+    fn outcome(self) -> Result<(), Stop> {
+        match self {
+            Over::Gone(_) => Ok(()),
+            Over::Stopped(fault) => Err(Stop::Fault(ShellFault::Host(fault.number()))),
+        }
+    }
 }
 
 /// Serves one controller after another, as the words say: for ever, or until the first is gone.
@@ -58,147 +51,38 @@ pub fn serve_devices<
         Ok(settings) => settings,
         Err(wrong) => return Err(Stop::Words(wrong)),
     };
-    prepare_and_serve(rt, rt.alloc(), words, &settings)
+    prepare_and_serve(rt, rt.alloc(), &settings)
 }
 
 /// Reads the files, listens, and serves.
 fn prepare_and_serve<
     R: Files<File = File> + Net<Listener = TcpListener, Stream = TcpStream> + Clock + Eprint,
->(rt: &R, alloc: Global, words: &HostWords<'_>, settings: &Settings<'_>) -> Result<(), Stop> {
-    let table = gatt_files::read_table(alloc, &mut LazyFile::new(rt, words.table))?;
-    let keys = gatt_files::read_keys(alloc, &mut LazyFile::new(rt, words.keys))?;
-    let mut reader = RowsReader::new(rt, RowsPath(words.rows));
-    let rows = gatt_files::read_rows(alloc, &mut reader)?;
-    if !words.drop_unknown {
-        refuse_unknown(rt, alloc, &rows, &keys)?;
-    }
-    let host = open(alloc, table, keys, rows, settings)?;
-    let mut file = RowsFile::new(alloc, words.rows);
-    if file.save_first(rt, host.rows()).is_err() {
-        return Err(Stop::Fault(ShellFault::Unwritten));
-    }
-    let Ok(mut device) = listening(rt, alloc, settings, file) else {
-        return Err(Stop::Fault(ShellFault::Listen));
-    };
-    // Not before: where another one serves already, its capture is not emptied.
-    if let Some(path) = words.capture {
-        device.recording = record_to(rt, alloc, path)?;
-    }
-    device.log.say("ready");
-    serve_each(alloc, &mut device, host, settings, words)?;
-    Ok(())
+>(rt: &R, alloc: Global, settings: &Settings<'_>) -> Result<(), Stop> {
+    let host = read_host(rt, alloc, &settings.files, &settings.host)?;
+    listen_and_serve(rt, alloc, settings, host)
 }
 
-/// Begins a capture in a file at a path, or tells that this cannot be created. Where that cannot be
-/// written, nobody can be told.
-fn record_to<R: Files<File = File> + Eprint>(
-    rt: &R,
-    alloc: Global,
-    path: &str,
-) -> Result<Recording, Stop> {
-    match Recording::begin(rt, path) {
-        Ok(recording) => Ok(recording),
-        Err(_) => {
-            if let Ok(line) = format!(in alloc; "capture: cannot be created: {path}") {
-                let _ = rt.eprintln(line.as_str());
-            }
-            Err(Stop::File)
-        }
-    }
+/// Listens, and serves a host.
+fn listen_and_serve<
+    R: Files<File = File> + Net<Listener = TcpListener, Stream = TcpStream> + Clock + Eprint,
+>(rt: &R, alloc: Global, settings: &Settings<'_>, host: Host) -> Result<(), Stop> {
+    let mut device = reaching(rt, alloc, settings, host.rows())?;
+    open_and_serve(rt, alloc, settings, host, &mut device)
 }
 
-/// Refuses rows of which a peer has no key, and tells which. Where that cannot be written, nobody can
-/// be told.
-fn refuse_unknown<R: Eprint>(rt: &R, alloc: Global, rows: &Rows, keys: &Keys) -> Result<(), Stop> {
-    let unknown = match unknown_peer(alloc, rows, keys) {
-        Ok(unknown) => unknown,
-        Err(_) => return Err(Stop::Fault(ShellFault::Memory)),
-    };
-    let Some(peer) = unknown else {
-        return Ok(());
-    };
-    if let Ok(line) = format!(in alloc;
-        "rows: no key of the peer {peer} (--drop-unknown drops it)"
-    ) {
-        let _ = rt.eprintln(line.as_str());
-    }
-    Err(Stop::File)
-}
-
-/// A host with these, as the words say.
-fn open(
-    alloc: Global,
-    table: Table,
-    keys: Keys,
-    rows: Rows,
-    settings: &Settings<'_>,
-) -> Result<Host, ShellFault> {
-    match Host::open(alloc, table, keys, rows, settings.config()) {
-        Ok(host) => Ok(host),
-        Err(_) => Err(ShellFault::Memory),
-    }
-}
-
-/// A device that waits for its controller and its application, and keeps its rows in a file, if it
-/// has one.
-fn listening<
-    'a,
+/// Opens what a device still needs, and serves a host.
+fn open_and_serve<
     R: Files<File = File> + Net<Listener = TcpListener, Stream = TcpStream> + Clock + Eprint,
 >(
-    rt: &'a R,
+    rt: &R,
     alloc: Global,
-    settings: &Settings<'a>,
-    file: RowsFile<'a>,
-) -> io::Result<Device<'a, R>> {
-    let log = Log::new(rt, alloc)?;
-    let waiting = Waiting::new(alloc, rt)?;
-    let way = match settings.reached {
-        Reached::Listen(address) => {
-            let listener = TcpListener::bind(rt, address)?;
-            listener.set_nonblocking(true)?;
-            waiting.watch(&listener, Source::Controllers)?;
-            let bound = format!(in alloc; "{}", listener.local_addr()?)?;
-            log.say_of("listening for a controller:", bound.as_str());
-            Way::Listen(listener)
-        }
-        Reached::Connect(address) => Way::Connect(address),
-        Reached::Serial(path) => Way::Serial(path),
-    };
-    let mut application = Application::none(alloc);
-    match settings.door {
-        Door::None => {}
-        Door::Path(path) => {
-            application.listen_at_path(rt, &waiting, path)?;
-            log.say_of("listening for an application:", path);
-        }
-        Door::Port(address) => {
-            let bound = application.listen_at_port(rt, &waiting, address)?;
-            let bound = format!(in alloc; "{bound}")?;
-            log.say_of("listening for an application:", bound.as_str());
-        }
-    }
-    Ok(Device {
-        alloc,
-        log,
-        way,
-        stream: None,
-        application,
-        strangers: Strangers::new(settings.idle),
-        recording: Recording::none(),
-        file,
-        is_kept: true,
-        waiting,
-        is_reached: false,
-        question: Question::Nothing,
-        answer: Ok(()),
-        is_readable: false,
-        is_ending: false,
-        was_read: false,
-        is_missed: false,
-        retry: 0,
-        time: 0,
-        is_told: false,
-    })
+    settings: &Settings<'_>,
+    host: Host,
+    device: &mut Device<'_, R>,
+) -> Result<(), Stop> {
+    open_ends(rt, alloc, settings, device)?;
+    device.log.say("ready");
+    serve_each(alloc, device, host, settings)
 }
 
 /// Serves each controller with what the one before has left.
@@ -209,57 +93,87 @@ fn serve_each<
     device: &mut Device<'_, R>,
     host: Host,
     settings: &Settings<'_>,
-    words: &HostWords<'_>,
-) -> Result<(), ShellFault> {
+) -> Result<(), Stop> {
     let mut host = host;
     for _controller in 0..u64::MAX {
-        let mut heard = Heard::new(alloc, words.log_values);
-        let over = serve_one(alloc, device, &mut host, &mut heard);
-        tell_over(alloc, device, over);
-        if words.once {
-            return match over {
-                Over::Gone(_) => Ok(()),
-                Over::Stopped(fault) => Err(ShellFault::Host(fault.number())),
-            };
+        let over = serve_one(alloc, device, &mut host, settings.log_values);
+        if settings.once {
+            return over.outcome();
         }
-        let (table, keys, rows) = host.into_parts();
-        host = open(alloc, table, keys, rows, settings)?;
+        host = reopen(alloc, host, &settings.host)?;
         device.lose();
     }
     Ok(())
 }
 
-/// Tells the log and the application why a controller is served no longer.
-fn tell_over<R: Clock + Eprint>(alloc: Global, device: &mut Device<'_, R>, over: Over) {
-    match over {
-        Over::Gone(how) => device.log.say_of("controller", how),
-        Over::Stopped(fault) => {
-            if let Ok(words) = format!(in alloc; "{fault}") {
-                device.log.say_of("stopped:", words.as_str());
-                tell(alloc, device, &Told::Stopped(words.as_str()));
-            }
-        }
-    }
-    tell(alloc, device, &Told::Waiting);
-    device.application.flush();
+/// Serves a controller, and tells why it is served no longer.
+fn serve_one<
+    R: Files<File = File> + Net<Listener = TcpListener, Stream = TcpStream> + Clock + Eprint,
+>(alloc: Global, device: &mut Device<'_, R>, host: &mut Host, logs_values: bool) -> Over {
+    let mut heard = Heard::new(alloc, logs_values);
+    let over = serve_turns(alloc, device, host, &mut heard);
+    tell_over(alloc, &mut device.application, &device.log, over);
+    over
 }
 
 /// Serves a controller, once it is reached, until it is gone or the host has stopped.
-fn serve_one<
+fn serve_turns<
     R: Files<File = File> + Net<Listener = TcpListener, Stream = TcpStream> + Clock + Eprint,
 >(alloc: Global, device: &mut Device<'_, R>, host: &mut Host, heard: &mut Heard) -> Over {
     let mut out = ToController::new(alloc);
     for _turn in 0..u64::MAX {
-        let turn = serve_turn(host, device, &mut out, heard);
-        if matches!(turn.sending, Sending::Failed) {
-            return Over::Gone("gone: it cannot be written");
-        }
-        match turn.served {
-            Ok(End::Turns) => {}
-            Ok(End::Ended) => return Over::Gone("gone"),
-            Ok(End::Failed) => return Over::Gone("gone: it cannot be read"),
-            Err(fault) => return Over::Stopped(fault),
+        if let Some(over) = over_in_turn(device, host, &mut out, heard) {
+            return over;
         }
     }
     Over::Gone("gone")
+}
+
+/// Serves a controller for a turn: why it is served no longer, if so.
+fn over_in_turn<
+    R: Files<File = File> + Net<Listener = TcpListener, Stream = TcpStream> + Clock + Eprint,
+>(
+    device: &mut Device<'_, R>,
+    host: &mut Host,
+    out: &mut ToController,
+    heard: &mut Heard,
+) -> Option<Over> {
+    let turn = serve_turn(host, device, out, heard);
+    if matches!(turn.sending, Sending::Failed) {
+        return Some(Over::Gone("gone: it cannot be written"));
+    }
+    match turn.served {
+        Ok(End::Turns) => None,
+        Ok(End::Ended) => Some(Over::Gone("gone")),
+        Ok(End::Failed) => Some(Over::Gone("gone: it cannot be read")),
+        Err(fault) => Some(Over::Stopped(fault)),
+    }
+}
+
+/// Tells the log and the application why a controller is served no longer.
+fn tell_over<R: Clock + Eprint>(
+    alloc: Global,
+    application: &mut Application,
+    log: &Log<'_, R>,
+    over: Over,
+) {
+    match over {
+        Over::Gone(how) => log.say_of("controller", how),
+        Over::Stopped(fault) => tell_stopped(alloc, application, log, fault),
+    }
+    tell(alloc, application, log, &Told::Waiting);
+    application.flush();
+}
+
+/// Tells the log and the application that the host has stopped.
+fn tell_stopped<R: Clock + Eprint>(
+    alloc: Global,
+    application: &mut Application,
+    log: &Log<'_, R>,
+    fault: HostFault,
+) {
+    if let Ok(words) = format!(in alloc; "{fault}") {
+        log.say_of("stopped:", words.as_str());
+        tell(alloc, application, log, &Told::Stopped(words.as_str()));
+    }
 }

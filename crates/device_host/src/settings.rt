@@ -33,37 +33,36 @@ pub(crate) enum Door<'a> {
     Port(SocketAddr),
 }
 
-/// What the words say.
+/// The files that are read and written.
+#[derive(Clone, Copy)]
+pub(crate) struct FileWords<'a> {
+    /// The path of the table file.
+    pub(crate) table: &'a str,
+    /// The path of the key file.
+    pub(crate) keys: &'a str,
+    /// The path of the rows file.
+    pub(crate) rows: Option<&'a str>,
+    /// Whether rows of peers without a key are dropped, in place of the file being refused.
+    pub(crate) drop_unknown: bool,
+    /// The path of a capture.
+    pub(crate) capture: Option<&'a str>,
+}
+
+/// What a host is opened with beside its files.
 #[derive(Drop)]
-pub(crate) struct Settings<'a> {
-    pub(crate) reached: Reached<'a>,
-    pub(crate) door: Door<'a>,
+pub(crate) struct HostSettings {
     slots: usize,
     address: Option<[u8; 6]>,
     advertising: Data,
-    /// How long a stranger may be silent, in milliseconds.
-    pub(crate) idle: Option<u64>,
 }
 
-impl<'a> Settings<'a> {
+impl HostSettings {
     /// What words say, or what is wrong with them.
-    pub(crate) fn read(words: &HostWords<'a>) -> Result<Settings<'a>, &'static str> {
-        let reached = read_reached(words)?;
-        let door = read_door(words)?;
-        let slots = read_slots(words.slots)?;
-        let address = read_address(words.address)?;
-        let idle = read_idle(words.idle)?;
-        let name = words.name.unwrap_or("");
-        let Some(advertising) = advertising::data(words.advertise, name) else {
-            return Err("--advertise: no UUID, or more of them than 31 octets have room for");
-        };
-        Ok(Settings {
-            reached,
-            door,
-            slots,
-            address,
-            advertising,
-            idle,
+    fn read(words: &HostWords<'_>) -> Result<HostSettings, &'static str> {
+        Ok(HostSettings {
+            slots: read_slots(words.slots)?,
+            address: read_address(words.address)?,
+            advertising: read_advertising(words.advertise, words.name.unwrap_or(""))?,
         })
     }
 
@@ -82,30 +81,86 @@ impl<'a> Settings<'a> {
     }
 }
 
-fn read_reached<'a>(words: &HostWords<'a>) -> Result<Reached<'a>, &'static str> {
-    match (words.listen, words.connect, words.serial) {
-        (Some(address), None, None) => match address.parse::<SocketAddr>() {
-            Ok(address) => Ok(Reached::Listen(address)),
-            Err(_) => Err("--listen: no address with a port"),
-        },
-        (None, Some(address), None) => match address.parse::<SocketAddr>() {
-            Ok(address) => Ok(Reached::Connect(address)),
-            Err(_) => Err("--connect: no address with a port"),
-        },
+/// What the words say.
+#[derive(Drop)]
+pub(crate) struct Settings<'a> {
+    pub(crate) files: FileWords<'a>,
+    pub(crate) reached: Reached<'a>,
+    pub(crate) door: Door<'a>,
+    /// How long a stranger may be silent, in milliseconds.
+    pub(crate) idle: Option<u64>,
+    pub(crate) host: HostSettings,
+    /// Whether the log has the octets of values that phones write.
+    pub(crate) log_values: bool,
+    /// Whether it ends once the first controller is gone.
+    pub(crate) once: bool,
+}
+
+impl<'a> Settings<'a> {
+    /// What words say, or what is wrong with them.
+    pub(crate) fn read(words: &HostWords<'a>) -> Result<Settings<'a>, &'static str> {
+        let reached = read_reached(words.listen, words.connect, words.serial)?;
+        let door = read_door(words.application, words.application_port)?;
+        let host = HostSettings::read(words)?;
+        let idle = read_idle(words.idle)?;
+        Ok(Settings {
+            files: file_words(words),
+            reached,
+            door,
+            idle,
+            host,
+            log_values: words.log_values,
+            once: words.once,
+        })
+    }
+}
+
+fn file_words<'a>(words: &HostWords<'a>) -> FileWords<'a> {
+    FileWords {
+        table: words.table,
+        keys: words.keys,
+        rows: words.rows,
+        drop_unknown: words.drop_unknown,
+        capture: words.capture,
+    }
+}
+
+fn read_reached<'a>(
+    listen: Option<&str>,
+    connect: Option<&str>,
+    serial: Option<&'a str>,
+) -> Result<Reached<'a>, &'static str> {
+    match (listen, connect, serial) {
+        (Some(address), None, None) => {
+            let wrong = "--listen: no address with a port";
+            Ok(Reached::Listen(read_socket_address(address, wrong)?))
+        }
+        (None, Some(address), None) => {
+            let wrong = "--connect: no address with a port";
+            Ok(Reached::Connect(read_socket_address(address, wrong)?))
+        }
         (None, None, Some(path)) => Ok(Reached::Serial(path)),
         _ => Err("one of --listen, --connect and --serial is needed, and no more"),
     }
 }
 
-fn read_door<'a>(words: &HostWords<'a>) -> Result<Door<'a>, &'static str> {
-    match (words.application, words.application_port) {
+fn read_door<'a>(path: Option<&'a str>, port: Option<&str>) -> Result<Door<'a>, &'static str> {
+    match (path, port) {
         (None, None) => Ok(Door::None),
         (Some(path), None) => Ok(Door::Path(path)),
-        (None, Some(address)) => match address.parse::<SocketAddr>() {
-            Ok(address) => Ok(Door::Port(address)),
-            Err(_) => Err("--application-port: no address with a port"),
-        },
+        (None, Some(address)) => {
+            let wrong = "--application-port: no address with a port";
+            Ok(Door::Port(read_socket_address(address, wrong)?))
+        }
         (Some(_), Some(_)) => Err("--application and --application-port: one of them is enough"),
+    }
+}
+
+/// The address of a socket, or what is wrong with the word.
+fn read_socket_address(word: &str, wrong: &'static str) -> Result<SocketAddr, &'static str> {
+    match word.parse::<SocketAddr>() {
+        Ok(address) => Ok(address),
+        Err(_) => Err(wrong),
     }
 }
 
@@ -126,6 +181,13 @@ fn read_idle(word: Option<&str>) -> Result<Option<u64>, &'static str> {
     match word.parse::<u32>() {
         Ok(seconds) if seconds > 0 => Ok(Some(u64::from(seconds) * 1_000)),
         _ => Err("--idle: a number of seconds"),
+    }
+}
+
+fn read_advertising(services: &[&str], name: &str) -> Result<Data, &'static str> {
+    match advertising::data(services, name) {
+        Some(data) => Ok(data),
+        None => Err("--advertise: no UUID, or more of them than 31 octets have room for"),
     }
 }
 

@@ -1,5 +1,7 @@
 //! Phones without a key, and since when each is silent.
 
+ghost use Rattle.std.specs.Prelude.{◌≤◌, length, IfSome};
+
 use arrayvec::ArrayVec;
 use gatt_host::{Host, MAX_SLOTS, PacketRef};
 use le_h4::Deframer;
@@ -47,16 +49,24 @@ impl Strangers {
             if rest.is_empty() {
                 return;
             }
-            let Ok(fed) = self.deframer.feed(rest) else {
+            let Some(used) = self.hear_packet(rest, now) else {
                 return;
             };
-            rest = rest.split_at(fed.used).1;
-            if fed.packet {
-                if let PacketRef::Acl { handle, .. } = self.deframer.packet() {
-                    said(&mut self.known, handle, now);
-                }
+            rest = rest.split_at(used).1;
+        }
+    }
+
+    /// Hears octets up to the end of a packet: how many, if packets begin so.
+    fn hear_packet(&mut self, octets: &[u8], now: u64) -> Option<usize>
+        ensures { IfSome result (λ used. used ≤ length octets.now) }
+    {
+        let fed = self.deframer.feed(octets).ok()?;
+        if fed.packet {
+            if let PacketRef::Acl { handle, .. } = self.deframer.packet() {
+                said(&mut self.known, handle, now);
             }
         }
+        Some(fed.used)
     }
 
     /// Who of the phones of a host has no key.
@@ -64,16 +74,7 @@ impl Strangers {
         if self.limit.is_none() {
             return;
         }
-        let mut known = ArrayVec::new();
-        for connection in host.connections() {
-            if connection.key.is_none() && !connection.ending {
-                let handle = connection.handle;
-                let since = since(self.known.as_slice(), handle).unwrap_or(now);
-                // A host has no more connections than there is room for.
-                let _ = known.try_push(Stranger { handle, since });
-            }
-        }
-        self.known = known;
+        self.known = strangers_of(host, self.known.as_slice(), now);
     }
 
     /// When the first of them has been silent for too long, in milliseconds.
@@ -90,6 +91,14 @@ impl Strangers {
         due
     }
 
+    /// Whether one of them has been silent for too long.
+    pub(crate) fn is_due(&self, now: u64) -> bool {
+        match self.due() {
+            Some(due) => due <= now,
+            None => false,
+        }
+    }
+
     /// One that has been silent for too long, which is known no more.
     pub(crate) fn next_silent(&mut self, now: u64) -> Option<u16> {
         let limit = self.limit?;
@@ -100,6 +109,20 @@ impl Strangers {
             .position(|stranger| stranger.since.saturating_add(limit) <= now)?;
         Some(self.known.pop_at(place)?.handle)
     }
+}
+
+/// The phones of a host that have no key, of whom some are known.
+fn strangers_of(host: &Host, known: &[Stranger], now: u64) -> ArrayVec<Stranger, MAX_SLOTS> {
+    let mut strangers = ArrayVec::new();
+    for connection in host.connections() {
+        if connection.key.is_none() && !connection.ending {
+            let handle = connection.handle;
+            let since = since(known, handle).unwrap_or(now);
+            // A host has no more connections than there is room for.
+            let _ = strangers.try_push(Stranger { handle, since });
+        }
+    }
+    strangers
 }
 
 /// One of them has said something.

@@ -1,8 +1,11 @@
 //! What a turn has brought is answered, told, logged and saved, before anything goes to the
 //! controller.
 
-use crate::device::{Device, Question};
+use crate::application::Application;
+use crate::device::Device;
 use crate::heard::Heard;
+use crate::said::Question;
+use device_ends::Log;
 use device_lines::{Reply, Told, add_connections, add_reply, add_told};
 use gatt_host::{AppFault, Host};
 use std::alloc::{AllocError, Global};
@@ -16,22 +19,27 @@ pub(crate) fn settle<R: Files<File = File> + Clock + Eprint>(
     host: &Host,
     heard: &mut Heard,
 ) {
-    let alloc = device.alloc;
-    if device.is_reached {
-        device.is_reached = false;
-        device.log.say("controller");
-        tell(alloc, device, &Told::Serving);
-    }
-    answer(alloc, device, host);
+    tell_controller(device);
+    answer(device, host);
     if !heard.is_nothing() {
         hear(device, host, heard);
     }
-    if device.application.is_new {
-        device.application.is_new = false;
-        tell_standing(alloc, device, host);
-    }
-    device.strangers.look(host, device.time);
+    welcome(device, host);
+    device.strangers.look(host, device.turns.time());
     device.application.flush();
+}
+
+/// Tells of a controller that has come in a turn.
+fn tell_controller<R: Clock + Eprint>(device: &mut Device<'_, R>) {
+    if device.controller.has_come() {
+        device.log.say("controller");
+        tell(
+            device.alloc,
+            &mut device.application,
+            &device.log,
+            &Told::Serving,
+        );
+    }
 }
 
 /// What was heard in a turn goes to the application and to the log, and the rows to their file.
@@ -40,67 +48,121 @@ fn hear<R: Files<File = File> + Clock + Eprint>(
     host: &Host,
     heard: &mut Heard,
 ) {
-    if heard.is_refused {
-        device.log.say("memory: refused for notices");
-        device.application.end();
-    }
-    if !device.application.is_new {
-        say(device, heard.text.as_slice());
-    }
-    log_lines(device, heard.log.as_slice());
+    tell_heard(&mut device.application, &device.log, heard);
     if heard.may_change_rows {
-        device.is_kept = device.file.save(device.log.rt, host.rows()).is_ok();
-        if !device.is_kept {
-            device.log.say("rows: not saved");
-        }
+        device.rows.save(host.rows(), &device.log);
     }
     heard.clear();
 }
 
+/// What was heard in a turn goes to the application and to the log.
+fn tell_heard<R: Clock + Eprint>(application: &mut Application, log: &Log<'_, R>, heard: &Heard) {
+    if heard.is_refused {
+        log.say("memory: refused for notices");
+        application.end();
+    }
+    if !application.is_new {
+        say(application, log, heard.text.as_slice());
+    }
+    log_lines(log, heard.log.as_slice());
+}
+
 /// Logs lines, each for itself.
-fn log_lines<R: Clock + Eprint>(device: &Device<'_, R>, lines: &[u8]) {
+fn log_lines<R: Clock + Eprint>(log: &Log<'_, R>, lines: &[u8]) {
     let Ok(text) = str::from_utf8(lines) else {
         return;
     };
     for line in text.split('\n') {
         if !line.is_empty() {
-            device.log.say(line);
+            log.say(line);
         }
     }
 }
 
 /// Answers the line that was said in a turn.
-fn answer<R: Clock + Eprint>(alloc: Global, device: &mut Device<'_, R>, host: &Host) {
+fn answer<R: Clock + Eprint>(device: &mut Device<'_, R>, host: &Host) {
     let question = device.question;
-    device.question = Question::Nothing;
-    let mut text = Vec::new(alloc);
-    let told = match question {
-        Question::Nothing => return,
-        Question::Call => match device.answer {
-            Ok(()) => add_reply(&mut text, &Reply::Done),
-            Err(fault) => add_refused(alloc, &mut text, fault),
-        },
-        Question::Value(handle) => match host.table().value_of(handle) {
-            Some(value) => add_reply(&mut text, &Reply::Value { handle, value }),
-            None => add_refused(alloc, &mut text, AppFault::NoSuchHandle),
-        },
-        Question::Connections => match add_connections(&mut text, host) {
-            Ok(()) => add_reply(&mut text, &Reply::Done),
-            Err(refused) => Err(refused),
-        },
-        Question::Bad(words) => add_reply(&mut text, &Reply::Bad(words)),
-        Question::TooLong => add_reply(&mut text, &Reply::Bad("the line is too long")),
-    };
-    if told.is_err() {
-        device.log.say("memory: refused for an answer");
-        device.application.end();
+    if matches!(question, Question::Nothing) {
         return;
     }
-    say(device, text.as_slice());
+    device.question = Question::Nothing;
+    let text = answer_text(device.alloc, question, device.answer, host);
+    let application = &mut device.application;
+    if !say_or_end(
+        application,
+        &device.log,
+        text,
+        "memory: refused for an answer",
+    ) {
+        return;
+    }
     if matches!(question, Question::TooLong) {
-        device.application.flush();
-        device.application.end();
-        device.log.say("application ended: its line is too long");
+        end_too_long(application, &device.log);
+    }
+}
+
+/// Ends the application, whose line is too long, once it is answered.
+fn end_too_long<R: Clock + Eprint>(application: &mut Application, log: &Log<'_, R>) {
+    application.flush();
+    application.end();
+    log.say("application ended: its line is too long");
+}
+
+/// What a question is answered, where calls are answered so.
+fn answer_text(
+    alloc: Global,
+    question: Question,
+    answer: Result<(), AppFault>,
+    host: &Host,
+) -> Result<Vec<u8>, AllocError> {
+    let mut text = Vec::new(alloc);
+    add_answer(alloc, &mut text, question, answer, host)?;
+    Ok(text)
+}
+
+/// Adds what a question is answered, where calls are answered so.
+fn add_answer(
+    alloc: Global,
+    text: &mut Vec<u8>,
+    question: Question,
+    answer: Result<(), AppFault>,
+    host: &Host,
+) -> Result<(), AllocError> {
+    match question {
+        Question::Nothing => Ok(()),
+        Question::Call => add_outcome(alloc, text, answer),
+        Question::Value(handle) => add_value(alloc, text, handle, host),
+        Question::Connections => {
+            add_connections(text, host)?;
+            add_reply(text, &Reply::Done)
+        }
+        Question::Bad(words) => add_reply(text, &Reply::Bad(words)),
+        Question::TooLong => add_reply(text, &Reply::Bad("the line is too long")),
+    }
+}
+
+/// Adds what a call is answered.
+fn add_outcome(
+    alloc: Global,
+    text: &mut Vec<u8>,
+    answer: Result<(), AppFault>,
+) -> Result<(), AllocError> {
+    match answer {
+        Ok(()) => add_reply(text, &Reply::Done),
+        Err(fault) => add_refused(alloc, text, fault),
+    }
+}
+
+/// Adds the value at a handle.
+fn add_value(
+    alloc: Global,
+    text: &mut Vec<u8>,
+    handle: u16,
+    host: &Host,
+) -> Result<(), AllocError> {
+    match host.table().value_of(handle) {
+        Some(value) => add_reply(text, &Reply::Value { handle, value }),
+        None => add_refused(alloc, text, AppFault::NoSuchHandle),
     }
 }
 
@@ -119,32 +181,66 @@ fn add_refused(alloc: Global, text: &mut Vec<u8>, fault: AppFault) -> Result<(),
 }
 
 /// Tells a new application what stands: whether a controller is served, and who is connected.
-fn tell_standing<R: Clock + Eprint>(alloc: Global, device: &mut Device<'_, R>, host: &Host) {
-    let mut text = Vec::new(alloc);
-    let told = if device.stream.is_some() {
-        &Told::Serving
-    } else {
-        &Told::Waiting
-    };
-    if add_told(&mut text, told).is_err() || add_connections(&mut text, host).is_err() {
-        device.log.say("memory: refused for an application");
-        device.application.end();
+fn welcome<R: Clock + Eprint>(device: &mut Device<'_, R>, host: &Host) {
+    if !device.application.is_new {
         return;
     }
-    say(device, text.as_slice());
+    device.application.is_new = false;
+    let text = standing_text(device.alloc, device.controller.is_there(), host);
+    let refused = "memory: refused for an application";
+    say_or_end(&mut device.application, &device.log, text, refused);
+}
+
+/// What stands: whether a controller is served, and who is connected.
+fn standing_text(alloc: Global, is_served: bool, host: &Host) -> Result<Vec<u8>, AllocError> {
+    let told = if is_served {
+        Told::Serving
+    } else {
+        Told::Waiting
+    };
+    let mut text = Vec::new(alloc);
+    add_told(&mut text, &told)?;
+    add_connections(&mut text, host)?;
+    Ok(text)
+}
+
+/// Has the application hear a text. Where memory was refused for that, which is logged in these words,
+/// the application is ended, and the answer is false.
+fn say_or_end<R: Clock + Eprint>(
+    application: &mut Application,
+    log: &Log<'_, R>,
+    text: Result<Vec<u8>, AllocError>,
+    refused: &str,
+) -> bool {
+    match text {
+        Ok(text) => {
+            say(application, log, text.as_slice());
+            true
+        }
+        Err(_) => {
+            log.say(refused);
+            application.end();
+            false
+        }
+    }
 }
 
 /// Tells the application a line, where it has heard the ones before.
-pub(crate) fn tell<R: Clock + Eprint>(alloc: Global, device: &mut Device<'_, R>, told: &Told<'_>) {
+pub(crate) fn tell<R: Clock + Eprint>(
+    alloc: Global,
+    application: &mut Application,
+    log: &Log<'_, R>,
+    told: &Told<'_>,
+) {
     let mut text = Vec::new(alloc);
-    if !device.application.is_new && add_told(&mut text, told).is_ok() {
-        say(device, text.as_slice());
+    if !application.is_new && add_told(&mut text, told).is_ok() {
+        say(application, log, text.as_slice());
     }
 }
 
 /// Has the application hear a text.
-fn say<R: Clock + Eprint>(device: &mut Device<'_, R>, text: &[u8]) {
-    if !device.application.tell(text) {
-        device.log.say("application cut off: it does not read");
+fn say<R: Clock + Eprint>(application: &mut Application, log: &Log<'_, R>, text: &[u8]) {
+    if !application.tell(text) {
+        log.say("application cut off: it does not read");
     }
 }

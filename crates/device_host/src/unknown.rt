@@ -33,13 +33,18 @@ fn unknown_in<'a>(line: &'a str, keys: &Keys) -> Option<(&'a str, &'a str)> {
         Some((address, _)) => address,
         None => rest,
     };
-    let peer = Peer {
-        kind: kind.parse::<u8>().ok()?,
-        address: le_security::read_address(address.as_bytes())?,
-    };
+    let peer = read_peer(kind, address)?;
     if keys.known(&peer) {
         None
     } else {
         Some((kind, address))
     }
+}
+
+/// The peer of a kind of address and an address.
+fn read_peer(kind: &str, address: &str) -> Option<Peer> {
+    Some(Peer {
+        kind: kind.parse::<u8>().ok()?,
+        address: le_security::read_address(address.as_bytes())?,
+    })
 }

@@ -1,0 +1,74 @@
+//! The host that is served: what the files say, and what a controller before has left.
+
+use crate::settings::{FileWords, HostSettings};
+use crate::stop::Stop;
+use crate::unknown::unknown_peer;
+use gatt_files::{LazyFile, RowsPath, RowsReader, ShellFault};
+use gatt_host::{Host, Keys, Rows, Table};
+use std::alloc::Global;
+use std::fs::Files;
+
+/// A host with what the files say.
+pub(crate) fn read_host<R: Files + Eprint>(
+    rt: &R,
+    alloc: Global,
+    files: &FileWords<'_>,
+    settings: &HostSettings,
+) -> Result<Host, Stop> {
+    let table = gatt_files::read_table(alloc, &mut LazyFile::new(rt, files.table))?;
+    let keys = gatt_files::read_keys(alloc, &mut LazyFile::new(rt, files.keys))?;
+    let rows = read_known_rows(rt, alloc, files, &keys)?;
+    open(alloc, table, keys, rows, settings)
+}
+
+/// The rows of the file, which are refused where a peer has no key, unless such rows are dropped.
+fn read_known_rows<R: Files + Eprint>(
+    rt: &R,
+    alloc: Global,
+    files: &FileWords<'_>,
+    keys: &Keys,
+) -> Result<Rows, Stop> {
+    let rows = gatt_files::read_rows(alloc, &mut RowsReader::new(rt, RowsPath(files.rows)))?;
+    if !files.drop_unknown {
+        refuse_unknown(rt, alloc, &rows, keys)?;
+    }
+    Ok(rows)
+}
+
+/// Refuses rows of which a peer has no key, and tells which. Where that cannot be written, nobody can
+/// be told.
+fn refuse_unknown<R: Eprint>(rt: &R, alloc: Global, rows: &Rows, keys: &Keys) -> Result<(), Stop> {
+    let unknown = match unknown_peer(alloc, rows, keys) {
+        Ok(unknown) => unknown,
+        Err(_) => return Err(Stop::Fault(ShellFault::Memory)),
+    };
+    let Some(peer) = unknown else {
+        return Ok(());
+    };
+    if let Ok(line) = format!(in alloc;
+        "rows: no key of the peer {peer} (--drop-unknown drops it)"
+    ) {
+        let _ = rt.eprintln(line.as_str());
+    }
+    Err(Stop::File)
+}
+
+/// A host with these, as the words say.
+fn open(
+    alloc: Global,
+    table: Table,
+    keys: Keys,
+    rows: Rows,
+    settings: &HostSettings,
+) -> Result<Host, Stop> {
+    match Host::open(alloc, table, keys, rows, settings.config()) {
+        Ok(host) => Ok(host),
+        Err(_) => Err(Stop::Fault(ShellFault::Memory)),
+    }
+}
+
+/// A host with what another one has left.
+pub(crate) fn reopen(alloc: Global, host: Host, settings: &HostSettings) -> Result<Host, Stop> {
+    let (table, keys, rows) = host.into_parts();
+    open(alloc, table, keys, rows, settings)
+}

@@ -1,0 +1,20 @@
+//! Why a device serves no longer.
+
+use gatt_files::ShellFault;
+
+/// Why a device serves no longer.
+#[derive(Clone, Copy)]
+pub enum Stop {
+    /// The words of the command line say nothing that can be done: what is wrong.
+    Words(&'static str),
+    /// A file is refused, or cannot be written, for what was told on standard error.
+    File,
+    /// For the same reasons as other commands.
+    Fault(ShellFault),
+}
+
+impl From<ShellFault> for Stop {
+    fn from(fault: ShellFault) -> Stop {
+        Stop::Fault(fault)
+    }
+}
