@@ -82,7 +82,19 @@ fn open_and_serve<
 ) -> Result<(), Stop> {
     open_ends(rt, alloc, settings, device)?;
     device.log.say("ready");
-    serve_each(alloc, device, host, settings)
+    if settings.once {
+        serve_once(alloc, device, host, settings.log_values)
+    } else {
+        serve_each(alloc, device, host, settings)
+    }
+}
+
+/// Serves the first controller alone.
+fn serve_once<
+    R: Files<File = File> + Net<Listener = TcpListener, Stream = TcpStream> + Clock + Eprint,
+>(alloc: Global, device: &mut Device<'_, R>, host: Host, logs_values: bool) -> Result<(), Stop> {
+    let mut host = host;
+    serve_one(alloc, device, &mut host, logs_values).outcome()
 }
 
 /// Serves each controller with what the one before has left.
@@ -96,10 +108,7 @@ fn serve_each<
 ) -> Result<(), Stop> {
     let mut host = host;
     for _controller in 0..u64::MAX {
-        let over = serve_one(alloc, device, &mut host, settings.log_values);
-        if settings.once {
-            return over.outcome();
-        }
+        serve_one(alloc, device, &mut host, settings.log_values);
         host = reopen(alloc, host, &settings.host)?;
         device.lose();
     }
