@@ -1,5 +1,5 @@
 -- A request of the Attribute Protocol, by what a slot keeps of its connection.
-use Rattle.std.specs.Prelude.{ℕ, Bool, false, ◌==◌, ◌&&◌, not, is_some, if◌then◌else◌, List, [], map, Option, None}
+use Rattle.std.specs.Prelude.{◌≡◌, ℕ, Bool, false, ◌==◌, ◌&&◌, not, is_some, if◌then◌else◌, List, [], map, Option, None}
 use Rattle.std.specs.Option.{option_map_or, option_to_list}
 use Rattle.att_numbers.specs.Types.{Handle, Row}
 use Rattle.att_pdu.specs.Grammar.{request_of, is_due}
@@ -8,6 +8,7 @@ use Rattle.att_table.specs.Table.{Contents}
 use Rattle.att_writes.specs.Applied.{Stored}
 use Rattle.gatt_conn.specs.Answer.{Question, answer_to, stored_by, handles_by, conn_after, is_confirmation}
 use Rattle.gatt_conn.specs.Connection.{Bearer}
+use Rattle.gatt_conn.specs.Served.{IsAnswered}
 use Rattle.gatt_laws.specs.machine.Heard.{att_pdu}
 use Rattle.gatt_laws.specs.machine.Effect.{remote_user_terminated}
 use Rattle.gatt_slots.specs.Hearing.{slot_row_in_force, with_pdus_queued}
@@ -15,7 +16,8 @@ use Rattle.gatt_slots.specs.SlotState.{SlotState, slot_backlog, slot_bearer}
 use Rattle.gatt_slots.specs.SlotEffects.{slot_after_ending}
 use Rattle.gatt_subs.specs.declared.bond.Bond.{Bond}
 use Rattle.gatt_subs.specs.Indications.{Indications, after_confirmation, confirmed_handle, is_told}
-use Rattle.gatt_subs.specs.Rows.{with_row}
+use Rattle.gatt_subs.specs.Rows.{Subscriptions, row_of, with_row, ChangesBond}
+use Rattle.le_hci.specs.declared.peer.Peer.{Peer}
 use Rattle.le_acl.specs.Outgoing.{Outgoing}
 use Rattle.octets.specs.Number.{Octets}
 use Rattle.le_acl.specs.declared.pdus.TheConstants.{MAX_PDUS}
@@ -69,6 +71,16 @@ bond_served table now changer row pdu slot_state bond =
 -- the answer goes out, if there is one
 abbrev pub with_response : Outgoing → Option Response → Outgoing
 with_response outgoing answer = with_pdus_queued outgoing (map att_pdu (option_to_list answer))
+
+-- what a PDU led to by the row in force, which was the old one and is the new one: its answer is queued, and the row is written
+-- in its place, that of the peer's bond or the connection's own
+pub record IsAnsweredByRow (pdu : Octets) (has_key : Bool) (peer : Peer) (old_row new_row : Row) (old_table new_table : Contents)
+    (old_rows new_rows : Subscriptions) (old_own new_own : Row) (old_conn new_conn : Bearer) (old_outgoing new_outgoing : Outgoing)
+    (written : List Handle) (confirms : Bool) : Type 0 where
+  pub queued : new_outgoing ≡ with_response old_outgoing (answer_to old_table old_row old_conn (request_of pdu old_conn.mtu))
+  pub answered : IsAnswered pdu old_table new_table old_row new_row old_conn new_conn written confirms
+  pub own : new_own ≡ slot_row_after has_key (row_of old_rows peer) old_own (stored_by old_table old_row old_conn (request_of pdu old_conn.mtu)).row
+  pub bond : ChangesBond (bond_after has_key (stored_by old_table old_row old_conn (request_of pdu old_conn.mtu)).row) peer old_rows new_rows
 
 -- and what the slot keeps
 abbrev pub with_conn : Bearer → SlotState → SlotState

@@ -5,10 +5,10 @@ ghost use Rattle.std.specs.Bool.{OnFalse};
 ghost use Rattle.std.specs.Option.{option_map, option_map_or};
 ghost use Rattle.att_pdu.specs.Grammar.{request_of, is_due};
 ghost use Rattle.att_table.specs.ConfigRow.{IsRowOf};
-ghost use Rattle.gatt_conn.specs.Answer.{answer_to, stored_by};
+ghost use Rattle.gatt_conn.specs.Answer.{answer_to};
 ghost use Rattle.gatt_conn.specs.Served.{IsAnswered};
 ghost use Rattle.gatt_slots.specs.Hearing.{row_by_key, slot_row_in_force};
-ghost use Rattle.gatt_slots.specs.Request.{with_response, bond_after, bond_served, confirmed_of, handles_written_by, overflows, slot_after_request, slot_row_after, table_after, with_owed_after};
+ghost use Rattle.gatt_slots.specs.Request.{IsAnsweredByRow, with_response, bond_served, confirmed_of, handles_written_by, overflows, slot_after_request, table_after, with_owed_after};
 ghost use Rattle.gatt_subs.specs.Indications.{after_confirmation, confirmed_handle, is_told};
 ghost use Rattle.gatt_subs.specs.Rows.{row_of, ChangesBond};
 
@@ -163,19 +163,11 @@ fn answer_by_row(
         (row_by_key has_key (row_of rows.old peer.now) own.old) }
     requires room { is_due (request_of pdu.now conn.old.mtu) ≡ true
         → length sender.old.outgoing.queue < MAX_PDUS }
-    ensures queued { let by = row_by_key has_key (row_of rows.old peer.now) own.old in
-        sender.new.outgoing ≡ with_response sender.old.outgoing
-        (answer_to table.old by conn.old (request_of pdu.now conn.old.mtu)) }
-    ensures answered { IsAnswered pdu.now table.old table.new
+    ensures { IsAnsweredByRow pdu.now has_key peer.now
         (row_by_key has_key (row_of rows.old peer.now) own.old)
-        (row_by_key has_key (row_of rows.new peer.now) own.new) conn.old conn.new written.new.items
-        result.confirmed }
-    ensures own { let by = row_by_key has_key (row_of rows.old peer.now) own.old in
-        let stored = stored_by table.old by conn.old (request_of pdu.now conn.old.mtu) in
-        own.new ≡ slot_row_after has_key (row_of rows.old peer.now) own.old stored.row }
-    ensures bond { let by = row_by_key has_key (row_of rows.old peer.now) own.old in
-        let stored = stored_by table.old by conn.old (request_of pdu.now conn.old.mtu) in
-        ChangesBond (bond_after has_key stored.row) peer.now rows.old rows.new }
+        (row_by_key has_key (row_of rows.new peer.now) own.new)
+        table.old table.new rows.old rows.new own.old own.new conn.old conn.new
+        sender.old.outgoing sender.new.outgoing written.new.items result.confirmed }
 {
     if has_key {
         if let Some(row) = rows.of(peer) {
