@@ -149,7 +149,7 @@ module _ (count : ℕ) (old mid : HostModel) (come between : Known) (before writ
       (ap (λ (later : Run). entries_recorded at so_far.happened ++ entries_recorded_of later more) (items_append (run_at_start start) input (items_in so_far.happened))
       ∙ sym (entries-more at so_far.happened more))
       (records_then (entries_recorded at so_far.happened) (entries_recorded_of later more) come.history between.history after (so_far.has_come.records start input sent is)
-      (records start (input ++ items_in so_far.happened) (sent ++ so_far.takes.packets) (so_far.takes.leads start input sent is)))
+      (records start (input ++ items_in so_far.happened) (sent ++ so_far.takes.packets) (so_far.takes.refines start input sent is)))
 
   come-more : (more : DeviceInput) (comes : Known) → Comes more mid between comes → HasCome (count + 1) (so_far.happened ++ more ∷ []) old come comes
   come-more more comes next = record {
@@ -169,7 +169,7 @@ module _ (count : ℕ) (old mid : HostModel) (come between : Known) (before writ
     takes = subst (λ (items : List Item). TakesAll items old new before after) (joined-more input_items_of so_far.happened more)
         (takes_then (items_in so_far.happened) (input_items_of more) old mid new before written after so_far.takes takes);
     hearing = subst (λ (items : List Item). HearsOf items old heard hears) (joined-more input_items_of so_far.happened more)
-        (hears_more (items_in so_far.happened) (input_items_of more) so_far.takes.packets old mid so_far.takes.leads heard known hears so_far.hearing hearing);
+        (hears_more (items_in so_far.happened) (input_items_of more) so_far.takes.packets old mid so_far.takes.refines heard known hears so_far.hearing hearing);
   }
 
   -- the host stops at it
@@ -185,7 +185,7 @@ module _ (count : ℕ) (old mid : HostModel) (come between : Known) (before writ
         feeds = subst (λ (items : List Item). Feeds items old new before after new.fault) (joined-more input_items_of so_far.happened more)
             (feeds_then (items_in so_far.happened) (input_items_of more) old mid new before written after new.fault so_far.takes feeds);
         listens = subst (λ (items : List Item). Listens items old new new.fault heard hears) (joined-more input_items_of so_far.happened more)
-            (listens_then (items_in so_far.happened) (input_items_of more) so_far.takes.packets old mid new heard known hears new.fault so_far.takes.leads so_far.hearing listens);
+            (listens_then (items_in so_far.happened) (input_items_of more) so_far.takes.packets old mid new heard known hears new.fault so_far.takes.refines so_far.hearing listens);
         records = λ start input sent is.
             subst (λ (entries : List HistoryEntry). Records entries come.history comes.history)
             (sym (append-nil (entries_recorded (run start input) (so_far.happened ++ more ∷ [])))) (all.records start input sent is);
@@ -219,7 +219,7 @@ module _ (count : ℕ) (old mid : HostModel) (come between : Known) (before writ
       subst (λ (later : Run). Records (entries_recorded at so_far.happened ++ last_entries later (Ok last)) come.history after)
       (items_append (run_at_start start) input (items_in so_far.happened))
       (records_then (entries_recorded at so_far.happened) (last_entries later (Ok last)) come.history between.history after (so_far.has_come.records start input sent is)
-      (records start (input ++ items_in so_far.happened) (sent ++ so_far.takes.packets) (so_far.takes.leads start input sent is)))
+      (records start (input ++ items_in so_far.happened) (sent ++ so_far.takes.packets) (so_far.takes.refines start input sent is)))
 
   pub serves_ended : (turns : ℕ) (last : End) (comes : Known) → mid.fault ≡ None → IsOver (Ok last) turns count → Consumes between.octets comes.octets [] → Hands between.calls comes.calls []
       → RecordsLast (Ok last) mid between.history comes.history → ServesDevice (Ok last) turns old mid come comes before written heard known

@@ -24,7 +24,7 @@ joined packets = flat_map (λ packet. packet) packets
 -- all the items are taken in, and all the packets are written
 pub record TakesAll (items : List Item) (old new : HostModel) (before after : Option Octets) : Type 0 where
   pub packets : List Octets
-  pub leads : Refines items packets old new
+  pub refines : Refines items packets old new
   pub written : Appends before after (joined packets)
 
 -- the writer fails: items up to some one are taken in, and of the packets the front is written
@@ -33,7 +33,7 @@ pub record BreaksOff (items : List Item) (old new : HostModel) (before after : O
   pub left : List Item
   pub parts : items ≡ taken ++ left
   pub packets : List Octets
-  pub leads : Refines taken packets old new
+  pub refines : Refines taken packets old new
   pub written : WritesFront (joined packets) before after
 
 -- by the fault that stands then, if one does

@@ -27,7 +27,7 @@ pub record HearsTheFront (items : List Item) (old new : HostModel) (before after
   pub left : List Item
   pub parts : items ≡ taken ++ left
   pub packets : List Octets
-  pub leads : Refines taken packets old new
+  pub refines : Refines taken packets old new
   pub heard : HearsOf taken old before after
 
 -- by the fault that stands then, if one does

@@ -84,7 +84,7 @@ came-before-at : (state : State) (ordinal : Ordinal) (below : Bool) → nat_lt o
 came-before-at state ordinal true is settled there = ltb-true ordinal state.next is
 came-before-at state ordinal false is settled there =
     let past : state.next < ordinal + 1 = omega (arith, ltb-false ordinal state.next is) in
-    let none : state.connections ordinal ≡ no_connection = settled.gone ordinal (none-below state.next ordinal state.slots past settled.slots) in
+    let none : state.connections ordinal ≡ no_connection = settled.absent ordinal (none-below state.next ordinal state.slots past settled.slots) in
     absurd (cc (ap (λ (connection : ConnectionState). is_there connection.mark) (sym none) ∙ there))
 
 run-place : (peer : Peer) (ordinal : Ordinal) (state : State) (events : List Event) → ComesOnlyFrom peer ordinal events → HasPlace peer (state.connections ordinal)
@@ -201,7 +201,7 @@ module _ (buffers : Option Buffers) (peer : Peer) (ordinal : Ordinal) where
     goes : (was : Bool) → is_there (state.connections ordinal).mark ≡ was → is_there ((step state event).connections ordinal).mark ≡ true
         → GoesOn buffers (state.connections ordinal) ((step state event).connections ordinal) (packets_at ordinal state event)
     goes true before there = goes-there before there
-    goes false before there = goes-come (is.place.gone before) there
+    goes false before there = goes-come (is.place.absent before) there
 
     new-place : HasPlace peer ((step state event).connections ordinal)
     new-place = step_place peer ordinal state event is.comes.0 is.place
@@ -224,10 +224,10 @@ module _ (buffers : Option Buffers) (peer : Peer) (ordinal : Ordinal) where
     given-next was true before now after = (goes was before now).given
     given-next true false before now after =
         let below = next_grows state event ordinal (came-before-at state ordinal (nat_lt ordinal state.next) refl is.settled before) in
-        absurd (cc (never-back ordinal (step state event) events is.possible.1 below (new-place.gone now), after))
+        absurd (cc (never-back ordinal (step state event) events is.possible.1 below (new-place.absent now), after))
     given-next false false before now after =
-        let old : state.connections ordinal ≡ no_connection = is.place.gone before in
-        let new : (step state event).connections ordinal ≡ no_connection = new-place.gone now in
+        let old : state.connections ordinal ≡ no_connection = is.place.absent before in
+        let new : (step state event).connections ordinal ≡ no_connection = new-place.absent now in
         (λ i. packets_given_by_now buffers (old i) ++ packets-new ordinal state event i)
         ∙ (λ i. packets_given (step state event).shared (old i) (new i))
         ∙ ap (packets_given_by_now buffers) (sym new)

@@ -65,7 +65,7 @@ live-has-slot : (state : State) (ordinal : Ordinal) → IsSettled state → is_l
 live-has-slot state ordinal settled live =
     elim (has_slot ordinal state.slots) as (λ (has : Bool). has_slot ordinal state.slots ≡ has → has ≡ true) [
       | true ↦ λ is. refl
-      | false ↦ λ is. cc (sym (ap (λ (p : ConnectionState). is_live p.mark) (settled.gone ordinal is)) ∙ live)
+      | false ↦ λ is. cc (sym (ap (λ (p : ConnectionState). is_live p.mark) (settled.absent ordinal is)) ∙ live)
     ] refl
 
 pub hides-unknown : (peer : Peer) (hidden : Handle → Bool) (state : State) → IsSettled state → ((handle : Handle) → hidden handle ≡ true → is_value_known peer state handle ≡ false)

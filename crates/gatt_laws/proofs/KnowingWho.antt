@@ -62,7 +62,7 @@ module _ (state : State) (at : Ordinal) (handle : ℕ) (peer : Peer) (is : IsKno
       (none_next state.next state.next state.slots (omega arith) is.settled.slots)
 
   away : is_there (state.connections at).mark ≡ false
-  away = ap (λ (connection : ConnectionState). is_there connection.mark) (is.settled.gone at lacks)
+  away = ap (λ (connection : ConnectionState). is_there connection.mark) (is.settled.absent at lacks)
 
   comes : (change_of state coming).state.connections at ≡ fresh_connection handle peer
   unfolding change_of
@@ -149,7 +149,7 @@ module _ (state : State) (at : Ordinal) (is : IsKnowing state) where
   going-by asked false lacks =
       ap (λ (connection : ConnectionState). present_in (peers_in state)
       (if is_there connection.mark then Disconnected connection.handle ∷ [] else []) asked)
-      (is.settled.gone at lacks)
+      (is.settled.absent at lacks)
       ∙ sym (ap (λ slots. peer_at (step state going).connections slots asked)
       (freed-none at state.slots lacks)
       ∙ same-peers state.connections (step state going).connections state.slots asked

@@ -31,7 +31,7 @@ use Rattle.octets.specs.Number.{Octets}
 
 pub record HasPlace (peer : Peer) (connection : ConnectionState) : Type 0 where
   pub of : is_there connection.mark ≡ true → connection.peer ≡ peer
-  pub gone : is_there connection.mark ≡ false → connection ≡ no_connection
+  pub absent : is_there connection.mark ≡ false → connection ≡ no_connection
 
 -- what leaves a connection with its peer
 record StaysWith (old new : ConnectionState) : Type 0 where
@@ -42,14 +42,14 @@ module _ (peer : Peer) where
   stays-in-place : (change : ConnectionState → ConnectionState) (connection : ConnectionState) → StaysWith connection (change connection) → change no_connection ≡ no_connection → HasPlace peer connection → HasPlace peer (change connection)
   stays-in-place change connection stays none place = record {
     of = λ there. stays.peer ∙ place.of (sym stays.there ∙ there);
-    gone = λ lacks. ap change (place.gone (sym stays.there ∙ lacks)) ∙ none;
+    absent = λ lacks. ap change (place.absent (sym stays.there ∙ lacks)) ∙ none;
   }
 
   pub absent_place : HasPlace peer no_connection
-  absent_place = record { of = λ there. cc there; gone = λ lacks. refl }
+  absent_place = record { of = λ there. cc there; absent = λ lacks. refl }
 
   come-place : (handle : ℕ) (other : Peer) → other ≡ peer → HasPlace peer (fresh_connection handle other)
-  come-place handle other same = record { of = λ there. same; gone = λ lacks. cc lacks }
+  come-place handle other same = record { of = λ there. same; absent = λ lacks. cc lacks }
 
 there-place : (old new : ConnectionState) → is_there old.mark ≡ true → is_there new.mark ≡ true → new.peer ≡ old.peer → StaysWith old new
 there-place old new was is same = record { there = is ∙ sym was; peer = same }
@@ -108,7 +108,7 @@ if-live-place peer shared bond owed connection own true is place =
     let stays = live-stays shared bond owed connection own there in
     record {
       of = λ after. stays.peer ∙ place.of there;
-      gone = λ lacks. absurd (cc (lacks, stays.there, there));
+      absent = λ lacks. absurd (cc (lacks, stays.there, there));
     }
 if-live-place peer shared bond owed connection own false is place = place
 
@@ -196,8 +196,8 @@ step_place peer ordinal state event from place =
     let peers : ((step state event).connections ordinal).peer ≡ connection.peer = end_keeps (λ (of : ConnectionState). of.peer) (λ of pdus pending given reply reason. refl) state event ordinal in
     record {
       of = λ there. peers ∙ now.of (ap is_there (sym marks) ∙ there);
-      gone = λ lacks.
-          let none : connection ≡ no_connection = now.gone (ap is_there (sym marks) ∙ lacks) in
+      absent = λ lacks.
+          let none : connection ≡ no_connection = now.absent (ap is_there (sym marks) ∙ lacks) in
           sent-absent (connections_finished change ordinal)
           (nat_lt (length (command_of_init change.state.controller) + count_before ordinal (connections_finished change) change.state.slots) change.state.controller.credit)
           (ap (finished change.state.shared change.state.bonds (change.to_notify ordinal)) none ∙ only_serves_the_live change.state.shared change.state.bonds (change.to_notify ordinal) no_connection refl);
@@ -244,7 +244,7 @@ run_told state (event ∷ events) possible ready =
 pub ready_at : (state : State) (ordinal : Ordinal) (ready : Bool) → is_ready state.controller ≡ ready → IsSettled state → is_there (state.connections ordinal).mark ≡ true → ready ≡ true
 ready_at state ordinal true is settled there = refl
 ready_at state ordinal false is settled there =
-    let none : state.connections ordinal ≡ no_connection = settled.gone ordinal (ap (has_slot ordinal) (settled.early is)) in
+    let none : state.connections ordinal ≡ no_connection = settled.absent ordinal (ap (has_slot ordinal) (settled.early is)) in
     absurd (cc (ap (λ (connection : ConnectionState). is_there connection.mark) (sym none) ∙ there))
 
 -- A connection comes once, so from one peer.

@@ -318,7 +318,7 @@ own-queued state at own queued = λ ordinal.
 -- before the controller is initialised nobody is there
 early-queued : (state : State) (share size : ℕ) (ordinal : Ordinal) → IsSettled state → is_ready state.controller ≡ false → IsWithinBounds share size (state.connections ordinal)
 early-queued state share size ordinal settled early =
-    let none : state.connections ordinal ≡ no_connection = settled.gone ordinal (ap (has_slot ordinal) (settled.early early)) in
+    let none : state.connections ordinal ≡ no_connection = settled.absent ordinal (ap (has_slot ordinal) (settled.early early)) in
     subst (λ (connection : ConnectionState). IsWithinBounds share size connection) (sym none) (nothing-queued share size no_connection refl refl refl)
 
 pub change-queued : (state : State) (event : Event) → Possible (λ table. Unit) state event → IsKept state → HasBoundedQueues (change_of state event).state

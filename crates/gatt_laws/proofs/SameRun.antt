@@ -86,7 +86,7 @@ module _ (buffers : Option Buffers) (peer : Peer) (ordinal : Ordinal) where
   known-at state events is = record {
     peers = is.place.of;
     told = λ there. sym (run_told state events is.possible (ready_at state ordinal (is_ready state.controller) refl is.settled there)) ∙ is.last;
-    gone = is.place.gone;
+    absent = is.place.absent;
     released = is.released;
     given = is.given;
   }

@@ -168,7 +168,7 @@ module _ (buffers : Option Buffers) (peer : Peer) (ordinal : Ordinal) where
       → packets_given state.shared old (without_commands (state.connections ordinal)) ≡ packets_given (with_buffers state.shared buffers) old (without_commands (state.connections ordinal))
   told-gain state old true is known = ap (λ (of : Option Buffers). packets_given (with_buffers state.shared of) old (without_commands (state.connections ordinal))) (known.told is)
   told-gain state old false is known =
-      let none = known.gone is in
+      let none = known.absent is in
       ap (λ (connection : ConnectionState). packets_given state.shared old (without_commands connection)) none ∙ absent-given state.shared old
       ∙ sym (ap (λ (connection : ConnectionState). packets_given (with_buffers state.shared buffers) old (without_commands connection)) none ∙ absent-given (with_buffers state.shared buffers) old)
 

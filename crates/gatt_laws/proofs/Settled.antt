@@ -154,7 +154,7 @@ other-gone : (state : State) (at ordinal : Ordinal) (own : Own) → IsSettled st
 other-gone state at ordinal own settled here before lacks =
     elim (ordinal == at) as (λ is. (ordinal == at) ≡ is → (own_change state at own).state.connections ordinal ≡ no_connection) [
       | true ↦ λ same. here (eqb-true ordinal at same) lacks
-      | false ↦ λ differs. rw differs (settled.gone ordinal (before lacks differs))
+      | false ↦ λ differs. rw differs (settled.absent ordinal (before lacks differs))
     ] refl
 
 -- where nothing comes and nothing goes
@@ -163,7 +163,7 @@ same-slots : (state : State) (at ordinal : Ordinal) (own : Own) → IsSettled st
 same-slots state at ordinal own settled slots effect =
     other-gone state at ordinal own settled
     (λ same lacks.
-    let none : state.connections at ≡ no_connection = settled.gone at (ap (λ (one : Ordinal). has_slot one state.slots) (sym same) ∙ ap (has_slot ordinal) (sym slots) ∙ lacks) in
+    let none : state.connections at ≡ no_connection = settled.absent at (ap (λ (one : Ordinal). has_slot one state.slots) (sym same) ∙ ap (has_slot ordinal) (sym slots) ∙ lacks) in
     rw same (rw (eq-eqb at at refl)
     (ap (λ (connection : ConnectionState). (effect_of state.shared (state.bonds connection.peer) (state.owed connection.peer) connection own).connection) none ∙ effect)))
     (λ lacks differs. ap (has_slot ordinal) (sym slots) ∙ lacks)
@@ -181,19 +181,19 @@ own-gone state at ordinal own settled may = same-slots state at ordinal own sett
 
 credit-gone : (state : State) (allowed opcode : ℕ) (status : Option ℕ) (init : Init) (ordinal : Ordinal) → IsSettled state → is_ready state.controller ≡ false
     → IsGone (after_command_complete state allowed opcode status (Some init)) ordinal
-credit-gone state allowed opcode status init ordinal settled early lacks = settled.gone ordinal (ap (has_slot ordinal) (settled.early early))
+credit-gone state allowed opcode status init ordinal settled early lacks = settled.absent ordinal (ap (has_slot ordinal) (settled.early early))
 
 change-gone : (state : State) (event : Event) (ordinal : Ordinal) → Possible (λ table. Unit) state event → IsSettled state → IsGone (change_of state event).state ordinal
 unfolding change_of
 change-gone state (Of at own) ordinal possible settled lacks = own-gone state at ordinal own settled possible lacks
-change-gone state (Completed entries) ordinal possible settled lacks = ap (after_packets_completed ordinal entries) (settled.gone ordinal lacks) ∙ completed-gone ordinal entries
+change-gone state (Completed entries) ordinal possible settled lacks = ap (after_packets_completed ordinal entries) (settled.absent ordinal lacks) ∙ completed-gone ordinal entries
 change-gone state (Credit allowed opcode status (Some init)) ordinal possible settled lacks = credit-gone state allowed opcode status init ordinal settled possible lacks
-change-gone state (Credit allowed opcode status None) ordinal possible settled lacks = settled.gone ordinal lacks
-change-gone state (Update handle value) ordinal possible settled lacks = settled.gone ordinal lacks
+change-gone state (Credit allowed opcode status None) ordinal possible settled lacks = settled.absent ordinal lacks
+change-gone state (Update handle value) ordinal possible settled lacks = settled.absent ordinal lacks
 change-gone state (Tick time) ordinal possible settled lacks =
-    ap (λ (connection : ConnectionState). record connection { pending = after_tick connection.pending time }) (settled.gone ordinal lacks)
-change-gone state (Replaced table) ordinal possible settled lacks = ap (connection_after_replacement state.shared.table table) (settled.gone ordinal lacks)
-change-gone state Nothing ordinal possible settled lacks = settled.gone ordinal lacks
+    ap (λ (connection : ConnectionState). record connection { pending = after_tick connection.pending time }) (settled.absent ordinal lacks)
+change-gone state (Replaced table) ordinal possible settled lacks = ap (connection_after_replacement state.shared.table table) (settled.absent ordinal lacks)
+change-gone state Nothing ordinal possible settled lacks = settled.absent ordinal lacks
 
 -- the slots
 early-own : (own : Own) (at : Ordinal) (slots : Slots) → slots ≡ [] → slots_after own at slots ≡ []
@@ -257,7 +257,7 @@ settled_before_commands state event possible settled =
     record {
       early = slots.early;
       slots = slots.slots;
-      gone = λ ordinal lacks.
+      absent = λ ordinal lacks.
           finished-gone change.state.shared change.state.bonds (change.to_notify ordinal) (change.state.connections ordinal) (change-gone state event ordinal possible settled lacks);
     }
 
@@ -269,10 +269,10 @@ stays_settled state event possible settled =
     record {
       early = before.early;
       slots = before.slots;
-      gone = λ ordinal lacks.
+      absent = λ ordinal lacks.
           sent-gone (connections_finished change ordinal)
           (nat_lt (length (command_of_init change.state.controller) + count_before ordinal (connections_finished change) change.state.slots) change.state.controller.credit)
-          (before.gone ordinal lacks);
+          (before.absent ordinal lacks);
     }
 
 pub settled_at_first : (start : Start) → IsSettled (state_at start)
@@ -281,7 +281,7 @@ settled_at_first start =
     record {
       early = λ early. refl;
       slots = tt;
-      gone = λ ordinal lacks.
+      absent = λ ordinal lacks.
           sent-gone no_connection (nat_lt (length (command_of_init old.controller) + count_before ordinal old.connections old.slots) old.controller.credit) refl;
     }
 

@@ -36,7 +36,7 @@ changes-alike ordinal peer hidden one other event alike agrees =
     } in
     subst (λ (s : State). SameChange ordinal peer hidden (change_of one event) (change_of s event)) is
     (change-same ordinal peer hidden one other.shared.table.values other.owed other.connections alike.values alike.owed alike.owed_too alike.own alike.others event
-    agrees.kept agrees.hides agrees.of agrees.spares (subst (λ (s : State). SparesOthers ordinal s event) (sym is) agrees.spares_too))
+    agrees.no_replacement agrees.hides agrees.of agrees.spares (subst (λ (s : State). SparesOthers ordinal s event) (sym is) agrees.spares_too))
 
 -- what the connection may not know at the end it may not know before
 hides-before : (ordinal : Ordinal) (hidden : Handle → Bool) (state : State) (event : Event) → HidesFromOne ordinal hidden (step state event)

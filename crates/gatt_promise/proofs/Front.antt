@@ -81,7 +81,7 @@ no-slot state ordinal false is placed away = refl
 no-queue : (state : State) (ordinal : Ordinal) → IsSettled state → IsPlaced state → is_there (state.connections ordinal).mark ≡ false → (state.connections ordinal).pdus ≡ []
 no-queue state ordinal settled placed away =
     ap (λ (connection : ConnectionState). connection.pdus)
-    (settled.gone ordinal (no-slot state ordinal (has_slot ordinal state.slots) refl placed away))
+    (settled.absent ordinal (no-slot state ordinal (has_slot ordinal state.slots) refl placed away))
 
 -- An item more.
 

@@ -44,7 +44,7 @@ SparesOthers ordinal state event = Unit
 
 -- what happens in both is the same, and no replacement; and the connection is one of this peer, while it is there
 pub record AgreesFor (ordinal : Ordinal) (peer : Peer) (hidden : Handle → Bool) (one other : State) (event : Event) : Type 0 where
-  pub kept : is_replacement event ≡ false
+  pub no_replacement : is_replacement event ≡ false
   pub of : is_there (one.connections ordinal).mark ≡ true → (one.connections ordinal).peer ≡ peer
   pub hides : HidesFromOne ordinal hidden one
   pub hides_then : HidesFromOne ordinal hidden (step one event)

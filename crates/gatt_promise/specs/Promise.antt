@@ -139,7 +139,7 @@ pub record RunsInOrder : Type 0 where
   -- a state is that to which the events of the input lead
   pub events : IsAfterItsEvents
   -- and what has gone out is what they bring: each commands, and then the packets that it gives to each connection that has a slot
-  pub goes : HasSentByEvents
+  pub sent : HasSentByEvents
   pub brings : BringsWhatItGives
   -- in each state a table stands, where each that is handed in is one; with rows of it, where those of the start are of its table
   pub table : AlwaysHasATable

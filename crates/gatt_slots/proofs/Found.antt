@@ -86,13 +86,13 @@ pub serving_there : (slots : SlotStates) (handle : ℕ) (found : Option ℕ) →
 serving_there slots handle None is = tt
 serving_there slots handle (Some place) is =
     let at = position-Some (is_serving handle) slots place None (sym is) in
-    record { within = at.0; kept = subst (λ (slot : Option SlotState). IsSome slot) (sym (kept-is slots place at.0)) (serves-some handle (get_or slots place None) at.1) }
+    record { within = at.0; some = subst (λ (slot : Option SlotState). IsSome slot) (sym (kept-is slots place at.0)) (serves-some handle (get_or slots place None) at.1) }
 
 pub holding_there : (slots : SlotStates) (handle : ℕ) (found : Option ℕ) → found ≡ place_holding slots handle → IfSome found (IsThere slots)
 holding_there slots handle None is = tt
 holding_there slots handle (Some place) is =
     let at = position-Some (is_holding handle) slots place None (sym is) in
-    record { within = at.0; kept = subst (λ (slot : Option SlotState). IsSome slot) (sym (kept-is slots place at.0)) (holds-some handle (get_or slots place None) at.1) }
+    record { within = at.0; some = subst (λ (slot : Option SlotState). IsSome slot) (sym (kept-is slots place at.0)) (holds-some handle (get_or slots place None) at.1) }
 
 pub free_within : (slots : SlotStates) (found : Option ℕ) → found ≡ place_free slots → IfSome found (λ place. place < length slots)
 free_within slots None is = tt

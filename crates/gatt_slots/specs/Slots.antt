@@ -55,7 +55,7 @@ slot_row_at slots rows place =
 
 pub record IsThere (slots : SlotStates) (place : ℕ) : Type 0 where
   pub within : place < length slots
-  pub kept : IsSome (slot_state_at slots place)
+  pub some : IsSome (slot_state_at slots place)
 
 -- all hear at the end of an event: the one of the connection that it happened to of some values, and the others of others
 abbrev pub is_own_place : Option ℕ → ℕ → Bool
@@ -88,6 +88,7 @@ slot_notified_at table now rows own others handle place slot = if is_among own o
 abbrev pub all_notified : Contents → ℕ → Subscriptions → Option ℕ → Bool → Handle → SlotStates → SlotStates
 all_notified table now rows own others handle slots = heard_from 0 (λ place slot. slot_notified_at table now rows own others handle place slot) slots
 
+-- the same value by value, and not slot by slot; of the code alone
 abbrev pub all_notified_in_turn : Contents → ℕ → Subscriptions → Option ℕ → Bool → List Handle → SlotStates → SlotStates
 all_notified_in_turn table now rows own others [] slots = slots
 all_notified_in_turn table now rows own others (handle ∷ handles) slots =

@@ -181,7 +181,7 @@ settled-too : (state : State) (parts : Ordinal → ConnectionState) (command : C
 settled-too state parts command touched settled = record {
   early = settled.early;
   slots = settled.slots;
-  gone = λ ordinal lacks. touched-absent (state.connections ordinal) (parts ordinal) (touched ordinal) (settled.gone ordinal lacks);
+  absent = λ ordinal lacks. touched-absent (state.connections ordinal) (parts ordinal) (touched ordinal) (settled.absent ordinal lacks);
 }
 
 placed-too : (state : State) (parts : Ordinal → ConnectionState) (command : Commanded) → ((ordinal : Ordinal) → Touched (state.connections ordinal) (parts ordinal)) → IsPlaced state

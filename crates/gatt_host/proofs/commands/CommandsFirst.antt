@@ -95,7 +95,7 @@ module _ (state : State) (handed : Handed) (facts : Facts state handed) where
 
   -- of who has no slot no command is due
   gone-none : (ordinal : Ordinal) → has_slot ordinal state.slots ≡ false → command_for (state.connections ordinal) ≡ None
-  gone-none ordinal lacks = ap command_for (facts.settled.gone ordinal lacks)
+  gone-none ordinal lacks = ap command_for (facts.settled.absent ordinal lacks)
 
   same-parts : (one other : Bool) (ordinal : Ordinal) → command_for (state.connections ordinal) ≡ None
       → (if one then without_command (state.connections ordinal) else state.connections ordinal) ≡ (if other then without_command (state.connections ordinal) else state.connections ordinal)

@@ -47,7 +47,7 @@ module _ (call : Call) (old mid new : HostModel) (before between after : Option 
   pub call_refused : (answer : Result Unit AppFault) → IsCallRefusedAs call mid answer → IsCallRefusedAs call old answer
   call_refused answer refused start input sent is =
       subst (λ (input : List Item). refusal_in_result answer ≡ call_refusal (run start input).intake call) (append-nil input)
-      (refused start (input ++ []) (sent ++ takes.packets) (takes.leads start input sent is))
+      (refused start (input ++ []) (sent ++ takes.packets) (takes.refines start input sent is))
 
   pub call_behind : (fault : Option HostFault) → Feeds (ACall call ∷ []) mid new between after fault → Feeds (ACall call ∷ []) old new before after fault
   call_behind fault then_feeds = feeds_then [] (ACall call ∷ []) old mid new before between after fault takes then_feeds
@@ -55,4 +55,4 @@ module _ (call : Call) (old mid new : HostModel) (before between after : Option 
   pub call_listens : (fault : Option HostFault) (known heard : Option (List Notice)) → Listens (ACall call ∷ []) mid new fault known heard
       → Listens (ACall call ∷ []) old new fault known heard
   call_listens fault known heard listens =
-      listens_then [] (ACall call ∷ []) takes.packets old mid new known known heard fault takes.leads (hears_nothing old known) listens
+      listens_then [] (ACall call ∷ []) takes.packets old mid new known known heard fault takes.refines (hears_nothing old known) listens

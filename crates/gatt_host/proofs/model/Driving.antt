@@ -104,7 +104,7 @@ module _ (inputs : List Input) (index : ℕ) (last : Input) (within : index < le
     items = has.items ++ input_items (get_or inputs index last);
     parts = (next_parts inputs index last has.items within has.parts);
     takes = takes_then has.items (input_items (get_or inputs index last)) old mid new before between after has.takes takes;
-    counts = counts_then count next has.items (input_items (get_or inputs index last)) has.takes.packets old mid has.counts has.takes.leads counts;
+    counts = counts_then count next has.items (input_items (get_or inputs index last)) has.takes.packets old mid has.counts has.takes.refines counts;
   }
 
   -- the host stops at it

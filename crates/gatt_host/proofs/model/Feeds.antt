@@ -23,20 +23,20 @@ joined_append packets others = flat_map-append (λ (packet : Octets). packet) pa
 
 -- nothing is taken in, and nothing is written
 pub takes_none : (host : HostModel) (server : Option Octets) → TakesAll [] host host server server
-takes_none host server = record { packets = []; leads = leads_nowhere host host refl; written = Appends-nil server }
+takes_none host server = record { packets = []; refines = leads_nowhere host host refl; written = Appends-nil server }
 
 pub takes_then : (items more : List Item) (old mid new : HostModel) (before between after : Option Octets) → TakesAll items old mid before between
     → TakesAll more mid new between after → TakesAll (items ++ more) old new before after
 takes_then items more old mid new before between after first second = record {
   packets = first.packets ++ second.packets;
-  leads = leads_on items more first.packets second.packets old mid new first.leads second.leads;
+  refines = leads_on items more first.packets second.packets old mid new first.refines second.refines;
   written = subst (Appends before after) (sym (joined_append first.packets second.packets))
       (Appends-trans before between after (joined first.packets) (joined second.packets) first.written second.written);
 }
 
 -- items that bring nothing yet
 pub takes_silently : (items : List Item) (old new : HostModel) (server : Option Octets) → Refines items [] old new → TakesAll items old new server server
-takes_silently items old new server leads = record { packets = []; leads = leads; written = Appends-nil server }
+takes_silently items old new server leads = record { packets = []; refines = leads; written = Appends-nil server }
 
 pub takes_then_breaks : (items more : List Item) (old mid new : HostModel) (before between after : Option Octets) → TakesAll items old mid before between
     → BreaksOff more mid new between after → BreaksOff (items ++ more) old new before after
@@ -45,7 +45,7 @@ takes_then_breaks items more old mid new before between after first second = rec
   left = second.left;
   parts = ap (λ (all : List Item). items ++ all) second.parts ∙ sym (append_assoc items second.taken second.left);
   packets = first.packets ++ second.packets;
-  leads = leads_on items second.taken first.packets second.packets old mid new first.leads second.leads;
+  refines = leads_on items second.taken first.packets second.packets old mid new first.refines second.refines;
   written = subst (λ (octets : Octets). WritesFront octets before after) (sym (joined_append first.packets second.packets)) (record {
     written = joined first.packets ++ second.written.written;
     appended = Appends-trans before between after (joined first.packets) second.written.written first.written second.written.appended;
@@ -63,7 +63,7 @@ breaks_before items more old new before after breaks = record {
   left = breaks.left ++ more;
   parts = ap (λ (all : List Item). all ++ more) breaks.parts ∙ append_assoc breaks.taken breaks.left more;
   packets = breaks.packets;
-  leads = breaks.leads;
+  refines = breaks.refines;
   written = breaks.written;
 }
 
@@ -101,7 +101,7 @@ pub takes_past : (items more : List Item) (old new : HostModel) (before after : 
     → TakesAll items old new before after → TakesAll (items ++ more) old new before after
 takes_past items more old new before after fault stopped other takes = record {
   packets = takes.packets;
-  leads = leads_past items more takes.packets old new fault stopped other takes.leads;
+  refines = leads_past items more takes.packets old new fault stopped other takes.refines;
   written = takes.written;
 }
 
@@ -178,7 +178,7 @@ pub takes_packet_more : (old at new : HostModel) (packet : Octets) (before betwe
     → Appends between after packet → TakesAll [] old new before after
 takes_packet_more old at new packet before between after takes leads written =
     takes_then [] [] old at new before between after takes
-    (record { packets = packet ∷ []; leads = leads; written = subst (Appends between after) (sym (append-nil packet)) written })
+    (record { packets = packet ∷ []; refines = leads; written = subst (Appends between after) (sym (append-nil packet)) written })
 
 pub breaks_off_at : (old at mid : HostModel) (packet : Octets) (before between after : Option Octets) → TakesAll [] old at before between → Refines [] (packet ∷ []) at mid
     → mid.fault ≡ None → WritesFront packet between after → BreaksOff [] old (record mid { fault = Some stop.Write }) before after
@@ -189,7 +189,7 @@ breaks_off_at old at mid packet before between after takes leads none front =
       left = [];
       parts = refl;
       packets = packet ∷ [];
-      leads = leads_on [] [] (packet ∷ []) [] at mid (record mid { fault = Some stop.Write }) leads (leads_stopped mid stop.Write none refl);
+      refines = leads_on [] [] (packet ∷ []) [] at mid (record mid { fault = Some stop.Write }) leads (leads_stopped mid stop.Write none refl);
       written = subst (λ (octets : Octets). WritesFront octets between after) (sym (append-nil packet)) front;
     })
 

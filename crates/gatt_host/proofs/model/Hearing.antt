@@ -149,9 +149,9 @@ breaks_heard items more packets old mid new between after before heard found is 
       left = more;
       parts = refl;
       packets = packets ++ breaks.packets;
-      leads = subst (λ (all : List Item). Refines all (packets ++ breaks.packets) old new) (append-nil items)
+      refines = subst (λ (all : List Item). Refines all (packets ++ breaks.packets) old new) (append-nil items)
           (leads_on items [] packets breaks.packets old mid new leads
-          (subst (λ (taken : List Item). Refines taken breaks.packets mid new) (none_taken breaks.taken breaks.left breaks.parts) breaks.leads));
+          (subst (λ (taken : List Item). Refines taken breaks.packets mid new) (none_taken breaks.taken breaks.left breaks.parts) breaks.refines));
       heard = hears;
     }
 
@@ -170,7 +170,7 @@ listens_then items more packets old mid new before between after (Some stop.Writ
   left = second.left;
   parts = ap (λ (all : List Item). items ++ all) second.parts ∙ sym (append_assoc items second.taken second.left);
   packets = packets ++ second.packets;
-  leads = leads_on items second.taken packets second.packets old mid new leads second.leads;
+  refines = leads_on items second.taken packets second.packets old mid new leads second.refines;
   heard = hears_more items second.taken packets old mid leads before between after first second.heard;
 }
 
@@ -179,13 +179,13 @@ pub listens_past : (items more : List Item) (old new : HostModel) (server holds 
     → new.fault ≡ Some fault → is_of_feeding fault ≡ true → Feeds items old new server holds (Some fault) → Listens items old new (Some fault) before after
     → Listens (items ++ more) old new (Some fault) before after
 listens_past items more old new server holds before after (stop.Desync indicator) stopped comes feeds listens =
-    hears_more items more feeds.packets old new feeds.leads before after after listens (stopped-hears more new (stop.Desync indicator) after stopped refl)
+    hears_more items more feeds.packets old new feeds.refines before after after listens (stopped-hears more new (stop.Desync indicator) after stopped refl)
 listens_past items more old new server holds before after (stop.BadEvent code) stopped comes feeds listens =
-    hears_more items more feeds.packets old new feeds.leads before after after listens (stopped-hears more new (stop.BadEvent code) after stopped refl)
+    hears_more items more feeds.packets old new feeds.refines before after after listens (stopped-hears more new (stop.BadEvent code) after stopped refl)
 listens_past items more old new server holds before after (stop.Init why) stopped comes feeds listens =
-    hears_more items more feeds.packets old new feeds.leads before after after listens (stopped-hears more new (stop.Init why) after stopped refl)
+    hears_more items more feeds.packets old new feeds.refines before after after listens (stopped-hears more new (stop.Init why) after stopped refl)
 listens_past items more old new server holds before after (stop.Hardware code) stopped comes feeds listens =
-    hears_more items more feeds.packets old new feeds.leads before after after listens (stopped-hears more new (stop.Hardware code) after stopped refl)
+    hears_more items more feeds.packets old new feeds.refines before after after listens (stopped-hears more new (stop.Hardware code) after stopped refl)
 listens_past items more old new server holds before after stop.Read stopped comes feeds listens = absurd (clash comes)
 listens_past items more old new server holds before after stop.Turns stopped comes feeds listens = absurd (clash comes)
 listens_past items more old new server holds before after stop.Write stopped comes feeds listens = record {
@@ -193,7 +193,7 @@ listens_past items more old new server holds before after stop.Write stopped com
   left = listens.left ++ more;
   parts = ap (λ (all : List Item). all ++ more) listens.parts ∙ append_assoc listens.taken listens.left more;
   packets = listens.packets;
-  leads = listens.leads;
+  refines = listens.refines;
   heard = listens.heard;
 }
 
@@ -225,7 +225,7 @@ module _ (octets rest : Octets) (used : ℕ) (old at mid new : HostModel) (serve
   heard-on : HearsOf (octet_items (so_far.has.taken ++ take used rest)) old before after
   heard-on =
       subst (λ (items : List Item). HearsOf items old before after) (sym (items_append_octets so_far.has.taken (take used rest)))
-      (hears_more (octet_items so_far.has.taken) (octet_items (take used rest)) so_far.has.takes.packets old at so_far.has.takes.leads before heard after so_far.heard
+      (hears_more (octet_items so_far.has.taken) (octet_items (take used rest)) so_far.has.takes.packets old at so_far.has.takes.refines before heard after so_far.heard
       (hears_told (octet_items (take used rest)) at mid heard after none tells hears))
 
   abbrev taken-on : HasTaken octets (drop used rest) old mid server between
@@ -240,7 +240,7 @@ module _ (octets rest : Octets) (used : ℕ) (old at mid new : HostModel) (serve
   heard_breaks found is feeds =
       subst (λ (items : List Item). Listens items old new found before after) (sym (all_items octets taken-on.taken (drop used rest) taken-on.parts))
       (breaks_heard (octet_items taken-on.taken) (octet_items (drop used rest)) taken-on.takes.packets old mid new between holds before after found is
-      taken-on.takes.leads heard-on feeds)
+      taken-on.takes.refines heard-on feeds)
 
 -- the host stops at a packet
 pub heard_stops : (octets rest : Octets) (old at new : HostModel) (server holds : Option Octets) (before after : Option (List Notice)) (found : Option HostFault) (fault : HostFault)
@@ -249,7 +249,7 @@ pub heard_stops : (octets rest : Octets) (old at new : HostModel) (server holds 
 heard_stops octets rest old at new server holds before after found fault so_far none tells stopped is other =
     listens_by (octet_items octets) old new before after found fault is other
     (subst (λ (items : List Item). HearsOf items old before after) (sym (all_items octets so_far.has.taken rest so_far.has.parts))
-    (hears_more (octet_items so_far.has.taken) (octet_items rest) so_far.has.takes.packets old at so_far.has.takes.leads before after after so_far.heard
+    (hears_more (octet_items so_far.has.taken) (octet_items rest) so_far.has.takes.packets old at so_far.has.takes.refines before after after so_far.heard
     (hears_told (octet_items rest) at new after after none tells
     (subst (λ (fault : Option HostFault). Hears (if is_some fault then [] else last_notices new.server) after after) (sym stopped) (hears_none after)))))
 

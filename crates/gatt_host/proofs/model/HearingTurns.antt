@@ -32,7 +32,7 @@ nothing_heard old new server holds known (Some stop.Write) feeds = record {
   left = feeds.left;
   parts = feeds.parts;
   packets = feeds.packets;
-  leads = feeds.leads;
+  refines = feeds.refines;
   heard = subst (λ (taken : List Item). HearsOf taken old known known) (sym (none_taken feeds.taken feeds.left feeds.parts)) (hears_nothing old known);
 }
 
@@ -47,7 +47,7 @@ module _ (inputs : List Input) (index : ℕ) (last : Input) (within : index < le
       → HearsOf (input_items (get_or inputs index last)) mid heard after → HasDrivenTo (count + next) inputs (drop (index + 1) inputs) old new server holds before after
   driven_to_more next takes counts hears = record {
     driven = driven_more inputs index last within count old mid new server between holds so_far.driven next takes counts;
-    heard = hears_more so_far.driven.items (input_items (get_or inputs index last)) so_far.driven.takes.packets old mid so_far.driven.takes.leads before heard after so_far.heard hears;
+    heard = hears_more so_far.driven.items (input_items (get_or inputs index last)) so_far.driven.takes.packets old mid so_far.driven.takes.refines before heard after so_far.heard hears;
   }
 
   -- the host stops at it
@@ -60,7 +60,7 @@ module _ (inputs : List Input) (index : ℕ) (last : Input) (within : index < le
       subst (λ (items : List Item). Listens items old new new.fault before after) (sym (next_parts inputs index last items within so_far.driven.parts))
       (past_heard (items ++ input_items input) (items_of (drop (index + 1) inputs)) old new server holds before after fault stopped comes
       (feeds_then items (input_items input) old mid new server between holds new.fault so_far.driven.takes feeds)
-      (listens_then items (input_items input) so_far.driven.takes.packets old mid new before heard after new.fault so_far.driven.takes.leads so_far.heard listens))
+      (listens_then items (input_items input) so_far.driven.takes.packets old mid new before heard after new.fault so_far.driven.takes.refines so_far.heard listens))
 
 -- all are taken in
 pub driven_to_all : (count : ℕ) (inputs rest : List Input) (old new : HostModel) (server holds : Option Octets) (before after : Option (List Notice)) (found : Option HostFault)
@@ -89,7 +89,7 @@ module _ (turns : ℕ) (octets : Octets) (old mid new : HostModel) (remaining be
   served_to_more some most takes hears = record {
     served = served_more turns octets old mid new remaining between left server middle holds so_far.served consumed some most takes;
     heard = subst (λ (items : List Item). HearsOf items old before after) (sym (items_append_octets so_far.served.read octets))
-        (hears_more (octet_items so_far.served.read) (octet_items octets) so_far.served.takes.packets old mid so_far.served.takes.leads before heard after so_far.heard hears);
+        (hears_more (octet_items so_far.served.read) (octet_items octets) so_far.served.takes.packets old mid so_far.served.takes.refines before heard after so_far.heard hears);
   }
 
   -- the host stops at them
@@ -99,7 +99,7 @@ module _ (turns : ℕ) (octets : Octets) (old mid new : HostModel) (remaining be
     consumed = Consumes-trans remaining between left so_far.served.read octets so_far.served.consumed consumed;
     listens = subst (λ (items : List Item). Listens items old new new.fault before after) (sym (items_append_octets so_far.served.read octets))
         (listens_then (octet_items so_far.served.read) (octet_items octets) so_far.served.takes.packets old mid new before heard after new.fault
-        so_far.served.takes.leads so_far.heard listens);
+        so_far.served.takes.refines so_far.heard listens);
   }
 
 -- where the writer has not failed

@@ -51,14 +51,14 @@ feeds_from old new before after fault none same feeds frames stream =
 -- wherever octets and calls lead, some start and some input do
 pub reached_fed : (items : List Item) (old new : HostModel) (before after : Option Octets) (fault : Option HostFault) → IsReached old
     → Feeds items old new before after fault → IsReached new
-reached_fed items old new before after None reached feeds = reached_by items feeds.packets old new reached feeds.leads
-reached_fed items old new before after (Some (stop.Desync indicator)) reached feeds = reached_by items feeds.packets old new reached feeds.leads
-reached_fed items old new before after (Some (stop.BadEvent code)) reached feeds = reached_by items feeds.packets old new reached feeds.leads
-reached_fed items old new before after (Some (stop.Init why)) reached feeds = reached_by items feeds.packets old new reached feeds.leads
-reached_fed items old new before after (Some (stop.Hardware code)) reached feeds = reached_by items feeds.packets old new reached feeds.leads
-reached_fed items old new before after (Some stop.Read) reached feeds = reached_by items feeds.packets old new reached feeds.leads
-reached_fed items old new before after (Some stop.Turns) reached feeds = reached_by items feeds.packets old new reached feeds.leads
-reached_fed items old new before after (Some stop.Write) reached feeds = reached_by feeds.taken feeds.packets old new reached feeds.leads
+reached_fed items old new before after None reached feeds = reached_by items feeds.packets old new reached feeds.refines
+reached_fed items old new before after (Some (stop.Desync indicator)) reached feeds = reached_by items feeds.packets old new reached feeds.refines
+reached_fed items old new before after (Some (stop.BadEvent code)) reached feeds = reached_by items feeds.packets old new reached feeds.refines
+reached_fed items old new before after (Some (stop.Init why)) reached feeds = reached_by items feeds.packets old new reached feeds.refines
+reached_fed items old new before after (Some (stop.Hardware code)) reached feeds = reached_by items feeds.packets old new reached feeds.refines
+reached_fed items old new before after (Some stop.Read) reached feeds = reached_by items feeds.packets old new reached feeds.refines
+reached_fed items old new before after (Some stop.Turns) reached feeds = reached_by items feeds.packets old new reached feeds.refines
+reached_fed items old new before after (Some stop.Write) reached feeds = reached_by feeds.taken feeds.packets old new reached feeds.refines
 
 -- a call that went well answers no fault
 pub no_fault_where : {T E : Type 0} (result : Result T E) → is_err result ≡ false → result_err result ≡ None

@@ -68,7 +68,7 @@ own-same : (state : State) (at : Ordinal) (own : Own) → IsSettled state → Po
 own-same state at (Connected handle peer) settled may has =
     let lacks : has_slot at state.slots ≡ false =
     ap (λ (one : Ordinal). has_slot one state.slots) may.next ∙ none_next state.next state.next state.slots (omega arith) settled.slots in
-    let none : 0 ≡ (state.connections at).given = sym (ap (λ (connection : ConnectionState). connection.given) (settled.gone at lacks)) in
+    let none : 0 ≡ (state.connections at).given = sym (ap (λ (connection : ConnectionState). connection.given) (settled.absent at lacks)) in
     elim (is_there (state.connections at).mark) as (λ (there : Bool). Same (state.connections at) (if there then state.connections at else fresh_connection handle peer)) [ true ↦ refl | false ↦ none ]
 own-same state at Disconnected settled may has = absurd (clash (sym (freed_lacks at state.slots) ∙ has))
 own-same state at own settled may has = if-live _ _ _ (state.connections at) own (is_live (state.connections at).mark)
@@ -165,7 +165,7 @@ owes_the_first_command start =
     record {
       state = old;
       handed = λ ordinal. 0;
-      settled = record { early = λ early. refl; slots = tt; gone = λ ordinal lacks. refl };
+      settled = record { early = λ early. refl; slots = tt; absent = λ ordinal lacks. refl };
       placed = record { there = λ ordinal has. cc has; once = λ ordinal. record { serving = λ live. refl; others = λ other. refl } };
       partway = λ ordinal has. absurd (clash has);
       arrives = refl;

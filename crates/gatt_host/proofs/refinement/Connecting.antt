@@ -144,7 +144,7 @@ module _ (state : State) (server : ServerState) (place handle : ℕ) (peer : Pee
   lacks = none_next next next state.slots (omega arith) sound.settled.slots
 
   nobody-yet : state.connections next ≡ no_connection
-  nobody-yet = sound.settled.gone next lacks
+  nobody-yet = sound.settled.absent next lacks
 
   abbrev newcomer : SlotState
   newcomer = new_slot_state handle peer (is_known server.keys peer) server.rx_mtu (quota_in server) (fragment_size_in server)

@@ -44,7 +44,7 @@ IsIndicated pending = is_some pending.unconfirmed ≡ false → pending.waiting 
 pub record IsKnown (buffers : Option Buffers) (peer : Peer) (ordinal : Ordinal) (state : State) : Type 0 where
   pub peers : is_there (state.connections ordinal).mark ≡ true → (state.connections ordinal).peer ≡ peer
   pub told : is_there (state.connections ordinal).mark ≡ true → state.shared.buffers ≡ buffers
-  pub gone : is_there (state.connections ordinal).mark ≡ false → state.connections ordinal ≡ no_connection
+  pub absent : is_there (state.connections ordinal).mark ≡ false → state.connections ordinal ≡ no_connection
   pub released : IsIndicated (state.connections ordinal).pending
   pub given : IsAllGiven state.shared (state.connections ordinal)
 

@@ -27,7 +27,7 @@ HaveOneSlotEach next (Some ordinal ∷ slots) = (ordinal < next) × (has_slot or
 pub record IsSettled (state : State) : Type 0 where
   pub early : is_ready state.controller ≡ false → state.slots ≡ []
   pub slots : HaveOneSlotEach state.next state.slots
-  pub gone : (ordinal : Ordinal) → has_slot ordinal state.slots ≡ false → state.connections ordinal ≡ no_connection
+  pub absent : (ordinal : Ordinal) → has_slot ordinal state.slots ≡ false → state.connections ordinal ≡ no_connection
 
 abbrev pub IsAlwaysSettled : Type 0
 IsAlwaysSettled = (start : Start) (input : List Item) → IsSettled (run start input).intake.state
