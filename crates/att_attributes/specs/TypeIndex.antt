@@ -17,7 +17,8 @@ abbrev pub by_type : Types → List Handle → List Handle
 by_type type_of [] = []
 by_type type_of (handle ∷ rest) = put type_of handle (by_type type_of rest)
 
--- whether an attribute of this type and handle stands before another type and handle: by type, and then by handle
+-- whether an attribute of this type and handle stands before another type and handle: by type, and then by handle;
+-- this and what follows is of the code alone
 abbrev pub is_before : AttributeType → Handle → AttributeType → Handle → Bool
 is_before own_type own_handle kind handle = nat_lt own_type kind || ((own_type == kind) && nat_lt own_handle handle)
 

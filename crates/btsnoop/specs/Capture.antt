@@ -11,7 +11,8 @@ use Rattle.btsnoop.specs.declared.capture.Capture.{Capture}
 use Rattle.btsnoop.specs.declared.capture.CaptureFault.{CaptureFault}
 use Rattle.btsnoop.specs.declared.capture.CaptureFault.TheVariants.{Write, Packet}
 
--- where the records go, why no more of them are written, and the octets so far of a packet that is unfinished, either way
+-- where the records go, why no more of them are written, and the octets so far of a packet that is unfinished, either way;
+-- of the code alone, up to what stands before all records
 abbrev pub sink_of : {C : Type 0} → Capture C → C
 sink_of capture = capture.sink
 

@@ -129,7 +129,8 @@ fn write_advertising_data(
     fill_up(octets.len(), out);
 }
 
-/// Appends the octets 00 that so many octets of advertising data are filled up with.
+/// Appends the octets 00 that so many octets of advertising data are filled up with. It stands apart
+/// for its proof.
 fn fill_up(length: usize, out: &mut ArrayVec<u8, COMMAND_ROOM>)
     requires shorter { length ≤ MAX_ADVERTISING_DATA }
     requires room { array_vec_len out.old + MAX_ADVERTISING_DATA ≤ COMMAND_ROOM + length }

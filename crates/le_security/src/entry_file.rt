@@ -174,7 +174,8 @@ fn is_zero(random_number: [u8; 8], diversifier: u16) -> bool
     random_number == [0; 8] && diversifier == 0
 }
 
-/// Whether one of the entries answers the request that this one answers.
+/// Whether one of the entries answers the request that this one answers. It stands apart for its
+/// proof.
 fn is_answered(entries: &[Entry], entry: &Entry) -> bool
     ensures { result ≡ has_answer entries.now entry.now }
 {
