@@ -1,8 +1,8 @@
 //! A store that writes the rows out as a rows file.
 
-ghost use Rattle.std.specs.Prelude.{◌≡◌, ◌≤◌, ◌<◌, length, None, IfErr, IfOk, OnErr, OnOk};
+ghost use Rattle.std.specs.Prelude.{◌≡◌, None, IfErr, OnErr, OnOk};
 ghost use Rattle.std.specs.Result.{is_ok};
-ghost use Rattle.std.specs.Io.KnownBytes.{Appends, WriteAppends};
+ghost use Rattle.std.specs.Io.KnownBytes.{Appends};
 ghost use Rattle.octets.specs.Stream.{WritesFront};
 ghost use Rattle.gatt_subs.specs.RowsText.{rows_text};
 ghost use Rattle.gatt_files.specs.Saving.{Saves};
@@ -10,8 +10,8 @@ ghost use Rattle.gatt_files.specs.Saving.{Saves};
 use crate::fault::ShellFault;
 use crate::rows_store::RowsStore;
 use gatt_subs::Rows;
-use octets::{Failed, Sink};
-use std::io::{ErrorKind, Write};
+use octets::{Failed, Sink, write_uninterrupted};
+use std::io::Write;
 
 /// Writes the rows that it saves to a writer, as the text of a rows file, and then flushes it.
 #[derive(Drop)]
@@ -58,21 +58,4 @@ impl<W: Write> RowsStore for RowsOut<W> {
         }
         Ok(())
     }
-}
-
-/// Writes once, but again where the write was interrupted.
-fn write_uninterrupted<W: Write>(writer: &mut W, buf: &[u8]) -> Result<usize, Failed>
-    ensures bound { IfOk result (λ count. count ≤ length buf.now) }
-    ensures progress { IfOk result (λ count. 0 < length buf.now → 0 < count) }
-    ensures octets { WriteAppends (W.contents writer.old) (W.contents writer.new) result buf.now }
-{
-    for _attempt in 0..u64::MAX {
-        match writer.write(buf) {
-            Ok(0) if !buf.is_empty() => return Err(Failed),
-            Ok(count) => return Ok(count),
-            Err(error) if error.kind() == ErrorKind::Interrupted => {}
-            Err(_) => return Err(Failed),
-        }
-    }
-    Err(Failed)
 }

@@ -2,7 +2,6 @@ pub mod Bonds
 pub mod Entries
 pub mod Heard
 pub mod InOrder
-pub mod Lines
 pub mod Listed
 pub mod LinesBack
 pub mod LinesRead

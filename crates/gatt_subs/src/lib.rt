@@ -17,3 +17,4 @@ pub use hearing::Raised;
 pub use pending::{MAX_BACKLOG, Pending};
 pub use rows::Rows;
 pub use rows_fault::RowsFault;
+pub use rows_text::address_text;

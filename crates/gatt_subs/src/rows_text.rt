@@ -186,9 +186,10 @@ fn push_peer(line: &mut ArrayVec<u8, LINE>, peer: &Peer)
     push(line, &address_text(peer.address));
 }
 
-/// An address as people write it, the most significant octet first.
+/// An address as people write it: six octets in hexadecimal, the most significant first, with colons
+/// between them.
 #[tactic(auto, unfolding(crate::specs::RowsText::address_text))]
-fn address_text(address: [u8; 6]) -> [u8; 17]
+pub fn address_text(address: [u8; 6]) -> [u8; 17]
     ensures { result ≡ address_text address }
 {
     let [a, b, c, d, e, f] = address;

@@ -3,10 +3,11 @@
 ghost use Rattle.std.specs.Prelude.{◌≡◌, ◌++◌, ◌∷◌, [], OnOk};
 ghost use Rattle.std.specs.Fmt.{decimal};
 ghost use Rattle.hex.specs.Hex.{encode_lower};
-ghost use Rattle.gatt_subs.specs.RowsText.{address_text, peer_text};
+ghost use Rattle.gatt_subs.specs.RowsText.{peer_text};
 ghost use Rattle.notice_lines.specs.NoticeText.{digit_of, facts_text, notice_line, notice_text, of_attribute, of_connection, value_text};
 
 use gatt_host::{KeyFacts, Notice, Peer};
+use gatt_subs::address_text;
 use itoa::Buffer;
 use std::alloc::AllocError;
 
@@ -153,18 +154,4 @@ fn add_peer(text: &mut Vec<u8>, peer: &Peer) -> Result<(), AllocError>
     add_number(text, u64::from(peer.kind))?;
     text.extend_from_slice(b" ")?;
     text.extend_from_slice(&address_text(peer.address))
-}
-
-/// An address as people write it, the most significant octet first.
-#[tactic(auto, unfolding(gatt_subs::specs::RowsText::address_text))]
-fn address_text(address: [u8; 6]) -> [u8; 17]
-    ensures { result ≡ address_text address }
-{
-    let [a, b, c, d, e, f] = address;
-    let mut digits = [0; 12];
-    hex::encode_to_slice([f, e, d, c, b, a], &mut digits).unwrap();
-    let [f1, f0, e1, e0, d1, d0, c1, c0, b1, b0, a1, a0] = digits;
-    [
-        f1, f0, b':', e1, e0, b':', d1, d0, b':', c1, c0, b':', b1, b0, b':', a1, a0,
-    ]
 }

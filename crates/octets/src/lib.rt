@@ -8,4 +8,6 @@ mod stream;
 
 pub use buffer::{overwrite, write_parts};
 pub use pdu::{MAX_PDU, PduOctets};
-pub use stream::{ArraySink, Failed, Reader, Sink, SliceSource, Source, Writer, write_all};
+pub use stream::{
+    ArraySink, Failed, Reader, Sink, SliceSource, Source, Writer, write_all, write_uninterrupted,
+};

@@ -190,7 +190,7 @@ impl<W: Write> Sink for Writer<W> {
 }
 
 /// Writes once, but again where the write was interrupted.
-fn write_uninterrupted<W: Write>(writer: &mut W, buf: &[u8]) -> Result<usize, Failed>
+pub fn write_uninterrupted<W: Write>(writer: &mut W, buf: &[u8]) -> Result<usize, Failed>
     ensures bound { IfOk result (λ count. count ≤ length buf.now) }
     ensures progress { IfOk result (λ count. 0 < length buf.now → 0 < count) }
     ensures octets { WriteAppends (W.contents writer.old) (W.contents writer.new) result buf.now }

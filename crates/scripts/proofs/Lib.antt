@@ -1,6 +1,5 @@
 pub mod Examples
 pub mod Named
 pub mod Numerals
-pub mod Parts
 pub mod Payloads
 pub mod Words

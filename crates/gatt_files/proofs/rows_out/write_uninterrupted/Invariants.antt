@@ -1,5 +1,0 @@
-use Rattle.std.specs.Io.KnownBytes.{Keeps}
-use Rattle.gatt_files.proofs.rows_out.write_uninterrupted.Given as goal
-
-abbrev pub invariant-loop-attempt : goal.invariant-loop-attempt
-invariant-loop-attempt g l = Keeps (g.W.Write.contents l.fn.writer) (g.W.Write.contents l.writer)
