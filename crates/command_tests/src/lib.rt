@@ -37,4 +37,4 @@ mod serve_paths;
 #[cfg(test)]
 mod serving;
 #[cfg(test)]
-mod show_command;
+mod showing;

@@ -14,8 +14,8 @@ mod told;
 pub use echo::Shows;
 pub use gatt_files::{
     CHUNK, KeysPath, LazyFile, READS, RowsOut, RowsPath, RowsReader, RowsStore, ShellFault,
-    ShowPaths, TOML_OCTETS, TablePath, att_lines, check_files, check_paths, read_keys, read_rows,
-    read_table, show_files, show_paths, status, text,
+    TOML_OCTETS, TablePath, att_lines, check_files, check_paths, read_keys, read_rows, read_table,
+    status, text,
 };
 pub use notice_lines::{add_line, add_number, add_value};
 pub use run::{NextPath, RunPaths, ScriptPath, run_paths, run_script};

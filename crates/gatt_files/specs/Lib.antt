@@ -8,6 +8,5 @@ pub mod RowsOut
 pub mod Saving
 pub mod ScriptFile
 pub mod Session
-pub mod Show
 pub mod TableFile
 pub mod Turns

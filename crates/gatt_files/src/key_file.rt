@@ -27,7 +27,7 @@ pub fn read_keys<R: Read>(alloc: Global, reader: &mut R) -> Result<Keys, ShellFa
 /// The keys of a file with these octets, or the number of the fault for which it is refused: refused
 /// memory is a fault of the file like any other. A file of more octets than `TOML_OCTETS` is
 /// refused so before it is read as TOML.
-pub(crate) fn judged_keys(alloc: Global, octets: &[u8]) -> Result<Keys, ShellFault>
+pub fn judged_keys(alloc: Global, octets: &[u8]) -> Result<Keys, ShellFault>
     ensures keys { IfOk result (λ keys. keys_in octets.now ≡ Ok keys) }
     ensures refused { IfErr result (IsKeyRefusal octets.now) }
     ensures size { IfOk result (λ _. length octets.now ≤ TOML_OCTETS) }

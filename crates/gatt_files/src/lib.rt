@@ -1,5 +1,5 @@
 //! The files of the commands: how they are read and written and what is wrong with them; the
-//! commands that need no host; and what each says where it ends before its work is done.
+//! commands `att` and `check`; and what each command says where it ends before its work is done.
 #![tactic(auto)]
 
 mod att;
@@ -16,20 +16,18 @@ mod rows_store;
 mod script_file;
 mod server;
 mod session;
-mod show;
 mod table_file;
 
 pub use att::att_lines;
 pub use check::{KeysPath, TablePath, check_files, check_paths};
 pub use fault::{ShellFault, status, text};
 pub use input::{CHUNK, READS, TOML_OCTETS, read_all};
-pub use key_file::read_keys;
+pub use key_file::{judged_keys, read_keys};
 pub use lazy_file::LazyFile;
 pub use output::{print, print_hex_line, print_number_line};
-pub use rows_file::read_rows;
+pub use rows_file::{judged_rows, read_rows};
 pub use rows_out::RowsOut;
 pub use rows_path::{RowsPath, RowsReader, RowsWriter};
 pub use rows_store::{RowsStore, save_after};
 pub use script_file::judged_script;
-pub use show::{ShowPaths, show_files, show_paths};
-pub use table_file::{read_next, read_table};
+pub use table_file::{judged_table, read_next, read_table};

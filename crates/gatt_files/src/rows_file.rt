@@ -25,7 +25,7 @@ pub fn read_rows<R: Read>(alloc: Global, reader: &mut R) -> Result<Rows, ShellFa
 
 /// The rows of a file with these octets, or the number of the fault for which it is refused: refused
 /// memory is a fault of the file like any other.
-pub(crate) fn judged_rows(alloc: Global, octets: &[u8]) -> Result<Rows, ShellFault>
+pub fn judged_rows(alloc: Global, octets: &[u8]) -> Result<Rows, ShellFault>
     ensures rows { IfOk result (λ rows. rows_in octets.now ≡ Ok rows) }
     ensures refused { IfErr result (IsRowsRefusal octets.now) }
 {

@@ -63,7 +63,7 @@ fn next_fault(fault: ShellFault) -> ShellFault
 /// The table of a file with these octets, or the number of the fault for which it is refused: refused
 /// memory is a fault of the file like any other. A file of more octets than `TOML_OCTETS` is
 /// refused so before it is read as TOML.
-pub(crate) fn judged_table(alloc: Global, octets: &[u8]) -> Result<Table, ShellFault>
+pub fn judged_table(alloc: Global, octets: &[u8]) -> Result<Table, ShellFault>
     ensures table { IfOk result (λ table. table_in octets.now ≡ Ok table) }
     ensures refused { IfErr result (IsTableRefusal octets.now) }
     ensures size { IfOk result (λ _. length octets.now ≤ TOML_OCTETS) }

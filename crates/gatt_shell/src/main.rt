@@ -10,10 +10,11 @@ ghost use Rattle.gatt_files.specs.Fault.{exit_status_of};
 use arrayvec::ArrayVec;
 use device_host::{HostWords, Stop};
 use gatt_commands::{
-    Address, KeysPath, NextPath, RowsPath, RunPaths, ScriptPath, ServePaths, ShellFault, ShowPaths,
-    Shows, TablePath,
+    Address, KeysPath, NextPath, RowsPath, RunPaths, ScriptPath, ServePaths, ShellFault, Shows,
+    TablePath,
 };
 use gatt_words::{Choice, HostChoice, Refusal};
+use show_command::ShowPaths;
 use std::fs::{File, Files};
 use std::io::{BufWriter, LineWriter, Write};
 use std::net::{Net, TcpListener, TcpStream};
@@ -111,7 +112,7 @@ fn run_check(
 /// where it has its fault is told behind the number of that.
 fn run_show(rt: &(impl Files + Print + Eprint + AllocGlobal), paths: ShowPaths<'_>) -> u8 {
     let mut place = Vec::new(rt.alloc());
-    let ran = gatt_commands::show_paths(rt.alloc(), rt, paths, &mut io::writer(rt), &mut place);
+    let ran = show_command::show_paths(rt.alloc(), rt, paths, &mut io::writer(rt), &mut place);
     if let Err(fault) = &ran
         && !place.is_empty()
     {

@@ -1,24 +1,19 @@
-//! The command `show`.
+//! The files of `show`, each judged before the next one is read, and what is printed of them.
 
 ghost use Rattle.std.specs.Prelude.{◌≡◌, ◌≢◌, ℕ, IfErr, IfOk, IfSome, IsOk, OnOk, is_some};
 ghost use Rattle.std.specs.Io.KnownBytes.{Keeps};
 ghost use Rattle.std.specs.Option.{option_map};
 ghost use Rattle.gatt_files.specs.KeyFile.{keys_in, KeysAreRefusedAs, IsKeyFileFault, IsKeyRefusal};
 ghost use Rattle.gatt_files.specs.RowsFile.{rows_in, RowsAreRefusedAs, IsRowsFileFault};
-ghost use Rattle.gatt_files.specs.Show.{AreShown, HasHolders, IsShowFault, TellsHoldersOf};
+ghost use Rattle.show_command.specs.Show.{AreShown, HasHolders, IsShowFault, TellsHoldersOf};
 ghost use Rattle.gatt_files.specs.TableFile.{table_in, TableIsRefusedAs, IsTableFileFault};
 ghost use Rattle.gatt_files.specs.Turns.{IsPast, OfKeys, OfRows, OfTable};
 
-use crate::check::{KeysPath, TablePath};
-use crate::fault::ShellFault;
-use crate::input::{TOML_OCTETS, read_all};
-use crate::key_file::judged_keys;
-use crate::lazy_file::LazyFile;
-use crate::output::print;
-use crate::rows_file::judged_rows;
-use crate::rows_path::{RowsPath, RowsReader};
-use crate::table_file::judged_table;
 use att_table::Table;
+use gatt_files::{
+    KeysPath, LazyFile, RowsPath, RowsReader, ShellFault, TOML_OCTETS, TablePath, judged_keys,
+    judged_rows, judged_table, print, read_all,
+};
 use std::alloc::{AllocError, Global};
 use std::fs::Files;
 use std::io::{Read, Write};
@@ -170,7 +165,7 @@ fn add_holders<K: Read>(
 }
 
 /// The text of a key file: one that is not UTF-8 is not TOML.
-#[tactic(auto, using(crate::proofs::KeyFiles::of_no_text))]
+#[tactic(auto, using(gatt_files::proofs::KeyFiles::of_no_text))]
 fn key_text(octets: &[u8]) -> Result<&str, ShellFault>
     ensures text { IfOk result (λ text. text.now ≡ octets.now) }
     ensures refused { IfErr result (IsKeyRefusal octets.now) }

@@ -4,10 +4,10 @@ use Rattle.std.specs.Option.{option_map}
 use Rattle.std.specs.Io.KnownBytes.{Appends}
 use Rattle.octets.specs.Number.{Octets}
 use Rattle.gatt_show.specs.Line.{shown_table}
-use Rattle.gatt_files.specs.Show.{HasHolders}
+use Rattle.show_command.specs.Show.{HasHolders}
 use Rattle.gatt_files.specs.TableFile.{table_in}
 use Rattle.gatt_files.proofs.Turns.{accepted}
-use Rattle.gatt_files.proofs.show.show_files.Goals as goal
+use Rattle.show_command.proofs.show.show_files.Goals as goal
 
 pub returns-clause-ok : goal.returns-clause-ok
 returns-clause-ok g c =

@@ -1,6 +1,7 @@
 //! The command `show`.
 
-use gatt_commands::{ShellFault, show_files};
+use gatt_commands::ShellFault;
+use show_command::show_files;
 use std::alloc::Global;
 use std::process::Abort;
 use std::test::Fail;
