@@ -1,12 +1,17 @@
 //! What a turn has brought is answered, told, logged and saved, before anything goes to the
 //! controller.
 
+ghost use Rattle.std.specs.Prelude.{◌≡◌, ◌++◌, OnOk};
+ghost use Rattle.std.specs.List.{flat_map};
+ghost use Rattle.device_lines.specs.Told.{connection_lines};
+ghost use Rattle.gatt_slots.specs.Connections.{connections_in};
+
 use crate::application::Application;
 use crate::device::Device;
 use crate::heard::Heard;
 use crate::said::Question;
 use device_ends::Log;
-use device_lines::{Reply, Told, add_connections, add_reply, add_told};
+use device_lines::{Reply, Told, add_connection, add_reply, add_told};
 use gatt_host::{AppFault, Host};
 use std::alloc::{AllocError, Global};
 use std::fs::{File, Files};
@@ -202,6 +207,17 @@ fn standing_text(alloc: Global, is_served: bool, host: &Host) -> Result<Vec<u8>,
     add_told(&mut text, &told)?;
     add_connections(&mut text, host)?;
     Ok(text)
+}
+
+/// Adds the lines of all connections of a host, in the order of their slots.
+fn add_connections(text: &mut Vec<u8>, host: &Host) -> Result<(), AllocError>
+    ensures ok { OnOk result (text.new.items
+        ≡ text.old.items ++ flat_map connection_lines (connections_in host.now.server.slots)) }
+{
+    for connection in host.connections() {
+        add_connection(text, &connection)?;
+    }
+    Ok(())
 }
 
 /// Has the application hear a text. Where memory was refused for that, which is logged in these words,

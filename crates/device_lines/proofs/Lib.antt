@@ -1,2 +1,1 @@
-pub mod Connections
 pub mod Words

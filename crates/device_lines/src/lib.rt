@@ -12,4 +12,4 @@ pub use asked::{Asked, read_line};
 pub use inbox::{Found, Inbox, LONGEST};
 pub use outbox::Outbox;
 pub use reply::{Reply, add_reply};
-pub use told::{Told, add_connections, add_told};
+pub use told::{Told, add_connection, add_told};

@@ -3,7 +3,7 @@
 ghost use Rattle.std.specs.Prelude.{◌≡◌, ◌++◌, OnOk};
 ghost use Rattle.device_lines.specs.Reply.{reply_line, reply_text};
 
-use gatt_host::AppFault;
+use gatt_app::AppFault;
 use notice_lines::{add_number, add_value};
 use std::alloc::AllocError;
 

@@ -1,11 +1,10 @@
 //! What the application is told without asking.
 
 ghost use Rattle.std.specs.Prelude.{◌≡◌, ◌++◌, OnOk};
-ghost use Rattle.std.specs.List.{flat_map};
-ghost use Rattle.gatt_slots.specs.Connections.{connections_in};
 ghost use Rattle.device_lines.specs.Told.{connection_lines, told_line};
 
-use gatt_host::{Connection, Host, Notice};
+use gatt_app::Notice;
+use gatt_slots::Connection;
 use notice_lines::add_line;
 use std::alloc::AllocError;
 
@@ -35,20 +34,8 @@ pub fn add_told(text: &mut Vec<u8>, told: &Told<'_>) -> Result<(), AllocError>
     }
 }
 
-/// Adds the lines of all connections of a host, in the order of their slots: of each that it came,
-/// and what its key is worth, if it has one.
-pub fn add_connections(text: &mut Vec<u8>, host: &Host) -> Result<(), AllocError>
-    ensures ok { OnOk result (text.new.items
-        ≡ text.old.items ++ flat_map connection_lines (connections_in host.now.server.slots)) }
-{
-    for connection in host.connections() {
-        add_connection(text, &connection)?;
-    }
-    Ok(())
-}
-
-/// Adds the lines of a connection.
-fn add_connection(text: &mut Vec<u8>, connection: &Connection) -> Result<(), AllocError>
+/// Adds the lines of a connection: that it came, and what its key is worth, if it has one.
+pub fn add_connection(text: &mut Vec<u8>, connection: &Connection) -> Result<(), AllocError>
     ensures ok { OnOk result (text.new.items
         ≡ text.old.items ++ connection_lines connection.now) }
 {

@@ -4,9 +4,9 @@ use Rattle.std.specs.Prelude.{is_some, IsSome, OnErr}
 use Rattle.std.specs.Option.{option_map}
 use Rattle.att_table.specs.Table.{Contents}
 use Rattle.gatt_host.specs.Asked.{refusal_in_result, replacing_refusal_of}
-use Rattle.gatt_host.specs.declared.app.AppFault.{AppFault}
-use Rattle.gatt_host.specs.declared.app.AppFault.TheVariants.{Stopped}
-use Rattle.gatt_host.specs.Numbers.{number_of_refusal}
+use Rattle.gatt_app.specs.declared.app.AppFault.{AppFault}
+use Rattle.gatt_app.specs.declared.app.AppFault.TheVariants.{Stopped}
+use Rattle.gatt_app.specs.Calls.{number_of_refusal}
 use Rattle.gatt_host.specs.Telling.{silent}
 use Rattle.gatt_host.specs.HostModel.{RefinesRun, Takes, HostModel}
 use Rattle.gatt_laws.specs.machine.Calls.{Call}

@@ -3,7 +3,7 @@ use Rattle.std.proofs.Common.{◌≡◌, true, false, List, [], ◌∷◌, ◌++
 use Rattle.std.specs.List.{flat_map}
 use Rattle.std.proofs.lemmas.List.{append-nil}
 use Rattle.att_table.specs.Table.{Contents}
-use Rattle.gatt_host.specs.declared.notice.Notice.{Notice}
+use Rattle.gatt_app.specs.declared.notice.Notice.{Notice}
 use Rattle.gatt_host.specs.Notices.{HasTheValue, notice_of}
 use Rattle.gatt_host.specs.Telling.{notices_told}
 use Rattle.gatt_host.specs.HostModel.{HostModel}

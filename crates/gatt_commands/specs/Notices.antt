@@ -2,7 +2,7 @@
 use Rattle.std.specs.Prelude.{◌≡◌, ◌++◌, Bool, true, false, List, [], ◌∷◌, map}
 use Rattle.std.specs.List.{flat_map}
 use Rattle.att_table.specs.Table.{Contents}
-use Rattle.gatt_host.specs.declared.notice.Notice.{Notice}
+use Rattle.gatt_app.specs.declared.notice.Notice.{Notice}
 use Rattle.gatt_host.specs.Notices.{HasTheValue, notice_of}
 use Rattle.gatt_host.specs.Telling.{notices_told}
 use Rattle.gatt_host.specs.HostModel.{HostModel}

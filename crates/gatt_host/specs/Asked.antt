@@ -1,34 +1,13 @@
 -- What a call of the application means to a host, by what it holds.
 use Rattle.std.specs.Prelude.{Option, Some, None, Result, Ok, Err}
 use Rattle.att_table.specs.Table.{Contents}
-use Rattle.gatt_host.specs.declared.app.App.{App}
-use Rattle.gatt_host.specs.declared.app.App.TheVariants as app
-use Rattle.gatt_host.specs.declared.app.AppFault.{AppFault}
-use Rattle.gatt_host.specs.declared.app.AppFault.TheVariants as fault
+use Rattle.gatt_app.specs.Calls.{refused_of}
+use Rattle.gatt_app.specs.declared.app.AppFault.{AppFault}
 use Rattle.gatt_host.specs.ServerState.{ServerState}
 use Rattle.gatt_host.specs.Meaning.{context_in}
-use Rattle.gatt_laws.specs.machine.Calls.{Call, UpdateCall, AuthorizeCall, DisconnectCall, TickCall}
-use Rattle.gatt_laws.specs.machine.Calls.{Refused, NoSuchHandle, NotAValue, BadLength}
-use Rattle.gatt_laws.specs.machine.Calls.{NoSuchConnection, TimeWentBack, Stopped, NoServiceChanged}
-use Rattle.gatt_laws.specs.machine.Calls.{call_meaning, replacement_meaning}
+use Rattle.gatt_laws.specs.machine.Calls.{Call, Refused, call_meaning, replacement_meaning}
 use Rattle.gatt_laws.specs.machine.Event.{Happening}
 use Rattle.gatt_slots.specs.Slots.{Place}
-
--- a call, and a fault, without where their octets lie
-abbrev pub call_of : App → Call
-call_of (app.Update handle value) = UpdateCall handle value.now
-call_of (app.Authorize handle until) = AuthorizeCall handle until
-call_of (app.Disconnect handle) = DisconnectCall handle
-call_of (app.Tick time) = TickCall time
-
-abbrev pub refused_of : AppFault → Refused
-refused_of fault.NoSuchHandle = NoSuchHandle
-refused_of fault.NotAValue = NotAValue
-refused_of fault.BadLength = BadLength
-refused_of fault.NoSuchConnection = NoSuchConnection
-refused_of fault.TimeWentBack = TimeWentBack
-refused_of fault.Stopped = Stopped
-refused_of fault.NoServiceChanged = NoServiceChanged
 
 -- what happens, or why the call is refused; and so of a table
 abbrev pub call_happening : ServerState → Call → Result (Happening Place) Refused

@@ -1,7 +1,7 @@
 -- What a call of the application answers.
 use Rattle.std.specs.Prelude.{◌≡◌, List, Option, Some, None, Result, Ok, Err}
 use Rattle.gatt_host.specs.Asked.{refusal_in_result}
-use Rattle.gatt_host.specs.declared.app.AppFault.{AppFault}
+use Rattle.gatt_app.specs.declared.app.AppFault.{AppFault}
 use Rattle.gatt_host.specs.declared.fault.Fault.{Fault}
 use Rattle.gatt_host.specs.declared.fault.Fault.TheVariants as told
 use Rattle.gatt_host.specs.declared.host_fault.HostFault.{HostFault}

@@ -5,8 +5,8 @@ use Rattle.att_numbers.specs.Types.{Row}
 use Rattle.att_policy.specs.declared.standing.KeyFacts.{KeyFacts}
 use Rattle.gatt_host.specs.declared.last_event.LastEvent.{LastEvent}
 use Rattle.gatt_host.specs.declared.last_event.LastEvent.TheVariants as last
-use Rattle.gatt_host.specs.declared.notice.Notice.{Notice as Lent}
-use Rattle.gatt_host.specs.declared.notice.Notice.TheVariants as lent
+use Rattle.gatt_app.specs.declared.notice.Notice.{Notice as Lent}
+use Rattle.gatt_app.specs.declared.notice.Notice.TheVariants as lent
 use Rattle.gatt_host.specs.ServerState.{ServerState}
 use Rattle.gatt_laws.specs.machine.Notice.{Notice, Connected, Disconnected, Secured, Unsecured, Written, Configured, Confirmed, TimedOut, Ending, link_told, write_told}
 use Rattle.att_attributes.specs.Attributes.{attribute_at}

@@ -4,7 +4,7 @@ use Rattle.gatt_host.specs.declared.host_fault.HostFault.{HostFault}
 use Rattle.gatt_host.specs.declared.last_event.LastEvent.TheVariants as last
 use Rattle.gatt_host.specs.ServerState.{ServerState, with_last}
 use Rattle.gatt_host.specs.Meaning.{Frames}
-use Rattle.gatt_host.specs.declared.notice.Notice.{Notice as Lent}
+use Rattle.gatt_app.specs.declared.notice.Notice.{Notice as Lent}
 use Rattle.gatt_host.specs.Notices.{HasTheValue, last_notices, notice_of}
 use Rattle.gatt_host.specs.RunRefinement.{ServerRefinesRun}
 use Rattle.gatt_host.specs.HostModel.{RefinesRun, HostModel}

@@ -2,7 +2,7 @@
 
 ghost use Rattle.std.specs.Prelude.{◌≡◌, ◌∷◌, [], None, IsSome, IsOk, IfErr, IfOk, true};
 ghost use Rattle.std.specs.Result.{result_err};
-ghost use Rattle.gatt_host.specs.Asked.{call_of};
+ghost use Rattle.gatt_app.specs.Calls.{call_of};
 ghost use Rattle.gatt_host.specs.Calling.{fault_told, Answers, IsCallRefusedAs};
 ghost use Rattle.gatt_host.specs.Feeding.{is_write_fault, Feeds, WritesAllThatIsDue};
 ghost use Rattle.gatt_host.specs.Listening.{Listens};
@@ -11,12 +11,12 @@ ghost use Rattle.gatt_host.specs.HostModel.{all_out};
 ghost use Rattle.gatt_laws.specs.machine.Input.{ACall};
 ghost use Rattle.octets.specs.Stream.{CountsIf};
 
-use crate::app::{App, AppFault};
 use crate::fault::Fault;
 use crate::feeding::{feed, write_out};
 use crate::host::Host;
 use crate::host_fault::HostFault;
 use crate::listener::{Listener, Nobody, tell};
+use gatt_app::{App, AppFault};
 use octets::Sink;
 
 /// Does what the application asks, and writes what goes back to the controller: first what was owed,

@@ -5,15 +5,16 @@ ghost use Rattle.att_attributes.specs.Attributes.{attribute_at};
 ghost use Rattle.att_table.specs.Changer.{changer_of};
 ghost use Rattle.att_table.specs.Table.{room_at};
 ghost use Rattle.gatt_laws.specs.machine.Calls.{has_length, same_changer, AuthorizeCall, DisconnectCall, TickCall, UpdateCall};
-ghost use Rattle.gatt_host.specs.Asked.{call_happening, call_of, refused_of, replacement_happening};
+ghost use Rattle.gatt_app.specs.Calls.{call_of, refused_of};
+ghost use Rattle.gatt_host.specs.Asked.{call_happening, replacement_happening};
 ghost use Rattle.gatt_host.specs.ServerState.{after_replacing, with_last};
 ghost use Rattle.gatt_host.specs.Meaning.{IsAfter};
 ghost use Rattle.gatt_slots.specs.Slots.{place_serving};
 
-use crate::app::{App, AppFault};
 use crate::host_state::HostState;
 use crate::last_event::LastEvent;
 use att_table::{Attr, Role, Table};
+use gatt_app::{App, AppFault};
 
 impl HostState {
     /// Does what the application asks; or refuses it, and changes nothing but that nothing is told.

@@ -2,7 +2,7 @@
 
 ghost use Rattle.std.specs.Prelude.{◌≡◌, ◌∷◌, [], None, IsSome, IsOk, IfErr, IfOk, Some, true, if◌then◌else◌};
 ghost use Rattle.std.specs.Result.{result_err};
-ghost use Rattle.gatt_host.specs.Asked.{call_of};
+ghost use Rattle.gatt_app.specs.Calls.{call_of};
 ghost use Rattle.gatt_host.specs.Feeding.{is_of_feeding, input_items, is_write_fault, items_of, CountsRefused, Feeds, WritesAllThatIsDue};
 ghost use Rattle.gatt_host.specs.Listening.{Listens};
 ghost use Rattle.gatt_host.specs.Promises.{KeepsConnectionsApart, KeepsThePolicy};
@@ -10,12 +10,12 @@ ghost use Rattle.gatt_host.specs.HostModel.{all_out};
 ghost use Rattle.gatt_laws.specs.machine.Input.{ACall};
 ghost use Rattle.octets.specs.Stream.{CountsIf};
 
-use crate::app::App;
 use crate::calling::do_call;
 use crate::feeding::{feed, feed_to};
 use crate::host::Host;
 use crate::host_fault::HostFault;
 use crate::listener::{Listener, Nobody};
+use gatt_app::App;
 use octets::Sink;
 
 /// What a host is handed: octets of the stream from its controller, or a call of the application.

@@ -3,10 +3,10 @@
 ghost use Rattle.std.specs.Prelude.{◌≡◌};
 ghost use Rattle.gatt_host.specs.declared.fault.Fault.TheVariants.{Table, Keys, Rows, Open, Host, Call};
 
-use crate::app::AppFault;
 use crate::config::OpenFault;
 use crate::host_fault::HostFault;
 use att_table::TableFault;
+use gatt_app::AppFault;
 use gatt_subs::RowsFault;
 use le_security::KeyFault;
 use std::error::Error;

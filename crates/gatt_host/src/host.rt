@@ -9,7 +9,8 @@ ghost use Rattle.gatt_laws.specs.laws.Deadline.{deadline, TellsFromTheDeadlineOn
 ghost use Rattle.gatt_laws.specs.machine.Input.{run, call_refusal, replacement_refusal, Item, APacket, ACall, ATable};
 ghost use Rattle.gatt_laws.specs.machine.Start.{Start};
 ghost use Rattle.gatt_laws.specs.laws.Telling.{TellsTheApplication};
-ghost use Rattle.gatt_host.specs.Asked.{call_of, refusal_in_result, replacing_refusal_of};
+ghost use Rattle.gatt_app.specs.Calls.{call_of};
+ghost use Rattle.gatt_host.specs.Asked.{refusal_in_result, replacing_refusal_of};
 ghost use Rattle.gatt_host.specs.Connections.{connection_with, connections_of};
 ghost use Rattle.gatt_host.specs.Credits.{most_out};
 ghost use Rattle.gatt_host.specs.Feeding.{items_taken, TakesUpToAPacket};
@@ -27,15 +28,14 @@ ghost use Rattle.le_h4.specs.Packet.{packet_of_ref};
 ghost use Rattle.octets.specs.Number.{Octets};
 ghost use Rattle.le_h4.specs.declared.packet_buf.TheConstants.{MAX_PACKET_OUT};
 
-use crate::app::{App, AppFault};
 use crate::connections::Connections;
 use crate::frames::Frames;
 use crate::host_fault::HostFault;
 use crate::host_state::HostState;
 use crate::iter::Notices;
-use crate::notice::Notice;
 use crate::{packet, taking};
 use att_table::Table;
+use gatt_app::{App, AppFault, Notice};
 use gatt_slots::Connection;
 use gatt_subs::Rows;
 use le_h4::{Deframer, MAX_ACL_DATA, PacketBuf, PacketOctets, PacketRef};

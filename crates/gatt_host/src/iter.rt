@@ -5,7 +5,7 @@ ghost use Rattle.std.specs.Iterator.{at_most};
 ghost use Rattle.gatt_host.specs.Telling.{GivesTheFirst, Untold};
 
 use crate::host::Host;
-use crate::notice::Notice;
+use gatt_app::Notice;
 use std::iter::FusedIterator;
 use std::marker::Model;
 

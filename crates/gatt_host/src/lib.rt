@@ -1,7 +1,6 @@
 //! The host half of a Bluetooth Low Energy peripheral: all its connections, and its controller.
 #![tactic(auto)]
 
-mod app;
 mod calling;
 mod calls;
 mod config;
@@ -19,7 +18,6 @@ mod host_state;
 mod iter;
 mod last_event;
 mod listener;
-mod notice;
 mod notices;
 mod open;
 mod packet;
@@ -27,7 +25,6 @@ mod reported;
 mod serving;
 mod taking;
 
-pub use app::{App, AppFault};
 pub use arrayvec::ArrayVec;
 pub use att_numbers::attribute_type::from_16_bits;
 pub use att_policy::KeyFacts;
@@ -38,6 +35,7 @@ pub use connections::Connections;
 pub use driving::{Input, drive, drive_to};
 pub use fault::Fault;
 pub use feeding::{feed, feed_to};
+pub use gatt_app::{App, AppFault, Notice};
 pub use gatt_laws::MAX_SLOTS;
 pub use gatt_slots::Connection;
 pub use gatt_subs::{Rows, RowsFault};
@@ -48,7 +46,6 @@ pub use le_h4::{MAX_PACKET_OUT, PacketOctets, PacketRef};
 pub use le_hci::{InitFault, MAX_ADVERTISING_DATA, Peer};
 pub use le_security::{KeyFault, Keys};
 pub use listener::Listener;
-pub use notice::Notice;
 pub use octets::{ArraySink, Failed, Reader, Sink, SliceSource, Source, Writer};
 pub use serving::{End, serve, serve_to};
 pub use taking::lost_fault;

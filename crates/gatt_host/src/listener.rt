@@ -8,7 +8,7 @@ ghost use Rattle.gatt_host.specs.Notices.{notice_of};
 ghost use Rattle.gatt_host.specs.Telling.{notices_told};
 
 use crate::host::Host;
-use crate::notice::Notice;
+use gatt_app::Notice;
 
 /// Hears what the application is told, one notice after another.
 pub trait Listener {

@@ -11,9 +11,9 @@ ghost use Rattle.gatt_host.specs.Notices.{last_notices, link_change_told, notice
 
 use crate::host_state::HostState;
 use crate::last_event::LastEvent;
-use crate::notice::Notice;
 use att_policy::KeyFacts;
 use att_table::{Role, Table};
+use gatt_app::Notice;
 use gatt_slots::Brought;
 use le_hci::reason::{AUTHENTICATION_FAILURE, REMOTE_USER_TERMINATED};
 

@@ -2,8 +2,8 @@
 use Rattle.std.specs.Prelude.{ℕ, ◌++◌, Bool, true, false, [], ◌∷◌, codes}
 use Rattle.std.specs.Fmt.{decimal}
 use Rattle.att_policy.specs.declared.standing.KeyFacts.{KeyFacts}
-use Rattle.gatt_host.specs.declared.notice.Notice.{Notice}
-use Rattle.gatt_host.specs.declared.notice.Notice.TheVariants.{Connected, Disconnected, Secured, Unsecured, Written, Configured, Confirmed, TimedOut, Ending}
+use Rattle.gatt_app.specs.declared.notice.Notice.{Notice}
+use Rattle.gatt_app.specs.declared.notice.Notice.TheVariants.{Connected, Disconnected, Secured, Unsecured, Written, Configured, Confirmed, TimedOut, Ending}
 use Rattle.gatt_subs.specs.RowsText.{peer_text}
 use Rattle.hex.specs.Hex.{encode_lower}
 use Rattle.octets.specs.Number.{Octets}

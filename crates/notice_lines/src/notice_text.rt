@@ -6,9 +6,11 @@ ghost use Rattle.hex.specs.Hex.{encode_lower};
 ghost use Rattle.gatt_subs.specs.RowsText.{peer_text};
 ghost use Rattle.notice_lines.specs.NoticeText.{digit_of, facts_text, notice_line, notice_text, of_attribute, of_connection, value_text};
 
-use gatt_host::{KeyFacts, Notice, Peer};
+use att_policy::KeyFacts;
+use gatt_app::Notice;
 use gatt_subs::address_text;
 use itoa::Buffer;
+use le_hci::Peer;
 use std::alloc::AllocError;
 
 /// Adds the line of a notice to a text.

@@ -6,7 +6,7 @@ use Rattle.gatt_host.proofs.model.Feeds.{feeds_then, going_takes}
 use Rattle.gatt_host.proofs.model.Hearing.{hears_nothing, listens_then}
 use Rattle.gatt_host.specs.Asked.{refusal_in_result}
 use Rattle.gatt_host.specs.Calling.{Answers, IsCallRefusedAs, answer_told}
-use Rattle.gatt_host.specs.declared.app.AppFault.{AppFault}
+use Rattle.gatt_app.specs.declared.app.AppFault.{AppFault}
 use Rattle.gatt_host.specs.declared.fault.Fault.{Fault}
 use Rattle.gatt_host.specs.declared.fault.Fault.TheVariants as told
 use Rattle.gatt_host.specs.declared.host_fault.HostFault.{HostFault}

@@ -4,7 +4,7 @@ use Rattle.std.proofs.lemmas.List.{drop_more}
 use Rattle.std.specs.Prelude.{if◌then◌else◌, is_err, is_some}
 use Rattle.gatt_host.proofs.model.Feeds.{feeds_past, feeds_then, takes_silently, takes_then}
 use Rattle.gatt_host.specs.Asked.{refusal_in_result}
-use Rattle.gatt_host.specs.declared.app.AppFault.{AppFault}
+use Rattle.gatt_app.specs.declared.app.AppFault.{AppFault}
 use Rattle.gatt_host.specs.declared.driving.Input.{Input}
 use Rattle.gatt_host.specs.declared.host_fault.HostFault.{HostFault}
 use Rattle.gatt_host.specs.Feeding.{CountsRefused, Feeds, TakesAll, is_of_feeding, input_items, items_of, octet_items, refused_at, refused_in}

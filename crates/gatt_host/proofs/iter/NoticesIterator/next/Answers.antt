@@ -1,7 +1,7 @@
 use Rattle.std.proofs.Common.{◌≡◌, [], length, Option, refl, sym, ap, subst, ◌∙◌, arith}
 use Rattle.gatt_host.proofs.iter.NoticesIterator.next.Goals as goal
 use Rattle.gatt_host.proofs.owing.Untold.{none_left, one_left}
-use Rattle.gatt_host.specs.declared.notice.Notice.{Notice as Lent}
+use Rattle.gatt_app.specs.declared.notice.Notice.{Notice as Lent}
 use Rattle.gatt_host.specs.Notices.{HasTheValue, notice_of}
 use Rattle.gatt_host.specs.Telling.{GivesTheFirst, Untold, notices_told}
 use Rattle.att_table.specs.Table.{Contents}

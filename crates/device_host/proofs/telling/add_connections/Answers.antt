@@ -1,8 +1,8 @@
 use Rattle.std.proofs.Common.{◌++◌, ap, sym, ◌∙◌, append-nil}
 use Rattle.std.specs.List.{flat_map}
 use Rattle.gatt_slots.specs.Connections.{connections_in}
-use Rattle.device_lines.proofs.Connections.{one_more}
-use Rattle.device_lines.proofs.told.add_connections.Goals as goal
+use Rattle.device_host.proofs.Connections.{one_more}
+use Rattle.device_host.proofs.telling.add_connections.Goals as goal
 use Rattle.device_lines.specs.Told.{connection_lines}
 
 pub loop-connection-init : goal.loop-connection-init

@@ -1,7 +1,7 @@
 use Rattle.std.proofs.Common.{◌≡◌, ◌++◌}
 use Rattle.std.specs.List.{flat_map}
 use Rattle.gatt_slots.specs.Connections.{connections_in}
-use Rattle.device_lines.proofs.told.add_connections.Given as goal
+use Rattle.device_host.proofs.telling.add_connections.Given as goal
 use Rattle.device_lines.specs.Told.{connection_lines}
 
 -- what is told of those that the iterator still has is what is missing
