@@ -50,4 +50,5 @@ pub mod Unfinished
 pub mod ValuesOfTheTable
 pub mod ViewOfOthers
 pub mod ViewOfOwn
+pub mod WaitingOfTheTable
 pub mod examples

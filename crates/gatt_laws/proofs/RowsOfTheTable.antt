@@ -25,7 +25,7 @@ use Rattle.gatt_laws.specs.machine.Event.{Ordinal, Own, Event, Connected, Discon
 use Rattle.gatt_laws.specs.machine.Heard.{after_hearing}
 use Rattle.gatt_laws.proofs.Always.{always, any_tables}
 use Rattle.gatt_laws.specs.machine.Input.{run_at_start, run}
-use Rattle.gatt_laws.specs.machine.Start.{before_first_command}
+use Rattle.gatt_laws.specs.machine.Start.{Start, before_first_command}
 use Rattle.gatt_laws.specs.machine.ConnectionState.{ConnectionState, no_connection, fresh_connection, is_live, is_there, key_of, row_in_force, connection_mtu, bearer_of, with_pdus, after_ending}
 use Rattle.gatt_laws.specs.machine.SharedState.{SharedState, Bonds}
 use Rattle.gatt_laws.specs.machine.State.{State, Change, own_change, with_packets_completed, after_packets_completed, after_command_complete, all_changed, announced, after_replaced, change_of, finished, connections_finished, step}
@@ -58,10 +58,10 @@ entries-row access attributes standing (entry ∷ entries) old by before row =
     (entries-row access attributes standing entries old (after_entry attributes by entry) before
     (entry-row attributes by entry (is_configuration_at attributes entry.handle) refl row))
 
-writing-row : (table : Contents) (row : Row) (standing : Standing) (writing : Option Writing) → IsRowOf table.attributes row
+pub written_row : (table : Contents) (row : Row) (standing : Standing) (writing : Option Writing) → IsRowOf table.attributes row
     → IsRowOf table.attributes (stored_after_writing table row standing writing).row
-writing-row table row standing None is = is
-writing-row table row standing (Some writing) is =
+written_row table row standing None is = is
+written_row table row standing (Some writing) is =
     entries-row writing.access table.attributes standing writing.entries (stored_in table row) (stored_in table row) is is
 
 -- of one connection: its row and the row of its peer's bond
@@ -90,7 +90,7 @@ served-rows : (shared : SharedState) (bond : Row) (owed : Bool) (connection : Co
 served-rows shared bond owed connection pdu asked rows =
     let conn = bearer_of shared connection in
     let row = row_in_force bond connection in
-    let new = writing-row shared.table row conn.standing (writing_asked conn.queue asked) (row-in-force shared.table.attributes bond connection (key_of connection) rows) in
+    let new = written_row shared.table row conn.standing (writing_asked conn.queue asked) (row-in-force shared.table.attributes bond connection (key_of connection) rows) in
     let both = written-rows shared.table.attributes bond (stored_by shared.table row conn asked).row connection (key_of connection) rows new in
     record { bond = both.0; own = both.1 }
 
@@ -146,9 +146,9 @@ turn-rows shared bond owed connection Disconnected rows = record { bond = rows.b
 turn-rows shared bond owed connection own rows = if-live shared bond owed connection own (is_live connection.mark) rows
 
 -- what an event changes
-either-row : (attributes : List Attr) (test : Bool) (one other : Row) → IsRowOf attributes one → IsRowOf attributes other → IsRowOf attributes (if test then one else other)
-either-row attributes true one other first second = first
-either-row attributes false one other first second = second
+pub either_row : (attributes : List Attr) (test : Bool) (one other : Row) → IsRowOf attributes one → IsRowOf attributes other → IsRowOf attributes (if test then one else other)
+either_row attributes true one other first second = first
+either_row attributes false one other first second = second
 
 either-part : (attributes : List Attr) (test : Bool) (one other : ConnectionState) → IsRowOf attributes one.row → IsRowOf attributes other.row
     → IsRowOf attributes (if test then one else other).row
@@ -163,7 +163,7 @@ own-rows state ordinal own rows =
     let after : AreRows attributes effect.bond effect.connection =
     turn-rows state.shared (state.bonds connection.peer) (state.owed connection.peer) connection own (record { bond = rows.bonds connection.peer; own = rows.own ordinal }) in
     record {
-      bonds = λ peer. either-row attributes (same_peer peer connection.peer) effect.bond (state.bonds peer) after.bond (rows.bonds peer);
+      bonds = λ peer. either_row attributes (same_peer peer connection.peer) effect.bond (state.bonds peer) after.bond (rows.bonds peer);
       own = λ other. either-part attributes (other == ordinal) effect.connection (state.connections other) after.own (rows.own other);
     }
 
@@ -193,16 +193,16 @@ replaced-rows state table =
       own = λ ordinal. subst (λ (new : List Attr). IsRowOf new (kept_row old table.attributes (state.connections ordinal).row)) (sym attributes) (row_of_kept old table.attributes (state.connections ordinal).row);
     }
 
-change-rows : (state : State) (event : Event) → HasRowsOfItsTable state → HasRowsOfItsTable (change_of state event).state
+pub change_rows : (state : State) (event : Event) → HasRowsOfItsTable state → HasRowsOfItsTable (change_of state event).state
 unfolding change_of
-change-rows state (Of ordinal own) rows = own-rows state ordinal own rows
-change-rows state (Completed entries) rows =
+change_rows state (Of ordinal own) rows = own-rows state ordinal own rows
+change_rows state (Completed entries) rows =
     record { bonds = rows.bonds; own = λ ordinal. completed-row state.shared.table.attributes ordinal entries (state.connections ordinal) (rows.own ordinal) }
-change-rows state (Credit allowed opcode status following) rows = credit-rows state allowed opcode status following rows
-change-rows state (Update handle value) rows = record { bonds = rows.bonds; own = rows.own }
-change-rows state (Tick time) rows = record { bonds = rows.bonds; own = rows.own }
-change-rows state (Replaced table) rows = replaced-rows state table
-change-rows state Nothing rows = rows
+change_rows state (Credit allowed opcode status following) rows = credit-rows state allowed opcode status following rows
+change_rows state (Update handle value) rows = record { bonds = rows.bonds; own = rows.own }
+change_rows state (Tick time) rows = record { bonds = rows.bonds; own = rows.own }
+change_rows state (Replaced table) rows = replaced-rows state table
+change_rows state Nothing rows = rows
 
 -- the end of an event and the commands that go out leave each row
 finished-row : (attributes : List Attr) (shared : SharedState) (bonds : Bonds) (handles : List Handle) (connection : ConnectionState) → IsRowOf attributes connection.row
@@ -219,7 +219,7 @@ pub keeps_rows_of_its_table : KeepsRowsOfItsTable
 unfolding step
 keeps_rows_of_its_table state event rows =
     let change : Change = change_of state event in
-    let after : HasRowsOfItsTable change.state = change-rows state event rows in
+    let after : HasRowsOfItsTable change.state = change_rows state event rows in
     let attributes = change.state.shared.table.attributes in
     record {
       bonds = after.bonds;
@@ -228,12 +228,17 @@ keeps_rows_of_its_table state event rows =
           (finished-row attributes change.state.shared change.state.bonds (change.to_notify ordinal) (change.state.connections ordinal) (after.own ordinal));
     }
 
-pub always_has_rows_of_its_table : AlwaysHasRowsOfItsTable
-unfolding run
-always_has_rows_of_its_table start input fitted =
+pub rows_at_start : (start : Start) → ((peer : Peer) → IsRowOf start.table.attributes (start.bonds peer)) → HasRowsOfItsTable (run_at_start start).intake.state
+rows_at_start start fitted =
     let old : State = before_first_command start in
-    always (λ table. Unit) HasRowsOfItsTable (λ state event possible rows. keeps_rows_of_its_table state event rows) (run_at_start start) input (any_tables input) (record {
+    record {
       bonds = fitted;
       own = λ ordinal. sent-row start.table.attributes no_connection
           (nat_lt (length (command_of_init old.controller) + count_before ordinal old.connections old.slots) old.controller.credit) (no-row start.table.attributes);
-    })
+    }
+
+pub always_has_rows_of_its_table : AlwaysHasRowsOfItsTable
+unfolding run
+always_has_rows_of_its_table start input fitted =
+    always (λ table. Unit) HasRowsOfItsTable (λ state event possible rows. keeps_rows_of_its_table state event rows) (run_at_start start) input (any_tables input)
+    (rows_at_start start fitted)

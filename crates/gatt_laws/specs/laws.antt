@@ -28,3 +28,4 @@ pub mod ToldIsSo
 pub mod TwoWorlds
 pub mod ValuesOfTheTable
 pub mod View
+pub mod WaitingOfTheTable

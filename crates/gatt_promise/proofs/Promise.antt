@@ -15,6 +15,7 @@ use Rattle.gatt_laws.proofs.Streams.{takes_the_division}
 use Rattle.gatt_laws.proofs.TwoWorlds.{gives_the_same, keeps_alike}
 use Rattle.gatt_laws.proofs.Unfinished.{leaves_less_than_a_packet}
 use Rattle.gatt_laws.proofs.ValuesOfTheTable.{always_has_a_table}
+use Rattle.gatt_laws.proofs.WaitingOfTheTable.{always_has_waiting_of_its_table}
 use Rattle.gatt_laws.proofs.Queued.{always_has_bounded_queues}
 use Rattle.gatt_laws.proofs.Refusals.{refuses_by_the_first_broken_rule, refuses_the_first_entry, refuses_the_first_handle, refuses_the_first_listed}
 use Rattle.gatt_laws.proofs.Runs.{is_where_events_lead}
@@ -95,6 +96,7 @@ runs_in_order = record {
   brings = brings_what_it_gives;
   table = always_has_a_table;
   rows = always_has_rows_of_its_table;
+  waiting = always_has_waiting_of_its_table;
 }
 
 pub keeps_its_promise : Promise

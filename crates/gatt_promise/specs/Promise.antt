@@ -21,6 +21,7 @@ use Rattle.gatt_laws.specs.laws.Silence.{GivesAllThatItMay, OnlyServesTheLive, O
 use Rattle.gatt_laws.specs.laws.Telling.{TellsTheApplication}
 use Rattle.gatt_laws.specs.laws.TwoWorlds.{GivesNothingToTheAbsent, GivesTheSame, KeepsAlike}
 use Rattle.gatt_laws.specs.laws.ValuesOfTheTable.{AlwaysHasATable}
+use Rattle.gatt_laws.specs.laws.WaitingOfTheTable.{AlwaysHasWaitingOfItsTable}
 use Rattle.gatt_promise.specs.Alone.{GivesTheSameToOne, KeepsAlikeToOne, NothingCrossesToOneInRuns}
 use Rattle.gatt_promise.specs.Changed.{ChangesBondsByRight, ChangesOwnRowsByRight, ChangesValuesByRight}
 use Rattle.gatt_promise.specs.Crossing.{NothingCrossesOfAny}
@@ -141,9 +142,11 @@ pub record RunsInOrder : Type 0 where
   -- and what has gone out is what they bring: each commands, and then the packets that it gives to each connection that has a slot
   pub sent : HasSentByEvents
   pub brings : BringsWhatItGives
-  -- in each state a table stands, where each that is handed in is one; with rows of it, where those of the start are of its table
+  -- in each state a table stands, where each that is handed in is one; with rows of it, and with only values of it waiting that have a
+  -- configuration, where the rows of the start are of its table
   pub table : AlwaysHasATable
   pub rows : AlwaysHasRowsOfItsTable
+  pub waiting : AlwaysHasWaitingOfItsTable
 
 pub record Promise : Type 0 where
   pub order : RunsInOrder
