@@ -18,7 +18,7 @@ use Rattle.gatt_files.specs.declared.fault.ShellFault.{ShellFault}
 use Rattle.gatt_files.specs.declared.fault.ShellFault.TheVariants.{Memory, Unwritten}
 use Rattle.gatt_commands.specs.declared.notes.Notes.{Notes}
 use Rattle.gatt_commands.specs.declared.echo.Shows.{Shows}
-use Rattle.gatt_commands.specs.declared.run.TheConstants.{SIMULATED_PACKETS}
+use Rattle.gatt_commands.specs.declared.simulation.TheConstants.{SIMULATED_PACKETS}
 use Rattle.gatt_commands.specs.Doing.{DoesLine, NotesAct, Stage, stage_of}
 use Rattle.gatt_commands.specs.Echo.{Shown, echo_of, lines_shown, shown_behind, shown_of}
 use Rattle.gatt_commands.specs.Exchange.{ExchangesAll, ExchangesUntil, pair_of}

@@ -5,10 +5,13 @@
 mod acts;
 mod echo;
 mod exchange;
+mod lines;
 mod notes;
 mod opening;
+mod paths;
 mod run;
 mod serve;
+mod simulation;
 mod told;
 
 pub use echo::Shows;
@@ -18,5 +21,6 @@ pub use gatt_files::{
     status, text,
 };
 pub use notice_lines::{add_line, add_number, add_value};
-pub use run::{NextPath, RunPaths, ScriptPath, run_paths, run_script};
+pub use paths::{NextPath, RunPaths, ScriptPath, run_paths};
+pub use run::run_script;
 pub use serve::{Address, ServePaths, TURNS, serve_on, serve_paths};

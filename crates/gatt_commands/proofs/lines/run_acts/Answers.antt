@@ -3,7 +3,7 @@ use Rattle.std.proofs.lemmas.List.{drop_all}
 use Rattle.gatt_commands.proofs.Running.{run_all, run_ends, run_more}
 use Rattle.gatt_commands.specs.Doing.{stage_of}
 use Rattle.gatt_commands.specs.Echo.{lines_left, shown_of}
-use Rattle.gatt_commands.proofs.run.run_acts.Goals as goal
+use Rattle.gatt_commands.proofs.lines.run_acts.Goals as goal
 
 pub loop-act-preserved : goal.loop-act-preserved
 loop-act-preserved g c = record {

@@ -1,6 +1,6 @@
 use Rattle.gatt_commands.specs.Echo.{lines_left, shown_of}
 use Rattle.gatt_commands.proofs.RunEnds.{host_runs}
-use Rattle.gatt_commands.proofs.run.run_host.Goals as goal
+use Rattle.gatt_commands.proofs.simulation.run_host.Goals as goal
 
 pub returns-clause-runs : goal.returns-clause-runs
 returns-clause-runs g c =

@@ -3,7 +3,7 @@ use Rattle.gatt_host.specs.HostModel.{all_out}
 use Rattle.gatt_commands.specs.Doing.{stage_of}
 use Rattle.gatt_commands.specs.Echo.{lines_left, shown_of}
 use Rattle.gatt_commands.proofs.Running.{HasRun}
-use Rattle.gatt_commands.proofs.run.run_acts.Given as goal
+use Rattle.gatt_commands.proofs.lines.run_acts.Given as goal
 
 -- all is out before the next line
 abbrev pub invariant-loop-act : goal.invariant-loop-act

@@ -3,7 +3,7 @@ use Rattle.gatt_commands.proofs.Running.{ends_exchanging, ends_noting, ends_prin
 use Rattle.gatt_commands.proofs.Unshown.{shown_where}
 use Rattle.gatt_commands.specs.Doing.{stage_of}
 use Rattle.gatt_commands.specs.Exchange.{pair_of}
-use Rattle.gatt_commands.proofs.run.run_line.Goals as goal
+use Rattle.gatt_commands.proofs.lines.run_line.Goals as goal
 
 pub print_line-requires-clause-named : goal.print_line-requires-clause-named
 print_line-requires-clause-named g c = c.do_act-refused.ensures.named (length c.args.names.now) c.requires.named

@@ -4,7 +4,7 @@ use Rattle.gatt_files.specs.declared.fault.ShellFault.{ShellFault}
 use Rattle.gatt_commands.specs.Doing.{stage_of}
 use Rattle.gatt_commands.specs.Echo.{lines_left, shown_of}
 use Rattle.gatt_commands.specs.Runs.{EndsEarly}
-use Rattle.gatt_commands.proofs.run.run_lines.Goals as goal
+use Rattle.gatt_commands.proofs.lines.run_lines.Goals as goal
 
 pub returns-in_err-exchange-clause-ends : goal.returns-in_err-exchange-clause-ends
 returns-in_err-exchange-clause-ends g c =
