@@ -1,5 +1,5 @@
 -- An answer is given exactly where one is due.
-use Rattle.std.proofs.Common.{◌≡◌, Bool, true, false, if◌then◌else◌, Option, Some, None, refl, sym, ap}
+use Rattle.std.proofs.Common.{◌≡◌, Bool, true, false, if◌then◌else◌, Option, Some, None, refl, sym, ap, ◌∙◌}
 use Rattle.std.specs.Prelude.{is_some, Ok, Err}
 use Rattle.std.specs.Option.{option_map}
 use Rattle.att_numbers.specs.Types.{Row}
@@ -30,7 +30,16 @@ answered_where_due table row conn (Err Ignored) = refl
 answered_where_due table row conn (Err (Invalid opcode)) = refl
 answered_where_due table row conn (Err (Unsupported opcode)) = refl
 
--- and then its octets are those that were put together
+-- so there is none where none is due
+none-there : (answer : Option Response) → is_some answer ≡ false → answer ≡ None
+none-there (Some answer) is = cc is
+none-there None is = refl
+
+pub none_where_not_due : (table : Contents) (row : Row) (conn : Bearer) (asked : Question) → is_due asked ≡ false → answer_to table row conn asked ≡ None
+none_where_not_due table row conn asked not-due =
+    none-there (answer_to table row conn asked) (answered_where_due table row conn asked ∙ not-due)
+
+-- and where there is one, its octets are those that were put together
 pub sent_where_due : (answer : Option Response) (due : Bool) (octets : Octets) → is_some answer ≡ due → octets ≡ sent_if_any answer
     → option_map sent answer ≡ (if due then Some octets else None)
 sent_where_due (Some answer) true octets is put = ap Some (sym put)

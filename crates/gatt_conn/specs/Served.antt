@@ -1,9 +1,9 @@
 -- How a PDU was answered.
-use Rattle.std.specs.Prelude.{◌≡◌, is_some, Bool, List, Option}
-use Rattle.att_numbers.specs.Types.{Handle, Row}
+use Rattle.std.specs.Prelude.{◌≡◌, false, is_some, Bool, List, [], Option}
+use Rattle.att_numbers.specs.Types.{Handle, Mtu, Row}
 use Rattle.att_pdu.specs.declared.pdu_buf.PduBuf.{PduBuf}
 use Rattle.att_pdu.specs.Grammar.{request_of}
-use Rattle.att_pdu.specs.PduBuf.{contents, IsSameBuffer}
+use Rattle.att_pdu.specs.PduBuf.{contents, mtu_of, IsSameBuffer}
 use Rattle.att_pdu.specs.Response.{Response, sent_if_any}
 use Rattle.att_table.specs.Table.{Contents}
 use Rattle.att_writes.specs.Leaves.{LeavesStored}
@@ -12,11 +12,21 @@ use Rattle.gatt_conn.specs.Answer.{stored_by, handles_by, conn_after, is_confirm
 use Rattle.gatt_conn.specs.Connection.{Bearer}
 use Rattle.octets.specs.Number.{Octets}
 
+-- a buffer for the answer: it holds nothing, and keeps within the ATT_MTU
+pub record IsEmptyWithin (mtu : Mtu) (buffer : PduBuf) : Type 0 where
+  pub empty : contents buffer ≡ []
+  pub bound : mtu_of buffer ≡ mtu
+
 -- this is the answer, if one is due, in the same buffer; of the code alone
 pub record ServesPdu (answer : Option Response) (before after : PduBuf) (result : Served) : Type 0 where
   pub content : contents after ≡ sent_if_any answer
   pub due : result.due ≡ is_some answer
   pub same_buffer : IsSameBuffer before after
+
+-- and the PDU is a request, which confirms nothing; of the code alone too
+pub record ServesRequest (answer : Option Response) (before after : PduBuf) (result : Served) : Type 0 where
+  pub served : ServesPdu answer before after result
+  pub confirmed : result.confirmed ≡ false
 
 -- what a PDU led to, beside the answer itself: from the old table, row and connection to the new ones, with these handles written
 pub record IsAnswered (pdu : Octets) (old_table new_table : Contents) (old_row new_row : Row) (old_conn new_conn : Bearer)

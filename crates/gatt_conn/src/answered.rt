@@ -1,12 +1,12 @@
 ghost use Rattle.std.specs.Prelude.{◌≡◌, ◌≤◌, true, false, [], length, is_some, Some, None, if◌then◌else◌};
 ghost use Rattle.std.specs.Option.{option_map};
 ghost use Rattle.att_pdu.specs.Grammar.{request_of, is_due};
-ghost use Rattle.att_pdu.specs.PduBuf.{contents, mtu_of, IsSameBuffer};
+ghost use Rattle.att_pdu.specs.PduBuf.{contents, IsSameBuffer};
 ghost use Rattle.att_pdu.specs.Response.{ErrorResponse, ExchangeMtuResponse, sent, sent_if_any};
 ghost use Rattle.att_table.specs.ConfigRow.{IsRowOf};
 ghost use Rattle.gatt_conn.specs.Answer.{answer_to};
 ghost use Rattle.gatt_conn.specs.Connection.{after_exchange};
-ghost use Rattle.gatt_conn.specs.Served.{ServesPdu, IsAnswered};
+ghost use Rattle.gatt_conn.specs.Served.{IsEmptyWithin, ServesPdu, ServesRequest, IsAnswered};
 
 use crate::conn::Conn;
 use crate::writing::{cancel, command, execute, prepare, write};
@@ -49,8 +49,7 @@ pub fn answer(
     pdu: &[u8],
     out: &mut PduBuf<'_>,
 ) -> Answered
-    requires empty { contents out.old ≡ [] }
-    requires mtu { mtu_of out.old ≡ conn.old.mtu }
+    requires empty { IsEmptyWithin conn.old.mtu out.old }
     requires row { IsRowOf table.old.attributes row.old }
 
     ensures answer { contents out.new
@@ -82,8 +81,7 @@ fn serve(
     out: &mut PduBuf<'_>,
     touched: &mut Touched,
 ) -> Served
-    requires empty { contents out.old ≡ [] }
-    requires mtu { mtu_of out.old ≡ conn.old.mtu }
+    requires empty { IsEmptyWithin conn.old.mtu out.old }
     requires row { IsRowOf table.old.attributes row.old }
 
     ensures served { ServesPdu
@@ -92,7 +90,6 @@ fn serve(
     ensures answered { IsAnswered pdu.now table.old table.new row.old row.new conn.old conn.new
         touched.new.items result.confirmed }
 {
-    touched.clear();
     // Each arm is a copy for one form, the frequent ones, in which the others are never asked for.
     match pdu.first() {
         Some(&opcode::READ_REQUEST) => serve_form(table, row, conn, pdu, out, touched),
@@ -112,7 +109,7 @@ fn serve(
     }
 }
 
-/// Answers a PDU, where `touched` holds nothing yet.
+/// Answers a PDU of any form, with the handles that were written in place of what `touched` holds.
 #[inline(always)]
 #[tactic(auto, unfolding(att_pdu::specs::Form::form_of))]
 fn serve_form(
@@ -123,9 +120,7 @@ fn serve_form(
     out: &mut PduBuf<'_>,
     touched: &mut Touched,
 ) -> Served
-    requires empty { contents out.old ≡ [] }
-    requires untouched { touched.old.items ≡ [] }
-    requires mtu { mtu_of out.old ≡ conn.old.mtu }
+    requires empty { IsEmptyWithin conn.old.mtu out.old }
     requires row { IsRowOf table.old.attributes row.old }
 
     ensures served { ServesPdu
@@ -134,6 +129,7 @@ fn serve_form(
     ensures answered { IsAnswered pdu.now table.old table.new row.old row.new conn.old conn.new
         touched.new.items result.confirmed }
 {
+    touched.clear();
     match read_request(pdu, conn.mtu()) {
         Ok(Request::ExchangeMtu { client_rx_mtu }) => exchange_mtu(conn, client_rx_mtu, out),
         Ok(Request::Write { handle, value }) => write(
@@ -232,8 +228,8 @@ pub(crate) fn with_answer() -> Served
 /// Serves an Exchange MTU Request: Core 5.0, Vol 3 Part F, 3.4.2.
 fn exchange_mtu(conn: &mut Conn, client_rx_mtu: u16, out: &mut PduBuf<'_>) -> Served
     requires empty { contents out.old ≡ [] }
-    ensures served { ServesPdu (Some (ExchangeMtuResponse conn.old.rx_mtu)) out.old out.new result }
-    ensures confirmed { result.confirmed ≡ false }
+    ensures served { ServesRequest (Some (ExchangeMtuResponse conn.old.rx_mtu)) out.old out.new
+        result }
     ensures conn { conn.new ≡ after_exchange conn.old client_rx_mtu }
 {
     let [low, high] = conn.rx_mtu().to_le_bytes();
@@ -244,9 +240,8 @@ fn exchange_mtu(conn: &mut Conn, client_rx_mtu: u16, out: &mut PduBuf<'_>) -> Se
 
 /// Answers a request by an error.
 pub(crate) fn refuse(request_opcode: u8, handle: u16, code: u8, out: &mut PduBuf<'_>) -> Served
-    ensures served { ServesPdu (Some (ErrorResponse request_opcode handle code)) out.old out.new
+    ensures { ServesRequest (Some (ErrorResponse request_opcode handle code)) out.old out.new
         result }
-    ensures confirmed { result.confirmed ≡ false }
 {
     out.error(request_opcode, handle, code);
     with_answer()

@@ -8,7 +8,7 @@ ghost use Rattle.att_table.specs.ConfigRow.{IsRowOf};
 ghost use Rattle.att_writes.specs.Leaves.{LeavesStored};
 ghost use Rattle.att_writes.specs.Queue.{prepare_fault, queue_after};
 ghost use Rattle.gatt_conn.specs.Answer.{entry_at, prepare_response, answer_to, stored_by, handles_by};
-ghost use Rattle.gatt_conn.specs.Served.{ServesPdu};
+ghost use Rattle.gatt_conn.specs.Served.{ServesRequest};
 
 use crate::answered::{Served, refuse, with_answer, without_answer};
 use crate::conn::Conn;
@@ -30,13 +30,12 @@ pub(crate) fn write(
     requires empty { contents out.old ≡ [] }
     requires untouched { touched.old.items ≡ [] }
     requires row { IsRowOf table.old.attributes row.old }
-    ensures served { ServesPdu (answer_to table.old row.old conn.now
+    ensures served { ServesRequest (answer_to table.old row.old conn.now
         (Ok (WriteRequest handle value.now))) out.old out.new result }
     ensures touched { touched.new.items
         ≡ handles_by table.old row.old conn.now (Ok (WriteRequest handle value.now)) }
     ensures left { LeavesStored (stored_by table.old row.old conn.now
         (Ok (WriteRequest handle value.now))) table.old table.new row.new }
-    ensures confirmed { result.confirmed ≡ false }
 {
     match att_writes::write(table, row, conn.standing(), handle, value) {
         Outcome::Denied(opcode, handle, code) => refuse(opcode, handle, code, out),
@@ -86,7 +85,7 @@ pub(crate) fn prepare(
 ) -> Served
     requires empty { contents out.old ≡ [] }
     requires fits { 5 + length part.now ≤ mtu_of out.old }
-    ensures served { ServesPdu (Some (prepare_response (entry_at handle offset part.now)
+    ensures served { ServesRequest (Some (prepare_response (entry_at handle offset part.now)
         (prepare_fault table.now.attributes conn.old.standing conn.old.queue
         (entry_at handle offset part.now)))) out.old out.new result }
     ensures conn { conn.new ≡ record conn.old {
@@ -94,7 +93,6 @@ pub(crate) fn prepare(
           (prepare_fault table.now.attributes conn.old.standing conn.old.queue
           (entry_at handle offset part.now));
     } }
-    ensures confirmed { result.confirmed ≡ false }
 {
     match conn.prepare(table, handle, offset, part) {
         Outcome::Denied(opcode, handle, code) => refuse(opcode, handle, code, out),
@@ -110,9 +108,8 @@ pub(crate) fn prepare(
 #[inline(always)]
 pub(crate) fn cancel(conn: &mut Conn, out: &mut PduBuf<'_>) -> Served
     requires empty { contents out.old ≡ [] }
-    ensures served { ServesPdu (Some ExecuteWriteResponse) out.old out.new result }
+    ensures served { ServesRequest (Some ExecuteWriteResponse) out.old out.new result }
     ensures conn { conn.new ≡ record conn.old { queue = [] } }
-    ensures confirmed { result.confirmed ≡ false }
 {
     conn.cancel();
     out.value(&[opcode::EXECUTE_WRITE_RESPONSE]);
@@ -130,14 +127,13 @@ pub(crate) fn execute(
 ) -> Served
     requires empty { contents out.old ≡ [] }
     requires row { IsRowOf table.old.attributes row.old }
-    ensures served { ServesPdu (answer_to table.old row.old conn.old
+    ensures served { ServesRequest (answer_to table.old row.old conn.old
         (Ok (ExecuteWriteRequest ExecuteFlags.Write))) out.old out.new result }
     ensures touched { touched.new.items
         ≡ handles_by table.old row.old conn.old (Ok (ExecuteWriteRequest ExecuteFlags.Write)) }
     ensures left { LeavesStored (stored_by table.old row.old conn.old
         (Ok (ExecuteWriteRequest ExecuteFlags.Write))) table.old table.new row.new }
     ensures conn { conn.new ≡ record conn.old { queue = [] } }
-    ensures confirmed { result.confirmed ≡ false }
 {
     match conn.execute(table, row, touched) {
         Outcome::Denied(opcode, handle, code) => refuse(opcode, handle, code, out),

@@ -179,6 +179,7 @@ fn answer_by_row(
 
 /// Serves a PDU, and queues its answer. There is room for one that is due.
 #[inline(always)]
+#[tactic(auto, using(gatt_conn::proofs::Dues::none_where_not_due))]
 fn answer(
     table: &mut Table,
     row: &mut ConfigRow,
@@ -218,8 +219,6 @@ fn answer_nothing(
 ) -> Served
     requires row { IsRowOf table.old.attributes row.old }
     requires none_due { is_due (request_of pdu.now conn.old.mtu) ≡ false }
-    ensures due { result.due ≡ false }
-    ensures none { answer_to table.old row.old conn.old (request_of pdu.now conn.old.mtu) ≡ None }
     ensures answered { IsAnswered pdu.now table.old table.new row.old row.new conn.old conn.new
         written.new.items result.confirmed }
 {

@@ -15,9 +15,12 @@ returns-in-Denied-clause-served c =
     let same = denied (entry_at c.args.handle c.args.offset c.args.part.now) _ c.in-Denied.opcode c.in-Denied.handle c.in-Denied.code (sym c.in-Denied.is ∙ c.prepare.ensures.outcome) in
     let refused = c.refuse.ensures.served in
     record {
-      content = refused.content ∙ ap (λ (answer : Response). sent_if_any (Some answer)) (sym same);
-      due = refused.due;
-      same_buffer = refused.same_buffer;
+      served = record {
+        content = refused.content ∙ ap (λ (answer : Response). sent_if_any (Some answer)) (sym same);
+        due = refused.due;
+        same_buffer = refused.same_buffer;
+      };
+      confirmed = c.refuse.ensures.confirmed;
     }
 
 pub returns-in-Written-clause-served : goal.returns-in-Written-clause-served
@@ -26,7 +29,10 @@ returns-in-Written-clause-served c =
     let same = accepted entry (prepare_fault c.args.table.now.attributes c.args.conn.now.standing c.args.conn.now.queue entry) c.prepare.result c.in-Written.is c.prepare.ensures.outcome in
     let repeated : contents c.part.new.self ≡ PREPARE_WRITE_RESPONSE ∷ two_octets c.args.handle ++ two_octets c.args.offset ++ c.args.part.now = grind (arith, common_steps) in
     record {
-      content = repeated ∙ ap (λ (answer : Response). sent_if_any (Some answer)) (sym same);
-      due = c.with_answer.ensures.due;
-      same_buffer = search;
+      served = record {
+        content = repeated ∙ ap (λ (answer : Response). sent_if_any (Some answer)) (sym same);
+        due = c.with_answer.ensures.due;
+        same_buffer = search;
+      };
+      confirmed = c.with_answer.ensures.confirmed;
     }
