@@ -170,7 +170,7 @@ after_disconnection_complete place server = with_last (option_map_or disconnecte
 
 -- a command is answered: once the controller is initialised, slots are opened as far as there are packets for them
 abbrev pub opened : {A : Type 0} → Option Init → List A → List A
-opened (Some (Ready told packets)) xs = take (usable (length xs) packets) xs
+opened (Some (Ready acl_len packets)) xs = take (usable (length xs) packets) xs
 opened following xs = xs
 
 abbrev pub server_after_command_complete : ℕ → ℕ → Option ℕ → Option Init → ServerState → ServerState

@@ -34,28 +34,28 @@ pub record Delivery : Type 0 where
   pub outgoing : Outgoing
 
 abbrev pub slot_hearer : HearerFacts → Delivery → Hearer
-slot_hearer ear told = record {
+slot_hearer ear delivery = record {
   live = true;
   standing = ear.standing;
   row = ear.row;
   mtu = ear.mtu;
-  backlog = length told.outgoing.queue;
-  pending = told.pending;
+  backlog = length delivery.outgoing.queue;
+  pending = delivery.pending;
 }
 
 abbrev pub delivery_with_heard : Delivery → Heard → Delivery
-delivery_with_heard told heard = record { pending = heard.pending; outgoing = with_pdus_queued told.outgoing (map att_pdu heard.responses) }
+delivery_with_heard delivery heard = record { pending = heard.pending; outgoing = with_pdus_queued delivery.outgoing (map att_pdu heard.responses) }
 
 abbrev pub delivery_when_notifying : Contents → HearerFacts → Handle → Delivery → Delivery
-delivery_when_notifying table ear handle told = delivery_with_heard told (heard_when_notifying table.attributes table.values (slot_hearer ear told) handle)
+delivery_when_notifying table ear handle delivery = delivery_with_heard delivery (heard_when_notifying table.attributes table.values (slot_hearer ear delivery) handle)
 
 abbrev pub delivery_when_indicating : Contents → HearerFacts → ℕ → Delivery → Delivery
-delivery_when_indicating table ear now told = delivery_with_heard told (heard_when_indicating table.attributes table.values (slot_hearer ear told) now)
+delivery_when_indicating table ear now delivery = delivery_with_heard delivery (heard_when_indicating table.attributes table.values (slot_hearer ear delivery) now)
 
 -- values are notified in their order, and then what is due is indicated
 abbrev pub delivery_in_turn : Contents → HearerFacts → ℕ → List Handle → Delivery → Delivery
-delivery_in_turn table ear now [] told = delivery_when_indicating table ear now told
-delivery_in_turn table ear now (handle ∷ handles) told = delivery_in_turn table ear now handles (delivery_when_notifying table ear handle told)
+delivery_in_turn table ear now [] delivery = delivery_when_indicating table ear now delivery
+delivery_in_turn table ear now (handle ∷ handles) delivery = delivery_in_turn table ear now handles (delivery_when_notifying table ear handle delivery)
 
 -- what a slot keeps then: of a connection that is ending the same as before
 abbrev pub hearer_facts_of : ℕ → Option Row → SlotState → HearerFacts
@@ -65,7 +65,7 @@ abbrev pub delivery_of : SlotState → Delivery
 delivery_of slot_state = record { pending = slot_state.pending; outgoing = slot_state.outgoing }
 
 abbrev pub with_delivery : SlotState → Delivery → SlotState
-with_delivery slot_state told = record slot_state { pending = told.pending; outgoing = told.outgoing }
+with_delivery slot_state delivery = record slot_state { pending = delivery.pending; outgoing = delivery.outgoing }
 
 abbrev pub slot_after_hearing : Contents → ℕ → Option Row → List Handle → SlotState → SlotState
 slot_after_hearing table now bond handles slot_state =

@@ -12,4 +12,4 @@ quota slots packets = packets / usable slots packets
 
 -- the most octets of data in a packet, where the controller takes so many
 abbrev pub acl_len : ℕ → ℕ
-acl_len told = min told MAX_ACL_LEN
+acl_len length = min length MAX_ACL_LEN
