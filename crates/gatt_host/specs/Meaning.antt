@@ -1,12 +1,10 @@
 -- What a packet and a call mean to a host, by what it holds.
-use Rattle.std.specs.Prelude.{◌≡◌, ℕ, List, set, get_or, None, IfSome}
-use Rattle.att_table.specs.ConfigRow.{IsRowOf}
-use Rattle.gatt_host.specs.ServerState.{ServerState, ServesRequest, after_ask_key, after_authorize, after_connection_complete, server_after_packets_completed, server_after_command_complete, after_disconnect, after_disconnection_complete, after_link, after_no_change, after_replacing, server_after_other_channel, server_after_tick, after_update, server_slot_at, row_at}
+use Rattle.std.specs.Prelude.{◌≡◌, List, set, get_or, None, IfSome}
+use Rattle.gatt_host.specs.ServerState.{ServerState, ServesRequest, after_ask_key, after_authorize, after_connection_complete, server_after_packets_completed, server_after_command_complete, after_disconnect, after_disconnection_complete, after_link, after_no_change, after_replacing, server_after_other_channel, server_after_tick, after_update, server_slot_at}
 use Rattle.gatt_laws.specs.machine.Context.{Context}
 use Rattle.gatt_laws.specs.machine.Event.{Own, Connected, Disconnected, KeyAsked, Encrypted, Refreshed, Asks, OtherChannel, Authorized, Ended, Happening, Of, Completed, Credit, Update, Tick, Replaced, Nothing}
 use Rattle.gatt_laws.specs.machine.Packets.{Recombination}
-use Rattle.gatt_slots.specs.Hearing.{slot_row_in_force}
-use Rattle.gatt_slots.specs.SlotState.{SlotState}
+use Rattle.gatt_slots.specs.OfTable.{AreOfTable}
 use Rattle.gatt_slots.specs.Slots.{Place, place_free, place_holding, place_serving}
 use Rattle.le_acl.specs.Fragment.{Fragment, Beginning, Continuation}
 use Rattle.le_acl.specs.Reassembler.{Assembly, no_assembly, assembled_of, with_continuation}
@@ -69,6 +67,6 @@ recombination earlier fragment = (with_fragment earlier fragment).frame
 abbrev pub recombinations_in : Frames → Place → Recombination
 recombinations_in frames place = recombination (get_or frames place no_assembly)
 
--- each row in force is one of the table
-abbrev pub HasRowsOfTheTable : ServerState → Type 0
-HasRowsOfTheTable server = (place : ℕ) → IfSome (server_slot_at server place) (λ (slot_state : SlotState). IsRowOf server.table.attributes (slot_row_in_force (row_at server slot_state) slot_state))
+-- the row of each bond is one of the table, and so is that of each connection; and what waits to be indicated is of it
+abbrev pub IsOfItsTable : ServerState → Type 0
+IsOfItsTable server = AreOfTable server.table.attributes server.rows server.slots

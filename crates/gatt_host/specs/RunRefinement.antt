@@ -3,13 +3,14 @@ use Rattle.std.specs.Prelude.{◌≡◌, ℕ, ◌≤◌, List, [], ◌++◌, len
 use Rattle.gatt_host.specs.Answers.{told_fault}
 use Rattle.gatt_host.specs.declared.host_fault.HostFault.{HostFault}
 use Rattle.gatt_host.specs.ServerState.{ServerState}
-use Rattle.gatt_host.specs.Meaning.{Frames, HasRowsOfTheTable, once_heard}
+use Rattle.gatt_host.specs.Meaning.{Frames, IsOfItsTable, once_heard}
 use Rattle.gatt_host.specs.Packet.{packet_stop}
 use Rattle.gatt_host.specs.StateRefinement.{RefinesState, IsSound}
 use Rattle.gatt_laws.specs.machine.Event.{Ordinal}
 use Rattle.gatt_laws.specs.machine.Input.{Run}
 use Rattle.gatt_laws.specs.machine.Packets.{Fault, Fragments, packet_event}
 use Rattle.gatt_laws.specs.laws.RowsOfTheTable.{HasRowsOfItsTable}
+use Rattle.gatt_laws.specs.laws.WaitingOfTheTable.{HasWaitingOfItsTable}
 use Rattle.gatt_laws.specs.machine.State.{State}
 use Rattle.le_acl.specs.Reassembler.{assembly_after, no_assembly}
 use Rattle.le_h4.specs.Packet.{Packet}
@@ -46,7 +47,7 @@ PacketStops = (run : Run) (server : ServerState) (frames : Frames) (packet : Pac
     → packet_stop packet server ≡ Some fault
     → (why : Fault) × (packet_event run.intake.state run.intake.fragments packet ≡ Err why) × StopsForFault why fault
 
--- each row in force is one of the table, where those of the state are
-abbrev pub HoldsRowsOfTheTable : Type 0
-HoldsRowsOfTheTable = (run : Run) (server : ServerState) (frames : Frames) → IsDrainedIn run server frames
-    → HasRowsOfItsTable run.intake.state → HasRowsOfTheTable server
+-- what it holds is of its table, where rows and what waits are so in the state
+abbrev pub HoldsWhatIsOfItsTable : Type 0
+HoldsWhatIsOfItsTable = (run : Run) (server : ServerState) (frames : Frames) → IsDrainedIn run server frames
+    → HasRowsOfItsTable run.intake.state → HasWaitingOfItsTable run.intake.state → IsOfItsTable server

@@ -8,7 +8,7 @@ ghost use Rattle.gatt_laws.specs.machine.Calls.{has_length, same_changer, Author
 ghost use Rattle.gatt_app.specs.Calls.{call_of, refused_of};
 ghost use Rattle.gatt_host.specs.Asked.{call_happening, replacement_happening};
 ghost use Rattle.gatt_host.specs.ServerState.{after_replacing, with_last};
-ghost use Rattle.gatt_host.specs.Meaning.{IsAfter};
+ghost use Rattle.gatt_host.specs.Meaning.{IsAfter, IsOfItsTable};
 ghost use Rattle.gatt_slots.specs.Slots.{place_serving};
 
 use crate::host_state::HostState;
@@ -19,6 +19,7 @@ use gatt_app::{App, AppFault};
 impl HostState {
     /// Does what the application asks; or refuses it, and changes nothing but that nothing is told.
     pub(crate) fn app(&mut self, call: App<'_>) -> Result<(), AppFault>
+        requires of_table { IsOfItsTable self.old }
         ensures after { IsOk result
             → IsOkAnd (call_happening self.old (call_of call.entry))
             (λ happening. IsAfter happening self.old self.new) }
@@ -34,6 +35,7 @@ impl HostState {
     }
 
     fn call(&mut self, call: App<'_>) -> Result<(), AppFault>
+        requires of_table { IsOfItsTable self.old }
         ensures after { IsOk result
             → IsOkAnd (call_happening self.old (call_of call.entry))
             (λ happening. IsAfter happening self.old self.new) }
@@ -51,6 +53,7 @@ impl HostState {
 
     #[tactic(auto, using(crate::proofs::packets::Lengths::fits_there, crate::proofs::packets::Lengths::exact_there, crate::proofs::packets::Lengths::none_past))]
     fn update_value(&mut self, handle: u16, value: &[u8]) -> Result<(), AppFault>
+        requires of_table { IsOfItsTable self.old }
         ensures after { IsOk result
             → IsOkAnd (call_happening self.old (UpdateCall handle value.now))
             (λ happening. IsAfter happening self.old self.new) }

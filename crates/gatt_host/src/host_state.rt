@@ -2,13 +2,13 @@ ghost use Rattle.std.specs.Prelude.{◌≡◌, ◌<◌, ◌≤◌, [], if◌then
 ghost use Rattle.std.specs.Bool.{OnFalse, OnTrue};
 ghost use Rattle.std.specs.Option.{option_to_list};
 ghost use Rattle.att_attributes.specs.Attributes.{attribute_at, is_fixed_at};
-ghost use Rattle.att_table.specs.ConfigRow.{IsRowOf};
 ghost use Rattle.att_table.specs.Table.{room_at};
 ghost use Rattle.gatt_host.specs.GoingOut.{is_drained};
-ghost use Rattle.gatt_host.specs.ServerState.{open_slots, next_packet_out, after_out, server_after_event, after_ask_key, after_authorize, server_after_packets_completed, after_disconnect, after_disconnection_complete, after_link, after_no_change, after_replacing, server_after_other_channel, server_after_tick, after_update, server_slot_at, row_at, with_last, ServesRequest};
+ghost use Rattle.gatt_host.specs.ServerState.{open_slots, next_packet_out, after_out, server_after_event, after_ask_key, after_authorize, server_after_packets_completed, after_disconnect, after_disconnection_complete, after_link, after_no_change, after_replacing, server_after_other_channel, server_after_tick, after_update, server_slot_at, with_last, ServesRequest};
+ghost use Rattle.gatt_host.specs.Meaning.{IsOfItsTable};
 ghost use Rattle.gatt_laws.specs.machine.Packets.{entries_of_connections};
 ghost use Rattle.gatt_slots.specs.Slots.{all_heard, place_holding};
-ghost use Rattle.gatt_slots.specs.Hearing.{slot_row_in_force};
+ghost use Rattle.gatt_slots.specs.OfTable.{AreOfTableIfAny};
 ghost use Rattle.le_hci.specs.Event.{completed_packets_of};
 ghost use Rattle.le_security.specs.Link.{Encryption, Refresh};
 ghost use Rattle.le_h4.specs.declared.packet_buf.TheConstants.{MAX_PACKET_OUT};
@@ -103,6 +103,10 @@ impl HostState {
     /// it as yet.
     #[inline(always)]
     fn hear(&mut self, own: Option<usize>, here: &[u16], handles: &[u16])
+        requires here { AreOfTableIfAny here.now self.old.table.attributes self.old.rows
+            self.old.slots }
+        requires handles { AreOfTableIfAny handles.now self.old.table.attributes self.old.rows
+            self.old.slots }
         ensures { self.new ≡ server_after_event own here.now handles.now self.old }
     {
         let moment = Moment {
@@ -129,6 +133,7 @@ impl HostState {
         requires fits { length value.now ≤ room_at self.old.table handle }
         requires exact { is_fixed_at self.old.table.attributes handle ≡ true
             → length value.now ≡ room_at self.old.table handle }
+        requires of_table { IsOfItsTable self.old }
         ensures { self.new ≡ after_update handle value.now self.old }
     {
         self.table.set(handle, value);
@@ -215,9 +220,7 @@ impl HostState {
     pub(crate) fn ask(&mut self, place: usize, pdu: &[u8])
         requires place { place < length self.old.slots }
         requires there { IsSome (server_slot_at self.old place) }
-        requires row { IfSome (server_slot_at self.old place)
-            (λ slot_state. IsRowOf self.old.table.attributes
-            (slot_row_in_force (row_at self.old slot_state) slot_state)) }
+        requires of_table { IsOfItsTable self.old }
         ensures { IfSome (server_slot_at self.old place)
             (λ slot_state. ServesRequest place pdu.now slot_state self.old self.new) }
     {
@@ -250,6 +253,7 @@ impl HostState {
     pub(crate) fn encrypt(&mut self, place: usize, status: u8, enabled: u8)
         requires place { place < length self.old.slots }
         requires there { IsSome (server_slot_at self.old place) }
+        requires of_table { IsOfItsTable self.old }
         ensures { self.new ≡ after_link place (Encryption status enabled) self.old }
     {
         let slot = self.slots.at(place);
@@ -264,6 +268,7 @@ impl HostState {
     pub(crate) fn refresh(&mut self, place: usize, status: u8)
         requires place { place < length self.old.slots }
         requires there { IsSome (server_slot_at self.old place) }
+        requires of_table { IsOfItsTable self.old }
         ensures { self.new ≡ after_link place (Refresh status) self.old }
     {
         let slot = self.slots.at(place);
@@ -278,6 +283,7 @@ impl HostState {
     fn hear_link(&mut self, place: usize, before: Option<KeyFacts>, due: bool)
         requires place { place < length self.old.slots }
         requires there { IsSome (server_slot_at self.old place) }
+        requires of_table { IsOfItsTable self.old }
         ensures { IfSome (server_slot_at self.old place)
             (λ slot_state. self.new
             ≡ with_last (LastEvent.LinkChanged slot_state.handle before slot_state.link.key)
@@ -301,6 +307,7 @@ impl HostState {
     /// Ends an event: the connection of a slot hears that the table was replaced, if it is to, and all
     /// of what is then due.
     fn hear_changes(&mut self, place: usize, due: bool, last: LastEvent)
+        requires of_table { IsOfItsTable self.old }
         ensures { self.new ≡ with_last last (server_after_event (Some place)
             (if due then option_to_list self.old.changer else []) [] self.old) }
     {

@@ -8,7 +8,7 @@ ghost use Rattle.gatt_laws.specs.machine.Packets.{fragment_event, frame_event, o
 ghost use Rattle.gatt_host.specs.GoingOut.{is_drained};
 ghost use Rattle.gatt_host.specs.ServerState.{server_slot_at, open_slots};
 ghost use Rattle.gatt_host.specs.HostModel.{is_own_fault, RefinesPacket};
-ghost use Rattle.gatt_host.specs.Meaning.{recombination, once_heard, with_fragment, HasRowsOfTheTable, IsAfter};
+ghost use Rattle.gatt_host.specs.Meaning.{recombination, once_heard, with_fragment, IsOfItsTable, IsAfter};
 ghost use Rattle.le_h4.specs.Packet.{packet_of_ref};
 ghost use Rattle.gatt_host.specs.Packet.{acl_happening, packet_stop, TakesPacket, event_stop, fragment_left, frame_given, frames_after_acl, frames_after_event, TakesEvent};
 ghost use Rattle.gatt_host.specs.Telling.{TellsOfPacket};
@@ -34,6 +34,7 @@ use le_l2cap::read_frame;
 impl HostState {
     /// Takes in an event: its code and what follows.
     pub(crate) fn event(&mut self, frames: &mut Frames, octets: &[u8]) -> Result<(), HostFault>
+        requires of_table { IsOfItsTable self.old }
         ensures taken { IsOk result → TakesEvent (event_of octets.now) self.old self.new }
         ensures frames { frames.new
             ≡ frames_after_event self.old (event_of octets.now) frames.old }
@@ -52,6 +53,7 @@ impl HostState {
     /// Takes in an event of a kind that is rare.
     #[inline(never)]
     fn take_other_event(&mut self, frames: &mut Frames, octets: &[u8]) -> Result<(), HostFault>
+        requires of_table { IsOfItsTable self.old }
         ensures taken { IsOk result → TakesEvent (event_of octets.now) self.old self.new }
         ensures frames { frames.new
             ≡ frames_after_event self.old (event_of octets.now) frames.old }
@@ -66,6 +68,7 @@ impl HostState {
     /// Takes in an event of any kind.
     #[inline(always)]
     fn take_event(&mut self, frames: &mut Frames, octets: &[u8]) -> Result<(), HostFault>
+        requires of_table { IsOfItsTable self.old }
         ensures taken { IsOk result → TakesEvent (event_of octets.now) self.old self.new }
         ensures frames { frames.new
             ≡ frames_after_event self.old (event_of octets.now) frames.old }
@@ -83,6 +86,7 @@ impl HostState {
     /// Takes in an event that has the form of its kind.
     #[inline(always)]
     fn take_reported(&mut self, frames: &mut Frames, event: &Event<'_>) -> Result<(), HostFault>
+        requires of_table { IsOfItsTable self.old }
         ensures taken { IsOk result → TakesEvent (Ok (report_of event.now)) self.old self.new }
         ensures frames { frames.new
             ≡ frames_after_event self.old (Ok (report_of event.now)) frames.old }
@@ -114,7 +118,7 @@ impl HostState {
     #[inline(always)]
     fn frame(&mut self, place: usize, octets: &[u8])
         requires there { IsThere self.old.slots place }
-        requires rows { HasRowsOfTheTable self.old }
+        requires of_table { IsOfItsTable self.old }
         ensures { IsAfter
             (frame_event place (of_frame (frame_of octets.now))) self.old self.new }
     {
@@ -143,7 +147,7 @@ pub(crate) fn acl(
     bc: u8,
     octets: &[u8],
 )
-    requires rows { HasRowsOfTheTable state.old }
+    requires of_table { IsOfItsTable state.old }
     ensures after { IsAfter
         (acl_happening state.old handle pb bc octets.now frames.old) state.old state.new }
     ensures frames { frames.new ≡ frames_after_acl state.old handle pb bc octets.now frames.old }
@@ -165,7 +169,7 @@ fn fragment(
     octets: &[u8],
 )
     requires there { IsThere state.old.slots place }
-    requires rows { HasRowsOfTheTable state.old }
+    requires of_table { IsOfItsTable state.old }
     ensures after { IsAfter (fragment_event place (recombination frame.old)
         (fragment_of pb bc octets.now)) state.old state.new }
     ensures left { frame.new ≡ fragment_left (fragment_of pb bc octets.now) frame.old }
@@ -189,7 +193,7 @@ fn join_fragment(
     octets: &[u8],
 )
     requires there { IsThere state.old.slots place }
-    requires rows { HasRowsOfTheTable state.old }
+    requires of_table { IsOfItsTable state.old }
     ensures after { IsAfter (fragment_event place (recombination frame.old)
         (fragment_of pb bc octets.now)) state.old state.new }
     ensures left { frame.new ≡ fragment_left (fragment_of pb bc octets.now) frame.old }
@@ -238,7 +242,7 @@ pub(crate) fn packet(
     frames: &mut Frames,
     packet: PacketRef<'_>,
 ) -> Result<(), HostFault>
-    requires rows { HasRowsOfTheTable state.old }
+    requires of_table { IsOfItsTable state.old }
     requires drained { is_drained state.old.controller (open_slots state.old) ≡ true }
     ensures refines { RefinesPacket (packet_of_ref packet.entry) state.old frames.old state.new
         frames.new
@@ -257,7 +261,7 @@ fn take_packet(
     frames: &mut Frames,
     packet: PacketRef<'_>,
 ) -> Result<(), HostFault>
-    requires rows { HasRowsOfTheTable state.old }
+    requires of_table { IsOfItsTable state.old }
     ensures taken { IsOk result
         → TakesPacket (packet_of_ref packet.entry) state.old frames.old state.new frames.new }
     ensures stops { IfErr result

@@ -4,7 +4,7 @@ ghost use Rattle.std.specs.Prelude.{◌≡◌, ◌==◌, ◌<◌, ◌^◌, true,
 ghost use Rattle.gatt_laws.specs.machine.Controller as laws;
 ghost use Rattle.gatt_laws.specs.machine.Event.{Connected, Disconnected, KeyAsked, Encrypted, Refreshed, Asks, OtherChannel, Nothing};
 ghost use Rattle.gatt_laws.specs.machine.Packets.{connection_complete_event, connection_event, connection_event_if_ready, own_event};
-ghost use Rattle.gatt_host.specs.Meaning.{context_in, frames_after, IsAfter};
+ghost use Rattle.gatt_host.specs.Meaning.{context_in, frames_after, IsAfter, IsOfItsTable};
 ghost use Rattle.gatt_slots.specs.Slots.{place_holding, place_serving};
 ghost use Rattle.le_hci.specs.Event.{report_of};
 ghost use Rattle.le_hci.specs.InitTold.{told_in};
@@ -20,6 +20,7 @@ impl HostState {
     /// counts.
     #[inline(always)]
     pub(crate) fn reported(&mut self, frames: &mut Frames, event: &Event<'_>)
+        requires of_table { IsOfItsTable self.old }
         ensures after { IsAfter
             (connection_event_if_ready (context_in self.old) (report_of event.now))
             self.old self.new }
@@ -36,7 +37,8 @@ impl HostState {
     /// Takes in what an initialised controller reports of connections.
     #[inline(always)]
     fn connection_reported(&mut self, frames: &mut Frames, event: &Event<'_>)
-        requires { laws.is_ready self.old.controller ≡ true }
+        requires ready { laws.is_ready self.old.controller ≡ true }
+        requires of_table { IsOfItsTable self.old }
         ensures after { IsAfter
             (connection_event (context_in self.old) (report_of event.now)) self.old self.new }
         ensures frames { frames.new ≡ frames_after
@@ -87,6 +89,7 @@ impl HostState {
 
     /// Encryption of a link was changed, or could not be.
     fn encryption_changed(&mut self, status: u8, handle: u16, enabled: u8)
+        requires of_table { IsOfItsTable self.old }
         ensures { IsAfter (own_event (place_serving self.old.slots handle)
             (Encrypted status enabled)) self.old self.new }
     {
@@ -98,6 +101,7 @@ impl HostState {
 
     /// The key of a link was refreshed, or could not be.
     fn key_refreshed(&mut self, status: u8, handle: u16)
+        requires of_table { IsOfItsTable self.old }
         ensures { IsAfter
             (own_event (place_serving self.old.slots handle) (Refreshed status)) self.old self.new }
     {

@@ -6,7 +6,7 @@ ghost use Rattle.gatt_host.specs.Answers.{lost_fault};
 ghost use Rattle.gatt_host.specs.Feeding.{items_taken, TakesUpToAPacket};
 ghost use Rattle.gatt_host.specs.GoingOut.{is_drained};
 ghost use Rattle.gatt_host.specs.ServerState.{open_slots};
-ghost use Rattle.gatt_host.specs.Meaning.{HasRowsOfTheTable};
+ghost use Rattle.gatt_host.specs.Meaning.{IsOfItsTable};
 ghost use Rattle.gatt_host.specs.Telling.{TellsOfAll};
 ghost use Rattle.gatt_host.specs.HostModel.{all_out, going, is_own_fault, Refines};
 ghost use Rattle.le_h4.specs.Packet.{packet_of_ref};
@@ -55,7 +55,7 @@ fn take_in(
     deframer: &mut Deframer,
     octets: &[u8],
 ) -> Result<usize, HostFault>
-    requires rows { HasRowsOfTheTable state.old }
+    requires of_table { IsOfItsTable state.old }
     requires drained { is_drained state.old.controller (open_slots state.old) ≡ true }
     ensures refines { Refines (items_taken octets.now result) []
         (record { server = state.old; frames = frames.old; stream = deframer.old; fault = None })

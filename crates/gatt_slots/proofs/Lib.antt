@@ -12,3 +12,4 @@ pub mod InTurn
 pub mod Noted
 mod Late
 pub mod Seen
+pub mod OfTable

@@ -5,6 +5,7 @@ pub mod Hearing
 pub mod SlotEffects
 pub mod Request
 pub mod Slots
+pub mod OfTable
 pub mod Places
 pub mod Handles
 pub mod Lending

@@ -14,7 +14,7 @@ ghost use Rattle.octets.specs.declared.pdu.TheConstants.{MAX_PDU};
 use crate::slot::{Slot, Use};
 use att_table::{ConfigRow, Table};
 use gatt_conn::Conn;
-use gatt_subs::Pending;
+use gatt_subs::PendingOfTable;
 use le_acl::{MAX_PDUS, MIN_ACL_LEN, Sender};
 use le_hci::Peer;
 use le_hci::reason::{AUTHENTICATION_FAILURE, REMOTE_USER_TERMINATED};
@@ -40,7 +40,7 @@ impl Slot {
             row: ConfigRow::new(),
             link: Link::new(),
             conn: Conn::new(alloc)?,
-            pending: Pending::new(),
+            pending: PendingOfTable::new(),
             sender: Sender::new(alloc, 1, MIN_ACL_LEN)?,
             reply: None,
             reason: None,
@@ -75,7 +75,7 @@ impl Slot {
         self.link = Link::new();
         self.conn.renew();
         self.conn.limit(rx_mtu);
-        self.pending = Pending::new();
+        self.pending = PendingOfTable::new();
         self.sender.reset(quota, acl_len);
         self.reply = None;
         self.reason = None;

@@ -6,7 +6,9 @@ ghost use Rattle.std.specs.Option.{option_map_or};
 ghost use Rattle.gatt_slots.specs.Commands.{gives};
 ghost use Rattle.gatt_slots.specs.SlotState.{standing_with};
 ghost use Rattle.att_table.specs.ConfigRow.{bits_at};
+ghost use Rattle.att_table.specs.Facts.{IsTable};
 ghost use Rattle.gatt_slots.specs.Hearing.{row_by_key, slot_row_in_force, delivery_when_indicating};
+ghost use Rattle.gatt_slots.specs.OfTable.{HasBondsOfTable, SlotIsOfTable};
 ghost use Rattle.gatt_slots.specs.Places.{waits};
 ghost use Rattle.gatt_slots.specs.Slots.{slot_heard, slot_notified};
 ghost use Rattle.gatt_subs.specs.Rows.{owes, row_of};
@@ -20,7 +22,7 @@ use crate::slot::{Slot, Use};
 use att_numbers::opcode::{HANDLE_VALUE_INDICATION, HANDLE_VALUE_NOTIFICATION};
 use att_policy::Standing;
 use att_table::{ConfigRow, Table};
-use gatt_subs::{Pending, Raised, Rows};
+use gatt_subs::{PendingOfTable, Raised, Rows};
 use le_acl::Sender;
 use le_hci::Peer;
 use le_l2cap::channel::ATT;
@@ -34,7 +36,7 @@ fn indicate(
     standing: &Standing,
     mtu: u16,
     now: u64,
-    pending: &mut Pending,
+    pending: &mut PendingOfTable,
     sender: &mut Sender,
 )
     requires least { MIN_MTU ≤ mtu }
@@ -99,6 +101,9 @@ impl Slot {
     /// the value waits.
     #[inline(always)]
     pub(crate) fn notify(&mut self, raised: &Raised<'_>, moment: Moment<'_>) -> bool
+        requires table { IsTable moment.table.now }
+        requires bonds { HasBondsOfTable moment.table.now.attributes moment.rows.now }
+        requires slot { SlotIsOfTable moment.table.now.attributes self.old }
         ensures notified { self.new
             ≡ slot_notified raised.now.table moment.entry.now moment.entry.rows.now
             raised.now.handle self.old }

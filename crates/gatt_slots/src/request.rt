@@ -18,7 +18,7 @@ use arrayvec::ArrayVec;
 use att_pdu::answer_due;
 use att_table::{ConfigRow, Table};
 use gatt_conn::{Conn, Served, Touched, answer_into};
-use gatt_subs::{Pending, Rows};
+use gatt_subs::{PendingOfTable, Rows};
 use le_acl::{MAX_PDUS, Sender};
 use le_hci::Peer;
 use le_hci::reason::REMOTE_USER_TERMINATED;
@@ -115,7 +115,7 @@ fn is_full(conn: &Conn, sender: &Sender, pdu: &[u8]) -> bool
 
 /// Whether a confirmation, if it came now, would tell that the peer knows that the table was
 /// replaced.
-fn knows_change(link: &Link, pending: &Pending, changer: Option<u16>) -> bool
+fn knows_change(link: &Link, pending: &PendingOfTable, changer: Option<u16>) -> bool
     ensures { result ≡ (is_some link.now.key
         && option_map_or (is_told pending.now) changer false) }
 {
@@ -126,7 +126,7 @@ fn knows_change(link: &Link, pending: &Pending, changer: Option<u16>) -> bool
 }
 
 /// Takes in a confirmation, if there is one, and gives the handle of the value that it confirms.
-fn take_confirmation(confirmed: bool, pending: &mut Pending) -> Option<u16>
+fn take_confirmation(confirmed: bool, pending: &mut PendingOfTable) -> Option<u16>
     ensures pending { pending.new
         ≡ (if confirmed then after_confirmation pending.old else pending.old) }
     ensures confirmed { result ≡ (if confirmed then confirmed_handle pending.old else None) }

@@ -8,7 +8,7 @@ use arrayvec::ArrayVec;
 use att_policy::KeyFacts;
 use att_table::ConfigRow;
 use gatt_conn::Conn;
-use gatt_subs::Pending;
+use gatt_subs::PendingOfTable;
 use le_acl::Sender;
 use le_hci::{Command, Peer};
 use le_security::Link;
@@ -38,7 +38,7 @@ pub struct Slot {
     pub(crate) row: ConfigRow,
     pub(crate) link: Link,
     pub(crate) conn: Conn,
-    pub(crate) pending: Pending,
+    pub(crate) pending: PendingOfTable,
     pub(crate) sender: Sender,
     /// The reply to a request for the link's key that is not sent yet: the key, or that there is none.
     pub(crate) reply: Option<Option<[u8; 16]>>,

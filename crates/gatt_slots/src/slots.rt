@@ -9,6 +9,7 @@ ghost use Rattle.att_table.specs.Table.{Contents};
 ghost use Rattle.gatt_slots.specs.Connections.{FindsNext};
 ghost use Rattle.gatt_slots.specs.Hearing.{slot_row_in_force};
 ghost use Rattle.gatt_slots.specs.Lending.{LendsSlot};
+ghost use Rattle.gatt_slots.specs.OfTable.{AreOfTableIfAny};
 ghost use Rattle.gatt_slots.specs.Places.{may_listen};
 ghost use Rattle.gatt_slots.specs.Request.{bond_served, confirmed_of, handles_written_by, overflows, slot_after_request, table_after};
 ghost use Rattle.gatt_slots.specs.Slots.{slots_after_entries, all_after_table, all_after_time, all_heard, slot_state_at, late_handles, place_free, place_holding, place_serving, slot_row_at, slots_at, slots_deadline, IsThere};
@@ -234,9 +235,13 @@ impl Slots {
 
     /// Ends an event: the connections hear of the values that it notified to them, in the order of their
     /// slots, that of the slot `own` of those of `here` and the others of `handles`, and of what is then
-    /// due.
+    /// due. Where values are notified, what the slots keep is of the table.
     #[inline(always)]
     pub fn hear(&mut self, moment: Moment<'_>, own: Option<usize>, here: &[u16], handles: &[u16])
+        requires here { AreOfTableIfAny here.now moment.table.now.attributes
+            moment.rows.now self.old }
+        requires handles { AreOfTableIfAny handles.now moment.table.now.attributes
+            moment.rows.now self.old }
         ensures heard { self.new
             ≡ all_heard moment.entry.table.now moment.entry.now moment.entry.rows.now own here.now
             handles.now self.old }
@@ -285,6 +290,10 @@ impl Slots {
         here: &[u16],
         handles: &[u16],
     )
+        requires here { AreOfTableIfAny here.now moment.table.now.attributes
+            moment.rows.now self.old }
+        requires handles { AreOfTableIfAny handles.now moment.table.now.attributes
+            moment.rows.now self.old }
         ensures heard { self.new
             ≡ all_heard moment.entry.table.now moment.entry.now moment.entry.rows.now own here.now
             handles.now self.old }
@@ -303,6 +312,10 @@ impl Slots {
     /// Has each slot hear what is notified, value by value, and then what is due.
     #[inline(always)]
     fn hear_each(&mut self, moment: Moment<'_>, own: Option<usize>, here: &[u16], handles: &[u16])
+        requires here { AreOfTableIfAny here.now moment.table.now.attributes
+            moment.rows.now self.old }
+        requires handles { AreOfTableIfAny handles.now moment.table.now.attributes
+            moment.rows.now self.old }
         ensures heard { self.new
             ≡ all_heard moment.entry.table.now moment.entry.now moment.entry.rows.now own here.now
             handles.now self.old }

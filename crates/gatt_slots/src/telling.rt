@@ -3,6 +3,7 @@
 ghost use Rattle.std.specs.Prelude.{◌≡◌, ◌<◌, ◌≤◌, true, false, [], length, set, Option, None};
 ghost use Rattle.gatt_slots.specs.Commands.{gives};
 ghost use Rattle.gatt_slots.specs.SlotState.{SlotState};
+ghost use Rattle.gatt_slots.specs.OfTable.{AreOfTable, AreOfTableIfAny};
 ghost use Rattle.gatt_slots.specs.Places.{waits, Covers, CoversHeard};
 ghost use Rattle.gatt_slots.specs.Slots.{all_heard, all_notified, all_notified_in_turn, slot_heard, is_among, slot_state_at, slot_notified, SlotStates};
 ghost use Rattle.gatt_slots.specs.declared.places.Due.TheVariants.{Packet};
@@ -54,10 +55,15 @@ pub(crate) fn notify_all(
 )
     requires few { length slots.old ≤ MAX_SLOTS }
     requires covered { CoversHeard slots.old heard.old }
+    requires of_table { AreOfTableIfAny handles.now moment.table.now.attributes
+        moment.rows.now slots.old }
     ensures notified { slots.new
         ≡ all_notified_in_turn moment.entry.table.now moment.entry.now moment.entry.rows.now own
         others handles.now slots.old }
     ensures covered { CoversHeard slots.new heard.new }
+    ensures of_table { AreOfTable moment.entry.table.now.attributes moment.entry.rows.now
+        slots.old
+        → AreOfTable moment.entry.table.now.attributes moment.entry.rows.now slots.new }
     ensures count { length slots.new ≡ length slots.old }
 {
     for handle in handles {
@@ -78,14 +84,20 @@ fn notify_for(
 )
     requires few { length slots.old ≤ MAX_SLOTS }
     requires covered { CoversHeard slots.old heard.old }
+    requires of_table { AreOfTable moment.table.now.attributes moment.rows.now
+        slots.old }
     ensures notified { slots.new
         ≡ all_notified moment.entry.table.now moment.entry.now moment.entry.rows.now own others
         handle slots.old }
     ensures covered { CoversHeard slots.new heard.new }
+    ensures of_table { AreOfTable moment.entry.table.now.attributes moment.entry.rows.now
+        slots.new }
 {
     let Some(raised) = Raised::of(moment.table, handle) else {
         return;
     };
+    // Whoever asks for it knows what holds of each table.
+    let _count = moment.table.len();
     for place in 0..slots.len() {
         if is_among(own, others, place) {
             let slot = &mut slots[place];

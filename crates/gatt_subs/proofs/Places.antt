@@ -1,9 +1,11 @@
 -- Distinct handles from 1 to the largest that there may be are no more than that.
-use Rattle.std.proofs.Common.{◌≡◌, ℕ, zero, suc, ◌+◌, ◌<◌, ◌≤◌, Bool, true, false, ◌==◌, if◌then◌else◌, List, [], ◌∷◌, ◌++◌, length, refl, sym, ap, ◌∙◌, arith}
+use Rattle.std.proofs.Common.{◌≡◌, ℕ, zero, suc, ◌+◌, ◌<◌, ◌≤◌, Bool, true, false, ◌==◌, if◌then◌else◌, ◌||◌, nat_lt, List, [], ◌∷◌, ◌++◌, length, refl, sym, ap, ◌∙◌, arith}
+use Rattle.std.proofs.lemmas.Bool.{lt-ltb, ltb-true}
 use Rattle.std.proofs.lemmas.Bool.Decides.{nat_tests}
 use Rattle.std.proofs.lemmas.Grind.{common_steps}
 use Rattle.att_numbers.specs.declared.limit.TheConstants.{MAX_ATTRIBUTES}
 use Rattle.gatt_subs.specs.Indications.{is_waiting, HaveOnePlace}
+use Rattle.gatt_subs.specs.Room.{has_room_to_wait}
 
 -- the handles but for one of them
 abbrev without : ℕ → List ℕ → List ℕ
@@ -55,10 +57,23 @@ placed [] all = tt
 placed (first ∷ rest) all = (all.0, all.1, all.2, placed rest all.3)
 
 -- so there is room for a handle that does not wait
-pub room_for : (handles : List ℕ) (handle : ℕ) → HaveOnePlace handles → is_waiting handles handle ≡ false → 0 < handle → handle ≤ MAX_ATTRIBUTES → length handles < MAX_ATTRIBUTES
+room_for : (handles : List ℕ) (handle : ℕ) → HaveOnePlace handles → is_waiting handles handle ≡ false → 0 < handle → handle ≤ MAX_ATTRIBUTES → length handles < MAX_ATTRIBUTES
 room_for handles handle all absent is_used most =
     let more = at_most MAX_ATTRIBUTES (handle ∷ handles) (absent, is_used, most, placed handles all) in
     omega arith
+
+-- of those that may be, and so there is room for any
+pub room_for_any : (handles : List ℕ) (handle : ℕ) → 0 < handle → handle ≤ MAX_ATTRIBUTES → HaveOnePlace handles → has_room_to_wait MAX_ATTRIBUTES handles handle ≡ true
+room_for_any handles handle is_used most all =
+    elim (is_waiting handles handle) as (λ (waits : Bool). is_waiting handles handle ≡ waits → (waits || nat_lt (length handles) MAX_ATTRIBUTES) ≡ true) [
+      | true ↦ λ waits. refl
+      | false ↦ λ absent. lt-ltb (length handles) MAX_ATTRIBUTES (room_for handles handle all absent is_used most)
+    ] refl
+
+-- there is room for one more where there is room for one that does not wait
+pub room_where : (room : ℕ) (handles : List ℕ) (handle : ℕ) → is_waiting handles handle ≡ false → has_room_to_wait room handles handle ≡ true → length handles < room
+room_where room handles handle absent fits =
+    ltb-true (length handles) room (sym (ap (λ (waits : Bool). waits || nat_lt (length handles) room) absent) ∙ fits)
 
 absent_more : (handles : List ℕ) (handle other : ℕ) → is_waiting handles other ≡ false → (other == handle) ≡ false → is_waiting (handles ++ handle ∷ []) other ≡ false
 absent_more handles handle other absent differs = grind (arith, nat_tests, common_steps)
@@ -68,4 +83,4 @@ placed_more [] handle all absent is_used most = (refl, is_used, most, tt)
 placed_more (first ∷ rest) handle all absent is_used most =
     (absent_more rest handle first all.0 (grind (arith, nat_tests)), all.1, all.2, placed_more rest handle all.3 (grind (arith, nat_tests)) is_used most)
 
-pub ruleset places = (room_for, placed_more)
+pub ruleset places = (room_where, placed_more)

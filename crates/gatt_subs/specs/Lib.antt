@@ -4,6 +4,7 @@ pub mod HeardOnly
 pub mod InOrder
 pub mod Indications
 pub mod Raised
+pub mod Room
 pub mod RowEntry
 pub mod RowsFault
 pub mod RowsLine

@@ -14,7 +14,7 @@ mod rows_text;
 mod unfitted;
 
 pub use hearing::Raised;
-pub use pending::{MAX_BACKLOG, Pending};
+pub use pending::{MAX_BACKLOG, Pending, PendingOf, PendingOfTable};
 pub use rows::Rows;
 pub use rows_fault::RowsFault;
 pub use rows_text::address_text;

@@ -3,14 +3,15 @@ ghost use Rattle.std.specs.Bool.{OnTrue, OnFalse};
 ghost use Rattle.att_numbers.specs.declared.limit.TheConstants.{MAX_ATTRIBUTES};
 ghost use Rattle.att_attributes.specs.Attributes.{is_value_at};
 ghost use Rattle.gatt_subs.specs.Deadline.{deadline_of};
-ghost use Rattle.gatt_subs.specs.Hearing.{is_indicated};
+ghost use Rattle.gatt_subs.specs.Hearing.{is_indicated, wants_indications};
 ghost use Rattle.gatt_subs.specs.HeardOnly.{NotifiesOnlyWhatIsHeard, IndicatesOnlyWhatIsHeard, IndicatesOnlyWhatWaits};
 ghost use Rattle.gatt_subs.specs.Indications.{after_confirmation, after_end, after_notify, after_indicate, after_replacement, after_tick, confirmed_handle, first_handle, from_due, is_notified, is_told, is_waiting, no_indications, indicated_handle, rest_of, times_out, with_handle, HaveOnePlace};
+ghost use Rattle.gatt_subs.specs.Room.{has_room_to_wait};
 ghost use Rattle.gatt_subs.specs.Told.{TellsOnlyWhatIsHeard};
 
 use crate::hearing::{Raised, Telling, is_indicated};
 use arrayvec::ArrayVec;
-use att_numbers::limit::MAX_ATTRIBUTES;
+use att_numbers::limit::{MAX_ATTRIBUTES, MAX_CONFIGURATIONS};
 use att_policy::Standing;
 use att_table::{ConfigRow, Table};
 use std::marker::Model;
@@ -32,16 +33,22 @@ struct Unconfirmed {
 }
 
 /// What one connection is still to be told by indications: the handles of values that wait, each
-/// once, and the indication that is not confirmed. (Core 5.0, Vol 3 Part F, 3.4.7.2)
+/// once, and the indication that is not confirmed. At most `ROOM` values wait. (Core 5.0, Vol 3 Part
+/// F, 3.4.7.2)
 #[derive(Drop)]
-pub struct Pending {
-    /// There are no more handles than attributes.
-    waiting: ArrayVec<u16, MAX_ATTRIBUTES>,
+pub struct PendingOf<const ROOM: usize> {
+    waiting: ArrayVec<u16, ROOM>,
     unconfirmed: Option<Unconfirmed>,
     timed_out: bool,
 }
 
-impl Model for Pending {
+/// What one connection is still to be told of any values: there are no more handles than attributes.
+pub type Pending = PendingOf<MAX_ATTRIBUTES>;
+
+/// The same of values that have a configuration in one table: there are no more than configurations.
+pub type PendingOfTable = PendingOf<MAX_CONFIGURATIONS>;
+
+impl<const ROOM: usize> Model for PendingOf<ROOM> {
     ghost use Rattle.gatt_subs.specs.Indications.{Indications, HaveOnePlace};
 
     ghost Value = { Indications };
@@ -56,7 +63,7 @@ impl Model for Pending {
     ghost invariant = { λ pending. HaveOnePlace pending.waiting.items };
 }
 
-impl Pending {
+impl<const ROOM: usize> PendingOf<ROOM> {
     /// Nothing waits, and nothing is unconfirmed.
     #[tactic(auto, using(crate::proofs::Heard::only_what_is_heard))]
     pub fn new() -> Self
@@ -67,40 +74,14 @@ impl Pending {
         ensures idle { IndicatesOnlyWhatWaits }
         ensures undisclosed { TellsOnlyWhatIsHeard }
     {
-        Pending {
+        PendingOf {
             waiting: ArrayVec::new(),
             unconfirmed: None,
             timed_out: false,
         }
     }
 
-    /// Tells the connection that a value was written: `true` where a notification of it is due. With
-    /// the indication bit the value waits instead, once and at the end. `row` is what the client has
-    /// configured, and `backlog` how many PDUs are queued for the connection. This is `raise_value` of
-    /// the value at the handle, where there is one.
-    pub fn raise(
-        &mut self,
-        table: &Table,
-        handle: u16,
-        row: &ConfigRow,
-        standing: &Standing,
-        backlog: usize,
-    ) -> bool
-        ensures notified { result
-            ≡ is_notified self.old table.now.attributes row.now standing.entry.now handle
-            backlog }
-        ensures pending { self.new
-            ≡ after_notify self.old table.now.attributes row.now standing.entry.now handle }
-        ensures room { OnTrue result (backlog < MAX_BACKLOG) }
-        ensures value { OnTrue result (is_value_at table.now.attributes handle ≡ true) }
-    {
-        match Raised::of(table, handle) {
-            Some(raised) => self.raise_value(&raised, row, standing, backlog),
-            None => false,
-        }
-    }
-
-    /// Raises a value that was looked up.
+    /// Raises a value that was looked up. There is room for it, if it is to wait.
     #[inline(always)]
     pub fn raise_value(
         &mut self,
@@ -109,6 +90,9 @@ impl Pending {
         standing: &Standing,
         backlog: usize,
     ) -> bool
+        requires fits { HaveOnePlace self.old.waiting
+            → wants_indications row.now raised.now.handle ≡ true
+            → has_room_to_wait ROOM self.old.waiting raised.now.handle ≡ true }
         ensures notified { result
             ≡ is_notified self.old raised.now.table.attributes row.now standing.entry.now
             raised.now.handle backlog }
@@ -237,11 +221,41 @@ impl Pending {
     }
 }
 
+impl PendingOf<MAX_ATTRIBUTES> {
+    /// Tells the connection that a value was written: `true` where a notification of it is due. With
+    /// the indication bit the value waits instead, once and at the end. `row` is what the client has
+    /// configured, and `backlog` how many PDUs are queued for the connection. This is `raise_value` of
+    /// the value at the handle, where there is one.
+    #[tactic(auto, using(crate::proofs::Places::room_for_any))]
+    pub fn raise(
+        &mut self,
+        table: &Table,
+        handle: u16,
+        row: &ConfigRow,
+        standing: &Standing,
+        backlog: usize,
+    ) -> bool
+        ensures notified { result
+            ≡ is_notified self.old table.now.attributes row.now standing.entry.now handle
+            backlog }
+        ensures pending { self.new
+            ≡ after_notify self.old table.now.attributes row.now standing.entry.now handle }
+        ensures room { OnTrue result (backlog < MAX_BACKLOG) }
+        ensures value { OnTrue result (is_value_at table.now.attributes handle ≡ true) }
+    {
+        match Raised::of(table, handle) {
+            Some(raised) => self.raise_value(&raised, row, standing, backlog),
+            None => false,
+        }
+    }
+}
+
 /// Puts a handle at the end, if it does not wait yet.
 #[inline(never)]
 #[tactic(auto, using(crate::proofs::Places::places))]
-fn wait_once(waiting: &mut ArrayVec<u16, MAX_ATTRIBUTES>, handle: u16)
+fn wait_once<const ROOM: usize>(waiting: &mut ArrayVec<u16, ROOM>, handle: u16)
     requires places { HaveOnePlace waiting.old.items }
+    requires fits { has_room_to_wait ROOM waiting.old.items handle ≡ true }
     requires used { 0 < handle }
     requires most { handle ≤ MAX_ATTRIBUTES }
     ensures waits { waiting.new.items ≡ with_handle waiting.old.items handle }
@@ -260,8 +274,8 @@ fn is_waiting(waiting: &[u16], handle: u16) -> bool
 }
 
 /// Takes out the handles up to the first of which an indication is due, and gives that one.
-fn take_due(
-    waiting: &mut ArrayVec<u16, MAX_ATTRIBUTES>,
+fn take_due<const ROOM: usize>(
+    waiting: &mut ArrayVec<u16, ROOM>,
     table: &Table,
     row: &ConfigRow,
     standing: &Standing,

@@ -1,15 +1,16 @@
 -- A host that takes in one item stands where its run goes on.
 use Rattle.std.proofs.Common.{◌≡◌, List, [], ◌∷◌, ◌++◌, Option, Some, None, refl, sym, ap, subst, ◌∙◌, append_assoc, append-nil}
 use Rattle.std.specs.Prelude.{true, is_some, ◌||◌}
-use Rattle.gatt_host.proofs.asking.RowsHeld.{holds_rows_of_the_table}
+use Rattle.gatt_host.proofs.asking.OfItsTable.{holds_what_is_of_its_table}
 use Rattle.gatt_host.proofs.meaning.Drained.{drained_in}
 use Rattle.gatt_host.specs.declared.host_fault.HostFault.{HostFault}
 use Rattle.gatt_host.specs.GoingOut.{is_drained}
 use Rattle.gatt_host.specs.ServerState.{open_slots}
-use Rattle.gatt_host.specs.Meaning.{HasRowsOfTheTable}
+use Rattle.gatt_host.specs.Meaning.{IsOfItsTable}
 use Rattle.gatt_host.specs.HostModel.{all_out, is_own_fault, IsReached, Refines, SameFault, RefinesRun, Takes, HostModel}
 use Rattle.gatt_laws.proofs.Inputs.{continues}
 use Rattle.gatt_laws.proofs.RowsOfTheTable.{always_has_rows_of_its_table}
+use Rattle.gatt_laws.proofs.WaitingOfTheTable.{always_has_waiting_of_its_table}
 use Rattle.gatt_laws.specs.machine.Input.{Run, Item, after_item, run, taken, unless_stopped}
 use Rattle.gatt_laws.specs.machine.Packets.{Fault}
 use Rattle.octets.specs.Number.{Octets}
@@ -63,12 +64,12 @@ leads_nowhere old new same start input sent is =
     (subst (λ (items : List Item). RefinesRun (run start items) sent new) (sym (append-nil input))
     (subst (λ (host : HostModel). RefinesRun (run start input) sent host) (sym same) is))
 
--- each row in force of a host is one of its table
-pub rows_hold : (host : HostModel) → IsReached host → is_drained host.server.controller (open_slots host.server) ≡ true → HasRowsOfTheTable host.server
-rows_hold host reached drained =
+-- what a host holds is of its table
+pub is_of_its_table : (host : HostModel) → IsReached host → is_drained host.server.controller (open_slots host.server) ≡ true → IsOfItsTable host.server
+is_of_its_table host reached drained =
     let at_run : Run = run reached.start reached.input in
-    holds_rows_of_the_table at_run host.server host.frames (drained_in at_run reached.sent host.server host.frames reached.refines.refines drained)
-    (always_has_rows_of_its_table reached.start reached.input reached.rows)
+    holds_what_is_of_its_table at_run host.server host.frames (drained_in at_run reached.sent host.server host.frames reached.refines.refines drained)
+    (always_has_rows_of_its_table reached.start reached.input reached.rows) (always_has_waiting_of_its_table reached.start reached.input reached.rows)
 
 -- nothing is to go out, where all is out and no fault stands
 pub drained_where : (host : HostModel) → host.fault ≡ None → all_out host ≡ true → is_drained host.server.controller (open_slots host.server) ≡ true

@@ -1,5 +1,5 @@
 use Rattle.std.proofs.Common.{◌≡◌, true, [], None, Some, Ok, Err, refl, sym, subst}
-use Rattle.gatt_host.proofs.model.Items.{drained_where, leads_from, reached_by, rows_hold}
+use Rattle.gatt_host.proofs.model.Items.{drained_where, leads_from, reached_by, is_of_its_table}
 use Rattle.gatt_host.proofs.model.StreamTold.{tells_from, up_to_from}
 use Rattle.gatt_host.specs.contracts.host.Host.{the_view}
 use Rattle.gatt_host.specs.Feeding.{TakesUpToAPacket, items_taken}
@@ -7,12 +7,12 @@ use Rattle.gatt_host.specs.Telling.{TellsOfAll}
 use Rattle.gatt_host.specs.HostModel.{Refines, HostModel, all_out}
 use Rattle.gatt_host.proofs.taking.take.Goals as goal
 
-pub take_in-requires-clause-rows : goal.take_in-requires-clause-rows
-take_in-requires-clause-rows c =
+pub take_in-requires-clause-of_table : goal.take_in-requires-clause-of_table
+take_in-requires-clause-of_table c =
     let old : HostModel = the_view c.host.inside in
     let out : all_out old ≡ true = subst (λ (host : HostModel). all_out host ≡ true) (sym c.host.view_is) c.requires.drained in
     let none : old.fault ≡ None = subst (λ (host : HostModel). host.fault ≡ None) (sym c.host.view_is) c.requires.no_fault in
-    rows_hold old c.host.invariant (drained_where old none out)
+    is_of_its_table old c.host.invariant (drained_where old none out)
 
 pub returns-in-Ok-clause-refines : goal.returns-in-Ok-clause-refines
 returns-in-Ok-clause-refines c =

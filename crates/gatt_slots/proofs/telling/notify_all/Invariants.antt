@@ -1,4 +1,5 @@
 use Rattle.std.proofs.Common.{◌≡◌, length, drop}
+use Rattle.gatt_slots.specs.OfTable.{AreOfTable, AreOfTableIfAny}
 use Rattle.gatt_slots.specs.Places.{CoversHeard}
 use Rattle.gatt_slots.specs.Slots.{all_notified_in_turn}
 use Rattle.gatt_slots.proofs.telling.notify_all.Given as goal
@@ -8,4 +9,7 @@ abbrev pub invariant-loop-handle : goal.invariant-loop-handle
 invariant-loop-handle l =
     (all_notified_in_turn l.moment.table.now l.moment.now l.moment.rows.now l.own l.others (drop l.handle-index l.handles) l.slots
     ≡ all_notified_in_turn l.moment.table.now l.moment.now l.moment.rows.now l.own l.others l.fn.handles l.fn.slots)
-    × (CoversHeard l.slots l.heard × (length l.slots ≡ length l.fn.slots))
+    × (CoversHeard l.slots l.heard
+    × ((length l.slots ≡ length l.fn.slots)
+    × ((AreOfTable l.moment.table.now.attributes l.moment.rows.now l.fn.slots → AreOfTable l.moment.table.now.attributes l.moment.rows.now l.slots)
+    × AreOfTableIfAny l.handles l.moment.table.now.attributes l.moment.rows.now l.slots)))

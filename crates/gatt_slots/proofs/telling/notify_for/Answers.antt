@@ -3,10 +3,12 @@ use Rattle.std.proofs.lemmas.Bool.{OnFalse_at}
 use Rattle.std.proofs.lemmas.List.{get_or_default}
 use Rattle.gatt_slots.specs.Commands.{gives}
 use Rattle.gatt_slots.specs.SlotState.{SlotState}
+use Rattle.gatt_slots.specs.OfTable.{AreOfTable, SlotIsOfTable}
 use Rattle.gatt_slots.specs.Places.{CoversHeard}
 use Rattle.gatt_slots.specs.Slots.{SlotStates, slot_state_at, slot_notified_at, slot_notified}
 use Rattle.gatt_slots.proofs.EachSlot.{heard_more, set-kept}
 use Rattle.gatt_slots.proofs.Found.{kept-is}
+use Rattle.gatt_slots.proofs.OfTable.{notified_of_table, set_of_table}
 use Rattle.gatt_slots.proofs.telling.notify_for.Goals.{then-is_among, else-is_among}
 use Rattle.gatt_slots.proofs.telling.notify_for.Goals as goal
 use Rattle.gatt_subs.specs.Raised.{InTable}
@@ -35,14 +37,22 @@ loop-place-preserved c =
           ∙ ap (λ (it : Option SlotState). slot_notified table now rows a.handle it) read in (
             w.slots-is ∙ ap (λ (it : Option SlotState). set slots place it) notified
                 ∙ ap (λ (among : Bool). set slots place (one among)) (sym w.if-is_among.true ∙ c.is_among.ensures) ∙ more,
-            subst (λ (it : SlotStates). CoversHeard it c.if-is_among.heard) (sym w.slots-is)
-                (subst (CoversHeard (set slots place w.notify-notified.new.self)) (sym w.heard-is)
-                (w.take.ensures slots w.notify-notified.new.self told.1
-                (λ none. OnFalse_at none w.notify-notified.ensures.unnotified ∙ ap gives read)
-                (λ none. OnFalse_at none w.may_wait.ensures))),
+            (
+              subst (λ (it : SlotStates). CoversHeard it c.if-is_among.heard) (sym w.slots-is)
+                  (subst (CoversHeard (set slots place w.notify-notified.new.self)) (sym w.heard-is)
+                  (w.take.ensures slots w.notify-notified.new.self told.1.0
+                  (λ none. OnFalse_at none w.notify-notified.ensures.unnotified ∙ ap gives read)
+                  (λ none. OnFalse_at none w.may_wait.ensures))),
+              subst (λ (it : SlotStates). AreOfTable table.attributes rows it) (sym w.slots-is)
+                  (set_of_table table.attributes rows slots place w.notify-notified.new.self there told.1.1
+                  (subst (λ (it : Option SlotState). SlotIsOfTable table.attributes it) (sym notified) (notified_of_table table now rows a.handle told.1.1.bonds slot (told.1.1.each place)))),
+            ),
           )
       | else-is_among w ↦ (
         w.slots-is ∙ sym (set-kept slots place there) ∙ ap (λ (among : Bool). set slots place (one among)) (sym w.if-is_among.false ∙ c.is_among.ensures) ∙ more,
-        subst (λ (it : SlotStates). CoversHeard it c.if-is_among.heard) (sym w.slots-is) (subst (CoversHeard slots) (sym w.heard-is) told.1),
+        (
+          subst (λ (it : SlotStates). CoversHeard it c.if-is_among.heard) (sym w.slots-is) (subst (CoversHeard slots) (sym w.heard-is) told.1.0),
+          subst (λ (it : SlotStates). AreOfTable table.attributes rows it) (sym w.slots-is) told.1.1,
+        ),
       )
     ]

@@ -2,7 +2,7 @@ use Rattle.std.proofs.Common.{◌≡◌, true, ◌∷◌, [], None, refl, sym, s
 use Rattle.gatt_host.proofs.owing.Nexts.{is_none_where}
 use Rattle.gatt_host.proofs.model.Calls.{call_refused, call_told, takes_call}
 use Rattle.gatt_host.proofs.model.Told.{told_in_run}
-use Rattle.gatt_host.proofs.model.Items.{reached_by}
+use Rattle.gatt_host.proofs.model.Items.{drained_where, is_of_its_table, reached_by}
 use Rattle.gatt_app.specs.Calls.{call_of}
 use Rattle.gatt_host.specs.contracts.host.Host.{the_view}
 use Rattle.gatt_host.specs.Meaning.{IsAfter}
@@ -10,6 +10,12 @@ use Rattle.gatt_host.specs.HostModel.{RefinesRun, Takes, HostModel, all_out}
 use Rattle.gatt_laws.specs.machine.Calls.{call_event}
 use Rattle.gatt_laws.specs.machine.Input.{ACall, run}
 use Rattle.gatt_host.proofs.host.Host.app.Goals as goal
+
+pub app-requires : goal.app-requires
+app-requires c =
+    let old : HostModel = the_view c.self.inside in
+    let out : all_out old ≡ true = subst (λ (host : HostModel). all_out host ≡ true) (sym c.self.view_is) c.requires.drained in
+    record { of_table = is_of_its_table old c.self.invariant (drained_where old (is_none_where old.fault (sym c.is_some.ensures ∙ c.if-is_some.false)) out) }
 
 pub invariant_of-self : goal.invariant_of-self
 invariant_of-self c =

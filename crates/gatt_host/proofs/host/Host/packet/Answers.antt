@@ -1,6 +1,6 @@
 use Rattle.std.proofs.Common.{◌≡◌, true, ◌∷◌, [], None, refl, sym, subst, ◌∙◌}
 use Rattle.std.specs.Prelude.{IsOk}
-use Rattle.gatt_host.proofs.model.Items.{drained_where, none_unless, reached_by, rows_hold}
+use Rattle.gatt_host.proofs.model.Items.{drained_where, none_unless, reached_by, is_of_its_table}
 use Rattle.gatt_host.proofs.model.Packets.{passes_long, takes_packet}
 use Rattle.gatt_host.proofs.model.Told.{long_told, not_long, ok_where, told_in_run}
 use Rattle.gatt_host.specs.contracts.host.Host.{the_view}
@@ -10,11 +10,11 @@ use Rattle.gatt_laws.specs.machine.Packets.{packet_event}
 use Rattle.le_h4.specs.Packet.{packet_of_ref}
 use Rattle.gatt_host.proofs.host.Host.packet.Goals as goal
 
-pub packet-taken-requires-clause-rows : goal.packet-taken-requires-clause-rows
-packet-taken-requires-clause-rows c =
+pub packet-taken-requires-clause-of_table : goal.packet-taken-requires-clause-of_table
+packet-taken-requires-clause-of_table c =
     let old : HostModel = the_view c.self.inside in
     let out : all_out old ≡ true = subst (λ (host : HostModel). all_out host ≡ true) (sym c.self.view_is) c.requires.drained in
-    rows_hold old c.self.invariant (drained_where old (none_unless old.fault c.in_default.not-Some) out)
+    is_of_its_table old c.self.invariant (drained_where old (none_unless old.fault c.in_default.not-Some) out)
 
 pub invariant_of-self-2 : goal.invariant_of-self-2
 invariant_of-self-2 c =

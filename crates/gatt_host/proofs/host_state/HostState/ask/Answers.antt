@@ -1,11 +1,14 @@
-use Rattle.std.proofs.Common.{◌≡◌, List, [], Option, Some, ap, subst, ◌∙◌}
-use Rattle.std.specs.Prelude.{IfSome}
+use Rattle.std.proofs.Common.{◌≡◌, List, [], Option, Some, ap, subst, sym, ◌∙◌}
+use Rattle.std.specs.Prelude.{IfSome, IsSome}
 use Rattle.att_numbers.specs.Types.{Handle}
 use Rattle.gatt_host.specs.contracts.host_state.HostState.{the_view}
+use Rattle.gatt_host.specs.Meaning.{IsOfItsTable}
 use Rattle.gatt_host.specs.ServerState.{ServerState, server_slot_at}
 use Rattle.gatt_host.proofs.places.Places.{asked_then_heard, both_brought}
 use Rattle.gatt_slots.specs.SlotState.{SlotState}
-use Rattle.gatt_slots.specs.Slots.{all_heard}
+use Rattle.gatt_slots.proofs.OfTable.{of_table_if_any, row_at_of_table, served_of_table}
+use Rattle.gatt_slots.specs.OfTable.{AreOfTable}
+use Rattle.gatt_slots.specs.Slots.{SlotStates, all_heard, slot_state_at}
 use Rattle.gatt_host.proofs.host_state.HostState.ask.Goals as goal
 
 pub returns : goal.returns
@@ -18,3 +21,17 @@ returns c =
     c.args.self.now c.self.view_is c.serve-brought.ensures.table c.serve-brought.ensures.bond c.serve-brought.ensures.written
     (subst (λ (it : Option SlotState). IfSome it (λ slot_state. c.handle-handle.result ≡ slot_state.handle)) c.get.ensures c.handle-handle.ensures)
     (both_brought c.args.pdu.now c.serve-brought.result (server_slot_at old c.args.place) c.serve-brought.ensures.ended c.serve-brought.ensures.confirmed)
+
+pub serve-brought-requires-clause-row : goal.serve-brought-requires-clause-row
+serve-brought-requires-clause-row c =
+    let old : ServerState = the_view c.self.inside in
+    row_at_of_table old.table.attributes old.rows old.slots (subst (λ (server : ServerState). IsOfItsTable server) (sym c.self.view_is) c.requires.of_table) c.args.place
+
+pub hear-requires-clause-handles : goal.hear-requires-clause-handles
+hear-requires-clause-handles c =
+    let old : ServerState = the_view c.self.inside in
+    let there : IsSome (slot_state_at old.slots c.args.place) = subst (λ (server : ServerState). IsSome (slot_state_at server.slots c.args.place)) (sym c.self.view_is) c.requires.there in
+    of_table_if_any c.as_slice.result.now c.serve-brought.new.table.attributes c.serve-brought.new.rows c.serve-brought.new.self
+    (subst (λ (slots : SlotStates). AreOfTable c.serve-brought.new.table.attributes c.serve-brought.new.rows slots) (sym c.serve-brought.ensures.after)
+    (served_of_table old.table c.serve-brought.new.table old.time old.changer c.args.pdu.now old.rows c.serve-brought.new.rows old.slots c.args.place
+    (subst (λ (server : ServerState). IsOfItsTable server) (sym c.self.view_is) c.requires.of_table) there c.serve-brought.ensures.table c.serve-brought.ensures.bond))

@@ -2,8 +2,10 @@ use Rattle.std.proofs.Common.{◌≡◌, true, [], None, length, sym, ap, subst,
 use Rattle.gatt_slots.proofs.Covering.{commands_heard, free_heard, listening_heard}
 use Rattle.gatt_slots.proofs.InTurn.{all_in_turn}
 use Rattle.gatt_slots.proofs.Noted.{heard_noted, written_over}
+use Rattle.gatt_slots.proofs.OfTable.{of_table_then}
 use Rattle.gatt_slots.specs.Handles.{AreNotedIfAny}
 use Rattle.gatt_slots.specs.declared.marks.Marks.{Marks}
+use Rattle.gatt_slots.specs.OfTable.{AreOfTableIfAny}
 use Rattle.gatt_slots.specs.Places.{IsMarked}
 use Rattle.gatt_slots.specs.Slots.{SlotStates, all_heard, all_notified_in_turn}
 use Rattle.gatt_slots.proofs.slots.Slots.hear_each.Goals as goal
@@ -67,3 +69,14 @@ returns-clause-heard c =
     (c.notify_all-2.ensures.notified ∙ ap (λ (it : SlotStates). all_notified_in_turn table now rows own true handles it) c.notify_all.ensures.notified)
     ∙ all_in_turn table now rows own here handles lent
     ∙ ap (λ (it : SlotStates). all_heard table now rows own here handles it) (is ∙ c.self.view_is)
+
+pub notify_all-requires-clause-of_table : goal.notify_all-requires-clause-of_table
+notify_all-requires-clause-of_table c =
+    let a = c.args in
+    subst (λ (it : SlotStates). AreOfTableIfAny a.here.now a.moment.table.now.attributes a.moment.rows.now it) (sym (c.as_mut_slice-slots.ensures.value ∙ c.self.view_is)) c.requires.here
+
+pub notify_all-requires-2-clause-of_table : goal.notify_all-requires-2-clause-of_table
+notify_all-requires-2-clause-of_table c =
+    let a = c.args in
+    of_table_then a.handles.now a.moment.table.now.attributes a.moment.rows.now c.as_mut_slice-slots.result.now c.notify_all.new.slots c.notify_all.ensures.of_table
+    (subst (λ (it : SlotStates). AreOfTableIfAny a.handles.now a.moment.table.now.attributes a.moment.rows.now it) (sym (c.as_mut_slice-slots.ensures.value ∙ c.self.view_is)) c.requires.handles)
