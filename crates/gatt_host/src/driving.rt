@@ -11,7 +11,7 @@ ghost use Rattle.gatt_laws.specs.machine.Input.{ACall};
 ghost use Rattle.octets.specs.Stream.{CountsIf};
 
 use crate::calling::do_call;
-use crate::feeding::{feed, feed_to};
+use crate::feeding::{feed_to, write_out};
 use crate::host::Host;
 use crate::host_fault::HostFault;
 use crate::listener::{Listener, Nobody};
@@ -90,7 +90,35 @@ pub fn drive_to<W: Sink, L: Listener>(
     ensures policy { KeepsThePolicy }
     ensures apart { KeepsConnectionsApart }
 {
-    feed(host, &[], out)?;
+    match host.fault {
+        Some(fault) => Err(fault),
+        None => drive_all(host, inputs, out, listener),
+    }
+}
+
+/// Takes in octets and calls in their order, where the host has not stopped.
+#[inline(always)]
+fn drive_all<W: Sink, L: Listener>(
+    host: &mut Host,
+    inputs: &[Input<'_>],
+    out: &mut W,
+    listener: &mut L,
+) -> Result<usize, HostFault>
+    requires none { host.old.fault ≡ None }
+    ensures feeds { Feeds (items_of inputs.now) host.old host.new (W.contents out.old)
+        (W.contents out.new) host.new.fault }
+    ensures heard { Listens (items_of inputs.now) host.old host.new host.new.fault
+        (L.heard listener.old) (L.heard listener.new) }
+    ensures outcome { IfErr result (λ fault. host.new.fault ≡ Some fault) }
+    ensures feeding { IfErr result (λ fault. is_of_feeding fault ≡ true) }
+    ensures going_on { IsOk result → host.new.fault ≡ None }
+    ensures refused { IfOk result (λ count. CountsRefused count (items_of inputs.now) host.old) }
+    ensures out { IsOk result → all_out host.new ≡ true }
+    ensures due { WritesAllThatIsDue host.new.fault host.new }
+    ensures failures { CountsIf (is_write_fault host.new.fault) (W.failures out.old)
+        (W.failures out.new) }
+{
+    write_out(host, out)?;
     let mut refused = 0;
     for input in inputs {
         if take_input(host, input, out, listener)? {

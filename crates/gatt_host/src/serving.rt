@@ -10,7 +10,7 @@ ghost use Rattle.gatt_host.specs.HostModel.{all_out, Takes};
 ghost use Rattle.gatt_laws.specs.machine.Input.{TheEnd};
 ghost use Rattle.octets.specs.Stream.{CountsFailure, CountsIf, CountsNone, CountsOne};
 
-use crate::feeding::{feed, feed_to, stop};
+use crate::feeding::{feed_to, stop, write_out};
 use crate::host::Host;
 use crate::host_fault::HostFault;
 use crate::last_event::LastEvent;
@@ -106,7 +106,38 @@ pub fn serve_to<R: Source, W: Sink, L: Listener>(
     ensures policy { KeepsThePolicy }
     ensures apart { KeepsConnectionsApart }
 {
-    feed(host, &[], writer)?;
+    match host.fault {
+        Some(fault) => Err(fault),
+        None => serve_all(host, reader, writer, turns, listener),
+    }
+}
+
+/// Serves a controller, where the host has not stopped.
+#[inline(always)]
+fn serve_all<R: Source, W: Sink, L: Listener>(
+    host: &mut Host,
+    reader: &mut R,
+    writer: &mut W,
+    turns: u64,
+    listener: &mut L,
+) -> Result<End, HostFault>
+    requires none { host.old.fault ≡ None }
+    ensures serves { Serves result turns host.old host.new (R.remaining reader.old)
+        (R.remaining reader.new) (W.contents writer.old) (W.contents writer.new) }
+    ensures heard { ListensServing host.old host.new (R.remaining reader.old)
+        (R.remaining reader.new) (L.heard listener.old) (L.heard listener.new) }
+    ensures going_on { IsOk result → host.new.fault ≡ None }
+    ensures out { IsOk result → all_out host.new ≡ true }
+    ensures due { WritesAllThatIsDue host.new.fault host.new }
+    ensures fault { IfErr result (λ fault. host.new.fault ≡ Some fault) }
+    ensures reads { Reads result turns (R.reads reader.old) (R.reads reader.new) }
+    ensures ends { CountsIf (is_ok result) (R.ends reader.old) (R.ends reader.new) }
+    ensures read_failures { CountsIf (is_read_fault host.new.fault) (R.failures reader.old)
+        (R.failures reader.new) }
+    ensures write_failures { CountsIf (is_write_fault host.new.fault) (W.failures writer.old)
+        (W.failures writer.new) }
+{
+    write_out(host, writer)?;
     let mut octets = [0; TURN];
     for turn in 0..turns {
         let Ok(read) = read_turn(reader, &mut octets) else {

@@ -1,5 +1,5 @@
 use Rattle.std.proofs.Common.{◌≡◌, ◌≤◌, true, None}
-use Rattle.gatt_host.proofs.serving.serve_to.Given as goal
+use Rattle.gatt_host.proofs.serving.serve_all.Given as goal
 use Rattle.gatt_host.proofs.model.HearingTurns.{HasServedTo}
 use Rattle.gatt_host.proofs.model.Serving.{HasServed}
 use Rattle.gatt_host.specs.HostModel.{all_out}

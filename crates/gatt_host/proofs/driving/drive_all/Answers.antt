@@ -1,27 +1,27 @@
-use Rattle.std.proofs.Common.{◌≡◌, ℕ, ◌≤◌, ◌+◌, List, [], drop, Option, None, refl, sym, subst, arith, ◌∙◌}
+use Rattle.std.proofs.Common.{◌≡◌, ℕ, ◌≤◌, ◌+◌, true, List, [], drop, Option, None, refl, sym, subst, ap, arith, ◌∙◌}
 use Rattle.std.proofs.lemmas.List.{drop_all}
 use Rattle.std.specs.Prelude.{if◌then◌else◌}
 use Rattle.gatt_host.proofs.model.Driving.{HasDriven, driven_counts, driven_more, driven_none, driven_stops, past_fault, no_more, one_more}
 use Rattle.gatt_host.proofs.model.Due.{due_where_out}
 use Rattle.gatt_host.proofs.model.Hearing.{going_hears, hears_nothing, past_heard}
 use Rattle.gatt_host.proofs.model.HearingTurns.{HasDrivenTo, driven_to_all, driven_to_more, driven_to_stops, nothing_heard}
-use Rattle.gatt_host.proofs.model.Feeds.{counts_where_going, fault_answered, going_takes, none_answered, none_before}
-use Rattle.gatt_host.specs.Feeding.{TakesAll, items_of}
+use Rattle.gatt_host.proofs.model.Feeds.{counts_where_going, fault_answered, going_takes, none_answered}
+use Rattle.gatt_host.specs.Feeding.{is_of_feeding, TakesAll, items_of}
 use Rattle.gatt_host.specs.HostModel.{HostModel}
 use Rattle.gatt_laws.specs.machine.Notice.{Notice}
 use Rattle.octets.proofs.Writing.{counts_none}
 use Rattle.octets.specs.Number.{Octets}
-use Rattle.gatt_host.proofs.driving.drive_to.Goals as goal
-use Rattle.gatt_host.proofs.driving.drive_to.Goals.{then-branch, else-branch}
+use Rattle.gatt_host.proofs.driving.drive_all.Goals as goal
+use Rattle.gatt_host.proofs.driving.drive_all.Goals.{then-branch, else-branch}
 
-pub returns-in_err-feed-clause-feeds : goal.returns-in_err-feed-clause-feeds
-returns-in_err-feed-clause-feeds g c = λ none.
-    let new : HostModel = c.feed.new.host in
-    past_fault [] (items_of c.args.inputs.now) c.args.host.now new (g.W.Sink.contents c.args.out.now) (g.W.Sink.contents c.feed.new.out) c.in_err-feed.field-0.0
-    (fault_answered new.fault c.in_err-feed.field-0.0 c.in_err-feed.ensures.outcome) (c.in_err-feed.ensures.feeding none) (c.feed.ensures.feeds none)
+pub returns-in_err-write_out-clause-feeds : goal.returns-in_err-write_out-clause-feeds
+returns-in_err-write_out-clause-feeds g c =
+    let new : HostModel = c.write_out.new.host in
+    past_fault [] (items_of c.args.inputs.now) c.args.host.now new (g.W.Sink.contents c.args.out.now) (g.W.Sink.contents c.write_out.new.out) c.in_err-write_out.field-0.0
+    (fault_answered new.fault c.in_err-write_out.field-0.0 c.in_err-write_out.ensures.fault) (ap is_of_feeding c.in_err-write_out.ensures.write) c.write_out.ensures.feeds
 
 pub returns-in_err-take_input-clause-feeds : goal.returns-in_err-take_input-clause-feeds
-returns-in_err-take_input-clause-feeds g c = λ none.
+returns-in_err-take_input-clause-feeds g c =
     driven_stops c.args.inputs.now c.loop-input.input-index _ c.loop-input-test.true c.loop-input.refused c.args.host.now c.loop-input.host c.take_input.new.host
     (g.W.Sink.contents c.args.out.now) (g.W.Sink.contents c.loop-input.out) (g.W.Sink.contents c.take_input.new.out) c.loop-input.invariant.driven
     c.in_err-take_input.field-0.0 c.in_err-take_input.ensures.fault c.in_err-take_input.ensures.feeding c.take_input.ensures.feeds
@@ -55,7 +55,7 @@ loop-input-preserved g c =
           (if refused then 1 else 0) (going_takes _ mid new between after new.fault none c.take_input.ensures.feeds) c.in_ok-take_input.ensures.refused);
       few = few;
       none = none;
-      drained = c.in_ok-take_input.ensures.out refl;
+      drained = c.in_ok-take_input.ensures.out (refl {a = true});
       failures = counts_none _ _ _ c.loop-input.invariant.failures (counts_where_going new.fault _ _ none c.take_input.ensures.failures);
       heard = subst (λ (count : ℕ). HasDrivenTo count c.args.inputs.now (drop (c.loop-input.input-index + 1) c.args.inputs.now) c.args.host.now new before after first then_heard) (sym counted)
           (driven_to_more c.args.inputs.now c.loop-input.input-index _ c.loop-input-test.true count c.args.host.now mid new before between after first so_far then_heard c.loop-input.invariant.heard
@@ -69,25 +69,25 @@ returns-clause-refused g c =
     (g.W.Sink.contents c.args.out.now) (g.W.Sink.contents c.loop-input.out) (drop_all c.loop-input.input-index c.args.inputs.now c.loop-input-test.false) c.loop-input.invariant.driven
 
 pub returns-clause-due : goal.returns-clause-due
-returns-clause-due g c = λ none. due_where_out c.loop-input.host c.loop-input.invariant.none c.loop-input.invariant.drained
+returns-clause-due g c = due_where_out c.loop-input.host c.loop-input.invariant.none c.loop-input.invariant.drained
 
-pub returns-in_err-feed-clause-heard : goal.returns-in_err-feed-clause-heard
-returns-in_err-feed-clause-heard g c = λ none.
-    let new : HostModel = c.feed.new.host in
+pub returns-in_err-write_out-clause-heard : goal.returns-in_err-write_out-clause-heard
+returns-in_err-write_out-clause-heard g c =
+    let new : HostModel = c.write_out.new.host in
     let known : Option (List Notice) = g.L.Listener.heard c.args.listener.now in
-    past_heard [] (items_of c.args.inputs.now) c.args.host.now new (g.W.Sink.contents c.args.out.now) (g.W.Sink.contents c.feed.new.out) known known c.in_err-feed.field-0.0
-    (fault_answered new.fault c.in_err-feed.field-0.0 c.in_err-feed.ensures.outcome) (c.in_err-feed.ensures.feeding none) (c.feed.ensures.feeds none)
-    (nothing_heard c.args.host.now new (g.W.Sink.contents c.args.out.now) (g.W.Sink.contents c.feed.new.out) known new.fault (c.feed.ensures.feeds none))
+    past_heard [] (items_of c.args.inputs.now) c.args.host.now new (g.W.Sink.contents c.args.out.now) (g.W.Sink.contents c.write_out.new.out) known known c.in_err-write_out.field-0.0
+    (fault_answered new.fault c.in_err-write_out.field-0.0 c.in_err-write_out.ensures.fault) (ap is_of_feeding c.in_err-write_out.ensures.write) c.write_out.ensures.feeds
+    (nothing_heard c.args.host.now new (g.W.Sink.contents c.args.out.now) (g.W.Sink.contents c.write_out.new.out) known new.fault c.write_out.ensures.feeds)
 
 pub returns-in_err-take_input-clause-heard : goal.returns-in_err-take_input-clause-heard
-returns-in_err-take_input-clause-heard g c = λ none.
+returns-in_err-take_input-clause-heard g c =
     driven_to_stops c.args.inputs.now c.loop-input.input-index _ c.loop-input-test.true c.loop-input.refused c.args.host.now c.loop-input.host c.take_input.new.host
     (g.W.Sink.contents c.args.out.now) (g.W.Sink.contents c.loop-input.out) (g.W.Sink.contents c.take_input.new.out)
     (g.L.Listener.heard c.args.listener.now) (g.L.Listener.heard c.loop-input.listener) (g.L.Listener.heard c.take_input.new.listener) c.loop-input.invariant.heard
     c.in_err-take_input.field-0.0 c.in_err-take_input.ensures.fault c.in_err-take_input.ensures.feeding c.take_input.ensures.feeds c.take_input.ensures.heard
 
 pub returns-clause-heard : goal.returns-clause-heard
-returns-clause-heard g c = λ none.
+returns-clause-heard g c =
     driven_to_all c.loop-input.refused c.args.inputs.now (drop c.loop-input.input-index c.args.inputs.now) c.args.host.now c.loop-input.host
     (g.W.Sink.contents c.args.out.now) (g.W.Sink.contents c.loop-input.out) (g.L.Listener.heard c.args.listener.now) (g.L.Listener.heard c.loop-input.listener)
     c.loop-input.host.fault (drop_all c.loop-input.input-index c.args.inputs.now c.loop-input-test.false) c.loop-input.invariant.none c.loop-input.invariant.heard
@@ -95,18 +95,18 @@ returns-clause-heard g c = λ none.
 pub loop-input-init : goal.loop-input-init
 loop-input-init g c =
     let old : HostModel = c.args.host.now in
-    let new : HostModel = c.feed.new.host in
+    let new : HostModel = c.write_out.new.host in
     let before : Option Octets = g.W.Sink.contents c.args.out.now in
-    let after : Option Octets = g.W.Sink.contents c.feed.new.out in
+    let after : Option Octets = g.W.Sink.contents c.write_out.new.out in
     let known : Option (List Notice) = g.L.Listener.heard c.args.listener.now in
-    let still : new.fault ≡ None = none_answered new.fault c.in_ok-feed.ensures.outcome in
-    let none : old.fault ≡ None = none_before old new c.in_ok-feed.ensures.stopped still in
-    let takes : TakesAll [] old new before after = going_takes [] old new before after new.fault still (c.feed.ensures.feeds none) in
+    let still : new.fault ≡ None = none_answered new.fault c.in_ok-write_out.ensures.fault in
+    let none : old.fault ≡ None = c.requires.none in
+    let takes : TakesAll [] old new before after = going_takes [] old new before after new.fault still c.write_out.ensures.feeds in
     record {
       driven = driven_none c.args.inputs.now old new before after takes;
       few = omega arith;
       none = still;
-      drained = c.in_ok-feed.ensures.out refl;
-      failures = counts_where_going new.fault _ _ still (c.feed.ensures.failures none);
+      drained = c.in_ok-write_out.ensures.out (refl {a = true});
+      failures = counts_where_going new.fault _ _ still c.write_out.ensures.failures;
       heard = record { driven = driven_none c.args.inputs.now old new before after takes; heard = hears_nothing old known };
     }

@@ -1,5 +1,5 @@
 use Rattle.std.proofs.Common.{◌≡◌, ◌≤◌, true, None, drop}
-use Rattle.gatt_host.proofs.driving.drive_to.Given as goal
+use Rattle.gatt_host.proofs.driving.drive_all.Given as goal
 use Rattle.gatt_host.proofs.model.Driving.{HasDriven}
 use Rattle.gatt_host.proofs.model.HearingTurns.{HasDrivenTo}
 use Rattle.gatt_host.specs.HostModel.{all_out}
