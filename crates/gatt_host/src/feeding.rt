@@ -80,6 +80,28 @@ pub fn feed_to<W: Sink, L: Listener>(
     if let Some(fault) = host.fault {
         return Err(fault);
     }
+    feed_all(host, octets, out, listener)
+}
+
+/// Writes what was owed, and then takes in the octets, where the host has not stopped.
+fn feed_all<W: Sink, L: Listener>(
+    host: &mut Host,
+    octets: &[u8],
+    out: &mut W,
+    listener: &mut L,
+) -> Result<(), HostFault>
+    requires none { host.old.fault ≡ None }
+    ensures feeds { Feeds (octet_items octets.now) host.old host.new (W.contents out.old)
+        (W.contents out.new) host.new.fault }
+    ensures heard { Listens (octet_items octets.now) host.old host.new host.new.fault
+        (L.heard listener.old) (L.heard listener.new) }
+    ensures outcome { result ≡ fault_outcome host.new.fault }
+    ensures out { IsOk result → all_out host.new ≡ true }
+    ensures due { WritesAllThatIsDue host.new.fault host.new }
+    ensures feeding { IfErr result (λ fault. is_of_feeding fault ≡ true) }
+    ensures failures { CountsIf (is_write_fault host.new.fault) (W.failures out.old)
+        (W.failures out.new) }
+{
     write_out(host, out)?;
     let mut rest = octets;
     while !rest.is_empty() {

@@ -1,5 +1,5 @@
 use Rattle.std.proofs.Common.{◌≡◌, true, None, length}
-use Rattle.gatt_host.proofs.feeding.feed_to.Given as goal
+use Rattle.gatt_host.proofs.feeding.feed_all.Given as goal
 use Rattle.gatt_host.proofs.model.Feeds.{HasTaken}
 use Rattle.gatt_host.proofs.model.Hearing.{HasHeard}
 use Rattle.gatt_host.specs.HostModel.{all_out}

@@ -1,4 +1,4 @@
-use Rattle.std.proofs.Common.{◌≡◌, List, [], Option, Some, None, refl, sym, subst, ap, drop, ◌∙◌}
+use Rattle.std.proofs.Common.{◌≡◌, true, List, [], Option, Some, None, refl, sym, subst, ap, drop, ◌∙◌}
 use Rattle.gatt_host.proofs.model.Due.{due_where_held, due_where_out}
 use Rattle.gatt_host.proofs.model.Feeds.{broken_before, counts_where_going, fault_answered, going_takes, none_answered, taken_breaks, taken_none, taken_silently, taken_stops, taken_then, HasTaken}
 use Rattle.gatt_host.proofs.model.Hearing.{HasHeard, breaks_heard, heard_all, heard_breaks, heard_none, heard_stops, heard_then, hears_nothing}
@@ -10,16 +10,16 @@ use Rattle.gatt_host.specs.HostModel.{HostModel}
 use Rattle.gatt_laws.specs.machine.Notice.{Notice}
 use Rattle.octets.proofs.Writing.{counts_none}
 use Rattle.octets.specs.Number.{Octets}
-use Rattle.gatt_host.proofs.feeding.feed_to.Goals as goal
+use Rattle.gatt_host.proofs.feeding.feed_all.Goals as goal
 
 pub returns-in_err-write_out-clause-feeds : goal.returns-in_err-write_out-clause-feeds
-returns-in_err-write_out-clause-feeds g c = λ none.
+returns-in_err-write_out-clause-feeds g c =
     broken_before [] (octet_items c.args.octets.now) c.args.host.now c.write_out.new.host (g.W.Sink.contents c.args.out.now) (g.W.Sink.contents c.write_out.new.out)
     c.write_out.new.host.fault (fault_answered c.write_out.new.host.fault c.in_err-write_out.field-0.0 c.in_err-write_out.ensures.fault ∙ ap (λ (why : HostFault). Some why) c.in_err-write_out.ensures.write)
     c.write_out.ensures.feeds
 
 pub returns-in_err-used-clause-feeds : goal.returns-in_err-used-clause-feeds
-returns-in_err-used-clause-feeds g c = λ none.
+returns-in_err-used-clause-feeds g c =
     taken_stops c.args.octets.now c.loop-rest.rest.now c.args.host.now c.loop-rest.host c.take.new.host (g.W.Sink.contents c.args.out.now) (g.W.Sink.contents c.loop-rest.out)
     c.take.new.host.fault c.in_err-used.field-0.0 c.loop-rest.invariant.takes c.in_err-used.ensures.refines c.in_err-used.ensures.fault c.in_err-used.ensures.not_own
 
@@ -41,7 +41,7 @@ loop-rest-preserved g c =
           (taken_silently c.args.octets.now rest used old at mid before between c.loop-rest.invariant.takes c.in_ok-used.ensures.refines)
           (going_takes [] mid new between after new.fault none c.write_out-in-loop-rest.ensures.feeds));
       none = none;
-      drained = c.in_ok-write_out-2.ensures.out refl;
+      drained = c.in_ok-write_out-2.ensures.out (refl {a = true});
       failures = counts_none _ _ _ c.loop-rest.invariant.failures (counts_where_going new.fault _ _ none c.write_out-in-loop-rest.ensures.failures);
       heard = subst (λ (left : Octets). HasHeard c.args.octets.now left old new before after (g.L.Listener.heard c.args.listener.now) (g.L.Listener.heard c.tell.new.listener)) (sym c.split_at.ensures.back)
           (heard_then c.args.octets.now rest used old at mid new before between after (g.L.Listener.heard c.args.listener.now) (g.L.Listener.heard c.loop-rest.listener)
@@ -50,7 +50,7 @@ loop-rest-preserved g c =
     }
 
 pub returns-in_err-write_out-2-clause-feeds : goal.returns-in_err-write_out-2-clause-feeds
-returns-in_err-write_out-2-clause-feeds g c = λ none.
+returns-in_err-write_out-2-clause-feeds g c =
     let old : HostModel = c.args.host.now in
     let mid : HostModel = c.take.new.host in
     let new : HostModel = c.write_out-in-loop-rest.new.host in
@@ -65,14 +65,14 @@ returns-in_err-write_out-2-clause-feeds g c = λ none.
     c.write_out-in-loop-rest.ensures.feeds
 
 pub returns-in_err-used-clause-due : goal.returns-in_err-used-clause-due
-returns-in_err-used-clause-due g c = λ none.
+returns-in_err-used-clause-due g c =
     due_where_held c.loop-rest.host c.take.new.host c.take.new.host.fault c.loop-rest.invariant.none c.loop-rest.invariant.drained c.in_err-used.ensures.unchanged
 
 pub returns-clause-due : goal.returns-clause-due
-returns-clause-due g c = λ none. due_where_out c.loop-rest.host c.loop-rest.invariant.none c.loop-rest.invariant.drained
+returns-clause-due g c = due_where_out c.loop-rest.host c.loop-rest.invariant.none c.loop-rest.invariant.drained
 
 pub returns-in_err-write_out-clause-heard : goal.returns-in_err-write_out-clause-heard
-returns-in_err-write_out-clause-heard g c = λ none.
+returns-in_err-write_out-clause-heard g c =
     let known : Option (List Notice) = g.L.Listener.heard c.args.listener.now in
     breaks_heard [] (octet_items c.args.octets.now) [] c.args.host.now c.args.host.now c.write_out.new.host (g.W.Sink.contents c.args.out.now) (g.W.Sink.contents c.write_out.new.out)
     known known c.write_out.new.host.fault
@@ -80,13 +80,13 @@ returns-in_err-write_out-clause-heard g c = λ none.
     (leads_nowhere c.args.host.now c.args.host.now refl) (hears_nothing c.args.host.now known) c.write_out.ensures.feeds
 
 pub returns-in_err-used-clause-heard : goal.returns-in_err-used-clause-heard
-returns-in_err-used-clause-heard g c = λ none.
+returns-in_err-used-clause-heard g c =
     heard_stops c.args.octets.now c.loop-rest.rest.now c.args.host.now c.loop-rest.host c.take.new.host (g.W.Sink.contents c.args.out.now) (g.W.Sink.contents c.loop-rest.out)
     (g.L.Listener.heard c.args.listener.now) (g.L.Listener.heard c.loop-rest.listener) c.take.new.host.fault c.in_err-used.field-0.0 c.loop-rest.invariant.heard c.loop-rest.invariant.none
     c.in_err-used.ensures.told c.in_err-used.ensures.fault c.in_err-used.ensures.fault c.in_err-used.ensures.not_own
 
 pub returns-in_err-write_out-2-clause-heard : goal.returns-in_err-write_out-2-clause-heard
-returns-in_err-write_out-2-clause-heard g c = λ none.
+returns-in_err-write_out-2-clause-heard g c =
     let new : HostModel = c.write_out-in-loop-rest.new.host in
     heard_breaks c.args.octets.now c.loop-rest.rest.now c.in_ok-used.used c.args.host.now c.loop-rest.host c.take.new.host new
     (g.W.Sink.contents c.args.out.now) (g.W.Sink.contents c.loop-rest.out) (g.W.Sink.contents c.write_out-in-loop-rest.new.out)
@@ -106,13 +106,13 @@ loop-rest-init g c =
     record {
       takes = taken_none c.args.octets.now old new before after takes;
       none = none;
-      drained = c.in_ok-write_out.ensures.out refl;
+      drained = c.in_ok-write_out.ensures.out (refl {a = true});
       failures = counts_where_going new.fault _ _ none c.write_out.ensures.failures;
       heard = heard_none c.args.octets.now old new before after (g.L.Listener.heard c.args.listener.now) takes;
     }
 
 pub returns-clause-heard : goal.returns-clause-heard
-returns-clause-heard g c = λ none.
+returns-clause-heard g c =
     heard_all c.args.octets.now c.loop-rest.rest.now c.args.host.now c.loop-rest.host (g.W.Sink.contents c.args.out.now) (g.W.Sink.contents c.loop-rest.out)
     (g.L.Listener.heard c.args.listener.now) (g.L.Listener.heard c.loop-rest.listener) c.loop-rest.host.fault c.loop-rest.invariant.heard
     (empty_where c.loop-rest.rest.now (sym c.is_empty.ensures ∙ c.loop-rest-test.false)) c.loop-rest.invariant.none
