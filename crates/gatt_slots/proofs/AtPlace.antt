@@ -2,6 +2,7 @@
 use Rattle.std.proofs.Common.{◌≡◌, ℕ, ◌<◌, Bool, true, false, List, length, set, get_or, Option, Some, None, refl, sym, ap, subst, ◌∙◌}
 use Rattle.std.specs.Prelude.{is_none, if◌then◌else◌, slice_get, IfSome}
 use Rattle.std.specs.Option.{option_map, option_map_or}
+use Rattle.std.proofs.lemmas.List.{set-get_or}
 use Rattle.std.proofs.lemmas.Option.{slice_get-get_or}
 use Rattle.att_numbers.specs.Types.{Row}
 use Rattle.att_table.specs.Table.{Contents}
@@ -14,7 +15,7 @@ use Rattle.gatt_slots.specs.SlotState.{SlotState}
 use Rattle.gatt_slots.specs.Places.{is_some_handle, may_listen, waits, WaitsForNothingNew}
 use Rattle.gatt_slots.specs.Request.{overflows, slot_after_request, pending_after}
 use Rattle.gatt_laws.specs.machine.Effect.{remote_user_terminated}
-use Rattle.gatt_slots.specs.SlotEffects.{slot_after_ending}
+use Rattle.gatt_slots.specs.SlotEffects.{slot_after_ending, slot_after_packets_completed}
 use Rattle.gatt_slots.specs.Slots.{SlotStates, at_place, slot_state_at, slots_at}
 use Rattle.gatt_subs.specs.Indications.{Indications}
 use Rattle.gatt_subs.specs.Rows.{Subscriptions, row_of}
@@ -29,6 +30,9 @@ set_at_place {A = A} xs place change x within is =
 module _ (slots self : SlotStates) (view : slots ≡ self) (place : ℕ) (slot : Option SlotState) (within : place < length slots) (is : slot ≡ get_or slots place slot) where
   pub there_at : slot ≡ slot_state_at self place
   there_at = sym (read_at slots place slot within is) ∙ ap (λ (it : SlotStates). slot_state_at it place) view
+
+  pub kept_at : (left : Option SlotState) → left ≡ slot → set slots place left ≡ self
+  kept_at left same = ap (λ (it : Option SlotState). set slots place it) (same ∙ is) ∙ set-get_or slots place slot ∙ view
 
   pub changed_at : (change : SlotState → SlotState) (changed : Option SlotState) → changed ≡ option_map change slot → set slots place changed ≡ slots_at place change self
   changed_at change changed changes =
@@ -111,3 +115,19 @@ given_listens slot given true after stays is = sym (same slot) ∙ ap may_listen
     same None = refl
     same (Some slot_state) = refl
 given_listens slot given false after stays is = ap may_listen (sym (OnFalse_at refl stays)) ∙ is
+
+-- and so does one whose packets are completed
+module _ (count : ℕ) (slot left : Option SlotState) (is : left ≡ option_map (slot_after_packets_completed count) slot) where
+  pub completed_goes_on : WaitsForNothingNew slot left
+  completed_goes_on = subst (λ (it : Option SlotState). WaitsForNothingNew slot it) (sym is) (goes slot)
+    where
+      goes : (slot : Option SlotState) → WaitsForNothingNew slot (option_map (slot_after_packets_completed count) slot)
+      goes None = record { command = λ is. is; waiting = λ is. is; free = λ is. is }
+      goes (Some slot_state) = record { command = λ is. is; waiting = λ is. is; free = λ is. is }
+
+  pub completed_listens : may_listen left ≡ true → may_listen slot ≡ true
+  completed_listens listens = sym (same slot) ∙ ap may_listen (sym is) ∙ listens
+    where
+      same : (slot : Option SlotState) → may_listen (option_map (slot_after_packets_completed count) slot) ≡ may_listen slot
+      same None = refl
+      same (Some slot_state) = refl

@@ -1,8 +1,10 @@
-use Rattle.std.proofs.Common.{◌<◌, Option, length, subst, sym, ap, ◌∙◌}
-use Rattle.std.proofs.lemmas.Bool.{OnTrue_at, OnTrue_from}
-use Rattle.gatt_slots.proofs.AtPlace.{changed_at, given_goes_on, given_listens, there_at}
+use Rattle.std.proofs.Common.{◌≡◌, ◌<◌, Option, Some, length, subst, sym, ap, ◌∙◌}
+use Rattle.std.specs.Bool.{OnTrue}
+use Rattle.std.specs.Option.{option_and_then}
+use Rattle.std.proofs.lemmas.Bool.{OnFalse_at, OnFalse_from, OnTrue_at, OnTrue_from}
+use Rattle.gatt_slots.proofs.AtPlace.{changed_at, given_goes_on, given_listens, kept_at, there_at}
 use Rattle.gatt_slots.proofs.Noted.{given_noted, noted_still}
-use Rattle.gatt_slots.specs.Commands.{slot_without_packet}
+use Rattle.gatt_slots.specs.Commands.{gives, slot_packet, slot_without_packet}
 use Rattle.gatt_slots.specs.Handles.{noted_of}
 use Rattle.gatt_slots.specs.SlotState.{SlotState}
 use Rattle.gatt_slots.specs.Places.{may_listen, WaitsForNothingNew}
@@ -32,3 +34,24 @@ invariant_of-self c =
       λ other some. noted_still slots c.self.inside.handles.noted (c.self.invariant.1 other some) place c.next_packet-given.new.self within
           (given_noted slot c.next_packet-given.new.self c.next_packet-given.result c.next_packet-given.ensures.after c.next_packet-given.ensures.unchanged ∙ ap noted_of there),
     )
+
+pub returns-clause-gives : goal.returns-clause-gives
+returns-clause-gives c =
+    let slots = c.self.inside.slots.items in
+    let within : c.args.place < length slots = subst (λ (it : SlotStates). c.args.place < length it) (sym c.self.view_is) c.requires in
+    c.next_packet-given.ensures.gives ∙ ap gives (there_at slots c.args.self.now c.self.view_is c.args.place c.index_mut-slot.result.now within c.index_mut-slot.ensures.value)
+
+pub returns-clause-packet : goal.returns-clause-packet
+returns-clause-packet c =
+    let slots = c.self.inside.slots.items in
+    let within : c.args.place < length slots = subst (λ (it : SlotStates). c.args.place < length it) (sym c.self.view_is) c.requires in
+    subst (λ (it : Option SlotState). OnTrue c.next_packet-given.result (option_and_then slot_packet it ≡ Some c.next_packet-given.new.out))
+    (there_at slots c.args.self.now c.self.view_is c.args.place c.index_mut-slot.result.now within c.index_mut-slot.ensures.value) c.next_packet-given.ensures.packet
+
+pub returns-clause-unchanged : goal.returns-clause-unchanged
+returns-clause-unchanged c =
+    let slots = c.self.inside.slots.items in
+    let within : c.args.place < length slots = subst (λ (it : SlotStates). c.args.place < length it) (sym c.self.view_is) c.requires in
+    OnFalse_from _ _ (λ none.
+    kept_at slots c.args.self.now c.self.view_is c.args.place c.index_mut-slot.result.now within c.index_mut-slot.ensures.value
+    c.next_packet-given.new.self (OnFalse_at none c.next_packet-given.ensures.unchanged))

@@ -1,13 +1,30 @@
 use Rattle.std.proofs.Common.{◌≡◌, ◌<◌, Option, length, subst, sym}
-use Rattle.std.specs.Prelude.{IfSome}
+use Rattle.std.specs.Prelude.{IfSome, IsSome}
+use Rattle.att_table.specs.ConfigRow.{IsRowOf}
 use Rattle.gatt_slots.proofs.AtPlace.{changed_at, served_goes_on, there_at}
 use Rattle.gatt_slots.proofs.Noted.{changed_noted, served_handle}
+use Rattle.gatt_slots.specs.Hearing.{slot_row_in_force}
 use Rattle.gatt_slots.specs.SlotState.{SlotState}
 use Rattle.gatt_slots.specs.Places.{WaitsForNothingNew}
 use Rattle.gatt_slots.specs.Request.{bond_served, confirmed_of, handles_written_by, overflows, slot_after_request, table_after}
 use Rattle.gatt_slots.specs.Slots.{SlotStates}
 use Rattle.gatt_subs.specs.Rows.{row_of, ChangesBond}
 use Rattle.gatt_slots.proofs.slots.Slots.serve.Goals as goal
+
+pub serve-brought-requires-clause-there : goal.serve-brought-requires-clause-there
+serve-brought-requires-clause-there c =
+    let slots = c.self.inside.slots.items in
+    let place = c.args.place in
+    let within : place < length slots = subst (λ (it : SlotStates). place < length it) (sym c.self.view_is) c.requires.place in
+    subst (λ (it : Option SlotState). IsSome it) (sym (there_at slots c.args.self.now c.self.view_is place c.index_mut.result.now within c.index_mut.ensures.value)) c.requires.there
+
+pub serve-brought-requires-clause-row : goal.serve-brought-requires-clause-row
+serve-brought-requires-clause-row c =
+    let slots = c.self.inside.slots.items in
+    let place = c.args.place in
+    let within : place < length slots = subst (λ (it : SlotStates). place < length it) (sym c.self.view_is) c.requires.place in
+    subst (λ (it : Option SlotState). IfSome it (λ slot_state. IsRowOf c.args.table.now.attributes (slot_row_in_force (row_of c.args.rows.now slot_state.peer) slot_state)))
+    (sym (there_at slots c.args.self.now c.self.view_is place c.index_mut.result.now within c.index_mut.ensures.value)) c.requires.row
 
 pub invariant_of-self : goal.invariant_of-self
 invariant_of-self c =
