@@ -1,13 +1,8 @@
 pub mod Appending
 pub mod Fronts
 pub mod Inputs
-pub mod KeyFiles
 pub mod Printing
 pub mod Reports
-pub mod RowsFiles
 pub mod RowsWritten
-pub mod ScriptFiles
 pub mod Sessions
-pub mod TableFiles
-pub mod Texts
 pub mod Turns

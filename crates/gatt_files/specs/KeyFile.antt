@@ -1,18 +1,12 @@
 -- Key files, as octets.
-use Rattle.std.specs.Prelude.{◌≡◌, ◌≢◌, ℕ, if◌then◌else◌, List, Result, Ok, Err}
-use Rattle.std.specs.Str.{is_utf8}
+use Rattle.std.specs.Prelude.{◌≡◌, ◌≢◌, ℕ, List, Result, Ok, Err}
+pub use Rattle.host_files.specs.Files.{keys_in}
 use Rattle.le_security.specs.declared.entry.Entry.{Entry}
 use Rattle.le_security.specs.declared.key_fault.KeyFault.{KeyFault}
-use Rattle.le_security.specs.declared.key_fault.KeyFault.TheVariants.{NotToml}
 use Rattle.le_security.specs.KeyFault.{key_fault_number}
-use Rattle.le_security.specs.KeyFile.{keys_read}
 use Rattle.octets.specs.Number.{Octets}
 use Rattle.gatt_files.specs.declared.fault.ShellFault.{ShellFault}
 use Rattle.gatt_files.specs.declared.fault.ShellFault.TheVariants.{Keys, Unreadable, Memory}
-
--- the keys that a file gives, or its first fault: one that is not UTF-8 is not TOML
-unfoldable pub keys_in : Octets → Result (List Entry) KeyFault
-keys_in octets = if is_utf8 octets then keys_read octets else Err NotToml
 
 -- keys were refused for the fault of this number
 abbrev pub KeysAreRefusedAs : ℕ → Result (List Entry) KeyFault → Type 0

@@ -1,17 +1,12 @@
 -- Rows files, as octets.
-use Rattle.std.specs.Prelude.{◌≡◌, ◌≢◌, ℕ, if◌then◌else◌, Result, Ok, Err}
-use Rattle.std.specs.Str.{is_utf8}
+use Rattle.std.specs.Prelude.{◌≡◌, ◌≢◌, ℕ, Result, Ok, Err}
 use Rattle.gatt_subs.specs.declared.rows_fault.RowsFault.{RowsFault}
-use Rattle.gatt_subs.specs.declared.rows_fault.RowsFault.TheVariants.{BadLine}
-use Rattle.gatt_subs.specs.Rows.{Subscriptions, subscriptions_read}
+use Rattle.gatt_subs.specs.Rows.{Subscriptions}
 use Rattle.gatt_subs.specs.RowsFault.{rows_fault_number}
+pub use Rattle.host_files.specs.Files.{rows_in}
 use Rattle.octets.specs.Number.{Octets}
 use Rattle.gatt_files.specs.declared.fault.ShellFault.{ShellFault}
 use Rattle.gatt_files.specs.declared.fault.ShellFault.TheVariants.{Rows, Unreadable, Memory}
-
--- the rows that a file gives, or its first fault: in one that is not UTF-8 the first line is bad
-unfoldable pub rows_in : Octets → Result Subscriptions RowsFault
-rows_in octets = if is_utf8 octets then subscriptions_read octets else Err (BadLine 1)
 
 -- rows were refused for the fault of this number
 abbrev pub RowsAreRefusedAs : ℕ → Result Subscriptions RowsFault → Type 0

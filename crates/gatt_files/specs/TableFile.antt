@@ -1,18 +1,12 @@
 -- Table files, as octets.
-use Rattle.std.specs.Prelude.{◌≡◌, ◌≢◌, ℕ, if◌then◌else◌, Option, Some, None, Result, Ok, Err, IfSome}
-use Rattle.std.specs.Str.{is_utf8}
+use Rattle.std.specs.Prelude.{◌≡◌, ◌≢◌, ℕ, Option, Some, None, Result, Ok, Err, IfSome}
 use Rattle.att_table.specs.declared.table_fault.TableFault.{TableFault}
-use Rattle.att_table.specs.declared.table_fault.TableFault.TheVariants.{NotToml}
 use Rattle.att_table.specs.Table.{Contents}
 use Rattle.att_table.specs.TableFault.{table_fault_number}
-use Rattle.att_table.specs.file.TableFile.{table_read}
+pub use Rattle.host_files.specs.Files.{table_in}
 use Rattle.octets.specs.Number.{Octets}
 use Rattle.gatt_files.specs.declared.fault.ShellFault.{ShellFault}
 use Rattle.gatt_files.specs.declared.fault.ShellFault.TheVariants.{Table, Next, Unreadable, Memory}
-
--- the table that a file gives, or its first fault: one that is not UTF-8 is not TOML
-unfoldable pub table_in : Octets → Result Contents TableFault
-table_in octets = if is_utf8 octets then table_read octets else Err NotToml
 
 -- a table was refused for the fault of this number
 abbrev pub TableIsRefusedAs : ℕ → Result Contents TableFault → Type 0

@@ -1,16 +1,15 @@
 //! Key files, as octets of an input.
 
 ghost use Rattle.std.specs.Prelude.{◌≡◌, ◌≢◌, ◌≤◌, ℕ, length, IfErr, IfOk, IfSome};
-ghost use Rattle.octets.specs.Memory.{Gives};
 ghost use Rattle.gatt_files.specs.KeyFile.{keys_in, KeysAreRefusedAs, IsKeyRefusal, IsKeyFileFault};
 ghost use Rattle.gatt_files.specs.declared.input.TheConstants.{TOML_OCTETS};
 
 use crate::fault::ShellFault;
 use crate::input;
+use host_files::keys_in;
 use le_security::{KeyFault, Keys};
 use std::alloc::Global;
 use std::io::Read;
-use std::str;
 
 /// Reads a key file, and gives its keys.
 pub fn read_keys<R: Read>(alloc: Global, reader: &mut R) -> Result<Keys, ShellFault>
@@ -38,16 +37,5 @@ pub fn judged_keys(alloc: Global, octets: &[u8]) -> Result<Keys, ShellFault>
     match keys_in(alloc, octets) {
         Ok(keys) => Ok(keys),
         Err(fault) => Err(ShellFault::Keys(fault.number())),
-    }
-}
-
-/// The keys of a file with these octets: one that is not UTF-8 is not TOML.
-#[tactic(auto, using(crate::proofs::KeyFiles::of_text, crate::proofs::KeyFiles::of_no_text))]
-fn keys_in(alloc: Global, octets: &[u8]) -> Result<Keys, KeyFault>
-    ensures { Gives KeyFault.OutOfMemory (keys_in octets.now) result }
-{
-    match str::from_utf8(octets) {
-        Ok(text) => Keys::read(alloc, text),
-        Err(_) => Err(KeyFault::NotToml),
     }
 }

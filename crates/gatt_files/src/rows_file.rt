@@ -1,15 +1,14 @@
 //! Rows files, as octets of an input.
 
 ghost use Rattle.std.specs.Prelude.{◌≡◌, ◌≢◌, ℕ, IfErr, IfOk, IfSome};
-ghost use Rattle.octets.specs.Memory.{Gives};
 ghost use Rattle.gatt_files.specs.RowsFile.{rows_in, RowsAreRefusedAs, IsRowsRefusal, IsRowsFileFault};
 
 use crate::fault::ShellFault;
 use crate::input;
-use gatt_subs::{Rows, RowsFault};
+use gatt_subs::Rows;
+use host_files::rows_in;
 use std::alloc::Global;
 use std::io::Read;
-use std::str;
 
 /// Reads a rows file, and gives its rows.
 pub fn read_rows<R: Read>(alloc: Global, reader: &mut R) -> Result<Rows, ShellFault>
@@ -32,16 +31,5 @@ pub fn judged_rows(alloc: Global, octets: &[u8]) -> Result<Rows, ShellFault>
     match rows_in(alloc, octets) {
         Ok(rows) => Ok(rows),
         Err(fault) => Err(ShellFault::Rows(fault.number())),
-    }
-}
-
-/// The rows of a file with these octets: in one that is not UTF-8 the first line is bad.
-#[tactic(auto, using(crate::proofs::RowsFiles::of_text, crate::proofs::RowsFiles::of_no_text))]
-fn rows_in(alloc: Global, octets: &[u8]) -> Result<Rows, RowsFault>
-    ensures { Gives RowsFault.OutOfMemory (rows_in octets.now) result }
-{
-    match str::from_utf8(octets) {
-        Ok(text) => Rows::read(alloc, text),
-        Err(_) => Err(RowsFault::BadLine(1)),
     }
 }

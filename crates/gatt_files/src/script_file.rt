@@ -31,7 +31,7 @@ pub fn judged_script<'a>(
 }
 
 /// The script of a file with these octets.
-#[tactic(auto, using(crate::proofs::ScriptFiles::of_text, crate::proofs::ScriptFiles::of_no_text))]
+#[tactic(auto, using(host_files::proofs::Texts::of_text, host_files::proofs::Texts::of_no_text), unfolding(crate::specs::ScriptFile::script_in))]
 fn script_in<'a>(alloc: Global, octets: &'a [u8], has_next: bool) -> Result<Script<'a>, ScriptFault>
     ensures script { Gives ScriptFault.OutOfMemory (script_in has_next octets.now) result }
     ensures phones { IfOk result HasNamedPhones }

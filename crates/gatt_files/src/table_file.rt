@@ -2,16 +2,15 @@
 
 ghost use Rattle.std.specs.Prelude.{◌≡◌, ◌≢◌, ◌≤◌, ℕ, length, is_some, IfErr, IfOk, IfSome, IsOk};
 ghost use Rattle.std.specs.Option.{option_map};
-ghost use Rattle.octets.specs.Memory.{Gives};
 ghost use Rattle.gatt_files.specs.TableFile.{table_in, HasNextTable, TableIsRefusedAs, IsTableRefusal, IsTableFileFault, IsNextFileFault, next_fault_of};
 ghost use Rattle.gatt_files.specs.declared.input.TheConstants.{TOML_OCTETS};
 
 use crate::fault::ShellFault;
 use crate::input;
 use att_table::{Table, TableFault};
+use host_files::table_in;
 use std::alloc::Global;
 use std::io::Read;
-use std::str;
 
 /// Reads a table file, and gives its table.
 pub fn read_table<R: Read>(alloc: Global, reader: &mut R) -> Result<Table, ShellFault>
@@ -74,16 +73,5 @@ pub fn judged_table(alloc: Global, octets: &[u8]) -> Result<Table, ShellFault>
     match table_in(alloc, octets) {
         Ok(table) => Ok(table),
         Err(fault) => Err(ShellFault::Table(fault.number())),
-    }
-}
-
-/// The table of a file with these octets: one that is not UTF-8 is not TOML.
-#[tactic(auto, using(crate::proofs::TableFiles::of_text, crate::proofs::TableFiles::of_no_text))]
-fn table_in(alloc: Global, octets: &[u8]) -> Result<Table, TableFault>
-    ensures { Gives TableFault.OutOfMemory (table_in octets.now) result }
-{
-    match str::from_utf8(octets) {
-        Ok(text) => Table::read(alloc, text),
-        Err(_) => Err(TableFault::NotToml),
     }
 }

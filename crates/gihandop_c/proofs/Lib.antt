@@ -2,4 +2,3 @@
 pub mod Carried
 pub mod Pointers
 pub mod Refusals
-pub mod Texts

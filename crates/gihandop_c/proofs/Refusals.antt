@@ -10,8 +10,9 @@ use Rattle.gatt_subs.specs.declared.rows_fault.RowsFault.TheVariants.{OutOfMemor
 use Rattle.gatt_subs.specs.RowsFault.{rows_fault_number}
 use Rattle.gihandop_c.specs.declared.config.HostConfig.{HostConfig}
 use Rattle.gihandop_c.specs.declared.status.TheConstants.{BAD_CONFIG, BAD_KEYS, BAD_ROWS, BAD_TABLE, DONE}
-use Rattle.gihandop_c.specs.Files.{keys_given, keys_status, rows_given, rows_status, table_given, table_status}
+use Rattle.gihandop_c.specs.Files.{keys_status, rows_status, table_status}
 use Rattle.gihandop_c.specs.Opening.{config_given, config_status, IsNotOfMemory, IsStatusOf}
+use Rattle.host_files.specs.Files.{keys_in, rows_in, table_in}
 use Rattle.le_hci.specs.declared.command.TheConstants.{MAX_ADVERTISING_DATA}
 use Rattle.le_security.specs.declared.key_fault.KeyFault.{KeyFault}
 use Rattle.le_security.specs.declared.key_fault.KeyFault.TheVariants.{OutOfMemory as NoMemoryForTheKeys}
@@ -19,20 +20,20 @@ use Rattle.le_security.specs.KeyFault.{key_fault_number}
 use Rattle.octets.specs.Memory.{Gives}
 use Rattle.octets.specs.Number.{Octets}
 
-pub table_refused : (octets : Octets) (fault : TableFault) (status : ℕ) → Gives NoMemoryForTheTable (table_given octets) (Err fault)
-    → status ≡ BAD_TABLE + table_fault_number fault → IsStatusOf (table_status (table_given octets)) status
+pub table_refused : (octets : Octets) (fault : TableFault) (status : ℕ) → Gives NoMemoryForTheTable (table_in octets) (Err fault)
+    → status ≡ BAD_TABLE + table_fault_number fault → IsStatusOf (table_status (table_in octets)) status
 table_refused octets fault status gives is = λ enough behind.
     is ∙ ap (λ read. table_status read behind)
     (sym (gives (λ none. enough.table (is ∙ ap (λ (f : TableFault). BAD_TABLE + table_fault_number f) none))))
 
-pub keys_refused : (octets : Octets) (fault : KeyFault) (status : ℕ) → Gives NoMemoryForTheKeys (keys_given octets) (Err fault)
-    → status ≡ BAD_KEYS + key_fault_number fault → IsStatusOf (keys_status (keys_given octets)) status
+pub keys_refused : (octets : Octets) (fault : KeyFault) (status : ℕ) → Gives NoMemoryForTheKeys (keys_in octets) (Err fault)
+    → status ≡ BAD_KEYS + key_fault_number fault → IsStatusOf (keys_status (keys_in octets)) status
 keys_refused octets fault status gives is = λ enough behind.
     is ∙ ap (λ read. keys_status read behind)
     (sym (gives (λ none. enough.keys (is ∙ ap (λ (f : KeyFault). BAD_KEYS + key_fault_number f) none))))
 
-pub rows_refused : (octets : Octets) (fault : RowsFault) (status : ℕ) → Gives NoMemoryForTheRows (rows_given octets) (Err fault)
-    → status ≡ BAD_ROWS + rows_fault_number fault → IsStatusOf (rows_status (rows_given octets)) status
+pub rows_refused : (octets : Octets) (fault : RowsFault) (status : ℕ) → Gives NoMemoryForTheRows (rows_in octets) (Err fault)
+    → status ≡ BAD_ROWS + rows_fault_number fault → IsStatusOf (rows_status (rows_in octets)) status
 rows_refused octets fault status gives is = λ enough behind.
     is ∙ ap (λ read. rows_status read behind)
     (sym (gives (λ none. enough.rows (is ∙ ap (λ (f : RowsFault). BAD_ROWS + rows_fault_number f) none))))

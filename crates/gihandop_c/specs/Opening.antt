@@ -13,7 +13,8 @@ use Rattle.gatt_subs.specs.RowsFault.{rows_fault_number}
 use Rattle.gihandop_c.specs.declared.config.HostConfig.{HostConfig}
 use Rattle.gihandop_c.specs.declared.opened.Opened.{Opened}
 use Rattle.gihandop_c.specs.declared.status.TheConstants.{BAD_CONFIG, BAD_KEYS, BAD_ROWS, BAD_TABLE, DONE, OUT_OF_MEMORY}
-use Rattle.gihandop_c.specs.Files.{keys_given, keys_status, rows_given, rows_status, table_given, table_status}
+use Rattle.gihandop_c.specs.Files.{keys_status, rows_status, table_status}
+use Rattle.host_files.specs.Files.{keys_in, rows_in, table_in}
 use Rattle.le_hci.specs.declared.command.TheConstants.{MAX_ADVERTISING_DATA}
 use Rattle.le_security.specs.declared.entry.Entry.{Entry}
 use Rattle.le_security.specs.declared.key_fault.KeyFault.TheVariants.{OutOfMemory as NoMemoryForTheKeys}
@@ -32,7 +33,7 @@ config_given config = record {
 -- the host is where its files and its configuration have it start, and nothing has gone out
 abbrev pub IsOpenedByFiles : Octets → Octets → Octets → HostConfig → HostModel → Type 0
 IsOpenedByFiles table keys rows config whole = (contents : Contents) (entries : List Entry) (said : Subscriptions)
-    → table_given table ≡ Ok contents → keys_given keys ≡ Ok entries → rows_given rows ≡ Ok said
+    → table_in table ≡ Ok contents → keys_in keys ≡ Ok entries → rows_in rows ≡ Ok said
     → RefinesRun (run (start_of contents entries said (config_given config)) []) [] whole
 
 -- and it is the one that is open
@@ -49,7 +50,7 @@ config_status config =
 -- the status of opening, where memory suffices: the first fault of the first file that has one, and else the configuration's
 abbrev pub open_status : Octets → Octets → Octets → HostConfig → ℕ
 open_status table keys rows config =
-    table_status (table_given table) (keys_status (keys_given keys) (rows_status (rows_given rows) (config_status config)))
+    table_status (table_in table) (keys_status (keys_in keys) (rows_status (rows_in rows) (config_status config)))
 
 -- it is none of the four statuses that say that memory was refused
 pub record IsNotOfMemory (status : ℕ) : Type 0 where

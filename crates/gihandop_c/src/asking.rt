@@ -7,10 +7,10 @@ ghost use Rattle.att_table.specs.TableFault.{table_fault_number};
 ghost use Rattle.gatt_app.specs.Calls.{call_of};
 ghost use Rattle.gatt_laws.specs.machine.Input.{ACall, ATable};
 ghost use Rattle.gihandop_c.specs.Boundary.{AnswersCall, AnswersTable, FallsSilent, OpenedRefines, TellsItem};
-ghost use Rattle.gihandop_c.specs.Files.{table_given};
 ghost use Rattle.gihandop_c.specs.Opening.{IsNotOfMemory};
 ghost use Rattle.gihandop_c.specs.Statuses.{WaitsForOutput};
 ghost use Rattle.gihandop_c.specs.declared.status.TheConstants.{BAD_TABLE, DONE, HAS_STOPPED, OUTPUT_OWED};
+ghost use Rattle.host_files.specs.Files.{table_in};
 
 use crate::opened::Opened;
 use crate::{opening, status};
@@ -45,18 +45,18 @@ pub(crate) fn call(opened: &mut Opened, call: App<'_>) -> u32
 /// Replaces the table by that of a table file, once all is out. A file is not read as long as a
 /// packet is owed.
 pub(crate) fn replace_by(alloc: Global, opened: &mut Opened, file: &[u8]) -> u32
-    ensures takes { (contents : Contents) → table_given file.now ≡ Ok contents
+    ensures takes { (contents : Contents) → table_in file.now ≡ Ok contents
         → result < BAD_TABLE → result ≢ OUTPUT_OWED
         → OpenedRefines (ATable contents ∷ []) [] opened.old opened.new }
-    ensures tells { (contents : Contents) → table_given file.now ≡ Ok contents
+    ensures tells { (contents : Contents) → table_in file.now ≡ Ok contents
         → result < BAD_TABLE → result ≢ OUTPUT_OWED
         → TellsItem (ATable contents) opened.old opened.new }
-    ensures answers { (contents : Contents) → table_given file.now ≡ Ok contents
+    ensures answers { (contents : Contents) → table_in file.now ≡ Ok contents
         → IsNotOfMemory result → result ≢ OUTPUT_OWED
         → AnswersTable contents result opened.old }
-    ensures stopped { (contents : Contents) → table_given file.now ≡ Ok contents
+    ensures stopped { (contents : Contents) → table_in file.now ≡ Ok contents
         → IsNotOfMemory result → IsSome opened.old.host.fault → result ≡ HAS_STOPPED }
-    ensures file { (fault : TableFault) → table_given file.now ≡ Err fault
+    ensures file { (fault : TableFault) → table_in file.now ≡ Err fault
         → IsNotOfMemory result → result ≢ OUTPUT_OWED
         → result ≡ BAD_TABLE + table_fault_number fault }
     ensures refused { result ≢ DONE → result < BAD_TABLE → result ≢ OUTPUT_OWED

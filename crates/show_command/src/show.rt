@@ -165,7 +165,7 @@ fn add_holders<K: Read>(
 }
 
 /// The text of a key file: one that is not UTF-8 is not TOML.
-#[tactic(auto, using(gatt_files::proofs::KeyFiles::of_no_text))]
+#[tactic(auto, using(host_files::proofs::Texts::of_no_text), unfolding(host_files::specs::Files::keys_in))]
 fn key_text(octets: &[u8]) -> Result<&str, ShellFault>
     ensures text { IfOk result (λ text. text.now ≡ octets.now) }
     ensures refused { IfErr result (IsKeyRefusal octets.now) }

@@ -8,10 +8,10 @@ ghost use Rattle.gatt_app.specs.Calls.{call_of};
 ghost use Rattle.gatt_laws.specs.machine.Calls.{AuthorizeCall, DisconnectCall, TickCall, UpdateCall};
 ghost use Rattle.gatt_laws.specs.machine.Input.{ACall, ATable};
 ghost use Rattle.gihandop_c.specs.Boundary.{AnswersCall, AnswersTable, HostFallsSilent, HostRefines, HostTellsItem};
-ghost use Rattle.gihandop_c.specs.Files.{table_given};
 ghost use Rattle.gihandop_c.specs.Opening.{IsNotOfMemory};
 ghost use Rattle.gihandop_c.specs.Statuses.{WaitsForOutput};
 ghost use Rattle.gihandop_c.specs.declared.status.TheConstants.{BAD_TABLE, CLOSED, DONE, HAS_STOPPED, OUTPUT_OWED};
+ghost use Rattle.host_files.specs.Files.{table_in};
 
 use crate::host_pointer::HostPointer;
 use crate::{asking, status};
@@ -128,19 +128,19 @@ pub extern "C" fn gh_tick(host: &mut HostPointer, time: u64) -> u32
 #[unsafe(no_mangle)]
 pub extern "C" fn gh_replace(alloc: Global, host: &mut HostPointer, table: &[u8]) -> u32
     ensures closed { host.old.host ≡ None → result ≡ CLOSED }
-    ensures takes { (contents : Contents) → table_given table.now ≡ Ok contents
+    ensures takes { (contents : Contents) → table_in table.now ≡ Ok contents
         → result < BAD_TABLE → result ≢ OUTPUT_OWED
         → HostRefines (ATable contents ∷ []) [] host.old.host host.new.host }
-    ensures tells { (contents : Contents) → table_given table.now ≡ Ok contents
+    ensures tells { (contents : Contents) → table_in table.now ≡ Ok contents
         → result < BAD_TABLE → result ≢ OUTPUT_OWED
         → HostTellsItem (ATable contents) host.old.host host.new.host }
-    ensures answers { (contents : Contents) → table_given table.now ≡ Ok contents
+    ensures answers { (contents : Contents) → table_in table.now ≡ Ok contents
         → IsNotOfMemory result → result ≢ OUTPUT_OWED
         → IfSome host.old.host (AnswersTable contents result) }
-    ensures stopped { (contents : Contents) → table_given table.now ≡ Ok contents
+    ensures stopped { (contents : Contents) → table_in table.now ≡ Ok contents
         → IsNotOfMemory result → IfSome host.old.host (λ opened.
         IsSome opened.host.fault → result ≡ HAS_STOPPED) }
-    ensures file { (fault : TableFault) → table_given table.now ≡ Err fault
+    ensures file { (fault : TableFault) → table_in table.now ≡ Err fault
         → IsNotOfMemory result → result ≢ OUTPUT_OWED → IfSome host.old.host (λ opened.
         result ≡ BAD_TABLE + table_fault_number fault) }
     ensures refused { result ≢ DONE → result < BAD_TABLE → result ≢ OUTPUT_OWED
