@@ -90,6 +90,7 @@ fn serve(
     ensures answered { IsAnswered pdu.now table.old table.new row.old row.new conn.old conn.new
         touched.new.items result.confirmed }
 {
+    touched.clear();
     // Each arm is a copy for one form, the frequent ones, in which the others are never asked for.
     match pdu.first() {
         Some(&opcode::READ_REQUEST) => serve_form(table, row, conn, pdu, out, touched),
@@ -109,7 +110,7 @@ fn serve(
     }
 }
 
-/// Answers a PDU of any form, with the handles that were written in place of what `touched` holds.
+/// Answers a PDU of any form, where `touched` holds nothing yet.
 #[inline(always)]
 #[tactic(auto, unfolding(att_pdu::specs::Form::form_of))]
 fn serve_form(
@@ -121,6 +122,7 @@ fn serve_form(
     touched: &mut Touched,
 ) -> Served
     requires empty { IsEmptyWithin conn.old.mtu out.old }
+    requires untouched { touched.old.items ≡ [] }
     requires row { IsRowOf table.old.attributes row.old }
 
     ensures served { ServesPdu
@@ -129,7 +131,6 @@ fn serve_form(
     ensures answered { IsAnswered pdu.now table.old table.new row.old row.new conn.old conn.new
         touched.new.items result.confirmed }
 {
-    touched.clear();
     match read_request(pdu, conn.mtu()) {
         Ok(Request::ExchangeMtu { client_rx_mtu }) => exchange_mtu(conn, client_rx_mtu, out),
         Ok(Request::Write { handle, value }) => write(
