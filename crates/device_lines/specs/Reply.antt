@@ -2,7 +2,7 @@
 use Rattle.std.specs.Prelude.{◌++◌, [], ◌∷◌, codes}
 use Rattle.std.specs.Fmt.{decimal}
 use Rattle.notice_lines.specs.NoticeText.{value_text}
-use Rattle.gatt_app.specs.Calls.{number_of_refusal}
+use Rattle.gatt_app.specs.Refusals.{number_of_refusal}
 use Rattle.octets.specs.Number.{Octets}
 use Rattle.device_lines.specs.declared.reply.Reply.{Reply}
 use Rattle.device_lines.specs.declared.reply.Reply.TheVariants.{Done, Refused, Value, Bad}

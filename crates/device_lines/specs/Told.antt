@@ -3,7 +3,7 @@ use Rattle.std.specs.Prelude.{◌++◌, [], ◌∷◌, codes, Option, Some, None
 use Rattle.att_policy.specs.declared.standing.KeyFacts.{KeyFacts}
 use Rattle.notice_lines.specs.NoticeText.{notice_line}
 use Rattle.gatt_app.specs.declared.notice.Notice.TheVariants.{Connected, Secured}
-use Rattle.gatt_slots.specs.declared.connection.Connection.{Connection}
+use Rattle.gatt_app.specs.declared.connection.Connection.{Connection}
 use Rattle.octets.specs.Number.{Octets}
 use Rattle.device_lines.specs.declared.told.Told.{Told}
 use Rattle.device_lines.specs.declared.told.Told.TheVariants.{Serving, Waiting, Stopped}

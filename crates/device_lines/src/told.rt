@@ -3,8 +3,7 @@
 ghost use Rattle.std.specs.Prelude.{◌≡◌, ◌++◌, OnOk};
 ghost use Rattle.device_lines.specs.Told.{connection_lines, told_line};
 
-use gatt_app::Notice;
-use gatt_slots::Connection;
+use gatt_app::{Connection, Notice};
 use notice_lines::add_line;
 use std::alloc::AllocError;
 

@@ -1,5 +1,5 @@
 ghost use Rattle.std.specs.Prelude.{◌≡◌};
-ghost use Rattle.gatt_app.specs.Calls.{number_of_refusal};
+ghost use Rattle.gatt_app.specs.Refusals.{number_of_refusal};
 
 use std::error::Error;
 use std::fmt;

@@ -3,10 +3,11 @@ use Rattle.std.proofs.Common.{◌≡◌, if◌then◌else◌, List, Option, Some
 use Rattle.std.specs.Prelude.{is_some, IsSome, OnErr}
 use Rattle.std.specs.Option.{option_map}
 use Rattle.att_table.specs.Table.{Contents}
+use Rattle.gatt_host.proofs.model.Refusals.{fault_of_its_refusal}
 use Rattle.gatt_host.specs.Asked.{refusal_in_result, replacing_refusal_of}
 use Rattle.gatt_app.specs.declared.app.AppFault.{AppFault}
 use Rattle.gatt_app.specs.declared.app.AppFault.TheVariants.{Stopped}
-use Rattle.gatt_app.specs.Calls.{number_of_refusal}
+use Rattle.gatt_app.specs.Refusals.{number_of_refusal}
 use Rattle.gatt_host.specs.Telling.{silent}
 use Rattle.gatt_host.specs.HostModel.{RefinesRun, Takes, HostModel}
 use Rattle.gatt_laws.specs.machine.Calls.{Call}
@@ -28,11 +29,11 @@ told_by (Err fault) = Some (refused.Call (number_of_refusal fault.0))
 
 told-why : (result : Result (Unit {0}) AppFault) → told_of result ≡ option_map refused_call (refusal_in_result result)
 told-why (Ok done) = refl
-told-why (Err fault) = refl
+told-why (Err fault) = ap (λ fault. Some (refused.Call (number_of_refusal fault))) (sym (fault_of_its_refusal fault))
 
 told-why-not : (result : Result Contents (AppFault × Contents)) → told_by result ≡ option_map refused_call (replacing_refusal_of result)
 told-why-not (Ok table) = refl
-told-why-not (Err fault) = refl
+told-why-not (Err fault) = ap (λ fault. Some (refused.Call (number_of_refusal fault))) (sym (fault_of_its_refusal fault.0))
 
 still : (old new : HostModel) (told : Option Refused) (result : Result (Unit {0}) AppFault) → told ≡ told_of result → OnErr result (new ≡ silent old) → IsSome told → new ≡ silent old
 still old new told (Ok done) is same some = cc (is, some)

@@ -5,7 +5,7 @@ use Rattle.att_table.specs.Table.{Contents}
 use Rattle.gatt_host.specs.Telling.{silent}
 use Rattle.gatt_host.specs.HostModel.{Takes, HostModel, RefinesRun}
 use Rattle.gatt_laws.specs.machine.Calls.{Call, UpdateCall, AuthorizeCall, TickCall}
-use Rattle.gatt_app.specs.Calls.{number_of_refused}
+use Rattle.gatt_host.specs.Calls.{number_of_refused}
 use Rattle.gatt_laws.specs.machine.Calls as why
 use Rattle.gatt_laws.specs.machine.Input.{Item, ACall, ATable, call_refusal, run, replacement_refusal}
 use Rattle.gatt_laws.specs.machine.Start.{Start}

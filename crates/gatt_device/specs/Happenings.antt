@@ -1,7 +1,7 @@
 -- What happens to a host, and what is recorded of it: this profile's own.
 use Rattle.std.specs.Prelude.{◌≡◌, ℕ, List, [], ◌∷◌, ◌++◌, Option, Some, None}
 use Rattle.std.specs.List.{flat_map}
-use Rattle.gatt_app.specs.Calls.{call_of}
+use Rattle.gatt_host.specs.Calls.{call_of}
 use Rattle.gatt_host.specs.Feeding.{octet_items}
 use Rattle.gatt_laws.specs.machine.Calls.{Call, Refused}
 use Rattle.gatt_laws.specs.machine.Input.{Item, ACall}

@@ -1,7 +1,7 @@
 //! A host is served by what happens.
 
 ghost use Rattle.std.specs.Prelude.{◌≡◌, ◌∷◌, [], true, None, Some, IsSome, IsOk, IfErr};
-ghost use Rattle.gatt_app.specs.Calls.{call_of};
+ghost use Rattle.gatt_host.specs.Calls.{call_of};
 ghost use Rattle.gatt_host.specs.Feeding.{is_of_feeding, is_write_fault, Feeds, WritesAllThatIsDue};
 ghost use Rattle.gatt_host.specs.Listening.{Hears, Listens};
 ghost use Rattle.gatt_host.specs.Promises.{KeepsConnectionsApart, KeepsThePolicy};

@@ -1,6 +1,7 @@
 pub mod Items
 pub mod Packets
 pub mod Calls
+pub mod Refusals
 pub mod Ready
 pub mod Out
 pub mod Fewer

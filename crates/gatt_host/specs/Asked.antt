@@ -1,7 +1,7 @@
 -- What a call of the application means to a host, by what it holds.
 use Rattle.std.specs.Prelude.{Option, Some, None, Result, Ok, Err}
 use Rattle.att_table.specs.Table.{Contents}
-use Rattle.gatt_app.specs.Calls.{refused_of}
+use Rattle.gatt_host.specs.Calls.{refused_of}
 use Rattle.gatt_app.specs.declared.app.AppFault.{AppFault}
 use Rattle.gatt_host.specs.ServerState.{ServerState}
 use Rattle.gatt_host.specs.Meaning.{context_in}

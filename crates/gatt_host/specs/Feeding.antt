@@ -2,7 +2,7 @@
 use Rattle.std.specs.Prelude.{◌≡◌, ℕ, ◌+◌, ◌-◌, ◌*◌, ◌<◌, ◌≤◌, length, IsOk, IfOk, Bool, true, false, is_some, List, [], ◌∷◌, ◌++◌, map, take, if◌then◌else◌, Option, Some, None, Result, Ok, Err}
 use Rattle.std.specs.Io.KnownBytes.{Appends, Consumes, IsAtEnd}
 use Rattle.std.specs.List.{flat_map}
-use Rattle.gatt_app.specs.Calls.{call_of}
+use Rattle.gatt_host.specs.Calls.{call_of}
 use Rattle.gatt_host.specs.declared.driving.Input.{Input}
 use Rattle.gatt_host.specs.declared.driving.Input.TheVariants as input
 use Rattle.gatt_host.specs.declared.host_fault.HostFault.{HostFault}

@@ -5,6 +5,7 @@ pub mod ServerState
 pub mod StateRefinement
 pub mod Meaning
 pub mod Packet
+pub mod Calls
 pub mod Asked
 pub mod RunRefinement
 pub mod EventRefinement

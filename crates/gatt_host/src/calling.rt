@@ -2,7 +2,7 @@
 
 ghost use Rattle.std.specs.Prelude.{◌≡◌, ◌∷◌, [], None, IsSome, IsOk, IfErr, IfOk, true};
 ghost use Rattle.std.specs.Result.{result_err};
-ghost use Rattle.gatt_app.specs.Calls.{call_of};
+ghost use Rattle.gatt_host.specs.Calls.{call_of};
 ghost use Rattle.gatt_host.specs.Calling.{fault_told, Answers, IsCallRefusedAs};
 ghost use Rattle.gatt_host.specs.Feeding.{is_write_fault, Feeds, WritesAllThatIsDue};
 ghost use Rattle.gatt_host.specs.Listening.{Listens};

@@ -5,7 +5,7 @@ ghost use Rattle.att_attributes.specs.Attributes.{attribute_at};
 ghost use Rattle.att_table.specs.Changer.{changer_of};
 ghost use Rattle.att_table.specs.Table.{room_at};
 ghost use Rattle.gatt_laws.specs.machine.Calls.{has_length, same_changer, AuthorizeCall, DisconnectCall, TickCall, UpdateCall};
-ghost use Rattle.gatt_app.specs.Calls.{call_of, refused_of};
+ghost use Rattle.gatt_host.specs.Calls.{call_of, refused_of};
 ghost use Rattle.gatt_host.specs.Asked.{call_happening, replacement_happening};
 ghost use Rattle.gatt_host.specs.ServerState.{after_replacing, with_last};
 ghost use Rattle.gatt_host.specs.Meaning.{IsAfter, IsOfItsTable};

@@ -4,7 +4,8 @@ ghost use Rattle.std.specs.Prelude.{length};
 ghost use Rattle.std.specs.Iterator.{at_most};
 ghost use Rattle.gatt_host.specs.Connections.{HandsOutTheFirst};
 
-use gatt_slots::{Connection, Slots};
+use gatt_app::Connection;
+use gatt_slots::Slots;
 use std::iter::FusedIterator;
 use std::marker::Model;
 
@@ -19,7 +20,7 @@ pub struct Connections<'a> {
 impl<'a> Model for Connections<'a> {
     ghost use Rattle.std.specs.Prelude.{List, drop};
     ghost use Rattle.gatt_slots.specs.Connections.{connections_in};
-    ghost use Rattle.gatt_slots.specs.declared.connection.Connection.{Connection};
+    ghost use Rattle.gatt_app.specs.declared.connection.Connection.{Connection};
 
     ghost Value = { List Connection };
 

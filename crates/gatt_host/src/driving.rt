@@ -2,7 +2,7 @@
 
 ghost use Rattle.std.specs.Prelude.{◌≡◌, ◌∷◌, [], None, IsSome, IsOk, IfErr, IfOk, Some, true, if◌then◌else◌};
 ghost use Rattle.std.specs.Result.{result_err};
-ghost use Rattle.gatt_app.specs.Calls.{call_of};
+ghost use Rattle.gatt_host.specs.Calls.{call_of};
 ghost use Rattle.gatt_host.specs.Feeding.{is_of_feeding, input_items, is_write_fault, items_of, CountsRefused, Feeds, WritesAllThatIsDue};
 ghost use Rattle.gatt_host.specs.Listening.{Listens};
 ghost use Rattle.gatt_host.specs.Promises.{KeepsConnectionsApart, KeepsThePolicy};

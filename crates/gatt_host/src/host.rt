@@ -9,7 +9,7 @@ ghost use Rattle.gatt_laws.specs.laws.Deadline.{deadline, TellsFromTheDeadlineOn
 ghost use Rattle.gatt_laws.specs.machine.Input.{run, call_refusal, replacement_refusal, Item, APacket, ACall, ATable};
 ghost use Rattle.gatt_laws.specs.machine.Start.{Start};
 ghost use Rattle.gatt_laws.specs.laws.Telling.{TellsTheApplication};
-ghost use Rattle.gatt_app.specs.Calls.{call_of};
+ghost use Rattle.gatt_host.specs.Calls.{call_of};
 ghost use Rattle.gatt_host.specs.Asked.{refusal_in_result, replacing_refusal_of};
 ghost use Rattle.gatt_host.specs.Connections.{connection_with, connections_of};
 ghost use Rattle.gatt_host.specs.Credits.{most_out};
@@ -35,8 +35,7 @@ use crate::host_state::HostState;
 use crate::iter::Notices;
 use crate::{packet, taking};
 use att_table::Table;
-use gatt_app::{App, AppFault, Notice};
-use gatt_slots::Connection;
+use gatt_app::{App, AppFault, Connection, Notice};
 use gatt_subs::Rows;
 use le_h4::{Deframer, MAX_ACL_DATA, PacketBuf, PacketOctets, PacketRef};
 use le_security::Keys;

@@ -3,7 +3,7 @@ use Rattle.std.proofs.Common.{◌≡◌, ℕ, ◌+◌, ◌<◌, ◌≤◌, [], d
 use Rattle.std.specs.List.{cons_option}
 use Rattle.std.proofs.lemmas.List.{drop_all, drop_more}
 use Rattle.gatt_slots.specs.Connections.{connections_in, slot_seen}
-use Rattle.gatt_slots.specs.declared.connection.Connection.{Connection}
+use Rattle.gatt_app.specs.declared.connection.Connection.{Connection}
 use Rattle.gatt_slots.specs.SlotState.{SlotState}
 use Rattle.gatt_slots.specs.Slots.{SlotStates}
 

@@ -1,7 +1,7 @@
 -- What the application can see of the connections of slots, in their order.
 use Rattle.std.specs.Prelude.{◌≡◌, ℕ, not, List, [], ◌∷◌, drop, filter_map, Option, Some, None}
 use Rattle.std.specs.Option.{option_map}
-use Rattle.gatt_slots.specs.declared.connection.Connection.{Connection}
+use Rattle.gatt_app.specs.declared.connection.Connection.{Connection}
 use Rattle.gatt_slots.specs.SlotState.{SlotState}
 use Rattle.gatt_slots.specs.Slots.{SlotStates}
 

@@ -16,7 +16,6 @@ mod slot;
 mod slots;
 mod telling;
 
-pub use connection::Connection;
 pub use moment::Moment;
 pub use request::Brought;
 pub use slot::Slot;

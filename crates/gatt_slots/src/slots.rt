@@ -16,7 +16,7 @@ ghost use Rattle.gatt_slots.specs.Slots.{slots_after_entries, all_after_table, a
 ghost use Rattle.gatt_subs.specs.Rows.{row_of, ChangesBond, Subscriptions};
 ghost use Rattle.le_hci.specs.Event.{completed_packets_of};
 
-use crate::connection::{Connection, next_connection};
+use crate::connection::next_connection;
 use crate::each::{
     find_free, find_serving, first_deadline, packets_completed, replace_all, tick_all,
 };
@@ -29,6 +29,7 @@ use crate::slot::Slot;
 use crate::telling::{Heard, indicate_due, notify_all};
 use arrayvec::ArrayVec;
 use att_table::Table;
+use gatt_app::Connection;
 use gatt_conn::Touched;
 use gatt_laws::MAX_SLOTS;
 use gatt_subs::Rows;

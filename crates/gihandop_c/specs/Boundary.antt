@@ -2,7 +2,7 @@
 use Rattle.std.specs.Prelude.{◌≡◌, ℕ, ◌+◌, List, drop, Option, Some, None, IsSome}
 use Rattle.att_table.specs.Table.{Contents}
 use Rattle.gatt_host.specs.declared.host_fault.HostFault.{HostFault}
-use Rattle.gatt_app.specs.Calls.{number_of_refused}
+use Rattle.gatt_host.specs.Calls.{number_of_refused}
 use Rattle.gatt_host.specs.Numbers.{number_of_fault}
 use Rattle.gatt_host.specs.Telling.{notices_told, silent}
 use Rattle.gatt_host.specs.HostModel.{Refines, RefinesRun}

@@ -7,7 +7,7 @@ use Rattle.att_policy.specs.declared.standing.KeyFacts.{KeyFacts}
 use Rattle.att_table.specs.Find.{value_found}
 use Rattle.att_table.specs.Table.{Contents}
 use Rattle.gatt_slots.specs.Connections.{connections_in}
-use Rattle.gatt_slots.specs.declared.connection.Connection.{Connection}
+use Rattle.gatt_app.specs.declared.connection.Connection.{Connection}
 use Rattle.gihandop_c.specs.declared.connections.ConnectionFields.{ConnectionFields}
 use Rattle.gihandop_c.specs.declared.opened.Opened.{Opened}
 use Rattle.octets.specs.Number.{Octets}

@@ -4,7 +4,7 @@ ghost use Rattle.std.specs.Prelude.{◌≡◌, ◌≢◌, ◌+◌, ◌<◌, ◌�
 ghost use Rattle.att_table.specs.declared.table_fault.TableFault.{TableFault};
 ghost use Rattle.att_table.specs.Table.{Contents};
 ghost use Rattle.att_table.specs.TableFault.{table_fault_number};
-ghost use Rattle.gatt_app.specs.Calls.{call_of};
+ghost use Rattle.gatt_host.specs.Calls.{call_of};
 ghost use Rattle.gatt_laws.specs.machine.Input.{ACall, ATable};
 ghost use Rattle.gihandop_c.specs.Boundary.{AnswersCall, AnswersTable, FallsSilent, OpenedRefines, TellsItem};
 ghost use Rattle.gihandop_c.specs.Opening.{IsNotOfMemory};

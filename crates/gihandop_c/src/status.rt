@@ -2,7 +2,8 @@
 
 ghost use Rattle.std.specs.Prelude.{◌≡◌, ◌+◌, Some};
 ghost use Rattle.att_table.specs.TableFault.{table_fault_number};
-ghost use Rattle.gatt_app.specs.Calls.{number_of_refusal, refused_of};
+ghost use Rattle.gatt_app.specs.Refusals.{number_of_refusal};
+ghost use Rattle.gatt_host.specs.Calls.{refused_of};
 ghost use Rattle.gatt_host.specs.Numbers.{number_of_fault};
 ghost use Rattle.gatt_subs.specs.RowsFault.{rows_fault_number};
 ghost use Rattle.gihandop_c.specs.Boundary.{call_status};

@@ -7,7 +7,7 @@ use Rattle.gatt_host.proofs.asking.Calls.{call_is_refused, call_led, call_refusa
 use Rattle.gatt_host.proofs.meaning.Drained.{all_sent, drained_in}
 use Rattle.gatt_host.proofs.model.Silence.{stands_in_silence}
 use Rattle.gatt_host.proofs.model.Items.{drained_where, no_fault, takes_item}
-use Rattle.gatt_app.specs.Calls.{refused_of}
+use Rattle.gatt_host.specs.Calls.{refused_of}
 use Rattle.gatt_host.specs.Asked.{call_happening, refusal_in_result, replacement_happening, replacing_refusal_of}
 use Rattle.gatt_app.specs.declared.app.AppFault.{AppFault}
 use Rattle.gatt_host.specs.declared.host_fault.HostFault.{HostFault}

@@ -14,7 +14,7 @@ use Rattle.gatt_laws.specs.machine.SharedState.{SharedState}
 use Rattle.gatt_laws.specs.machine.Start.{Start}
 use Rattle.gatt_laws.specs.machine.State.{State, with_commands_sent}
 use Rattle.gatt_slots.specs.Connections.{connections_in, slot_seen}
-use Rattle.gatt_slots.specs.declared.connection.Connection.{Connection}
+use Rattle.gatt_app.specs.declared.connection.Connection.{Connection}
 use Rattle.gatt_slots.specs.SlotState.{slot_state_of}
 use Rattle.le_security.proofs.Links.{key_of_steps}
 use Rattle.octets.specs.Number.{Octets}

@@ -9,7 +9,7 @@ use Rattle.gatt_device.specs.Serving.{Known, known}
 use Rattle.gatt_host.proofs.model.Due.{due_where_out}
 use Rattle.gatt_host.proofs.model.Feeds.{counts_where_going, going_takes, none_answered, none_before}
 use Rattle.gatt_host.proofs.model.Hearing.{going_hears}
-use Rattle.gatt_app.specs.Calls.{call_of}
+use Rattle.gatt_host.specs.Calls.{call_of}
 use Rattle.gatt_host.specs.Feeding.{octet_items}
 use Rattle.gatt_host.specs.HostModel.{HostModel}
 use Rattle.gatt_laws.specs.machine.Input.{ACall}

@@ -4,7 +4,7 @@ use Rattle.gatt_device.specs.Happenings.{Answered, Records}
 use Rattle.gatt_host.proofs.model.Driving.{call_feeds}
 use Rattle.gatt_host.proofs.model.Hearing.{call_heard, listens_then}
 use Rattle.gatt_host.proofs.model.HearingTurns.{nothing_heard}
-use Rattle.gatt_app.specs.Calls.{call_of}
+use Rattle.gatt_host.specs.Calls.{call_of}
 use Rattle.gatt_laws.specs.machine.Calls.{Refused}
 use Rattle.gatt_laws.specs.machine.Input.{ACall}
 

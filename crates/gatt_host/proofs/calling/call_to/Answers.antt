@@ -5,7 +5,7 @@ use Rattle.gatt_host.proofs.model.Driving.{past_fault}
 use Rattle.gatt_host.proofs.model.Feeds.{fault_answered, none_answered}
 use Rattle.gatt_host.proofs.model.Hearing.{past_heard}
 use Rattle.gatt_host.proofs.model.HearingTurns.{nothing_heard}
-use Rattle.gatt_app.specs.Calls.{call_of}
+use Rattle.gatt_host.specs.Calls.{call_of}
 use Rattle.gatt_host.specs.Calling.{answer_told}
 use Rattle.gatt_host.specs.declared.fault.Fault.TheVariants as told
 use Rattle.gatt_host.specs.declared.host_fault.HostFault.{HostFault}

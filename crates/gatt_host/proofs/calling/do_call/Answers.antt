@@ -3,7 +3,7 @@ use Rattle.gatt_host.proofs.model.Feeds.{fault_answered, none_answered}
 use Rattle.gatt_host.proofs.model.Hearing.{breaks_heard, call_heard, listens_going}
 use Rattle.gatt_host.specs.declared.host_fault.HostFault.{HostFault}
 use Rattle.gatt_host.proofs.model.Driving.{call_feeds}
-use Rattle.gatt_app.specs.Calls.{call_of}
+use Rattle.gatt_host.specs.Calls.{call_of}
 use Rattle.gatt_host.specs.HostModel.{HostModel}
 use Rattle.gatt_laws.specs.machine.Input.{ACall}
 use Rattle.gatt_host.proofs.calling.do_call.Goals as goal

@@ -1,7 +1,7 @@
 use Rattle.std.proofs.Common.{sym, subst}
 use Rattle.std.specs.Prelude.{if◌then◌else◌}
 use Rattle.gatt_host.proofs.model.Driving.{none_refused, one_refused}
-use Rattle.gatt_app.specs.Calls.{call_of}
+use Rattle.gatt_host.specs.Calls.{call_of}
 use Rattle.gatt_host.specs.declared.driving.Input.{Input}
 use Rattle.gatt_host.specs.Feeding.{CountsRefused, input_items}
 use Rattle.gatt_host.proofs.driving.take_input.Goals as goal

@@ -3,7 +3,7 @@ use Rattle.gatt_host.proofs.owing.Nexts.{is_none_where}
 use Rattle.gatt_host.proofs.model.Calls.{call_refused, call_told, takes_call}
 use Rattle.gatt_host.proofs.model.Told.{told_in_run}
 use Rattle.gatt_host.proofs.model.Items.{drained_where, is_of_its_table, reached_by}
-use Rattle.gatt_app.specs.Calls.{call_of}
+use Rattle.gatt_host.specs.Calls.{call_of}
 use Rattle.gatt_host.specs.contracts.host.Host.{the_view}
 use Rattle.gatt_host.specs.Meaning.{IsAfter}
 use Rattle.gatt_host.specs.HostModel.{RefinesRun, Takes, HostModel, all_out}

@@ -1,5 +1,5 @@
 use Rattle.std.proofs.Common.{[], ◌∷◌}
-use Rattle.gatt_app.specs.Calls.{call_of}
+use Rattle.gatt_host.specs.Calls.{call_of}
 use Rattle.gatt_laws.specs.machine.Input.{ACall}
 use Rattle.gihandop_c.specs.Boundary.{AnswersCall, OpenedRefines, TellsItem}
 use Rattle.gihandop_c.specs.Statuses.{WaitsForOutput}

@@ -4,6 +4,7 @@ use Rattle.gatt_app.specs.declared.app.App.{App}
 use Rattle.gatt_app.specs.declared.app.App.TheVariants as app
 use Rattle.gatt_app.specs.declared.app.AppFault.{AppFault}
 use Rattle.gatt_app.specs.declared.app.AppFault.TheVariants as fault
+use Rattle.gatt_app.specs.Refusals.{number_of_refusal}
 use Rattle.gatt_laws.specs.machine.Calls.{Call, UpdateCall, AuthorizeCall, DisconnectCall, TickCall}
 use Rattle.gatt_laws.specs.machine.Calls.{Refused, NoSuchHandle, NotAValue, BadLength}
 use Rattle.gatt_laws.specs.machine.Calls.{NoSuchConnection, TimeWentBack, Stopped, NoServiceChanged}
@@ -24,15 +25,15 @@ refused_of fault.TimeWentBack = TimeWentBack
 refused_of fault.Stopped = Stopped
 refused_of fault.NoServiceChanged = NoServiceChanged
 
--- the numbers of why a call is refused, and of the faults by which a host says so: this profile's own
-abbrev pub number_of_refused : Refused → ℕ
-number_of_refused NoSuchHandle = 1
-number_of_refused NotAValue = 2
-number_of_refused BadLength = 3
-number_of_refused NoSuchConnection = 4
-number_of_refused TimeWentBack = 5
-number_of_refused Stopped = 6
-number_of_refused NoServiceChanged = 7
+-- the fault by which a host says why it refuses a call, and its number
+abbrev pub fault_of_refused : Refused → AppFault
+fault_of_refused NoSuchHandle = fault.NoSuchHandle
+fault_of_refused NotAValue = fault.NotAValue
+fault_of_refused BadLength = fault.BadLength
+fault_of_refused NoSuchConnection = fault.NoSuchConnection
+fault_of_refused TimeWentBack = fault.TimeWentBack
+fault_of_refused Stopped = fault.Stopped
+fault_of_refused NoServiceChanged = fault.NoServiceChanged
 
-abbrev pub number_of_refusal : AppFault → ℕ
-number_of_refusal fault = number_of_refused (refused_of fault)
+abbrev pub number_of_refused : Refused → ℕ
+number_of_refused refused = number_of_refusal (fault_of_refused refused)
