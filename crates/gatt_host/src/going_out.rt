@@ -1,11 +1,11 @@
 //! What goes out next: a command that is due, while the controller takes any, and else a packet of the
 //! first slot that may give one.
 
-ghost use Rattle.std.specs.Prelude.{◌≡◌, ◌≢◌, ◌<◌, ◌≤◌, length, take, IfSome, List, ◌&&◌, not, nat_lt, is_some, true, Some, ◌∷◌, []};
+ghost use Rattle.std.specs.Prelude.{◌≡◌, ◌≢◌, ◌<◌, ◌≤◌, length, take, IfSome, List, ◌&&◌, not, nat_lt, is_some, true, None, Some, ◌∷◌, []};
 ghost use Rattle.std.specs.Bool.{OnTrue, OnFalse};
 ghost use Rattle.std.specs.List.{list_any, position};
 ghost use Rattle.std.specs.Option.{option_map};
-ghost use Rattle.gatt_laws.specs.machine.Controller.{controller_after, is_ready};
+ghost use Rattle.gatt_laws.specs.machine.Controller.{controller_after};
 ghost use Rattle.gatt_laws.specs.machine.State.{State, command_octets};
 ghost use Rattle.gatt_slots.specs.Commands.{command_due, gives, has_command, slot_without_command, slot_without_packet};
 ghost use Rattle.gatt_slots.specs.Slots.{slot_state_at, slots_at};
@@ -135,7 +135,8 @@ fn packet_out(slots: &mut Slots, out: &mut PacketBuf) -> bool
 }
 
 /// Writes the first command that is due for a slot, and takes in that it is sent. Says its opcode.
-#[inline(always)]
+#[cold]
+#[inline(never)]
 fn slot_command_out(slots: &mut Slots, out: &mut PacketBuf) -> Option<u16>
     ensures opcode { result ≡ option_map opcode_of (first_slot_command slots.old) }
     ensures octets { (command : Commanded) → first_slot_command slots.old ≡ Some command
@@ -187,6 +188,10 @@ fn command_out(controller: &mut Controller, slots: &mut Slots, out: &mut PacketB
     ensures unchanged { OnFalse result (slots.new ≡ slots.old) }
     ensures out_unchanged { OnFalse result (out.new ≡ out.old) }
 {
+    // Most often none may be due.
+    if !may_have_command(controller, slots) {
+        return false;
+    }
     if !controller.takes() {
         return false;
     }
@@ -347,17 +352,26 @@ fn none_waits(controller: &Controller, slots: &Slots) -> bool
     !slots.gives()
 }
 
-/// Something may be to go out to a controller that is initialised: where it is not so, nothing is. It
-/// looks at no slot.
+/// A command may be due: where it is not so, none is. It looks at no slot.
 #[inline(always)]
-pub(crate) fn may_owe(controller: &Controller, slots: &Slots) -> bool
-    requires { is_ready controller.now ≡ true }
-    ensures { OnFalse result (is_drained controller.now slots.now ≡ true) }
+fn may_have_command(controller: &Controller, slots: &Slots) -> bool
+    ensures { OnFalse result (command_next controller.now slots.now ≡ None) }
 {
-    if slots.may_have_command() || slots.may_give() {
+    if controller.has_init_command() || slots.may_have_command() {
         return true;
     }
     controller.is_to_advertise(slots.may_have_room())
+}
+
+/// Something may be to go out: where it is not so, nothing is. It looks at no slot.
+#[inline(always)]
+pub(crate) fn may_owe(controller: &Controller, slots: &Slots) -> bool
+    ensures { OnFalse result (is_drained controller.now slots.now ≡ true) }
+{
+    if may_have_command(controller, slots) {
+        return true;
+    }
+    slots.may_give()
 }
 
 /// Writes what goes out before the controller is initialised, where no slot has a connection: the

@@ -1,5 +1,5 @@
 -- Nothing goes out where no command is due and no slot gives a packet.
-use Rattle.std.proofs.Common.{◌≡◌, Bool, true, false, List, [], Option, Some, None, refl, sym, ap, ◌∙◌}
+use Rattle.std.proofs.Common.{◌≡◌, Bool, true, false, List, [], Option, None, refl, sym, ap, ◌∙◌}
 use Rattle.std.specs.Prelude.{nat_lt, ◌&&◌, ◌||◌, not, is_none, is_some, if◌then◌else◌}
 use Rattle.std.specs.Bool.{OnFalse}
 use Rattle.std.specs.List.{list_any}
@@ -12,13 +12,6 @@ use Rattle.gatt_host.specs.HostModel.{HostModel, all_out}
 use Rattle.gatt_laws.specs.machine.Controller.{Controller, is_ready}
 use Rattle.gatt_slots.specs.Commands.{gives, has_command}
 use Rattle.gatt_slots.specs.SlotState.{SlotState}
-use Rattle.le_hci.specs.Command.{Commanded}
-use Rattle.le_hci.specs.Init.{command_awaited}
-
-awaited : (awaiting : Bool) (found : Option Commanded) → is_none found ≡ true → (let none : Option Commanded = None in if awaiting then none else found) ≡ None
-awaited true found is = refl
-awaited false None is = refl
-awaited false (Some command) is = cc is
 
 closed : (free shared advertising refused : Bool) → OnFalse free (shared ≡ false) → (free && not advertising && not refused) ≡ false
     → (shared && not advertising && not refused) ≡ false
@@ -26,11 +19,11 @@ closed true true advertising refused is still = still
 closed true false advertising refused is still = refl
 closed false shared advertising refused is still = ap (λ there. there && not advertising && not refused) (OnFalse_at refl is)
 
--- none is, where the controller is initialised, no slot has one, and none is to be told to advertise
-pub none_due : (controller : Controller) (slots : List (Option SlotState)) (free : Bool) → is_ready controller ≡ true → list_any has_command slots ≡ false
+-- none is, where initialisation has none, no slot has one, and none is to be told to advertise
+pub none_due : (controller : Controller) (slots : List (Option SlotState)) (free : Bool) → is_some (init_command controller) ≡ false → list_any has_command slots ≡ false
     → OnFalse free (has_free_slot slots ≡ false) → (free && not controller.advertising && not controller.refused) ≡ false → command_next controller slots ≡ None
 none_due controller slots free ready idle shared still =
-    let init : init_command controller ≡ None = awaited controller.awaiting (command_awaited controller.init) ready in
+    let init : init_command controller ≡ None = is_none_where (init_command controller) ready in
     let slot : first_slot_command slots ≡ None = is_none_where (first_slot_command slots) (sym (any_command slots) ∙ idle) in
     let quiet = closed free (has_free_slot slots) controller.advertising controller.refused shared still in
     by init slot quiet (nat_lt 0 controller.credit) refl
