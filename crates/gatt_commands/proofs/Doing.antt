@@ -14,8 +14,8 @@ use Rattle.gatt_laws.specs.machine.Calls.{Call}
 use Rattle.gatt_laws.specs.machine.Input.{Item, ACall, ATable, call_refusal, run, replacement_refusal}
 use Rattle.gatt_laws.specs.machine.Start.{Start}
 use Rattle.octets.specs.Number.{Octets}
-use Rattle.gatt_commands.specs.declared.acts.Refused.{Refused}
-use Rattle.gatt_commands.specs.declared.acts.Refused.TheVariants as refused
+use Rattle.script_lines.specs.declared.refused.Refused.{Refused}
+use Rattle.script_lines.specs.declared.refused.Refused.TheVariants as refused
 use Rattle.gatt_commands.specs.Doing.{Calls, ReplacesBy, refused_call}
 
 -- what is told of an answer of the host

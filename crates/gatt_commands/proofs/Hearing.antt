@@ -9,8 +9,8 @@ use Rattle.sim_controller.specs.declared.told.Told.{Told}
 use Rattle.sim_controller.specs.Hearing.{frames_heard_by, frames_heard_in}
 use Rattle.sim_controller.specs.Phone.{Phone, absent_phone, phone_after_hearing, after_telling}
 use Rattle.sim_controller.specs.Simulated.{Simulated, phone_at, with_phone}
-use Rattle.gatt_commands.proofs.Telling.{heard_then, phone_set, phone_still, phone_told, set_twice}
-use Rattle.gatt_commands.specs.Lines.{told_phone, with_told_phone, with_told_phones}
+use Rattle.script_lines.proofs.Telling.{heard_then, phone_set, phone_still, phone_told, set_twice}
+use Rattle.script_lines.specs.Lines.{told_phone, with_told_phone, with_told_phones}
 use Rattle.gatt_commands.specs.Loop.{acts_by, acts_in, nothing_heard, packets_taken, printed_of, taken_by}
 use Rattle.gatt_commands.specs.Runs.{simulated}
 

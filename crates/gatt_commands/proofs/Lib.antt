@@ -1,7 +1,5 @@
 pub mod Doing
-pub mod Echoing
 pub mod Exchanging
-pub mod Fronts
 pub mod Hearing
 pub mod Joined
 pub mod Loop
@@ -13,6 +11,5 @@ pub mod RunOrders
 pub mod Running
 pub mod ServeEnds
 pub mod ServeFaults
-pub mod Telling
 pub mod Unshown
 pub mod WriterLent

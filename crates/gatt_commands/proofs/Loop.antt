@@ -18,7 +18,7 @@ use Rattle.gatt_commands.proofs.Running.{keeps_all}
 use Rattle.gatt_files.specs.declared.fault.ShellFault.{ShellFault}
 use Rattle.gatt_commands.specs.declared.notes.Notes.{Notes}
 use Rattle.gatt_commands.specs.Doing.{Stage}
-use Rattle.gatt_commands.specs.Echo.{Shown, shown_after, shown_behind}
+use Rattle.script_lines.specs.Echo.{Shown, shown_after, shown_behind}
 use Rattle.gatt_commands.specs.Exchange.{ExchangesAll, pair_of}
 use Rattle.gatt_commands.specs.Loop.{ClosesTheLoop, IsJoinedUpTo, SoFar, after_line_done, after_line, after_lines, nothing_yet, packets_taken}
 use Rattle.gatt_commands.specs.Opening.{IsOpened, command_configuration}

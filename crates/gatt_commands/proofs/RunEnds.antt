@@ -11,7 +11,7 @@ use Rattle.sim_controller.specs.Simulated.{Simulated, simulated_at_start}
 use Rattle.gatt_files.specs.declared.fault.ShellFault.{ShellFault}
 use Rattle.gatt_files.specs.declared.fault.ShellFault.TheVariants.{Unwritten}
 use Rattle.gatt_commands.specs.Doing.{stage_of}
-use Rattle.gatt_commands.specs.Echo.{Shown}
+use Rattle.script_lines.specs.Echo.{Shown}
 use Rattle.gatt_commands.specs.Runs.{simulated, EndsEarly, HostRuns, RunsAll}
 use Rattle.gatt_files.specs.Saving.{Save, Saves, SavesAfter}
 

@@ -3,7 +3,7 @@ use Rattle.std.proofs.Common.{◌≡◌, Bool, List, ℕ, sym, subst, ◌∙◌}
 use Rattle.std.specs.Prelude.{Result, Ok, Err, IfErr, IsErrAnd}
 use Rattle.gatt_files.specs.declared.fault.ShellFault.{ShellFault}
 use Rattle.gatt_files.specs.declared.fault.ShellFault.TheVariants.{Table, Keys, Rows, Next, Script, Host, Controller, TooLong, NotHex, Unreadable, Unwritten, Listen, Memory}
-use Rattle.gatt_commands.specs.Lines.{IsRunCommandFault, IsRunFault, IsScriptRunFault}
+use Rattle.gatt_commands.specs.Faults.{IsRunCommandFault, IsRunFault, IsScriptRunFault}
 use Rattle.gatt_files.specs.ScriptFile.{IsScriptRefusal}
 
 ran : (fault : ShellFault) → IsRunFault fault → IsScriptRunFault fault
@@ -71,3 +71,16 @@ begun Listen is = absurd is
 pub run_at_all : (result : Result Unit ShellFault) → IfErr result IsScriptRunFault → IfErr result IsRunCommandFault
 run_at_all (Ok done) is = is
 run_at_all (Err fault) is = begun fault is
+
+-- a fault from the script on is none of the files in front of it
+pub no_table : (result : Result Unit ShellFault) (number : ℕ) → IfErr result IsScriptRunFault → result ≡ Err (Table number) → ⊥
+no_table result number faults is = subst (λ (ended : Result Unit ShellFault). IfErr ended IsScriptRunFault) is faults
+
+pub no_next : (result : Result Unit ShellFault) (number : ℕ) → IfErr result IsScriptRunFault → result ≡ Err (Next number) → ⊥
+no_next result number faults is = subst (λ (ended : Result Unit ShellFault). IfErr ended IsScriptRunFault) is faults
+
+pub no_keys : (result : Result Unit ShellFault) (number : ℕ) → IfErr result IsScriptRunFault → result ≡ Err (Keys number) → ⊥
+no_keys result number faults is = subst (λ (ended : Result Unit ShellFault). IfErr ended IsScriptRunFault) is faults
+
+pub no_rows : (result : Result Unit ShellFault) (number : ℕ) → IfErr result IsScriptRunFault → result ≡ Err (Rows number) → ⊥
+no_rows result number faults is = subst (λ (ended : Result Unit ShellFault). IfErr ended IsScriptRunFault) is faults

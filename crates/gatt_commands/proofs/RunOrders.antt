@@ -9,8 +9,8 @@ use Rattle.scripts.specs.declared.script_fault.ScriptFault.TheVariants.{BadLine}
 use Rattle.scripts.specs.Script.{Acts}
 use Rattle.gatt_files.specs.declared.fault.ShellFault.{ShellFault}
 use Rattle.gatt_files.specs.declared.fault.ShellFault.TheVariants.{Table, Keys, Rows, Next, Script, Host, Controller, TooLong, NotHex, Unreadable, Unwritten, Listen, Memory}
-use Rattle.gatt_commands.specs.declared.echo.Shows.{Shows}
-use Rattle.gatt_commands.specs.Echo.{lines_shown}
+use Rattle.script_lines.specs.declared.script_text.Shows.{Shows}
+use Rattle.script_lines.specs.Echo.{lines_shown}
 use Rattle.gatt_commands.specs.Runs.{RunsFile}
 use Rattle.gatt_files.specs.Saving.{Save}
 use Rattle.gatt_files.specs.ScriptFile.{script_in, IsScriptRefusal}

@@ -6,11 +6,11 @@ use Rattle.le_h4.specs.Division.{division}
 use Rattle.le_h4.specs.Packet.{Packet}
 use Rattle.scripts.specs.declared.act.Act.{Act}
 use Rattle.scripts.specs.declared.act.Act.TheVariants as line
-use Rattle.gatt_commands.specs.declared.acts.Refused.{Refused}
+use Rattle.script_lines.specs.declared.refused.Refused.{Refused}
 use Rattle.gatt_commands.specs.declared.notes.Notes.{Notes}
 use Rattle.gatt_commands.specs.Doing.{NotesAct, NotesReplacing, NotesUnless}
 use Rattle.gatt_commands.specs.Exchange.{Exchanges, ExchangesAll, HandsOver, NotesFirst, Pair, pair_of}
-use Rattle.gatt_commands.specs.Lines.{outcome_text}
+use Rattle.script_lines.specs.Lines.{outcome_text}
 use Rattle.gatt_commands.specs.Notices.{NotesNothingYet}
 use Rattle.gatt_commands.specs.Runs.{ShowsNothingUnasked}
 use Rattle.octets.specs.Number.{Octets}

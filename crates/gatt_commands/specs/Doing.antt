@@ -21,8 +21,8 @@ use Rattle.sim_controller.specs.declared.fault.SimFault.{SimFault}
 use Rattle.sim_controller.specs.Phones.{handle_of_phone}
 use Rattle.sim_controller.specs.SimFault.{sim_fault_number}
 use Rattle.sim_controller.specs.Simulated.{Simulated}
-use Rattle.gatt_commands.specs.declared.acts.Refused.{Refused}
-use Rattle.gatt_commands.specs.declared.acts.Refused.TheVariants as refused
+use Rattle.script_lines.specs.declared.refused.Refused.{Refused}
+use Rattle.script_lines.specs.declared.refused.Refused.TheVariants as refused
 use Rattle.gatt_commands.specs.declared.notes.Notes.{Notes}
 use Rattle.gatt_commands.specs.Notices.{NotesWhatIsTold}
 

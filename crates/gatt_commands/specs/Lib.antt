@@ -1,7 +1,6 @@
 pub mod Doing
-pub mod Echo
 pub mod Exchange
-pub mod Lines
+pub mod Faults
 pub mod Loop
 pub mod Notices
 pub mod Opening

@@ -27,10 +27,10 @@ use Rattle.sim_controller.specs.Hearing.{frames_for}
 use Rattle.sim_controller.specs.Phones.{handle_of_phone}
 use Rattle.sim_controller.specs.Simulated.{Simulated, simulated_at_start, phone_at}
 use Rattle.sim_controller.specs.Told.{sent_octets, sent_of}
-use Rattle.gatt_commands.specs.declared.acts.Refused.{Refused}
+use Rattle.script_lines.specs.declared.refused.Refused.{Refused}
 use Rattle.gatt_files.specs.declared.fault.ShellFault.{ShellFault}
 use Rattle.gatt_commands.specs.Doing.{DoesLine, Stage, sim_act, stage_of}
-use Rattle.gatt_commands.specs.Echo.{Shown, shown_after, shown_behind}
+use Rattle.script_lines.specs.Echo.{Shown, shown_after, shown_behind}
 use Rattle.gatt_commands.specs.Exchange.{Exchanges, Pair}
 use Rattle.gatt_commands.specs.Opening.{IsOpened, command_configuration}
 use Rattle.gatt_commands.specs.Runs.{EndsAtNext, EndsInLines, Runs, RunsAll, RunsLine, simulated}

@@ -13,17 +13,17 @@ use Rattle.scripts.specs.declared.act.Act.{Act}
 use Rattle.scripts.specs.Script.{Acts}
 use Rattle.sim_controller.specs.declared.config.SimConfig.{SimConfig}
 use Rattle.sim_controller.specs.Simulated.{Simulated, simulated_at_start}
-use Rattle.gatt_commands.specs.declared.acts.Refused.{Refused}
+use Rattle.script_lines.specs.declared.refused.Refused.{Refused}
 use Rattle.gatt_files.specs.declared.fault.ShellFault.{ShellFault}
 use Rattle.gatt_files.specs.declared.fault.ShellFault.TheVariants.{Memory, Unwritten}
 use Rattle.gatt_commands.specs.declared.notes.Notes.{Notes}
-use Rattle.gatt_commands.specs.declared.echo.Shows.{Shows}
+use Rattle.script_lines.specs.declared.script_text.Shows.{Shows}
 use Rattle.gatt_commands.specs.declared.simulation.TheConstants.{SIMULATED_PACKETS}
 use Rattle.gatt_commands.specs.Doing.{DoesLine, NotesAct, Stage, stage_of}
-use Rattle.gatt_commands.specs.Echo.{Shown, echo_of, lines_shown, shown_behind, shown_of}
+use Rattle.script_lines.specs.Echo.{Shown, echo_of, lines_shown, shown_behind, shown_of}
 use Rattle.gatt_commands.specs.Exchange.{ExchangesAll, ExchangesUntil, pair_of}
 use Rattle.gatt_files.specs.KeyFile.{keys_in}
-use Rattle.gatt_commands.specs.Lines.{outcome_text, with_told_phones}
+use Rattle.script_lines.specs.Lines.{outcome_text, with_told_phones}
 use Rattle.gatt_commands.specs.Notices.{NotesNothingYet}
 use Rattle.gatt_commands.specs.Opening.{IsOpened}
 use Rattle.gatt_files.specs.RowsFile.{rows_in}

@@ -6,27 +6,19 @@ ghost use Rattle.gatt_host.specs.HostModel.{all_out};
 ghost use Rattle.scripts.specs.Phones.{IsOfPhoneBelow};
 ghost use Rattle.sim_controller.specs.Acts.{DoesAct};
 ghost use Rattle.gatt_commands.specs.Doing.{Calls, DoesLine, NotesAct, NotesReplacing, NotesUnless, PhoneActs, ReplacesBy, sim_act, stage_of};
-ghost use Rattle.gatt_commands.specs.Lines.{IsOfPhone};
+ghost use Rattle.script_lines.specs.Lines.{IsOfPhone};
 ghost use Rattle.scripts.specs.declared.script.TheConstants.{MAX_PHONES};
 
 use crate::notes::Notes;
 use arrayvec::ArrayVec;
 use att_table::Table;
 use gatt_host::{App, Host};
+use script_lines::Refused;
 use scripts::{Act, ScriptedAct};
 use sim_controller::{PhoneAct, Sim, SimFault};
 
 /// The handle of the first phone's connection. Those of the others follow it.
 pub(crate) const FIRST_HANDLE: u16 = 0x40;
-
-/// Who refused what a line does, and the number of the fault.
-#[derive(Clone, Copy)]
-pub(crate) enum Refused {
-    /// The host refused a call of the application.
-    Call(u8),
-    /// The controller refused an act of a phone.
-    Act { phone: u8, number: u8 },
-}
 
 /// Does what a line says, unless it is refused. A table that is replaced stands in the other's place.
 /// What the host tells of it is noted.

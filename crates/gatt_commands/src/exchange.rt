@@ -7,7 +7,7 @@ ghost use Rattle.gatt_laws.specs.machine.Input.{APacket};
 ghost use Rattle.le_h4.specs.Packet.{packet_of_ref};
 ghost use Rattle.gatt_commands.specs.Notices.{NotesWhatIsTold};
 ghost use Rattle.gatt_commands.specs.Exchange.{ControllerAnswers, ExchangesUntil, HandsNext, HostAnswers, HostHears, IsQuiet, NotesTaken, pair_of};
-ghost use Rattle.gatt_commands.specs.Lines.{IsExchangeFault};
+ghost use Rattle.gatt_commands.specs.Faults.{IsExchangeFault};
 
 use crate::notes::Notes;
 use arrayvec::ArrayVec;

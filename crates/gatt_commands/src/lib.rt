@@ -3,7 +3,6 @@
 #![tactic(auto)]
 
 mod acts;
-mod echo;
 mod exchange;
 mod lines;
 mod notes;
@@ -14,7 +13,6 @@ mod serve;
 mod simulation;
 mod told;
 
-pub use echo::Shows;
 pub use gatt_files::{
     CHUNK, KeysPath, LazyFile, READS, RowsOut, RowsPath, RowsReader, RowsStore, ShellFault,
     TOML_OCTETS, TablePath, att_lines, check_files, check_paths, read_keys, read_rows, read_table,
@@ -23,4 +21,5 @@ pub use gatt_files::{
 pub use notice_lines::{add_line, add_number, add_value};
 pub use paths::{NextPath, RunPaths, ScriptPath, run_paths};
 pub use run::run_script;
+pub use script_lines::Shows;
 pub use serve::{Address, ServePaths, TURNS, serve_on, serve_paths};

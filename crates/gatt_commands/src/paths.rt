@@ -1,13 +1,13 @@
 //! The command `run`, over the paths of its files.
 
 ghost use Rattle.std.specs.Prelude.{◌≡◌, is_some, IfErr};
-ghost use Rattle.gatt_commands.specs.Lines.{IsRunCommandFault};
+ghost use Rattle.gatt_commands.specs.Faults.{IsRunCommandFault};
 
-use crate::echo::Shows;
 use crate::run::run_script;
 use gatt_files::{
     KeysPath, LazyFile, RowsOut, RowsPath, RowsReader, RowsWriter, ShellFault, TablePath,
 };
+use script_lines::Shows;
 use std::alloc::Global;
 use std::fs::Files;
 use std::io::Write;

@@ -4,7 +4,7 @@ ghost use Rattle.std.specs.Prelude.{◌≡◌, ◌≢◌, ◌⊎◌, ℕ, is_som
 ghost use Rattle.std.specs.Option.{option_map};
 ghost use Rattle.scripts.specs.declared.script_fault.ScriptFault.TheVariants.{BadLine};
 ghost use Rattle.gatt_files.specs.KeyFile.{keys_in, KeysAreRefusedAs};
-ghost use Rattle.gatt_commands.specs.Lines.{IsRunCommandFault, IsScriptRunFault};
+ghost use Rattle.gatt_commands.specs.Faults.{IsRunCommandFault, IsScriptRunFault};
 ghost use Rattle.gatt_commands.specs.Loop.{ClosesTheLoop};
 ghost use Rattle.gatt_files.specs.RowsFile.{rows_in, RowsAreRefusedAs};
 ghost use Rattle.gatt_commands.specs.Runs.{RunsFile, RunsFiles, ShowsNothingUnasked, files_of};
@@ -12,7 +12,6 @@ ghost use Rattle.gatt_files.specs.ScriptFile.{script_in};
 ghost use Rattle.gatt_files.specs.TableFile.{table_in, TableIsRefusedAs};
 ghost use Rattle.gatt_files.specs.Turns.{IsPast, OfTable, OfNext, OfKeys, OfRows, OfScript};
 
-use crate::echo::{Shows, shown_text};
 use crate::opening::open_host;
 use crate::simulation::run_opened;
 use att_table::Table;
@@ -21,6 +20,7 @@ use gatt_files::{
 };
 use gatt_subs::Rows;
 use le_security::Keys;
+use script_lines::{Shows, shown_text};
 use std::alloc::Global;
 use std::io::{Read, Write};
 

@@ -3,8 +3,8 @@
 ghost use Rattle.std.specs.Prelude.{◌≡◌, ◌⊎◌, IfErr, IfOk};
 ghost use Rattle.scripts.specs.Phones.{HasNamedPhones};
 ghost use Rattle.sim_controller.specs.Simulated.{simulated_at_start};
-ghost use Rattle.gatt_commands.specs.Echo.{lines_left, shown_of};
-ghost use Rattle.gatt_commands.specs.Lines.{IsRunFault};
+ghost use Rattle.script_lines.specs.Echo.{lines_left, shown_of};
+ghost use Rattle.gatt_commands.specs.Faults.{IsRunFault};
 ghost use Rattle.gatt_commands.specs.Runs.{HostRuns, simulated};
 ghost use Rattle.gatt_files.specs.Turns.{IsPast, OfScript};
 

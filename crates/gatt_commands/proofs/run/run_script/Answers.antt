@@ -3,12 +3,24 @@ use Rattle.gatt_files.specs.KeyFile.{keys_in}
 use Rattle.gatt_files.specs.RowsFile.{rows_in}
 use Rattle.gatt_files.specs.TableFile.{table_in}
 use Rattle.gatt_commands.proofs.RunEnds.{or_more}
-use Rattle.gatt_commands.proofs.RunFaults.{run_at_all}
+use Rattle.gatt_commands.proofs.RunFaults.{no_keys, no_next, no_rows, no_table, run_at_all}
 use Rattle.gatt_files.proofs.Turns.{accepted}
 use Rattle.gatt_commands.proofs.RunOrders.{script_accepted, script_refused}
 use Rattle.gatt_commands.proofs.run.run_script.Goals as goal
 use Rattle.gatt_commands.proofs.Loop.{closes_the_loop}
 use Rattle.gatt_commands.proofs.Unshown.{shows_nothing_unasked}
+
+pub returns-clause-table : goal.returns-clause-table
+returns-clause-table g c = λ number is beside. absurd (no_table c.run_files.result number c.run_files.ensures.faults is)
+
+pub returns-clause-next : goal.returns-clause-next
+returns-clause-next g c = λ number is beside. absurd (no_next c.run_files.result number c.run_files.ensures.faults is)
+
+pub returns-clause-keys : goal.returns-clause-keys
+returns-clause-keys g c = λ number is beside. absurd (no_keys c.run_files.result number c.run_files.ensures.faults is)
+
+pub returns-clause-rows : goal.returns-clause-rows
+returns-clause-rows g c = λ number is beside. absurd (no_rows c.run_files.result number c.run_files.ensures.faults is)
 
 pub returns-in_err-rows-clause-table_first : goal.returns-in_err-rows-clause-table_first
 returns-in_err-rows-clause-table_first g c = λ past. accepted (g.T.Read.remaining c.args.table.now) table_in c.in_ok-table.table c.in_ok-table.ensures.table

@@ -1,7 +1,7 @@
 use Rattle.std.proofs.Common.{refl}
 use Rattle.std.specs.Prelude.{is_some, Ok, Err, Some}
 use Rattle.scripts.specs.declared.script_fault.ScriptFault.TheVariants.{BadLine}
-use Rattle.gatt_commands.specs.Echo.{lines_left}
+use Rattle.script_lines.specs.Echo.{lines_left}
 use Rattle.gatt_files.specs.ScriptFile.{script_in}
 use Rattle.gatt_commands.proofs.RunEnds.{or_more}
 use Rattle.gatt_commands.proofs.RunFaults.{judged_at_all, ran_at_all}

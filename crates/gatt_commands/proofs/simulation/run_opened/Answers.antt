@@ -1,7 +1,7 @@
 use Rattle.std.proofs.Common.{subst, sym}
 use Rattle.gatt_commands.proofs.Running.{passed_on}
 use Rattle.gatt_commands.proofs.RunOrders.{refused_never_past}
-use Rattle.gatt_commands.specs.Lines.{IsRunFault}
+use Rattle.gatt_commands.specs.Faults.{IsRunFault}
 use Rattle.gatt_commands.proofs.simulation.run_opened.Goals as goal
 
 pub returns-in_err-sim-clause-runs : goal.returns-in_err-sim-clause-runs

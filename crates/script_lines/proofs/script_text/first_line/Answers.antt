@@ -2,8 +2,8 @@ use Rattle.std.proofs.Common.{◌∷◌, ◌+◌, ◌∙◌, ap, ◌-◌, sym, l
 use Rattle.std.proofs.lemmas.List.{length-drop, take_all}
 use Rattle.octets.specs.Number.{Octets}
 use Rattle.scripts.specs.Script.{lines_of_script}
-use Rattle.gatt_commands.proofs.Echoing.{first_of_lines, only_line}
-use Rattle.gatt_commands.proofs.echo.first_line.Goals as goal
+use Rattle.script_lines.proofs.Echoing.{first_of_lines, only_line}
+use Rattle.script_lines.proofs.script_text.first_line.Goals as goal
 
 pub returns-in-Some-clause-lines : goal.returns-in-Some-clause-lines
 returns-in-Some-clause-lines c =

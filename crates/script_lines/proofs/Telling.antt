@@ -4,7 +4,7 @@ use Rattle.std.specs.Io.KnownBytes.{Appends}
 use Rattle.std.proofs.lemmas.Grind.{common_steps}
 use Rattle.std.proofs.lemmas.List.{append-nil}
 use Rattle.gatt_files.proofs.Appending.{appends-append}
-use Rattle.gatt_commands.specs.Lines.{heard_line, heard_lines, phone_text, phones_text, told_phone, told_phones, with_told_phone, with_told_phones}
+use Rattle.script_lines.specs.Lines.{heard_line, heard_lines, phone_text, phones_text, told_phone, told_phones, with_told_phone, with_told_phones}
 use Rattle.octets.specs.Number.{Octets}
 use Rattle.sim_controller.specs.Phone.{Phone, absent_phone, phone_after_hearing}
 use Rattle.sim_controller.specs.Simulated.{Simulated, phone_at, with_phone}

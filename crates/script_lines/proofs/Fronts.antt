@@ -4,10 +4,10 @@ use Rattle.std.specs.Prelude.{OnErr}
 use Rattle.std.proofs.lemmas.List.{append-nil}
 use Rattle.std.proofs.lemmas.Result.{on_err_weaker}
 use Rattle.gatt_files.proofs.Fronts.{front_first, front_then}
-use Rattle.gatt_commands.proofs.Telling.{HasTold, HasToldPhones, any_default, heard_split, heard_then, phone_still, text_next}
-use Rattle.gatt_commands.specs.declared.acts.Refused.{Refused}
-use Rattle.gatt_commands.specs.declared.acts.Refused.TheVariants.{Act, Call}
-use Rattle.gatt_commands.specs.Lines.{ended_line, ended_text, frame_line, frame_line_if, heard_line, heard_lines, phone_text, phones_text, refused_line, IsOfPhone}
+use Rattle.script_lines.proofs.Telling.{HasTold, HasToldPhones, any_default, heard_split, heard_then, phone_still, text_next}
+use Rattle.script_lines.specs.declared.refused.Refused.{Refused}
+use Rattle.script_lines.specs.declared.refused.Refused.TheVariants.{Act, Call}
+use Rattle.script_lines.specs.Lines.{ended_line, ended_text, frame_line, frame_line_if, heard_line, heard_lines, phone_text, phones_text, refused_line, IsOfPhone}
 use Rattle.le_l2cap.specs.Frame.{BasicFrame, frame_of}
 use Rattle.octets.specs.Number.{Octets}
 use Rattle.octets.specs.Stream.{WritesFront}

@@ -1,6 +1,6 @@
 use Rattle.std.proofs.Common.{◌≡◌, ◌≤◌, length}
-use Rattle.gatt_commands.proofs.Telling.{HasToldPhones}
-use Rattle.gatt_commands.proofs.told.print_phones.Given as goal
+use Rattle.script_lines.proofs.Telling.{HasToldPhones}
+use Rattle.script_lines.proofs.told.print_phones.Given as goal
 
 -- so many phones are told, and what waits for the host stays
 abbrev pub invariant-loop-phone : goal.invariant-loop-phone

@@ -4,8 +4,8 @@ ghost use Rattle.std.specs.Prelude.{◌≡◌, ◌≢◌, ◌<◌, [], ◌∷◌
 ghost use Rattle.std.specs.Io.KnownBytes.{Appends};
 ghost use Rattle.octets.specs.Stream.{WritesFront};
 ghost use Rattle.scripts.specs.Script.{lines_of_script};
-ghost use Rattle.gatt_commands.specs.Echo.{lines_behind, echo_of, lines_left, lines_shown, says};
-ghost use Rattle.gatt_commands.specs.Lines.{line_feed};
+ghost use Rattle.script_lines.specs.Echo.{lines_behind, echo_of, lines_left, lines_shown, says};
+ghost use Rattle.script_lines.specs.Lines.{line_feed};
 
 use gatt_files::{ShellFault, print};
 use memchr::memchr;
@@ -21,7 +21,7 @@ pub struct Shows {
 }
 
 /// The text of a script whose lines are shown: none, unless they are. It stands apart for its proof.
-pub(crate) fn shown_text(text: &[u8], shows: bool) -> Option<&[u8]>
+pub fn shown_text(text: &[u8], shows: bool) -> Option<&[u8]>
     ensures { lines_left result ≡ lines_shown shows text.now }
 {
     if shows { Some(text) } else { None }
@@ -29,7 +29,7 @@ pub(crate) fn shown_text(text: &[u8], shows: bool) -> Option<&[u8]>
 
 /// Prints the first line of a text that says something, behind the blank lines and comments in front
 /// of it, and gives the text behind it.
-pub(crate) fn echo<'a, W: Write>(
+pub fn echo<'a, W: Write>(
     text: Option<&'a [u8]>,
     writer: &mut W,
 ) -> Result<Option<&'a [u8]>, ShellFault>

@@ -1,8 +1,8 @@
 use Rattle.std.proofs.Common.{rules, ◌<◌, length, ◌∙◌}
 use Rattle.gatt_files.proofs.Fronts.{at_error}
-use Rattle.gatt_commands.proofs.Fronts.{phones_front}
-use Rattle.gatt_commands.proofs.Telling.{phones_more}
-use Rattle.gatt_commands.proofs.told.print_phones.Goals as goal
+use Rattle.script_lines.proofs.Fronts.{phones_front}
+use Rattle.script_lines.proofs.Telling.{phones_more}
+use Rattle.script_lines.proofs.told.print_phones.Goals as goal
 
 pub loop-phone-preserved : goal.loop-phone-preserved
 loop-phone-preserved g c =

@@ -1,7 +1,7 @@
 use Rattle.std.proofs.Common.{ap, sym, ◌∙◌}
-use Rattle.gatt_commands.specs.Echo.{lines_left}
-use Rattle.gatt_commands.proofs.Echoing.{echo_more, has_line}
-use Rattle.gatt_commands.proofs.echo.echo.Goals as goal
+use Rattle.script_lines.specs.Echo.{lines_left}
+use Rattle.script_lines.proofs.Echoing.{echo_more, has_line}
+use Rattle.script_lines.proofs.script_text.echo.Goals as goal
 
 pub loop-left-preserved : goal.loop-left-preserved
 loop-left-preserved g c = record {

@@ -2,8 +2,8 @@ use Rattle.std.proofs.Common.{[], ◌∷◌, ◌++◌, refl, ◌∙◌}
 use Rattle.std.specs.Prelude.{codes}
 use Rattle.hex.specs.Hex.{encode_lower}
 use Rattle.gatt_files.proofs.Fronts.{first_of, four_parts, then_of}
-use Rattle.gatt_commands.specs.Lines.{line_feed}
-use Rattle.gatt_commands.proofs.told.print_ended.Goals as goal
+use Rattle.script_lines.specs.Lines.{line_feed}
+use Rattle.script_lines.proofs.told.print_ended.Goals as goal
 
 pub returns-in_err-print-2-clause-front : goal.returns-in_err-print-2-clause-front
 returns-in_err-print-2-clause-front g c =

@@ -4,7 +4,7 @@ use Rattle.std.specs.Prelude.{◌≢◌, if◌then◌else◌, slice_index}
 use Rattle.std.specs.List.{position_or_len, slice_split}
 use Rattle.memchr.specs.Find.{IsFirstByte, is_byte}
 use Rattle.scripts.specs.Script.{lines_of_script}
-use Rattle.gatt_commands.proofs.Telling.{any_default}
+use Rattle.script_lines.proofs.Telling.{any_default}
 use Rattle.std.specs.Io.KnownBytes.{Appends}
 use Rattle.std.proofs.lemmas.List.Splits.{slice_split_first, slice_split_none}
 use Rattle.std.proofs.lemmas.List.Sums.{position_or_len_is}
@@ -12,8 +12,8 @@ use Rattle.octets.specs.Number.{Octets}
 use Rattle.octets.specs.Stream.{WritesFront}
 use Rattle.gatt_files.proofs.Appending.{appends-append}
 use Rattle.gatt_files.proofs.Fronts.{front_then}
-use Rattle.gatt_commands.specs.Echo.{lines_behind, echo_of, says}
-use Rattle.gatt_commands.specs.Lines.{line_feed}
+use Rattle.script_lines.specs.Echo.{lines_behind, echo_of, says}
+use Rattle.script_lines.specs.Lines.{line_feed}
 
 abbrev pub is_line_feed : ℕ → Bool
 is_line_feed octet = octet == 10

@@ -5,7 +5,7 @@ use Rattle.std.specs.Option.{option_map_or}
 use Rattle.octets.specs.Number.{Octets}
 use Rattle.scripts.specs.Script.{lines_of_script, number_sign}
 use Rattle.scripts.specs.declared.act.Act.{Act}
-use Rattle.gatt_commands.specs.Lines.{line_feed}
+use Rattle.script_lines.specs.Lines.{line_feed}
 
 -- a line says something unless it is blank or a comment
 abbrev pub says : Octets → Bool

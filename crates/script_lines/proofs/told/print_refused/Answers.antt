@@ -3,9 +3,9 @@ use Rattle.std.specs.Fmt.{decimal}
 use Rattle.std.specs.Prelude.{codes, OnErr}
 use Rattle.octets.specs.Stream.{WritesFront}
 use Rattle.gatt_files.proofs.Fronts.{first_of, four_parts, then_of, three_parts}
-use Rattle.gatt_commands.proofs.Fronts.{name_of_act, refused_act_front, refused_call_front}
-use Rattle.gatt_commands.specs.Lines.{line_feed}
-use Rattle.gatt_commands.proofs.told.print_refused.Goals as goal
+use Rattle.script_lines.proofs.Fronts.{name_of_act, refused_act_front, refused_call_front}
+use Rattle.script_lines.specs.Lines.{line_feed}
+use Rattle.script_lines.proofs.told.print_refused.Goals as goal
 
 pub returns-in_err-print-in-Call-clause-front : goal.returns-in_err-print-in-Call-clause-front
 returns-in_err-print-in-Call-clause-front g c =

@@ -1,10 +1,10 @@
 use Rattle.std.proofs.Common.{Some, ap, sym, ◌∙◌}
 use Rattle.gatt_files.proofs.Fronts.{at_error}
-use Rattle.gatt_commands.proofs.Fronts.{end_front, frame_front}
-use Rattle.gatt_commands.proofs.Telling.{told_more}
+use Rattle.script_lines.proofs.Fronts.{end_front, frame_front}
+use Rattle.script_lines.proofs.Telling.{told_more}
 use Rattle.octets.specs.Number.{Octets}
 use Rattle.sim_controller.specs.Simulated.{Simulated}
-use Rattle.gatt_commands.proofs.told.print_phone.Goals as goal
+use Rattle.script_lines.proofs.told.print_phone.Goals as goal
 
 pub loop-frame-preserved : goal.loop-frame-preserved
 loop-frame-preserved g c = record {

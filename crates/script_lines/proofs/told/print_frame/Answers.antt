@@ -2,9 +2,9 @@ use Rattle.std.proofs.Common.{◌++◌, sym, ◌∙◌}
 use Rattle.hex.specs.Hex.{encode_lower}
 use Rattle.le_l2cap.specs.Frame.{frame_contents}
 use Rattle.gatt_files.proofs.Fronts.{first_of, four_parts, then_of}
-use Rattle.gatt_commands.proofs.Fronts.{frame_line_front}
-use Rattle.gatt_commands.specs.Lines.{line_feed, sign_of}
-use Rattle.gatt_commands.proofs.told.print_frame.Goals as goal
+use Rattle.script_lines.proofs.Fronts.{frame_line_front}
+use Rattle.script_lines.specs.Lines.{line_feed, sign_of}
+use Rattle.script_lines.proofs.told.print_frame.Goals as goal
 
 pub returns-in_err-print-2-clause-front : goal.returns-in_err-print-2-clause-front
 returns-in_err-print-2-clause-front g c =

@@ -1,9 +1,9 @@
 use Rattle.std.proofs.Common.{◌+◌, [], length}
 use Rattle.std.specs.Prelude.{◌≢◌}
 use Rattle.std.specs.Option.{option_map_or}
-use Rattle.gatt_commands.specs.Echo.{lines_left}
-use Rattle.gatt_commands.proofs.Echoing.{HasEchoed}
-use Rattle.gatt_commands.proofs.echo.echo.Given as goal
+use Rattle.script_lines.specs.Echo.{lines_left}
+use Rattle.script_lines.proofs.Echoing.{HasEchoed}
+use Rattle.script_lines.proofs.script_text.echo.Given as goal
 
 -- the lines so far are echoed
 abbrev pub invariant-loop-left : goal.invariant-loop-left

@@ -9,10 +9,8 @@ use Rattle.le_l2cap.specs.Frame.{BasicFrame, frame_of}
 use Rattle.sim_controller.specs.Phone.{Phone}
 use Rattle.sim_controller.specs.Simulated.{Simulated, phone_at, with_phone}
 use Rattle.hex.specs.Hex.{encode_lower}
-use Rattle.gatt_commands.specs.declared.acts.Refused.{Refused}
-use Rattle.gatt_commands.specs.declared.acts.Refused.TheVariants.{Call, Act}
-use Rattle.gatt_files.specs.declared.fault.ShellFault.{ShellFault}
-use Rattle.gatt_files.specs.declared.fault.ShellFault.TheVariants.{Table, Next, Keys, Rows, Script, Host, Controller, TooLong, Unreadable, Unwritten, Memory}
+use Rattle.script_lines.specs.declared.refused.Refused.{Refused}
+use Rattle.script_lines.specs.declared.refused.Refused.TheVariants.{Call, Act}
 use Rattle.octets.specs.Number.{Octets}
 
 -- a refusal is of one of so many phones, or of none
@@ -89,30 +87,3 @@ refused_text names refused = option_map_or (refused_line names) refused []
 
 abbrev pub outcome_text : List Octets → Option Refused → List Phone → Octets
 outcome_text names refused phones = refused_text names refused ++ phones_text names phones
-
--- what may end the exchange of packets
-abbrev pub IsExchangeFault : ShellFault → Type 0
-IsExchangeFault (Host number) = Unit {0}
-IsExchangeFault (Controller number) = Unit {0}
-IsExchangeFault TooLong = Unit {0}
-IsExchangeFault _ = ⊥
-
--- what may end a run
-abbrev pub IsRunFault : ShellFault → Type 0
-IsRunFault Unwritten = Unit {0}
-IsRunFault Memory = Unit {0}
-IsRunFault fault = IsExchangeFault fault
-
--- what may end it from the script on
-abbrev pub IsScriptRunFault : ShellFault → Type 0
-IsScriptRunFault (Script line) = Unit {0}
-IsScriptRunFault Unreadable = Unit {0}
-IsScriptRunFault fault = IsRunFault fault
-
--- what may end it from the first file on
-abbrev pub IsRunCommandFault : ShellFault → Type 0
-IsRunCommandFault (Table number) = Unit {0}
-IsRunCommandFault (Next number) = Unit {0}
-IsRunCommandFault (Keys number) = Unit {0}
-IsRunCommandFault (Rows number) = Unit {0}
-IsRunCommandFault fault = IsScriptRunFault fault

@@ -1,6 +1,6 @@
 use Rattle.std.proofs.Common.{◌≡◌, length}
-use Rattle.gatt_commands.proofs.Telling.{HasTold}
-use Rattle.gatt_commands.proofs.told.print_phone.Given as goal
+use Rattle.script_lines.proofs.Telling.{HasTold}
+use Rattle.script_lines.proofs.told.print_phone.Given as goal
 use Rattle.sim_controller.specs.Simulated.{phone_at}
 
 -- what is told so far, and what waits for the host stays

@@ -1,0 +1,3 @@
+pub mod Echoing
+pub mod Fronts
+pub mod Telling
