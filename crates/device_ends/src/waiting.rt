@@ -4,7 +4,7 @@ use mio::unix::SourceFd;
 use mio::{Events, Interest, Poll, Token};
 use std::alloc::Global;
 use std::io;
-use std::net::Net;
+use std::net::{Net, SocketAddr, TcpListener, TcpStream};
 use std::os::fd::{AsRawFd, RawFd};
 use std::time::Duration;
 
@@ -69,6 +69,19 @@ impl Waiting {
         self.poll
             .registry()
             .register(&mut SourceFd(&fd), source.token(), interest(source))
+    }
+
+    /// Listens at an address for controllers or for applications.
+    pub fn listen<R: Net<Listener = TcpListener, Stream = TcpStream>>(
+        &self,
+        rt: &R,
+        address: SocketAddr,
+        source: Source,
+    ) -> io::Result<TcpListener> {
+        let listener = TcpListener::bind(rt, address)?;
+        listener.set_nonblocking(true)?;
+        self.watch(&listener, source)?;
+        Ok(listener)
     }
 
     /// Has a socket that is still ready told again.

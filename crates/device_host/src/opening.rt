@@ -1,12 +1,16 @@
 //! The host that is served: what the files say, and what a controller before has left.
 
-use crate::settings::{FileWords, HostSettings};
 use crate::stop::Stop;
-use crate::unknown::unknown_peer;
+use arrayvec::ArrayVec;
+use device_ends::unknown_peer;
+use device_words::{FileWords, HostSettings};
 use gatt_files::{LazyFile, RowsPath, RowsReader, ShellFault};
-use gatt_host::{Host, Keys, Rows, Table};
+use gatt_host::{Config, Host, Keys, Rows, Table};
 use std::alloc::Global;
 use std::fs::Files;
+
+/// The largest PDU of the Attribute Protocol that the host receives, in octets.
+const RX_MTU: u16 = 247;
 
 /// A host with what the files say.
 pub(crate) fn read_host<R: Files + Eprint>(
@@ -61,9 +65,23 @@ fn open(
     rows: Rows,
     settings: &HostSettings,
 ) -> Result<Host, Stop> {
-    match Host::open(alloc, table, keys, rows, settings.config()) {
+    match Host::open(alloc, table, keys, rows, config(settings)) {
         Ok(host) => Ok(host),
         Err(_) => Err(Stop::Fault(ShellFault::Memory)),
+    }
+}
+
+/// With what a host is opened beside its files.
+fn config(settings: &HostSettings) -> Config {
+    let mut advertising = ArrayVec::new();
+    advertising
+        .try_extend_from_slice(settings.advertising.as_slice())
+        .unwrap();
+    Config {
+        slots: settings.slots,
+        rx_mtu: RX_MTU,
+        address: settings.address,
+        advertising,
     }
 }
 

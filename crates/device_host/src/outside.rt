@@ -1,7 +1,7 @@
 //! What a device does outside of its host, with its log, its files and its sockets.
 
 use crate::device::Device;
-use crate::heard::Heard;
+use crate::hearing::Hearing;
 use crate::telling::settle;
 use gatt_device::{Outside, Sending};
 use gatt_host::Host;
@@ -11,9 +11,15 @@ use std::time::Clock;
 
 impl<
     R: Files<File = File> + Net<Listener = TcpListener, Stream = TcpStream> + Clock + Eprint,
-> Outside<Heard> for Device<'_, R> {
-    fn keep(&mut self, host: &Host, heard: &mut Heard) -> bool {
-        settle(self, host, heard);
+> Outside<Hearing> for Device<'_, R> {
+    fn keep(&mut self, host: &Host, listener: &mut Hearing) -> bool {
+        settle(
+            self.alloc,
+            &mut self.sides,
+            &mut self.rows,
+            host,
+            &mut listener.0,
+        );
         self.rows.is_kept()
     }
 
@@ -22,11 +28,8 @@ impl<
         if octets.is_empty() {
             return Sending::Done;
         }
-        match self.controller.write(octets, &self.log) {
-            Ok(true) => {
-                self.recording.went(octets, &self.log);
-                Sending::Done
-            }
+        match self.sides.write(octets) {
+            Ok(true) => Sending::Done,
             Ok(false) => Sending::Waits,
             Err(_) => Sending::Failed,
         }

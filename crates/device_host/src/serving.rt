@@ -1,17 +1,14 @@
 //! One controller after another is served.
 
-use crate::application::Application;
 use crate::device::Device;
 use crate::ends::{open_ends, reaching};
-use crate::heard::Heard;
+use crate::hearing::Hearing;
 use crate::opening::{read_host, reopen};
 use crate::outgoing::ToController;
-use crate::settings::Settings;
 use crate::stop::Stop;
-use crate::telling::tell;
-use crate::words::HostWords;
-use device_ends::Log;
 use device_lines::Told;
+use device_sides::{Heard, Sides};
+use device_words::{HostWords, Settings};
 use gatt_device::{End, Sending, serve_turn};
 use gatt_files::ShellFault;
 use gatt_host::{Host, HostFault};
@@ -67,50 +64,39 @@ fn listen_and_serve<
     R: Files<File = File> + Net<Listener = TcpListener, Stream = TcpStream> + Clock + Eprint,
 >(rt: &R, alloc: Global, settings: &Settings<'_>, host: Host) -> Result<(), Stop> {
     let mut device = reaching(rt, alloc, settings, host.rows())?;
-    open_and_serve(rt, alloc, settings, host, &mut device)
+    open_and_serve(settings, host, &mut device)
 }
 
 /// Opens what a device still needs, and serves a host.
 fn open_and_serve<
     R: Files<File = File> + Net<Listener = TcpListener, Stream = TcpStream> + Clock + Eprint,
->(
-    rt: &R,
-    alloc: Global,
-    settings: &Settings<'_>,
-    host: Host,
-    device: &mut Device<'_, R>,
-) -> Result<(), Stop> {
-    open_ends(rt, alloc, settings, device)?;
-    device.log.say("ready");
+>(settings: &Settings<'_>, host: Host, device: &mut Device<'_, R>) -> Result<(), Stop> {
+    open_ends(&mut device.sides, settings)?;
+    device.sides.log().say("ready");
     if settings.once {
-        serve_once(alloc, device, host, settings.log_values)
+        serve_once(device, host, settings.log_values)
     } else {
-        serve_each(alloc, device, host, settings)
+        serve_each(device, host, settings)
     }
 }
 
 /// Serves the first controller alone.
 fn serve_once<
     R: Files<File = File> + Net<Listener = TcpListener, Stream = TcpStream> + Clock + Eprint,
->(alloc: Global, device: &mut Device<'_, R>, host: Host, logs_values: bool) -> Result<(), Stop> {
+>(device: &mut Device<'_, R>, host: Host, logs_values: bool) -> Result<(), Stop> {
     let mut host = host;
-    serve_one(alloc, device, &mut host, logs_values).outcome()
+    serve_one(device, &mut host, logs_values).outcome()
 }
 
 /// Serves each controller with what the one before has left.
 fn serve_each<
     R: Files<File = File> + Net<Listener = TcpListener, Stream = TcpStream> + Clock + Eprint,
->(
-    alloc: Global,
-    device: &mut Device<'_, R>,
-    host: Host,
-    settings: &Settings<'_>,
-) -> Result<(), Stop> {
+>(device: &mut Device<'_, R>, host: Host, settings: &Settings<'_>) -> Result<(), Stop> {
     let mut host = host;
     for _controller in 0..u64::MAX {
-        serve_one(alloc, device, &mut host, settings.log_values);
-        host = reopen(alloc, host, &settings.host)?;
-        device.lose();
+        serve_one(device, &mut host, settings.log_values);
+        host = reopen(device.alloc, host, &settings.host)?;
+        device.sides.lose();
     }
     Ok(())
 }
@@ -118,18 +104,18 @@ fn serve_each<
 /// Serves a controller, and tells why it is served no longer.
 fn serve_one<
     R: Files<File = File> + Net<Listener = TcpListener, Stream = TcpStream> + Clock + Eprint,
->(alloc: Global, device: &mut Device<'_, R>, host: &mut Host, logs_values: bool) -> Over {
-    let mut heard = Heard::new(alloc, logs_values);
-    let over = serve_turns(alloc, device, host, &mut heard);
-    tell_over(alloc, &mut device.application, &device.log, over);
+>(device: &mut Device<'_, R>, host: &mut Host, logs_values: bool) -> Over {
+    let mut heard = Hearing(Heard::new(device.alloc, logs_values));
+    let over = serve_turns(device, host, &mut heard);
+    tell_over(device.alloc, &mut device.sides, over);
     over
 }
 
 /// Serves a controller, once it is reached, until it is gone or the host has stopped.
 fn serve_turns<
     R: Files<File = File> + Net<Listener = TcpListener, Stream = TcpStream> + Clock + Eprint,
->(alloc: Global, device: &mut Device<'_, R>, host: &mut Host, heard: &mut Heard) -> Over {
-    let mut out = ToController::new(alloc);
+>(device: &mut Device<'_, R>, host: &mut Host, heard: &mut Hearing) -> Over {
+    let mut out = ToController::new(device.alloc);
     for _turn in 0..u64::MAX {
         if let Some(over) = over_in_turn(device, host, &mut out, heard) {
             return over;
@@ -145,7 +131,7 @@ fn over_in_turn<
     device: &mut Device<'_, R>,
     host: &mut Host,
     out: &mut ToController,
-    heard: &mut Heard,
+    heard: &mut Hearing,
 ) -> Option<Over> {
     let turn = serve_turn(host, device, out, heard);
     if matches!(turn.sending, Sending::Failed) {
@@ -160,29 +146,19 @@ fn over_in_turn<
 }
 
 /// Tells the log and the application why a controller is served no longer.
-fn tell_over<R: Clock + Eprint>(
-    alloc: Global,
-    application: &mut Application,
-    log: &Log<'_, R>,
-    over: Over,
-) {
+fn tell_over<R: Clock + Eprint>(alloc: Global, sides: &mut Sides<'_, R>, over: Over) {
     match over {
-        Over::Gone(how) => log.say_of("controller", how),
-        Over::Stopped(fault) => tell_stopped(alloc, application, log, fault),
+        Over::Gone(how) => sides.log().say_of("controller", how),
+        Over::Stopped(fault) => tell_stopped(alloc, sides, fault),
     }
-    tell(alloc, application, log, &Told::Waiting);
-    application.flush();
+    sides.tell(&Told::Waiting);
+    sides.flush();
 }
 
 /// Tells the log and the application that the host has stopped.
-fn tell_stopped<R: Clock + Eprint>(
-    alloc: Global,
-    application: &mut Application,
-    log: &Log<'_, R>,
-    fault: HostFault,
-) {
+fn tell_stopped<R: Clock + Eprint>(alloc: Global, sides: &mut Sides<'_, R>, fault: HostFault) {
     if let Ok(words) = format!(in alloc; "{fault}") {
-        log.say_of("stopped:", words.as_str());
-        tell(alloc, application, log, &Told::Stopped(words.as_str()));
+        sides.log().say_of("stopped:", words.as_str());
+        sides.tell(&Told::Stopped(words.as_str()));
     }
 }

@@ -1,6 +1,6 @@
 //! Which slot of the host each connection has.
 
-use gatt_host::MAX_SLOTS;
+use gatt_laws::MAX_SLOTS;
 
 /// The connections by their slots. One that comes takes the first that is free, as in the host.
 #[derive(Clone, Copy)]

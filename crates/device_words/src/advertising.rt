@@ -2,11 +2,11 @@
 //! Part A.
 
 use arrayvec::ArrayVec;
-use gatt_host::MAX_ADVERTISING_DATA;
+use le_hci::MAX_ADVERTISING_DATA;
 use uuid::Uuid;
 
 /// The data that are advertised.
-pub(crate) type Data = ArrayVec<u8, MAX_ADVERTISING_DATA>;
+pub type Data = ArrayVec<u8, MAX_ADVERTISING_DATA>;
 
 /// Flags for general discovery, without BR/EDR.
 const FLAGS: [u8; 3] = [0x02, 0x01, 0x06];

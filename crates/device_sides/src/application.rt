@@ -1,9 +1,7 @@
 //! The application: one at a time, which says lines and hears lines.
 
-use crate::ends::listen;
-use crate::line::{Line, Listener, Retry, bind_at_path, retry_after};
 use arrayvec::ArrayVec;
-use device_ends::{Source, Waiting};
+use device_ends::{Line, Listener, Retry, Source, Waiting, bind_at_path, retry_after};
 use device_lines::{Found, Inbox, LONGEST, Outbox};
 use std::alloc::Global;
 use std::fs::Files;
@@ -63,7 +61,7 @@ impl Application {
         waiting: &Waiting,
         address: SocketAddr,
     ) -> io::Result<SocketAddr> {
-        let listener = listen(rt, waiting, address, Source::Applications)?;
+        let listener = waiting.listen(rt, address, Source::Applications)?;
         let bound = listener.local_addr()?;
         self.listener = Some(Listener::Port(listener));
         Ok(bound)

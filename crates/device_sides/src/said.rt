@@ -2,12 +2,12 @@
 
 use arrayvec::ArrayVec;
 use device_lines::{Asked, read_line};
-use gatt_host::App;
+use gatt_app::App;
 use std::str;
 
 /// What the application has asked in a turn, which is still to be answered.
 #[derive(Clone, Copy)]
-pub(crate) enum Question {
+pub enum Question {
     /// Nothing.
     Nothing,
     /// A call, which the host answers.

@@ -1,6 +1,9 @@
 //! The controller: how it is reached, and its stream.
 
-use device_ends::{Log, RETRY_TIME, Source, Stream, Waiting, Way};
+use crate::log::Log;
+use crate::stream::Stream;
+use crate::waiting::{Source, Waiting};
+use crate::way::{RETRY_TIME, Way};
 use std::fs::{File, Files};
 use std::io;
 use std::net::{Net, TcpListener, TcpStream};
@@ -8,7 +11,7 @@ use std::time::Clock;
 
 /// The controller that is served, if there is one, and how the next one is reached.
 #[derive(Drop)]
-pub(crate) struct Controller<'a> {
+pub struct Controller<'a> {
     way: Way<'a>,
     stream: Option<Stream>,
     /// Whether it has come in this turn.
@@ -25,7 +28,7 @@ pub(crate) struct Controller<'a> {
 
 impl<'a> Controller<'a> {
     /// None is reached yet.
-    pub(crate) fn new(way: Way<'a>) -> Controller<'a> {
+    pub fn new(way: Way<'a>) -> Controller<'a> {
         Controller {
             way,
             stream: None,
@@ -40,24 +43,24 @@ impl<'a> Controller<'a> {
 
 impl Controller<'_> {
     /// Whether one is served.
-    pub(crate) fn is_there(&self) -> bool {
+    pub fn is_there(&self) -> bool {
         self.stream.is_some()
     }
 
     /// Whether it may be read.
-    pub(crate) fn is_readable(&self) -> bool {
+    pub fn is_readable(&self) -> bool {
         self.is_readable
     }
 
     /// Whether it has come since this was asked last.
-    pub(crate) fn has_come(&mut self) -> bool {
+    pub fn has_come(&mut self) -> bool {
         let is_new = self.is_new;
         self.is_new = false;
         is_new
     }
 
     /// When one is to be tried again, in milliseconds, if none is there and it has to be tried.
-    pub(crate) fn retry(&self) -> Option<u64> {
+    pub fn retry(&self) -> Option<u64> {
         if self.stream.is_none() && self.way.is_tried() {
             Some(self.retry)
         } else {
@@ -66,13 +69,13 @@ impl Controller<'_> {
     }
 
     /// It may be read, and sends no more then, if it is ending.
-    pub(crate) fn is_ready(&mut self, is_ending: bool) {
+    pub fn is_ready(&mut self, is_ending: bool) {
         self.is_readable = true;
         self.is_ending = self.is_ending || is_ending;
     }
 
     /// It is served no longer, and the next one may come, which may wait already.
-    pub(crate) fn lose(&mut self, waiting: &Waiting) {
+    pub fn lose(&mut self, waiting: &Waiting) {
         self.stream = None;
         self.is_readable = false;
         listen_again(&self.way, waiting);
@@ -81,11 +84,7 @@ impl Controller<'_> {
     /// Reads once: how many octets, or none where nothing is there as yet. What is left is told of as
     /// ready where it comes; where it may be there already, it is read in a later turn, or has to be
     /// told of again.
-    pub(crate) fn read(
-        &mut self,
-        waiting: &Waiting,
-        buffer: &mut [u8],
-    ) -> io::Result<Option<usize>> {
+    pub fn read(&mut self, waiting: &Waiting, buffer: &mut [u8]) -> io::Result<Option<usize>> {
         let Some(stream) = &mut self.stream else {
             self.is_readable = false;
             return Ok(None);
@@ -105,7 +104,7 @@ impl Controller<'_> {
     }
 
     /// Writes all of these octets: whether one is there that takes them.
-    pub(crate) fn write<R: Clock + Eprint>(
+    pub fn write<R: Clock + Eprint>(
         &mut self,
         octets: &[u8],
         log: &Log<'_, R>,
@@ -120,7 +119,7 @@ impl Controller<'_> {
     }
 
     /// Reaches for one, where one connects, or where it is time to try again.
-    pub(crate) fn look<
+    pub fn look<
         R: Files<File = File> + Net<Listener = TcpListener, Stream = TcpStream> + Clock + Eprint,
     >(&mut self, connects: bool, waiting: &Waiting, log: &Log<'_, R>) {
         if self.stream.is_none() && (connects || self.is_due_again(log)) {

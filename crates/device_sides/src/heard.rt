@@ -1,13 +1,13 @@
 //! What is heard of the host while a turn is taken.
 
 use crate::places::Places;
-use gatt_host::{Listener, Notice};
+use gatt_app::Notice;
 use notice_lines::{add_line, add_number};
 use std::alloc::{AllocError, Global};
 
 /// The notices of a turn, as the application hears them and as they are logged.
 #[derive(Drop)]
-pub(crate) struct Heard {
+pub struct Heard {
     /// Their lines.
     pub(crate) text: Vec<u8>,
     /// Their lines for the log: of a value that was written only how many octets it has, unless
@@ -16,14 +16,14 @@ pub(crate) struct Heard {
     logs_values: bool,
     places: Places,
     /// Whether one of them may have changed the rows.
-    pub(crate) may_change_rows: bool,
+    pub may_change_rows: bool,
     /// Whether memory was refused for one of them.
     pub(crate) is_refused: bool,
 }
 
 impl Heard {
     /// Nothing is heard yet, and nobody is connected.
-    pub(crate) fn new(alloc: Global, logs_values: bool) -> Heard {
+    pub fn new(alloc: Global, logs_values: bool) -> Heard {
         Heard {
             text: Vec::new(alloc),
             log: Vec::new(alloc),
@@ -35,21 +35,20 @@ impl Heard {
     }
 
     /// Whether nothing was heard.
-    pub(crate) fn is_nothing(&self) -> bool {
+    pub fn is_nothing(&self) -> bool {
         self.log.is_empty() && !self.is_refused
     }
 
     /// Drops what was heard.
-    pub(crate) fn clear(&mut self) {
+    pub fn clear(&mut self) {
         self.text.clear();
         self.log.clear();
         self.may_change_rows = false;
         self.is_refused = false;
     }
-}
 
-impl Listener for Heard {
-    fn hear(&mut self, notice: Notice<'_>) {
+    /// Hears a notice.
+    pub fn hear(&mut self, notice: Notice<'_>) {
         if !matches!(notice, Notice::Written { .. }) {
             self.may_change_rows = true;
         }
@@ -57,9 +56,7 @@ impl Listener for Heard {
             self.is_refused = true;
         }
     }
-}
 
-impl Heard {
     /// Adds the line of a notice for the log.
     fn add_logged(&mut self, notice: &Notice<'_>) -> Result<(), AllocError> {
         match notice {

@@ -1,16 +1,15 @@
 //! Peers of a rows file without a key.
 
-use gatt_host::{Keys, Peer, Rows, Writer};
+use gatt_subs::Rows;
+use le_hci::Peer;
+use le_security::Keys;
+use octets::Writer;
 use std::alloc::{AllocError, Global};
 use std::str;
 
 /// Tells of the first peer of rows that keys do not know, in words, if there is one. The rows are not
 /// fitted to the keys yet.
-pub(crate) fn unknown_peer(
-    alloc: Global,
-    rows: &Rows,
-    keys: &Keys,
-) -> Result<Option<String>, AllocError> {
+pub fn unknown_peer(alloc: Global, rows: &Rows, keys: &Keys) -> Result<Option<String>, AllocError> {
     let mut text = Vec::new(alloc);
     if rows.text(&mut Writer::new(&mut text)).is_err() {
         return Err(AllocError);

@@ -2,18 +2,15 @@
 
 use crate::advertising::{self, Data};
 use crate::words::HostWords;
-use gatt_host::{Config, MAX_SLOTS};
+use gatt_laws::MAX_SLOTS;
 use std::net::SocketAddr;
-
-/// The largest PDU of the Attribute Protocol that the host receives, in octets.
-const RX_MTU: u16 = 247;
 
 /// As many phones may there be at once, unless the words say how many.
 const SLOTS: usize = 4;
 
 /// How a controller is to be reached.
 #[derive(Clone, Copy)]
-pub(crate) enum Reached<'a> {
+pub enum Reached<'a> {
     /// It connects to an address.
     Listen(SocketAddr),
     /// It listens at an address.
@@ -24,7 +21,7 @@ pub(crate) enum Reached<'a> {
 
 /// Where an application connects.
 #[derive(Clone, Copy)]
-pub(crate) enum Door<'a> {
+pub enum Door<'a> {
     /// Nowhere.
     None,
     /// At a path.
@@ -35,25 +32,28 @@ pub(crate) enum Door<'a> {
 
 /// The files that are read and written.
 #[derive(Clone, Copy)]
-pub(crate) struct FileWords<'a> {
+pub struct FileWords<'a> {
     /// The path of the table file.
-    pub(crate) table: &'a str,
+    pub table: &'a str,
     /// The path of the key file.
-    pub(crate) keys: &'a str,
+    pub keys: &'a str,
     /// The path of the rows file.
-    pub(crate) rows: Option<&'a str>,
+    pub rows: Option<&'a str>,
     /// Whether rows of peers without a key are dropped, in place of the file being refused.
-    pub(crate) drop_unknown: bool,
+    pub drop_unknown: bool,
     /// The path of a capture.
-    pub(crate) capture: Option<&'a str>,
+    pub capture: Option<&'a str>,
 }
 
 /// What a host is opened with beside its files.
 #[derive(Drop)]
-pub(crate) struct HostSettings {
-    slots: usize,
-    address: Option<[u8; 6]>,
-    advertising: Data,
+pub struct HostSettings {
+    /// How many phones there may be at once.
+    pub slots: usize,
+    /// The static random address, the least significant octet first, if there is one.
+    pub address: Option<[u8; 6]>,
+    /// The data that are advertised.
+    pub advertising: Data,
 }
 
 impl HostSettings {
@@ -65,40 +65,30 @@ impl HostSettings {
             advertising: read_advertising(words.advertise, words.name.unwrap_or(""))?,
         })
     }
-
-    /// With what a host is opened.
-    pub(crate) fn config(&self) -> Config {
-        let mut advertising = Data::new();
-        advertising
-            .try_extend_from_slice(self.advertising.as_slice())
-            .unwrap();
-        Config {
-            slots: self.slots,
-            rx_mtu: RX_MTU,
-            address: self.address,
-            advertising,
-        }
-    }
 }
 
 /// What the words say.
 #[derive(Drop)]
-pub(crate) struct Settings<'a> {
-    pub(crate) files: FileWords<'a>,
-    pub(crate) reached: Reached<'a>,
-    pub(crate) door: Door<'a>,
+pub struct Settings<'a> {
+    /// The files that are read and written.
+    pub files: FileWords<'a>,
+    /// How the controller is reached.
+    pub reached: Reached<'a>,
+    /// Where an application connects.
+    pub door: Door<'a>,
     /// How long a stranger may be silent, in milliseconds.
-    pub(crate) idle: Option<u64>,
-    pub(crate) host: HostSettings,
+    pub idle: Option<u64>,
+    /// What a host is opened with beside its files.
+    pub host: HostSettings,
     /// Whether the log has the octets of values that phones write.
-    pub(crate) log_values: bool,
+    pub log_values: bool,
     /// Whether it ends once the first controller is gone.
-    pub(crate) once: bool,
+    pub once: bool,
 }
 
 impl<'a> Settings<'a> {
     /// What words say, or what is wrong with them.
-    pub(crate) fn read(words: &HostWords<'a>) -> Result<Settings<'a>, &'static str> {
+    pub fn read(words: &HostWords<'a>) -> Result<Settings<'a>, &'static str> {
         let reached = read_reached(words.listen, words.connect, words.serial)?;
         let door = read_door(words.application, words.application_port)?;
         let host = HostSettings::read(words)?;

@@ -3,8 +3,8 @@
 ghost use Rattle.std.specs.Prelude.{◌≤◌, length, IfSome};
 
 use arrayvec::ArrayVec;
-use gatt_host::{Host, MAX_SLOTS, PacketRef};
-use le_h4::Deframer;
+use gatt_laws::MAX_SLOTS;
+use le_h4::{Deframer, PacketRef};
 
 /// A phone without a key.
 #[derive(Clone, Copy, Default)]
@@ -69,12 +69,14 @@ impl Strangers {
         Some(fed.used)
     }
 
-    /// Who of the phones of a host has no key.
-    pub(crate) fn look(&mut self, host: &Host, now: u64) {
-        if self.limit.is_none() {
-            return;
-        }
-        self.known = strangers_of(host, self.known.as_slice(), now);
+    /// Whether it is looked for them at all.
+    pub(crate) fn are_looked_for(&self) -> bool {
+        self.limit.is_some()
+    }
+
+    /// These phones have no key, and no others.
+    pub(crate) fn look(&mut self, keyless: &[u16], now: u64) {
+        self.known = strangers_of(keyless, self.known.as_slice(), now);
     }
 
     /// When the first of them has been silent for too long, in milliseconds.
@@ -111,16 +113,14 @@ impl Strangers {
     }
 }
 
-/// The phones of a host that have no key, of whom some are known.
-fn strangers_of(host: &Host, known: &[Stranger], now: u64) -> ArrayVec<Stranger, MAX_SLOTS> {
+/// Phones that have no key, of whom some are known.
+fn strangers_of(keyless: &[u16], known: &[Stranger], now: u64) -> ArrayVec<Stranger, MAX_SLOTS> {
     let mut strangers = ArrayVec::new();
-    for connection in host.connections() {
-        if connection.key.is_none() && !connection.ending {
-            let handle = connection.handle;
-            let since = since(known, handle).unwrap_or(now);
-            // A host has no more connections than there is room for.
-            let _ = strangers.try_push(Stranger { handle, since });
-        }
+    for handle in keyless {
+        let handle = *handle;
+        let since = since(known, handle).unwrap_or(now);
+        // A host has no more connections than there is room for.
+        let _ = strangers.try_push(Stranger { handle, since });
     }
     strangers
 }

@@ -2,7 +2,7 @@
 
 ghost use Rattle.std.specs.Prelude.{◌≤◌, length, IfOk};
 
-use device_ends::{Source, Waiting};
+use crate::waiting::{Source, Waiting};
 use std::fs::{Files, Permissions};
 use std::io::{ErrorKind, Read, Write};
 use std::net::{Net, TcpListener, TcpStream};
@@ -15,14 +15,16 @@ const OWNER_ALONE: u32 = 0o600;
 
 /// Where applications connect.
 #[derive(Drop)]
-pub(crate) enum Listener {
+pub enum Listener {
+    /// At a path.
     Path(UnixListener),
+    /// At an address.
     Port(TcpListener),
 }
 
 impl Listener {
     /// The next application that connects, if one does.
-    pub(crate) fn accept(&self, waiting: &Waiting) -> io::Result<Option<Line>> {
+    pub fn accept(&self, waiting: &Waiting) -> io::Result<Option<Line>> {
         match self {
             Listener::Path(listener) => accept_at_path(listener, waiting),
             Listener::Port(listener) => accept_at_port(listener, waiting),
@@ -32,13 +34,16 @@ impl Listener {
 
 /// The connection of an application.
 #[derive(Drop)]
-pub(crate) enum Line {
+pub enum Line {
+    /// To a path.
     Path(UnixStream),
+    /// To an address.
     Port(TcpStream),
 }
 
 impl Line {
-    pub(crate) fn read(&mut self, buffer: &mut [u8]) -> io::Result<usize>
+    /// Reads once: how many octets, and none at the end.
+    pub fn read(&mut self, buffer: &mut [u8]) -> io::Result<usize>
         ensures { IfOk result (λ count. count ≤ length buffer.old) }
     {
         match self {
@@ -47,7 +52,8 @@ impl Line {
         }
     }
 
-    pub(crate) fn write(&mut self, octets: &[u8]) -> io::Result<usize>
+    /// Writes the front of some octets: how many.
+    pub fn write(&mut self, octets: &[u8]) -> io::Result<usize>
         ensures { IfOk result (λ count. count ≤ length octets.now) }
     {
         match self {
@@ -56,7 +62,8 @@ impl Line {
         }
     }
 
-    pub(crate) fn watch(&self, waiting: &Waiting) -> io::Result<()> {
+    /// Watches it from now on.
+    pub fn watch(&self, waiting: &Waiting) -> io::Result<()> {
         match self {
             Line::Path(stream) => waiting.watch(stream, Source::Application),
             Line::Port(stream) => waiting.watch(stream, Source::Application),
@@ -66,7 +73,7 @@ impl Line {
 
 /// When what has failed is tried again.
 #[derive(Clone, Copy)]
-pub(crate) enum Retry {
+pub enum Retry {
     /// At once: it was interrupted.
     Now,
     /// Once more can be done.
@@ -76,7 +83,7 @@ pub(crate) enum Retry {
 }
 
 /// When what has failed so is tried again.
-pub(crate) fn retry_after(error: &io::Error) -> Retry {
+pub fn retry_after(error: &io::Error) -> Retry {
     match error.kind() {
         ErrorKind::Interrupted => Retry::Now,
         ErrorKind::WouldBlock => Retry::Later,
@@ -86,7 +93,7 @@ pub(crate) fn retry_after(error: &io::Error) -> Retry {
 
 /// Listens at a path, where a socket that was left behind is removed first. Nobody but the owner may
 /// connect.
-pub(crate) fn bind_at_path<R: Files + Net>(rt: &R, path: &str) -> io::Result<UnixListener> {
+pub fn bind_at_path<R: Files + Net>(rt: &R, path: &str) -> io::Result<UnixListener> {
     if UnixStream::connect(rt, path).is_ok() {
         return Err(io::Error::from(ErrorKind::AddrInUse));
     }

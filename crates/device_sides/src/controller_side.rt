@@ -1,0 +1,83 @@
+//! The side of the controller: its stream, the capture of what goes by there, and the strangers among
+//! its phones.
+
+use crate::strangers::Strangers;
+use device_ends::{Controller, Log, Recording, Waiting, Way};
+use std::io;
+use std::time::Clock;
+
+/// The controller, and what is looked for in its stream.
+#[derive(Drop)]
+pub(crate) struct ControllerSide<'a> {
+    pub(crate) controller: Controller<'a>,
+    pub(crate) recording: Recording,
+    pub(crate) strangers: Strangers,
+}
+
+impl<'a> ControllerSide<'a> {
+    /// None is reached yet. A stranger may be silent so long, in milliseconds, or for ever.
+    pub(crate) fn new(way: Way<'a>, idle: Option<u64>) -> ControllerSide<'a> {
+        ControllerSide {
+            controller: Controller::new(way),
+            recording: Recording::none(),
+            strangers: Strangers::new(idle),
+        }
+    }
+}
+
+impl ControllerSide<'_> {
+    /// The controller is served no longer, and the next one may come.
+    pub(crate) fn lose(&mut self, waiting: &Waiting) {
+        self.strangers.forget();
+        self.recording.next_stream();
+        self.controller.lose(waiting);
+    }
+
+    /// Until when may be waited, in milliseconds, if there is an end to it: until a stranger is silent
+    /// for too long, or until a controller is tried again.
+    pub(crate) fn due(&self) -> Option<u64> {
+        sooner(self.strangers.due(), self.controller.retry())
+    }
+
+    /// Reads octets at this time, in milliseconds. None where nothing is there as yet; no octets at the
+    /// end.
+    pub(crate) fn read<'b, R: Clock + Eprint>(
+        &mut self,
+        waiting: &Waiting,
+        log: &Log<'_, R>,
+        now: u64,
+        buffer: &'b mut [u8],
+    ) -> io::Result<Option<&'b [u8]>> {
+        let Some(count) = self.controller.read(waiting, buffer)? else {
+            return Ok(None);
+        };
+        let octets = buffer.split_at(count.min(buffer.len())).0;
+        if !octets.is_empty() {
+            self.recording.came(octets, log);
+            self.strangers.hear(octets, now);
+        }
+        Ok(Some(octets))
+    }
+
+    /// Writes all of these octets: whether a controller is there that takes them.
+    pub(crate) fn write<R: Clock + Eprint>(
+        &mut self,
+        octets: &[u8],
+        log: &Log<'_, R>,
+    ) -> io::Result<bool> {
+        let is_there = self.controller.write(octets, log)?;
+        if is_there {
+            self.recording.went(octets, log);
+        }
+        Ok(is_there)
+    }
+}
+
+/// The sooner of two moments.
+pub(crate) fn sooner(one: Option<u64>, other: Option<u64>) -> Option<u64> {
+    match (one, other) {
+        (Some(one), Some(other)) => Some(one.min(other)),
+        (Some(one), None) => Some(one),
+        (None, other) => other,
+    }
+}

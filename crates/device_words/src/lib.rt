@@ -1,0 +1,9 @@
+//! The words of the command `host`: what they are, and what they ask a device for.
+#![tactic(auto)]
+
+mod advertising;
+mod settings;
+mod words;
+
+pub use settings::{Door, FileWords, HostSettings, Reached, Settings};
+pub use words::HostWords;
