@@ -12,7 +12,7 @@ use Rattle.gatt_files.specs.Att.{Server, lines_of_input, pdu_of, printed_answer,
 use Rattle.gatt_files.proofs.Appending.{appends-append, appends-nothing}
 use Rattle.gatt_files.proofs.Inputs.{consumes-append, consumes-kept, consumes-nothing}
 use Rattle.gatt_files.proofs.Reports.{printed-report, bad_line-report}
-use Rattle.gatt_files.specs.Session.{Report, report, line_report, report_after, ends_at, empty_report, onto, server_of, report_from, Passes, StopsAt, Ends, AnswersLine, IsFront, BreaksOffPrinting, EndsBroken, BreaksLine}
+use Rattle.gatt_files.specs.Session.{Report, report, line_report, report_after, ends_at, empty_report, onto, server_of, report_from, Passes, StopsAt, Ends, AnswersLine, IsFront, BreaksOffPrinting, EndsBroken, BreaksLine, IsStart}
 
 -- a `?` passes on the fault that it was given
 pub same_fault : {T U : Type 0} (inner : Result T ShellFault) (outer : Result U ShellFault) (fault wanted : ShellFault)
@@ -223,12 +223,6 @@ break_after first second xs ys zs held mid holds a b = record {
             ∙ sym (append_assoc a.printed b.printed this.0),
       );
 }
-
--- a session that has read nothing yet
-pub record IsStart (session : Session) : Type 0 where
-  pub server : server_of session ≡ door_server
-  pub line : session.line.items ≡ []
-  pub number : session.number ≡ 1
 
 -- from its start the session has come past all that was read
 pub record HasRead (start now : Session) (before left held holds : Option (List ℕ)) : Type 0 where

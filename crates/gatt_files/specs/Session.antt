@@ -2,11 +2,11 @@
 use Rattle.std.specs.Prelude.{◌≡◌, ℕ, ◌+◌, List, [], ◌∷◌, ◌++◌, Option, Some, None}
 use Rattle.std.specs.Io.KnownBytes.{Appends}
 use Rattle.gatt_files.specs.declared.fault.ShellFault.{ShellFault}
-use Rattle.gatt_files.specs.declared.fault.ShellFault.TheVariants.{Table, NotHex, Unwritten, Memory}
+use Rattle.gatt_files.specs.declared.fault.ShellFault.TheVariants.{Table, NotHex, Unreadable, Unwritten, Memory}
 use Rattle.gatt_files.specs.declared.session.Session.{Session}
 use Rattle.gatt_files.specs.TableFile.{TableIsRefusedAs}
 use Rattle.octets.specs.Stream.{WritesFront}
-use Rattle.gatt_files.specs.Att.{Server, door_read, lines_of_input, pdu_of, printed_answer, answer_from, server_after}
+use Rattle.gatt_files.specs.Att.{Server, door_read, door_server, lines_of_input, pdu_of, printed_answer, answer_from, server_after}
 use Rattle.octets.specs.Number.{Octets}
 
 -- what is printed in all, and the number of the first line that is not hexadecimal, with which the printing ends
@@ -112,3 +112,14 @@ abbrev pub IsLineFault : ShellFault → Type 0
 IsLineFault Unwritten = Unit {0}
 IsLineFault (NotHex _) = Unit {0}
 IsLineFault _ = ⊥
+
+-- a session that has read nothing yet
+pub record IsStart (session : Session) : Type 0 where
+  pub server : server_of session ≡ door_server
+  pub line : session.line.items ≡ []
+  pub number : session.number ≡ 1
+
+-- what may end the answering of an input
+abbrev pub IsAnsweringFault : ShellFault → Type 0
+IsAnsweringFault Unreadable = Unit {0}
+IsAnsweringFault fault = IsLineFault fault

@@ -2,6 +2,7 @@ ghost use Rattle.std.specs.Prelude.{◌≡◌, ℕ, OnOk, IfErr, IfSome, None};
 ghost use Rattle.std.specs.Io.KnownBytes.{Appends, Keeps};
 ghost use Rattle.octets.specs.Stream.{WritesFront};
 ghost use Rattle.gatt_files.specs.Att.{door_read, printed_for, bad_line_of, IsAttFault};
+ghost use Rattle.gatt_files.specs.Session.{IsAnsweringFault, IsStart};
 ghost use Rattle.gatt_files.specs.TableFile.{TableIsRefusedAs};
 
 use crate::fault::ShellFault;
@@ -41,6 +42,31 @@ pub fn att_lines<R: Read, W: Write>(
     ensures faults { IfErr result IsAttFault }
 {
     let mut session = Session::new(alloc)?;
+    answer_input(&mut session, reader, writer)
+}
+
+/// Answers the lines of an input in a session that has begun. It stands apart for its proof.
+fn answer_input<R: Read, W: Write>(
+    session: &mut Session,
+    reader: &mut R,
+    writer: &mut W,
+) -> Result<(), ShellFault>
+    requires { IsStart session.old }
+    ensures ok { OnOk result (IfSome (R.remaining reader.old) (λ input.
+        (bad_line_of input ≡ None)
+        × Appends (W.contents writer.old) (W.contents writer.new) (printed_for input))) }
+    ensures not_hex { (number : ℕ) → result ≡ Err (ShellFault.NotHex number)
+        → IfSome (R.remaining reader.old) (λ input.
+        (bad_line_of input ≡ Some number)
+        × Appends (W.contents writer.old) (W.contents writer.new) (printed_for input)) }
+    ensures unreadable { result ≡ Err ShellFault.Unreadable
+        → IfSome (R.remaining reader.old) (λ input.
+        WritesFront (printed_for input) (W.contents writer.old) (W.contents writer.new)) }
+    ensures unwritten { result ≡ Err ShellFault.Unwritten
+        → IfSome (R.remaining reader.old) (λ input.
+        WritesFront (printed_for input) (W.contents writer.old) (W.contents writer.new)) }
+    ensures faults { IfErr result IsAnsweringFault }
+{
     let mut chunk = [0; CHUNK];
     for _read in 0..READS {
         match reader.read(&mut chunk) {
