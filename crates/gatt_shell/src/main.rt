@@ -1,6 +1,7 @@
 //! The program `gatt_shell`: the words of the command line choose a command, as the library
 //! `gatt_words` reads them, and the library `gatt_commands` carries it out over standard input and
-//! standard output.
+//! standard output. Its functions take the runtime as it is: what a command uses of that is named by
+//! the library which has the command.
 #![tactic(auto)]
 
 ghost use Rattle.std.specs.Prelude.{◌≡◌, Ok, Err, IfErr, true, false};
@@ -15,23 +16,19 @@ use gatt_commands::{
 };
 use gatt_words::{Choice, HostChoice, Refusal};
 use show_command::ShowPaths;
-use std::fs::{File, Files};
 use std::io::{BufWriter, LineWriter, Write};
-use std::net::{Net, TcpListener, TcpStream};
 use std::process::ExitCode;
-use std::rt::Env;
-use std::time::Clock;
 use std::{io, str};
 
 /// Prints the text of a fault on standard error. Where that cannot be written, nobody can be told.
-fn tell(rt: &impl Eprint, fault: &ShellFault) {
+fn tell(rt: &HostRuntime, fault: &ShellFault) {
     let mut text = ArrayVec::new();
     gatt_commands::text(fault, &mut text);
     let _ = rt.eprintln(str::from_utf8(text.as_slice()).unwrap_or(""));
 }
 
 /// Prints the text of a fault on standard error, and where the fault is, as `tell` does.
-fn tell_at(rt: &impl Eprint, fault: &ShellFault, place: &[u8]) {
+fn tell_at(rt: &HostRuntime, fault: &ShellFault, place: &[u8]) {
     let mut text = ArrayVec::new();
     gatt_commands::text(fault, &mut text);
     let _ = rt.eprint(str::from_utf8(text.as_slice()).unwrap_or(""));
@@ -40,7 +37,7 @@ fn tell_at(rt: &impl Eprint, fault: &ShellFault, place: &[u8]) {
 }
 
 /// The status of a command that has ended, of which a fault is told.
-fn exit_status(rt: &impl Eprint, ran: Result<(), ShellFault>) -> u8
+fn exit_status(rt: &HostRuntime, ran: Result<(), ShellFault>) -> u8
     ensures done { ran ≡ Ok tt → result ≡ 0 }
     ensures fault { (fault : ShellFault) → ran ≡ Err fault → result ≡ exit_status_of fault }
 {
@@ -54,7 +51,7 @@ fn exit_status(rt: &impl Eprint, ran: Result<(), ShellFault>) -> u8
 }
 
 /// The status of a command line that chooses no command, of which is told what it asks for.
-fn refusal_status(rt: &(impl Print + Eprint), refusal: &Refusal) -> u8
+fn refusal_status(rt: &HostRuntime, refusal: &Refusal) -> u8
     ensures misunderstood { refusal.now ≡ Refusal.Misunderstood → result ≡ 64 }
     ensures memory { refusal.now ≡ Refusal.Memory → result ≡ 2 }
 {
@@ -88,7 +85,7 @@ fn outcome_of(ran: Result<(), ShellFault>, is_flushed: bool) -> Result<(), Shell
 
 /// Answers the PDUs of standard input on standard output, which is written out at each line feed
 /// and at the end.
-fn run_att(rt: &(impl Input + Print + AllocGlobal)) -> Result<(), ShellFault> {
+fn run_att(rt: &HostRuntime) -> Result<(), ShellFault> {
     let Ok(mut writer) = LineWriter::new(rt.alloc(), io::writer(rt)) else {
         return Err(ShellFault::Memory);
     };
@@ -98,11 +95,7 @@ fn run_att(rt: &(impl Input + Print + AllocGlobal)) -> Result<(), ShellFault> {
 
 /// Judges a table file and then a key file, and prints how many attributes and keys they give.
 /// Neither is opened before its turn.
-fn run_check(
-    rt: &(impl Files + Print + AllocGlobal),
-    table: TablePath<'_>,
-    keys: KeysPath<'_>,
-) -> Result<(), ShellFault>
+fn run_check(rt: &HostRuntime, table: TablePath<'_>, keys: KeysPath<'_>) -> Result<(), ShellFault>
     ensures { IfErr result IsCheckFault }
 {
     gatt_commands::check_paths(rt.alloc(), rt, table, keys, &mut io::writer(rt))
@@ -110,7 +103,7 @@ fn run_check(
 
 /// Shows a table and who may use it, and returns the status of the program. Where a file is refused,
 /// where it has its fault is told behind the number of that.
-fn run_show(rt: &(impl Files + Print + Eprint + AllocGlobal), paths: ShowPaths<'_>) -> u8 {
+fn run_show(rt: &HostRuntime, paths: ShowPaths<'_>) -> u8 {
     let mut place = Vec::new(rt.alloc());
     let ran = show_command::show_paths(rt.alloc(), rt, paths, &mut io::writer(rt), &mut place);
     if let Err(fault) = &ran
@@ -124,10 +117,7 @@ fn run_show(rt: &(impl Files + Print + Eprint + AllocGlobal), paths: ShowPaths<'
 
 /// Runs a script, and prints what its lines bring, which is written out as often as a buffer is full
 /// and at the end, whatever that is. None of the files is opened before its turn.
-fn run_script(
-    rt: &(impl Files + Print + AllocGlobal),
-    paths: RunPaths<'_>,
-) -> Result<(), ShellFault> {
+fn run_script(rt: &HostRuntime, paths: RunPaths<'_>) -> Result<(), ShellFault> {
     let Ok(mut writer) = BufWriter::new(rt.alloc(), io::writer(rt)) else {
         return Err(ShellFault::Memory);
     };
@@ -159,14 +149,7 @@ fn host_words<'a>(choice: &'a HostChoice<'a>) -> HostWords<'a> {
 }
 
 /// Serves one controller after another, as the words say, and returns the status of the program.
-fn run_host(
-    rt: &(impl Files<File = File>
-        + Net<Listener = TcpListener, Stream = TcpStream>
-        + Clock
-        + Eprint
-        + AllocGlobal),
-    choice: &HostChoice<'_>,
-) -> u8 {
+fn run_host(rt: &HostRuntime, choice: &HostChoice<'_>) -> u8 {
     match device_host::serve_devices(rt, &host_words(choice)) {
         Ok(()) => exit_status(rt, Ok(())),
         Err(stop) => stop_status(rt, stop),
@@ -174,7 +157,7 @@ fn run_host(
 }
 
 /// The status of `host` where it stops. Words that say nothing that can be done are told.
-fn stop_status(rt: &impl Eprint, stop: Stop) -> u8 {
+fn stop_status(rt: &HostRuntime, stop: Stop) -> u8 {
     match stop {
         Stop::Fault(fault) => exit_status(rt, Err(fault)),
         Stop::File => gatt_commands::status(&ShellFault::Unwritten),
@@ -187,16 +170,7 @@ fn stop_status(rt: &impl Eprint, stop: Stop) -> u8 {
 }
 
 /// Carries out the command that the words have chosen, and returns the status of the program.
-fn carry_out(
-    rt: &(impl Files<File = File>
-        + Net<Listener = TcpListener, Stream = TcpStream>
-        + Input
-        + Print
-        + Eprint
-        + Clock
-        + AllocGlobal),
-    choice: &Choice<'_>,
-) -> u8 {
+fn carry_out(rt: &HostRuntime, choice: &Choice<'_>) -> u8 {
     match *choice {
         Choice::Host(ref choice) => run_host(rt, choice),
         Choice::Att => exit_status(rt, run_att(rt)),
@@ -251,16 +225,7 @@ fn carry_out(
 }
 
 /// Does what the words of the command line ask for, and returns the status of the program.
-fn run_words(
-    rt: &(impl Files<File = File>
-        + Net<Listener = TcpListener, Stream = TcpStream>
-        + Input
-        + Print
-        + Eprint
-        + Clock
-        + AllocGlobal),
-    words: &[String],
-) -> u8 {
+fn run_words(rt: &HostRuntime, words: &[String]) -> u8 {
     match gatt_words::chosen(rt.alloc(), words) {
         Ok(choice) => carry_out(rt, &choice),
         Err(refusal) => refusal_status(rt, &refusal),
@@ -268,16 +233,7 @@ fn run_words(
 }
 
 /// Does what the command line asks for, and returns the status of the program.
-fn run(
-    rt: &(impl Env
-        + Files<File = File>
-        + Net<Listener = TcpListener, Stream = TcpStream>
-        + Input
-        + Print
-        + Eprint
-        + Clock
-        + AllocGlobal),
-) -> u8 {
+fn run(rt: &HostRuntime) -> u8 {
     match gatt_words::words_of(rt) {
         Ok(words) => run_words(rt, words.as_slice()),
         Err(refusal) => refusal_status(rt, &refusal),
