@@ -64,6 +64,35 @@ pub fn serve_happenings<H: Happenings, W: Sink, L: Listener>(
     ensures apart { KeepsConnectionsApart }
     ensures time { KeepsTheTime }
 {
+    serve_turns(host, happenings, out, listener, turns)
+}
+
+/// Serves a host by what happens in so many turns, of which the public call says what holds of every
+/// run besides. It stands apart for its proof.
+fn serve_turns<H: Happenings, W: Sink, L: Listener>(
+    host: &mut Host,
+    happenings: &mut H,
+    out: &mut W,
+    listener: &mut L,
+    turns: u64,
+) -> Result<End, HostFault>
+    ensures serves { host.old.fault ≡ None → ServesDevice result turns host.old host.new
+        (known (H.octets happenings.old) (H.calls happenings.old) (H.history happenings.old))
+        (known (H.octets happenings.new) (H.calls happenings.new) (H.history happenings.new))
+        (W.contents out.old) (W.contents out.new) (L.heard listener.old) (L.heard listener.new) }
+    ensures going_on { IsOk result → host.new.fault ≡ None }
+    ensures fault { IfErr result (λ fault. host.new.fault ≡ Some fault) }
+    ensures feeding { host.old.fault ≡ None
+        → IfErr result (λ fault. is_of_feeding fault ≡ true) }
+    ensures out { IsOk result → all_out host.new ≡ true }
+    ensures due { host.old.fault ≡ None → WritesAllThatIsDue host.new.fault host.new }
+    ensures failures { host.old.fault ≡ None
+        → CountsIf (is_write_fault host.new.fault) (W.failures out.old) (W.failures out.new) }
+    ensures stopped { IsSome host.old.fault → host.new ≡ host.old }
+    ensures happenings_stopped { IsSome host.old.fault → happenings.new ≡ happenings.old }
+    ensures sink_stopped { IsSome host.old.fault → out.new ≡ out.old }
+    ensures listener_stopped { IsSome host.old.fault → listener.new ≡ listener.old }
+{
     feed(host, &[], out)?;
     let mut buffer = [0; ROOM];
     for _turn in 0..turns {

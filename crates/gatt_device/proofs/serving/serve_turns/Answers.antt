@@ -1,8 +1,8 @@
 use Rattle.std.proofs.Common.{◌≡◌, ◌+◌, List, [], ◌∷◌, Option, None, refl, ap, arith}
 use Rattle.std.proofs.lemmas.Result.{err_from_is_err_and}
 use Rattle.gatt_device.proofs.Happened.{Goes, call_comes, ended_recorded, failed_recorded, goes_as, known_as, octets_come, served_more, served_none, serves_all, serves_ended, serves_nothing, serves_stopped}
-use Rattle.gatt_device.proofs.serving.serve_happenings.Goals as goal
-use Rattle.gatt_device.proofs.serving.serve_happenings.Goals.{in-Octets+in_ok-feed_to-in-Octets, in-Call+in_ok-take_call-in-Call}
+use Rattle.gatt_device.proofs.serving.serve_turns.Goals as goal
+use Rattle.gatt_device.proofs.serving.serve_turns.Goals.{in-Octets+in_ok-feed_to-in-Octets, in-Call+in_ok-take_call-in-Call}
 use Rattle.gatt_device.specs.declared.serving.End.TheVariants as end
 use Rattle.gatt_device.specs.Happenings.{Came, Asked}
 use Rattle.gatt_device.specs.Serving.{Known, known}

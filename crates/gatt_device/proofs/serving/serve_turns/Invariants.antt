@@ -1,5 +1,5 @@
 use Rattle.std.proofs.Common.{◌≡◌, ◌≤◌, true, None}
-use Rattle.gatt_device.proofs.serving.serve_happenings.Given as goal
+use Rattle.gatt_device.proofs.serving.serve_turns.Given as goal
 use Rattle.gatt_device.proofs.Happened.{HasServed}
 use Rattle.gatt_device.specs.Serving.{known}
 use Rattle.gatt_host.specs.HostModel.{all_out}
