@@ -1,17 +1,17 @@
 -- How the handles of one type are found among those of all by type.
-use Rattle.std.proofs.Common.{◌≡◌, ℕ, zero, suc, ◌+◌, ◌-◌, ◌/◌, ◌<◌, ◌≤◌, Bool, true, false, ◌==◌, ◌&&◌, not, cond, if◌then◌else◌, List, [], ◌∷◌, ◌++◌, length, map, take, drop, get_or, refl, sym, ap, subst, ◌∙◌, inl, inr, ◌⊎◌, rules, arith, length-append, length-drop}
+use Rattle.std.proofs.Common.{◌≡◌, ℕ, zero, suc, ◌+◌, ◌-◌, ◌/◌, ◌<◌, ◌≤◌, Bool, true, false, ◌==◌, ◌&&◌, not, cond, List, [], ◌∷◌, ◌++◌, length, map, take, drop, get_or, refl, sym, ap, subst, ◌∙◌, inl, inr, ◌⊎◌, rules, arith, length-append, length-drop}
 use Rattle.std.proofs.Math.Seq.{drop-nil}
 use Rattle.std.proofs.lemmas.Bool.{cases_lt}
 use Rattle.std.proofs.lemmas.List.{length-map, drop_more, drop_all, length-take, same_lists, places as list_places}
 use Rattle.std.proofs.lemmas.Bool.Decides.{nat_tests}
 use Rattle.std.specs.Prelude.{nat_le, slice_get}
-use Rattle.std.specs.List.{filter, prefix_len, insert}
+use Rattle.std.specs.List.{filter, insert}
 use Rattle.std.specs.Option.{option_map_or}
 use Rattle.att_attributes.specs.declared.attr.Attr.{Attr}
 use Rattle.att_attributes.specs.Attributes.{type_at, HaveHandlesFrom, IsNumbered}
 use Rattle.att_attributes.specs.OfType.{handles_of_type, handles_by_type}
-use Rattle.att_attributes.specs.TypeIndex.{put, by_type, is_before, place_from, turns_for, IsOrdered, AllAbove, IsIndex}
-use Rattle.att_attributes.proofs.TypeOrder.{above_put, between, closed, filter_by_kind, is_between, length_by_kind, ordered_put, place_at, place_below, place_within, prefix_cons, put_inserts}
+use Rattle.att_attributes.specs.TypeIndex.{put, by_type, is_before, place_from, reach, IsOrdered, AllAbove, IsIndex}
+use Rattle.att_attributes.proofs.TypeOrder.{above_put, between, closed, filter_by_kind, is_between, length_by_kind, ordered_put, place_within, put_inserts}
 use Rattle.att_numbers.specs.declared.limit.TheConstants.{MAX_ATTRIBUTES}
 
 -- the handles of a type in a range
@@ -151,69 +151,86 @@ found attributes index k first last numbered is =
     ∙ ap (λ n. of_kind k (drop n (take (last - 0) attributes))) (less_none (first - 1))
     ∙ ap (λ n. of_kind k (drop (first - 1) (take n attributes))) (less_none last)
 
--- a search by halves: at most so many entries are left for so many comparisons
-abbrev pub remaining : ℕ → ℕ
-remaining zero = 0
-remaining (suc turns) = remaining turns + remaining turns + 1
-
--- the place is between the two, and the comparisons that are left are enough
-pub record IsNarrowed (place low high size before most now : ℕ) : Type 0 where
-  pub low_side : low ≤ place
-  pub high_side : place ≤ high
+-- a search by halves: what is looked for stands between the two places
+pub record IsNarrowed (from to low high size : ℕ) : Type 0 where
+  pub low_side : low ≤ from
+  pub high_side : to ≤ high
   pub inside : high ≤ size
+
+pub narrow_low : (from to low high size middle : ℕ) → IsNarrowed from to low high size → middle < from → IsNarrowed from to (middle + 1) high size
+narrow_low from to low high size middle narrowed below =
+    record { low_side = omega (arith, below); high_side = narrowed.high_side; inside = narrowed.inside }
+
+pub narrow_high : (from to low high size middle : ℕ) → IsNarrowed from to low high size → middle ≡ low + (high - low) / 2 → low < high → to ≤ middle
+    → IsNarrowed from to low middle size
+narrow_high from to low high size middle narrowed is left above =
+    record { low_side = narrowed.low_side; high_side = above; inside = omega (arith, narrowed.inside) }
+
+-- for one place: the comparisons that are left are enough for so many handles
+pub record IsPaid (width before most now : ℕ) : Type 0 where
   pub turns : ℕ
-  pub enough : high - low ≤ remaining turns
+  pub enough : width ≤ reach turns
   pub counted : now + turns ≤ before + most
 
-enough_turns : (count : ℕ) → count ≤ MAX_ATTRIBUTES → count ≤ remaining (turns_for count)
-enough_turns count within = elim (nat_le count 1023) as (λ few. nat_le count 1023 ≡ few → count ≤ remaining (if few then 10 else 11)) [
-  | true ↦ λ few. let at_most : count ≤ 1023 = grind (arith, nat_tests) in omega (arith, at_most)
-  | false ↦ λ many. omega (arith, within)
-] refl
+paid_half : (width next before most now spent turns : ℕ) → width ≤ reach turns → now + turns ≤ before + most → 0 < width → next ≤ width / 2 → spent ≤ now + 1
+    → IsPaid next before most spent
+paid_half width next before most now spent zero enough counted some half ticked = absurd (omega arith)
+paid_half width next before most now spent (suc turns) enough counted some half ticked =
+    record { turns = turns; enough = omega arith; counted = omega arith }
 
-pub begin : (place known size count : ℕ) → known ≤ place → place ≤ size → size ≤ MAX_ATTRIBUTES → IsNarrowed place known size size count (turns_for (size - known)) count
-begin place known size count from within most = record {
-  low_side = from;
-  high_side = within;
-  inside = omega arith;
-  turns = turns_for (size - known);
-  enough = enough_turns (size - known) (omega arith);
-  counted = omega arith;
-}
+pub paid_low : (low high middle before most now spent : ℕ) → IsPaid (high - low) before most now → middle ≡ low + (high - low) / 2 → low < high → spent ≤ now + 1
+    → IsPaid (high - (middle + 1)) before most spent
+paid_low low high middle before most now spent paid is left =
+    paid_half (high - low) (high - (middle + 1)) before most now spent paid.turns paid.enough paid.counted (omega arith) (omega arith)
 
-next_low : (place low high size before most now spent middle turns : ℕ) → IsNarrowed place low high size before most now → high - low ≤ remaining turns → now + turns ≤ before + most
-    → middle ≡ low + (high - low) / 2 → low < high → spent ≤ now + 1 → middle < place → IsNarrowed place (middle + 1) high size before most spent
-next_low place low high size before most now spent middle zero narrowed enough counted is left ticked below = absurd (omega arith)
-next_low place low high size before most now spent middle (suc turns) narrowed enough counted is left ticked below = record {
-  low_side = omega arith;
-  high_side = narrowed.high_side;
-  inside = narrowed.inside;
-  turns = turns;
-  enough = omega arith;
-  counted = omega arith;
-}
+pub paid_high : (low high middle before most now spent : ℕ) → IsPaid (high - low) before most now → middle ≡ low + (high - low) / 2 → low < high → spent ≤ now + 1
+    → IsPaid (middle - low) before most spent
+paid_high low high middle before most now spent paid is left =
+    paid_half (high - low) (middle - low) before most now spent paid.turns paid.enough paid.counted (omega arith) (omega arith)
 
-pub narrow_low : (place low high size before most now spent middle : ℕ) → IsNarrowed place low high size before most now
-    → middle ≡ low + (high - low) / 2 → low < high → spent ≤ now + 1 → middle < place → IsNarrowed place (middle + 1) high size before most spent
-narrow_low place low high size before most now spent middle narrowed =
-    next_low place low high size before most now spent middle narrowed.turns narrowed narrowed.enough narrowed.counted
+-- for both: each halving takes one or two, and once a handle is found there is one search on each side of it
+pub record IsPaidTwice (width before most now : ℕ) : Type 0 where
+  pub turns : ℕ
+  pub enough : width ≤ reach turns
+  pub counted : now + turns + turns ≤ before + most
 
-next_high : (place low high size before most now spent middle turns : ℕ) → IsNarrowed place low high size before most now → high - low ≤ remaining turns → now + turns ≤ before + most
-    → middle ≡ low + (high - low) / 2 → low < high → spent ≤ now + 1 → place ≤ middle → IsNarrowed place low middle size before most spent
-next_high place low high size before most now spent middle zero narrowed enough counted is left ticked above = absurd (omega arith)
-next_high place low high size before most now spent middle (suc turns) narrowed enough counted is left ticked above = record {
-  low_side = narrowed.low_side;
-  high_side = above;
-  inside = omega (arith, narrowed.inside);
-  turns = turns;
-  enough = omega arith;
-  counted = omega arith;
-}
+pub paid_at_first : (size count : ℕ) → size ≤ MAX_ATTRIBUTES → IsPaidTwice (size - 0) count 22 count
+paid_at_first size count most = record { turns = 11; enough = omega (arith, most); counted = omega arith }
 
-pub narrow_high : (place low high size before most now spent middle : ℕ) → IsNarrowed place low high size before most now
-    → middle ≡ low + (high - low) / 2 → low < high → spent ≤ now + 1 → place ≤ middle → IsNarrowed place low middle size before most spent
-narrow_high place low high size before most now spent middle narrowed =
-    next_high place low high size before most now spent middle narrowed.turns narrowed narrowed.enough narrowed.counted
+twice_half : (width next before most now spent turns : ℕ) → width ≤ reach turns → now + turns + turns ≤ before + most → 0 < width → next ≤ width / 2 → spent ≤ now + 2
+    → IsPaidTwice next before most spent
+twice_half width next before most now spent zero enough counted some half ticked = absurd (omega arith)
+twice_half width next before most now spent (suc turns) enough counted some half ticked =
+    record { turns = turns; enough = omega arith; counted = omega arith }
+
+pub twice_low : (low high middle before most now spent : ℕ) → IsPaidTwice (high - low) before most now → middle ≡ low + (high - low) / 2 → low < high → spent ≤ now + 2
+    → IsPaidTwice (high - (middle + 1)) before most spent
+twice_low low high middle before most now spent paid is left =
+    twice_half (high - low) (high - (middle + 1)) before most now spent paid.turns paid.enough paid.counted (omega arith) (omega arith)
+
+pub twice_high : (low high middle before most now spent : ℕ) → IsPaidTwice (high - low) before most now → middle ≡ low + (high - low) / 2 → low < high → spent ≤ now + 2
+    → IsPaidTwice (middle - low) before most spent
+twice_high low high middle before most now spent paid is left =
+    twice_half (high - low) (middle - low) before most now spent paid.turns paid.enough paid.counted (omega arith) (omega arith)
+
+sides : (low high middle before most now found start end turns : ℕ) → high - low ≤ reach turns → now + turns + turns ≤ before + most
+    → middle ≡ low + (high - low) / 2 → low < high → found ≤ now + 2
+    → ((left : ℕ) → middle - low ≤ reach left → start ≤ found + left)
+    → ((left : ℕ) → high - (middle + 1) ≤ reach left → end ≤ start + left)
+    → end ≤ before + most
+sides low high middle before most now found start end zero enough counted is left ticked at to = absurd (omega arith)
+sides low high middle before most now found start end (suc turns) enough counted is left ticked at to =
+    let at_most : start ≤ found + turns = at turns (omega arith) in
+    let to_most : end ≤ start + turns = to turns (omega arith) in
+    omega arith
+
+pub both_sides : (low high middle before most now found start end : ℕ) → IsPaidTwice (high - low) before most now
+    → middle ≡ low + (high - low) / 2 → low < high → found ≤ now + 2
+    → ((left : ℕ) → middle - low ≤ reach left → start ≤ found + left)
+    → ((left : ℕ) → high - (middle + 1) ≤ reach left → end ≤ start + left)
+    → end ≤ before + most
+both_sides low high middle before most now found start end paid =
+    sides low high middle before most now found start end paid.turns paid.enough paid.counted
 
 -- an entry is a handle of the table
 pub above_at : (low last : ℕ) (xs : List ℕ) (i d : ℕ) → AllAbove low last xs → i < length xs → (low < get_or xs i d) × (get_or xs i d ≤ last)
@@ -232,20 +249,14 @@ pub length_given : (attributes : List Attr) (index : List ℕ) → IsNumbered at
 length_given attributes index numbered is = omega (arith, ap length is, length-handles_by_type attributes, numbered.most)
 
 -- what is shown of the index as it is made, from the back
+pub place_up_to : (kind : ℕ → ℕ) (shown : List ℕ) (k h count : ℕ) → count ≡ length shown → place_from kind shown k h ≤ count
+place_up_to kind shown k h count is = subst (λ n. place_from kind shown k h ≤ n) (sym is) (place_within (λ x. is_before (kind x) x k h) shown)
+
 pub index_so_far : (attributes : List Attr) (shown items : List ℕ) (place : ℕ) → IsNumbered attributes → place ≤ length attributes
     → shown ≡ items → items ≡ by_type (type_at attributes) (handles_of (drop place attributes))
     → IsIndex (type_at attributes) (length attributes) shown
 index_so_far attributes shown items place numbered within is so_far =
     subst (λ l. IsIndex (type_at attributes) (length attributes) l) (sym (is ∙ so_far)) (index_from attributes place numbered within)
-
-pub length_so_far : (attributes : List Attr) (shown items : List ℕ) (place : ℕ) → IsNumbered attributes
-    → shown ≡ items → items ≡ by_type (type_at attributes) (handles_of (drop place attributes)) → length shown ≤ MAX_ATTRIBUTES
-length_so_far attributes shown items place numbered is so_far =
-    let handles = handles_of (drop place attributes) in
-    let made : length shown ≡ length handles = ap length (is ∙ so_far) ∙ length_by_kind (type_at attributes) handles in
-    let long : length handles ≡ length (drop place attributes) = length-map (drop place attributes) (λ (attr : Attr). attr.handle) in
-    let left = length-drop place attributes in
-    omega (arith, numbered.most)
 
 kinds_at : (kind : ℕ → ℕ) (attributes : List Attr) (i : ℕ) (d : Attr) → AllKinds kind attributes → i < length attributes
     → kind (get_or attributes i d).handle ≡ (get_or attributes i d).kind
@@ -288,60 +299,16 @@ numbered_pushed attributes attr numbered room next =
     let long = length-append attributes (attr ∷ []) in
     record { handles = handles_push attributes attr 1 numbered.handles next; most = omega (arith, long) }
 
--- the first entry that does not stand before a type and handle
-at_prefix : (test : ℕ → Bool) (xs : List ℕ) (d : ℕ) → prefix_len test xs < length xs → test (get_or xs (prefix_len test xs) d) ≡ false
-at_prefix test [] d within = absurd (omega arith)
-at_prefix test (x ∷ xs) d within =
-    let goal : (b : Bool) → test x ≡ b → cond b (suc (prefix_len test xs)) 0 < length (x ∷ xs) → test (get_or (x ∷ xs) (cond b (suc (prefix_len test xs)) 0) d) ≡ false =
-    λ b. elim b as (λ b. test x ≡ b → cond b (suc (prefix_len test xs)) 0 < length (x ∷ xs) → test (get_or (x ∷ xs) (cond b (suc (prefix_len test xs)) 0) d) ≡ false) [
-      | true ↦ λ passes inside. at_prefix test xs d (omega arith)
-      | false ↦ λ fails inside. fails
-    ] in
-    let place = prefix_cons test x xs in
-    subst (λ n. test (get_or (x ∷ xs) n d) ≡ false) (sym place) (goal (test x) refl (subst (λ n. n < length (x ∷ xs)) place within))
-
--- where it is of another type, or above the last handle, none is in the range
-fails_too : (kx x k first last : ℕ) → is_before kx x k first ≡ false → (kx == k) && nat_le x last ≡ false → is_before kx x k (last + 1) ≡ false
-fails_too kx x k first last not_before other = grind (arith, nat_tests)
-
+-- where the end does not stand behind the start, there is none
 drop_taken : (index : List ℕ) (start end : ℕ) → end ≤ start → drop start (take end index) ≡ []
 drop_taken index start end less = drop_all start (take end index) (omega (arith, length-take end index))
 
-pub none_at : (attributes : List Attr) (index : List ℕ) (k first last start d : ℕ) → IsNumbered attributes → index ≡ handles_by_type attributes
-    → start ≡ place_from (type_at attributes) index k first → start < length index
-    → (type_at attributes (get_or index start d) == k) && nat_le (get_or index start d) last ≡ false
+pub none_between : (attributes : List Attr) (index : List ℕ) (k first last : ℕ) → IsNumbered attributes → index ≡ handles_by_type attributes
+    → place_from (type_at attributes) index k (last + 1) ≤ place_from (type_at attributes) index k first
     → [] ≡ handles_of_type attributes k first last
-none_at attributes index k first last start d numbered is at within other =
-    let kind = type_at attributes in
-    let here = get_or index start d in
-    let from : ℕ → Bool = λ x. is_before (kind x) x k first in
-    let to : ℕ → Bool = λ x. is_before (kind x) x k (last + 1) in
-    let not_before : from here ≡ false = subst (λ n. from (get_or index n d) ≡ false) (sym at) (at_prefix from index d (omega (arith, at, within))) in
-    let end = place_at to index start d within (fails_too (kind here) here k first last not_before other) in
-    sym (ap (λ n. drop n (take (prefix_len to index) index)) (sym at) ∙ drop_taken index start (prefix_len to index) end)
+none_between attributes index k first last numbered is none =
+    sym (drop_taken index (place_from (type_at attributes) index k first) (place_from (type_at attributes) index k (last + 1)) none)
     ∙ found attributes index k first last numbered is
-
-pub none_past : (attributes : List Attr) (index : List ℕ) (k first last start : ℕ) → IsNumbered attributes → index ≡ handles_by_type attributes
-    → start ≡ place_from (type_at attributes) index k first → length index ≤ start → [] ≡ handles_of_type attributes k first last
-none_past attributes index k first last start numbered is at past =
-    let kind = type_at attributes in
-    let to : ℕ → Bool = λ x. is_before (kind x) x k (last + 1) in
-    let end = place_within to index in
-    sym (ap (λ n. drop n (take (prefix_len to index) index)) (sym at) ∙ drop_taken index start (prefix_len to index) (omega (arith, end, past)))
-    ∙ found attributes index k first last numbered is
-
--- where it is in the range, the end stands behind it
-up_to_passes : (kx x k last : ℕ) → (kx == k) && nat_le x last ≡ true → is_before kx x k (last + 1) ≡ true
-up_to_passes kx x k last passes = grind (arith, nat_tests)
-
-pub end_behind : (attributes : List Attr) (index : List ℕ) (k last start d : ℕ) → IsNumbered attributes → index ≡ handles_by_type attributes → start < length index
-    → (type_at attributes (get_or index start d) == k) && nat_le (get_or index start d) last ≡ true
-    → start < place_from (type_at attributes) index k (last + 1)
-end_behind attributes index k last start d numbered is within passes =
-    let kind = type_at attributes in
-    let to : ℕ → Bool = λ x. is_before (kind x) x k (last + 1) in
-    let here = get_or index start d in
-    place_below to index start d (closed kind k (last + 1) index (index_given attributes index numbered is).ordered) within (up_to_passes (kind here) here k last passes)
 
 take_of_drop : (index : List ℕ) (start end : ℕ) → start ≤ end → take (end - start) (drop start index) ≡ drop start (take end index)
 take_of_drop index start end before = same_lists _ _ (search (rules, list_places)) (λ k d h. grind (arith, list_places))

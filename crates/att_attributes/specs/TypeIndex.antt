@@ -1,5 +1,5 @@
 -- Handles in the order of their attribute types: this profile's own.
-use Rattle.std.specs.Prelude.{◌≡◌, ◌<◌, ◌≤◌, ℕ, Bool, true, ◌==◌, ◌&&◌, ◌||◌, nat_lt, nat_le, if◌then◌else◌, List, [], ◌∷◌}
+use Rattle.std.specs.Prelude.{◌≡◌, ◌<◌, ◌≤◌, ℕ, zero, suc, ◌+◌, Bool, true, ◌==◌, ◌&&◌, ◌||◌, nat_lt, if◌then◌else◌, List, [], ◌∷◌}
 use Rattle.std.specs.List.{prefix_len}
 use Rattle.att_numbers.specs.Types.{Handle, AttributeType}
 
@@ -26,9 +26,10 @@ is_before own_type own_handle kind handle = nat_lt own_type kind || ((own_type =
 abbrev pub place_from : Types → List Handle → AttributeType → Handle → ℕ
 place_from type_of index kind from = prefix_len (λ handle. is_before (type_of handle) handle kind from) index
 
--- how many comparisons find a place among so many handles, at most 1,024
-abbrev pub turns_for : ℕ → ℕ
-turns_for count = if nat_le count 1023 then 10 else 11
+-- among how many handles so many comparisons find a place
+abbrev pub reach : ℕ → ℕ
+reach zero = 0
+reach (suc turns) = reach turns + reach turns + 1
 
 -- the same of two handles
 abbrev pub comes_before : Types → Handle → Handle → Bool

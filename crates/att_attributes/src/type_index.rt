@@ -1,11 +1,10 @@
 //! The attributes of one type, found by halves among the handles of all in the order of their
 //! types: Core 5.0, Vol 3 Part F, 3.2.1.
 
-ghost use Rattle.std.specs.Prelude.{◌≡◌, ◌+◌, ◌-◌, ◌^◌, ◌<◌, ◌≤◌, ◌==◌, ◌&&◌, min, nat_le, length, IfOk};
+ghost use Rattle.std.specs.Prelude.{◌≡◌, ℕ, ◌+◌, ◌-◌, ◌/◌, ◌%◌, ◌^◌, ◌<◌, ◌≤◌, min, length, IfOk};
 ghost use Rattle.att_attributes.specs.Attributes.{type_at, IsNumbered};
 ghost use Rattle.att_attributes.specs.OfType.{handles_of_type, handles_by_type};
-ghost use Rattle.att_attributes.specs.TypeIndex.{is_before, place_from, turns_for, IsIndex};
-ghost use Rattle.att_numbers.specs.declared.limit.TheConstants.{MAX_ATTRIBUTES};
+ghost use Rattle.att_attributes.specs.TypeIndex.{is_before, place_from, reach, IsIndex};
 
 use crate::attr::Attr;
 use std::alloc::{AllocError, Global};
@@ -58,7 +57,15 @@ pub fn by_type(alloc: Global, attributes: &[Attr]) -> Result<Vec<u16>, AllocErro
     let mut index = Vec::with_capacity(alloc, attributes.len())?;
     for place in (0..attributes.len()).rev() {
         let attr = attributes[place];
-        let first = first_from(&index, attributes, attr.kind, 0, 0, &mut Uncounted);
+        let first = first_from(
+            &index,
+            attributes,
+            attr.kind,
+            0,
+            0,
+            index.len(),
+            &mut Uncounted,
+        );
         index.insert(first, attr.handle)?;
     }
     Ok(index)
@@ -78,54 +85,54 @@ pub fn of_type<'a, S: Steps>(
     ensures handles { result.now ≡ handles_of_type attributes.now kind first last }
     ensures steps { S.count steps.new ≤ S.count steps.old + 22 }
 {
-    let start = first_from(index, attributes, kind, u32::from(first), 0, steps);
-    let Some(&found) = index.get(start) else {
-        return &[];
-    };
-    steps.tick();
-    if !is_up_to(attributes, found, kind, last) {
-        return &[];
+    let begin = u32::from(first);
+    let past = u32::from(last) + 1;
+    let mut low = 0;
+    let mut high = index.len();
+    while low < high {
+        let middle = low + (high - low) / 2;
+        let own = index[middle];
+        steps.tick();
+        if is_before(attributes, own, kind, begin) {
+            low = middle + 1;
+        } else {
+            steps.tick();
+            if is_before(attributes, own, kind, past) {
+                // One of them: the first is it or stands before it, the last is it or behind it.
+                let start = first_from(index, attributes, kind, begin, low, middle, steps);
+                let end = first_from(index, attributes, kind, past, middle + 1, high, steps);
+                return &index[start..end];
+            }
+            high = middle;
+        }
     }
-    let end = first_from(
-        index,
-        attributes,
-        kind,
-        u32::from(last) + 1,
-        start + 1,
-        steps,
-    );
-    &index[start..end]
+    &[]
 }
 
-/// Whether the attribute at a handle is of a type, and its handle at most the last one.
+/// How many handles of the index stand before a type and handle, where it is known to be from
+/// `least` to `most`.
 #[inline(always)]
-fn is_up_to(attributes: &[Attr], own: u16, kind: u128, last: u16) -> bool
-    requires first { 0 < own }
-    requires last { own ≤ length attributes.now }
-    ensures { result ≡ (type_at attributes.now own == kind) && nat_le own last }
-{
-    attributes[usize::from(own) - 1].kind == kind && own <= last
-}
-
-/// How many handles of the index stand before a type and handle, where so many are known to.
 fn first_from<S: Steps>(
     index: &[u16],
     attributes: &[Attr],
     kind: u128,
     handle: u32,
-    known: usize,
+    least: usize,
+    most: usize,
     steps: &mut S,
 ) -> usize
-    requires known { known ≤ place_from (type_at attributes.now) index.now kind handle }
+    requires least { least ≤ place_from (type_at attributes.now) index.now kind handle }
+    requires most { place_from (type_at attributes.now) index.now kind handle ≤ most }
+    requires inside { most ≤ length index.now }
     requires index { IsIndex (type_at attributes.now) (length attributes.now) index.now }
-    requires most { length index.now ≤ MAX_ATTRIBUTES }
     ensures place { result ≡ place_from (type_at attributes.now) index.now kind handle }
-    ensures from { known ≤ result }
-    ensures within { result ≤ length index.now }
-    ensures steps { S.count steps.new ≤ S.count steps.old + turns_for (length index.now - known) }
+    ensures from { least ≤ result }
+    ensures within { result ≤ most }
+    ensures steps { (turns : ℕ) → most - least ≤ reach turns
+        → S.count steps.new ≤ S.count steps.old + turns }
 {
-    let mut low = known;
-    let mut high = index.len();
+    let mut low = least;
+    let mut high = most;
     while low < high {
         let middle = low + (high - low) / 2;
         steps.tick();
@@ -138,12 +145,25 @@ fn first_from<S: Steps>(
     low
 }
 
-/// Whether an attribute stands before a type and handle.
+/// Whether an attribute stands before a type and handle. The upper 64 bits of its type mostly tell.
+#[inline(always)]
 fn is_before(attributes: &[Attr], own: u16, kind: u128, handle: u32) -> bool
     requires first { 0 < own }
     requires last { own ≤ length attributes.now }
     ensures { result ≡ is_before (type_at attributes.now own) own kind handle }
 {
-    let own_type = attributes[usize::from(own) - 1].kind;
-    own_type < kind || own_type == kind && u32::from(own) < handle
+    let (own_upper, own_lower) = halves(attributes[usize::from(own) - 1].kind);
+    let (upper, lower) = halves(kind);
+    own_upper < upper
+        || own_upper == upper
+            && (own_lower < lower || own_lower == lower && u32::from(own) < handle)
+}
+
+/// The upper and the lower 64 bits of a type.
+#[inline(always)]
+fn halves(kind: u128) -> (u64, u64)
+    ensures upper { result.0 ≡ kind / 2 ^ 64 }
+    ensures lower { result.1 ≡ kind % 2 ^ 64 }
+{
+    ((kind >> 64) as u64, (kind % (1 << 64)) as u64)
 }

@@ -1,6 +1,7 @@
-use Rattle.std.proofs.Common.{◌<◌, ◌≤◌, length, arith}
+use Rattle.std.proofs.Common.{◌≡◌, ◌<◌, ◌≤◌, length, arith}
 use Rattle.std.proofs.lemmas.Grind.{common_steps}
-use Rattle.att_attributes.proofs.OfType.{index_so_far, length_so_far, one_more}
+use Rattle.att_attributes.specs.Attributes.{type_at}
+use Rattle.att_attributes.proofs.OfType.{index_so_far, one_more, place_up_to}
 use Rattle.att_attributes.proofs.type_index.by_type.Goals as goal
 
 pub first_from-first-requires-clause-index : goal.first_from-first-requires-clause-index
@@ -10,7 +11,8 @@ first_from-first-requires-clause-index c =
 
 pub first_from-first-requires-clause-most : goal.first_from-first-requires-clause-most
 first_from-first-requires-clause-most c =
-    length_so_far c.args.attributes.now c.deref.result.now c.loop-place.index.items c.loop-place.place c.requires c.deref.ensures.value c.loop-place.invariant
+    let count : c.len.result ≡ length c.deref.result.now = grind (arith, common_steps) in
+    place_up_to (type_at c.args.attributes.now) c.deref.result.now _ 0 c.len.result count
 
 pub loop-place-preserved : goal.loop-place-preserved
 loop-place-preserved c =
