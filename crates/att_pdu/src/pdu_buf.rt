@@ -1,10 +1,10 @@
-ghost use Rattle.std.specs.Prelude.{◌≡◌, ◌+◌, ◌-◌, ◌≤◌, ◌↔◌, [], ◌++◌, length, IsTrue, take};
+ghost use Rattle.std.specs.Prelude.{◌≡◌, ◌+◌, ◌-◌, ◌≤◌, ◌↔◌, [], ◌∷◌, ◌++◌, length, IsTrue, take};
 ghost use Rattle.std.specs.Bool.{OnTrue, OnFalse};
 ghost use Rattle.arrayvec.specs.ArrayVec.{array_vec_len};
 ghost use Rattle.att_pdu.specs.declared.pdu_buf.TheConstants.{MAX_MTU, MIN_MTU};
 
 use att_numbers::opcode;
-use octets::{MAX_PDU, PduOctets};
+use octets::{MAX_PDU, PduOctets, overwrite};
 
 /// The least ATT_MTU of an LE link, in octets: Core 5.0, Vol 3 Part G, 5.2.1.
 pub const MIN_MTU: u16 = 23;
@@ -39,6 +39,19 @@ impl<'a> PduBuf<'a> {
         PduBuf { octets, mtu }
     }
 
+    /// What `octets` hold, up to the ATT_MTU, for what replaces it.
+    #[inline(always)]
+    pub fn over(octets: &'a mut PduOctets, mtu: u16) -> PduBuf<'a>
+        requires least { MIN_MTU ≤ mtu }
+        requires most { mtu ≤ MAX_MTU }
+        ensures content { contents result ≡ take mtu octets.old.items }
+        ensures mtu { mtu_of result ≡ mtu }
+        ensures in_octets { IsIn result octets.entry }
+    {
+        octets.truncate(usize::from(mtu));
+        PduBuf { octets, mtu }
+    }
+
     /// The ATT_MTU that the PDU keeps within, in octets.
     #[inline(always)]
     pub fn mtu(&self) -> u16
@@ -55,8 +68,44 @@ impl<'a> PduBuf<'a> {
         ensures same_buffer { IsSameBuffer self.old self.new }
     {
         let [low, high] = handle.to_le_bytes();
-        self.octets.clear();
-        self.value(&[opcode::ERROR_RESPONSE, request_opcode, low, high, code]);
+        self.replace(
+            &[opcode::ERROR_RESPONSE, request_opcode, low, high, code],
+            &[],
+        );
+    }
+
+    /// Replaces the content by octets of two places, one behind the other: an opcode with what is fixed
+    /// behind it, and the rest.
+    #[inline(always)]
+    pub fn replace(&mut self, first: &[u8], rest: &[u8])
+        requires { length first.now + length rest.now ≤ mtu_of self.old }
+        ensures replaced { contents self.new ≡ first.now ++ rest.now }
+        ensures same_buffer { IsSameBuffer self.old self.new }
+    {
+        overwrite(self.octets, first, rest, &[]);
+    }
+
+    /// Replaces the content by an opcode and as much of a value, from its front, as fits: a value that
+    /// is read is cut to the ATT_MTU (Core 5.0, Vol 3 Part F, 3.4.4.4).
+    #[inline(always)]
+    pub fn replace_by_front(&mut self, opcode: u8, octets: &[u8])
+        ensures replaced { contents self.new
+            ≡ opcode ∷ take (mtu_of self.old - 1) octets.now }
+        ensures same_buffer { IsSameBuffer self.old self.new }
+    {
+        let most = usize::from(self.mtu) - 1;
+        self.replace(&[opcode], &octets[..octets.len().min(most)]);
+    }
+
+    /// Drops the content, if there is any.
+    #[inline(always)]
+    pub fn clear(&mut self)
+        ensures cleared { contents self.new ≡ [] }
+        ensures same_buffer { IsSameBuffer self.old self.new }
+    {
+        if !self.octets.is_empty() {
+            drop_all(self.octets);
+        }
     }
 
     /// Appends octets, an opcode and the octets of a format too, or answers `false` with nothing
@@ -72,8 +121,8 @@ impl<'a> PduBuf<'a> {
         true
     }
 
-    /// Appends as much of a value, from its front, as fits: a value that is read is cut to the
-    /// ATT_MTU (Core 5.0, Vol 3 Part F, 3.4.4.4).
+    /// Appends as much of a value, from its front, as fits: of several that are read the last is cut to
+    /// the ATT_MTU (Core 5.0, Vol 3 Part F, 3.4.4.8).
     #[inline(always)]
     pub fn front(&mut self, octets: &[u8])
         ensures appended { contents self.new
@@ -162,4 +211,13 @@ impl<'a> PduBuf<'a> {
     {
         self.octets.try_extend_from_slice(octets).unwrap();
     }
+}
+
+/// Drops octets. It is not inlined, so that a PDU that is empty already pays for a test alone.
+#[cold]
+#[inline(never)]
+fn drop_all(octets: &mut PduOctets)
+    ensures { octets.new.items ≡ [] }
+{
+    octets.clear();
 }
