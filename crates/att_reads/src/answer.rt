@@ -1,4 +1,4 @@
-ghost use Rattle.std.specs.Prelude.{◌≡◌, ◌≤◌, [], nat_lt, ◌==◌, ◌||◌, not, length};
+ghost use Rattle.std.specs.Prelude.{◌≡◌, ◌≤◌, nat_lt, ◌==◌, ◌||◌, not, length};
 ghost use Rattle.att_numbers.specs.AttributeType.{of_16_bits};
 ghost use Rattle.att_pdu.specs.Uuid.{uuid_number};
 ghost use Rattle.att_pdu.specs.PduBuf.{contents, mtu_of, IsSameBuffer};
@@ -19,7 +19,7 @@ use att_table::{ConfigRow, Table, Uncounted, is_service};
 /// Answers a request that reads: Find Information, Find By Type Value, Read By Type, Read, Read
 /// Blob, Read Multiple or Read By Group Type (Core 5.0, Vol 3 Part F, 3.4.3 and 3.4.4). `row` is
 /// what the client has configured, `standing` what the policy sees of it, and `mtu` the ATT_MTU of
-/// `out`, which is empty. Any other request leaves it so.
+/// `out`, whose content the answer replaces. Any other request leaves it empty.
 #[inline(always)]
 #[tactic(auto, using(crate::proofs::Alike::alike))]
 pub fn answer_read(
@@ -30,7 +30,6 @@ pub fn answer_read(
     mtu: u16,
     out: &mut PduBuf<'_>,
 )
-    requires empty { contents out.old ≡ [] }
     requires mtu { mtu_of out.old ≡ mtu }
     ensures answer { contents out.new
         ≡ sent_if_any (read_answer table.now row.now standing.entry.now mtu (asked request.now)) }
@@ -53,7 +52,6 @@ pub fn answer_read(
 /// Answers a request of a client that reads.
 #[inline(always)]
 fn answer_to(reader: Reader<'_>, request: &Request<'_>, out: &mut PduBuf<'_>)
-    requires { contents out.old ≡ [] }
     ensures answer { contents out.new ≡ sent_if_any
         (read_answer reader.entry.table.now reader.entry.row.now reader.entry.standing.now
         (mtu_of out.old) (asked request.now)) }
@@ -87,7 +85,7 @@ fn answer_to(reader: Reader<'_>, request: &Request<'_>, out: &mut PduBuf<'_>)
         | Request::PrepareWrite { .. }
         | Request::ExecuteWrite { .. }
         | Request::Confirmation
-        | Request::WriteCommand { .. } => {}
+        | Request::WriteCommand { .. } => out.clear(),
     }
 }
 
@@ -101,7 +99,6 @@ fn is_range(first: u16, last: u16) -> bool
 /// Answers a Find Information Request.
 #[tactic(auto, unfolding(crate::specs::Answer::information_answer))]
 fn find_information(table: &Table, first: u16, last: u16, out: &mut PduBuf<'_>)
-    requires { contents out.old ≡ [] }
     ensures answer { contents out.new
         ≡ sent (information_answer table.now (mtu_of out.old) first last) }
     ensures same_buffer { IsSameBuffer out.old out.new }
@@ -127,7 +124,6 @@ fn find_by_type_value(
     value: &[u8],
     out: &mut PduBuf<'_>,
 )
-    requires { contents out.old ≡ [] }
     ensures answer { contents out.new
         ≡ sent (found_answer reader.entry.table.now reader.entry.row.now reader.entry.standing.now
         (mtu_of out.old) first last (of_16_bits attribute_type) value.now) }
@@ -157,7 +153,6 @@ fn read_by_type(
     attribute_type: Uuid,
     out: &mut PduBuf<'_>,
 )
-    requires { contents out.old ≡ [] }
     ensures answer { contents out.new ≡ sent
         (values_answer reader.entry.table.now reader.entry.row.now reader.entry.standing.now
         (mtu_of out.old) first last (uuid_number attribute_type)) }
@@ -186,7 +181,6 @@ fn read_by_group_type(
     attribute_type: Uuid,
     out: &mut PduBuf<'_>,
 )
-    requires { contents out.old ≡ [] }
     ensures answer { contents out.new ≡ sent
         (groups_answer reader.entry.table.now reader.entry.row.now reader.entry.standing.now
         (mtu_of out.old) first last (uuid_number attribute_type)) }

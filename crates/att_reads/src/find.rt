@@ -24,7 +24,6 @@ const LONG_TYPES: u8 = 2;
 /// Answers a Find Information Request of these attributes, which begin at `start`. It needs no
 /// permission.
 pub fn information(attributes: &[Attr], start: u16, out: &mut PduBuf<'_>)
-    requires { contents out.old ≡ [] }
     ensures answer { let types = map information_of attributes.now in
         contents out.new ≡ sent
         (unless_refused FIND_INFORMATION_REQUEST (not_found start types ∷ [])
@@ -45,7 +44,7 @@ pub fn information(attributes: &[Attr], start: u16, out: &mut PduBuf<'_>)
     } else {
         (LONG_TYPES, 18)
     };
-    out.value(&[opcode::FIND_INFORMATION_RESPONSE, format]);
+    out.replace(&[opcode::FIND_INFORMATION_RESPONSE, format], &[]);
     append_all(attributes, size, out);
 }
 
@@ -84,7 +83,6 @@ pub fn by_type_value(
     value: &[u8],
     out: &mut PduBuf<'_>,
 )
-    requires { contents out.old ≡ [] }
     ensures answer { let found = filter
         (is_match reader.entry.table.now reader.entry.row.now reader.entry.standing.now value.now)
         handles.now in
@@ -94,7 +92,7 @@ pub fn by_type_value(
         (map (group_of reader.entry.table.now) (take ((mtu_of out.old - 1) / 4) found)))) }
     ensures same_buffer { IsSameBuffer out.old out.new }
 {
-    out.value(&[opcode::FIND_BY_TYPE_VALUE_RESPONSE]);
+    out.replace(&[opcode::FIND_BY_TYPE_VALUE_RESPONSE], &[]);
     if !append_matches(reader, handles, value, out) {
         out.error(
             opcode::FIND_BY_TYPE_VALUE_REQUEST,

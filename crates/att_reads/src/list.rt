@@ -1,7 +1,7 @@
 //! Answers that list the values of one type, all of one length: Core 5.0, Vol 3 Part F, 3.4.4.1,
 //! 3.4.4.2, 3.4.4.9 and 3.4.4.10.
 
-ghost use Rattle.std.specs.Prelude.{◌≡◌, ◌+◌, ◌≤◌, ◌<◌, ◌∷◌, [], map, length, take, IsSome};
+ghost use Rattle.std.specs.Prelude.{◌≡◌, ◌+◌, ◌≤◌, ◌<◌, ◌∷◌, map, length, take, IsSome};
 ghost use Rattle.att_pdu.specs.PduBuf.{contents, mtu_of, IsSameBuffer, AppendsWhereFits};
 ghost use Rattle.att_pdu.specs.Response.{element_octets, sent};
 ghost use Rattle.att_pdu.specs.declared.pdu_buf.TheConstants.{MIN_MTU};
@@ -82,7 +82,6 @@ pub fn answer(
     start: u16,
     out: &mut PduBuf<'_>,
 )
-    requires { contents out.old ≡ [] }
     ensures answer { contents out.new ≡ sent
         (list_answer listing reader.entry.table.now reader.entry.row.now reader.entry.standing.now
         (mtu_of out.old) start handles.now) }
@@ -106,7 +105,6 @@ pub fn answer(
 /// Begins an answer by its opcode, the octets of each attribute, and the first one.
 #[inline(always)]
 fn begin(listing: Listing, table: &Table, handle: u16, front: &[u8], out: &mut PduBuf<'_>)
-    requires empty { contents out.old ≡ [] }
     requires exists { IsSome (attribute_at table.now.attributes handle) }
     requires cut { length front.now ≤ cut_of listing (mtu_of out.old) }
     ensures begun { contents out.new
@@ -115,9 +113,23 @@ fn begin(listing: Listing, table: &Table, handle: u16, front: &[u8], out: &mut P
         (element_of listing table.now handle front.now) }
     ensures same_buffer { IsSameBuffer out.old out.new }
 {
-    let size = usize::from(listing.head()) + front.len();
-    out.value(&[listing.request() + 1, size as u8]);
-    listing.append(table, handle, front, out);
+    let size = (usize::from(listing.head()) + front.len()) as u8;
+    let [low, high] = handle.to_le_bytes();
+    match listing {
+        Listing::Values => out.replace(&[opcode::READ_BY_TYPE_RESPONSE, size, low, high], front),
+        Listing::Groups => {
+            let [end_low, end_high] = table.group_end(handle).to_le_bytes();
+            let head = [
+                opcode::READ_BY_GROUP_TYPE_RESPONSE,
+                size,
+                low,
+                high,
+                end_low,
+                end_high,
+            ];
+            out.replace(&head, front);
+        }
+    }
 }
 
 /// Appends the attributes at these handles, up to the first that is refused, has another size or

@@ -17,17 +17,13 @@ use att_pdu::PduBuf;
 #[inline(always)]
 #[tactic(auto, unfolding(crate::specs::Answer::value_answer))]
 pub fn read(reader: Reader<'_>, handle: u16, out: &mut PduBuf<'_>)
-    requires { contents out.old ≡ [] }
     ensures answer { contents out.new
         ≡ sent (value_answer reader.entry.table.now reader.entry.row.now reader.entry.standing.now
         (mtu_of out.old) handle) }
     ensures same_buffer { IsSameBuffer out.old out.new }
 {
     match reader.read(handle) {
-        Ok(value) => {
-            out.value(&[opcode::READ_RESPONSE]);
-            out.front(value);
-        }
+        Ok(value) => out.replace_by_front(opcode::READ_RESPONSE, value),
         Err(code) => out.error(opcode::READ_REQUEST, handle, code),
     }
 }
@@ -36,7 +32,6 @@ pub fn read(reader: Reader<'_>, handle: u16, out: &mut PduBuf<'_>)
 #[inline(always)]
 #[tactic(auto, unfolding(crate::specs::Answer::part_answer))]
 pub fn read_blob(reader: Reader<'_>, handle: u16, offset: u16, out: &mut PduBuf<'_>)
-    requires { contents out.old ≡ [] }
     ensures answer { contents out.new
         ≡ sent (part_answer reader.entry.table.now reader.entry.row.now reader.entry.standing.now
         (mtu_of out.old) handle offset) }
@@ -50,17 +45,13 @@ pub fn read_blob(reader: Reader<'_>, handle: u16, offset: u16, out: &mut PduBuf<
 
 /// Answers with the part of a value from an offset on.
 fn part(value: &[u8], handle: u16, offset: u16, out: &mut PduBuf<'_>)
-    requires { contents out.old ≡ [] }
     ensures answer { contents out.new
         ≡ sent (unless_refused READ_BLOB_REQUEST (offset_refusal handle offset value.now ∷ [])
         (ReadBlobResponse (take (mtu_of out.old - 1) (drop offset value.now)))) }
     ensures same_buffer { IsSameBuffer out.old out.new }
 {
     match value.get(usize::from(offset)..) {
-        Some(part) => {
-            out.value(&[opcode::READ_BLOB_RESPONSE]);
-            out.front(part);
-        }
+        Some(part) => out.replace_by_front(opcode::READ_BLOB_RESPONSE, part),
         None => out.error(
             opcode::READ_BLOB_REQUEST,
             handle,
@@ -72,14 +63,13 @@ fn part(value: &[u8], handle: u16, offset: u16, out: &mut PduBuf<'_>)
 /// Answers a Read Multiple Request, whose handles have the lower octet first. All of them are
 /// judged, those too whose values do not fit any more.
 pub fn read_multiple(reader: Reader<'_>, handles: &[[u8; 2]], out: &mut PduBuf<'_>)
-    requires { contents out.old ≡ [] }
     ensures answer { contents out.new ≡ sent
         (multiple_answer reader.entry.table.now reader.entry.row.now reader.entry.standing.now
         (mtu_of out.old)
         (map (from_le_bytes w16) handles.now)) }
     ensures same_buffer { IsSameBuffer out.old out.new }
 {
-    out.value(&[opcode::READ_MULTIPLE_RESPONSE]);
+    out.replace(&[opcode::READ_MULTIPLE_RESPONSE], &[]);
     for octets in handles {
         let handle = u16::from_le_bytes(*octets);
         match reader.read(handle) {

@@ -25,8 +25,8 @@ returns-else-not-append_matches-clause-answer c =
     let reader = c.args.reader in
     let test = is_match reader.table.now reader.row.now reader.standing.now c.args.value.now in
     let some = filter_some test c.args.handles.now (sym c.append_matches.ensures.any ∙ c.if-not-append_matches.false) in
-    let begun : contents c.value.new.self ≡ FIND_BY_TYPE_VALUE_RESPONSE ∷ [] = search rules in
+    let begun : contents c.replace.new.self ≡ FIND_BY_TYPE_VALUE_RESPONSE ∷ [] = search rules in
     c.append_matches.ensures.appended
-    ∙ ap (λ octets. with_groups reader.table.now (mtu_of c.value.new.self) octets (filter test c.args.handles.now)) begun
-    ∙ ap (λ mtu. with_groups reader.table.now mtu (FIND_BY_TYPE_VALUE_RESPONSE ∷ []) (filter test c.args.handles.now)) c.value.ensures.same_buffer.mtu
+    ∙ ap (λ octets. with_groups reader.table.now (mtu_of c.replace.new.self) octets (filter test c.args.handles.now)) begun
+    ∙ ap (λ mtu. with_groups reader.table.now mtu (FIND_BY_TYPE_VALUE_RESPONSE ∷ []) (filter test c.args.handles.now)) c.replace.ensures.same_buffer.mtu
     ∙ found_groups reader.table.now (mtu_of c.args.out.now) c.args.start (filter test c.args.handles.now) some

@@ -12,9 +12,9 @@ loop-octets-init c =
     let reader = c.args.reader in
     let mtu = mtu_of c.args.out.now in
     let handles = map (from_le_bytes w16) c.args.handles.now in
-    let begins : contents c.value.new.self ≡ READ_MULTIPLE_RESPONSE ∷ [] = search rules in
+    let begins : contents c.replace.new.self ≡ READ_MULTIPLE_RESPONSE ∷ [] = search rules in
     record {
-      same = c.value.ensures.same_buffer;
+      same = c.replace.ensures.same_buffer;
       answer =
           ap (λ octets. finished reader.table.now reader.row.now reader.standing.now mtu octets handles) begins
           ∙ begun reader.table.now reader.row.now reader.standing.now mtu handles;
