@@ -1,9 +1,9 @@
 -- How a PDU was answered.
-use Rattle.std.specs.Prelude.{◌≡◌, false, is_some, Bool, List, [], Option}
-use Rattle.att_numbers.specs.Types.{Handle, Mtu, Row}
+use Rattle.std.specs.Prelude.{◌≡◌, false, is_some, Bool, List, Option}
+use Rattle.att_numbers.specs.Types.{Handle, Row}
 use Rattle.att_pdu.specs.declared.pdu_buf.PduBuf.{PduBuf}
 use Rattle.att_pdu.specs.Grammar.{request_of}
-use Rattle.att_pdu.specs.PduBuf.{contents, mtu_of, IsSameBuffer}
+use Rattle.att_pdu.specs.PduBuf.{contents, IsSameBuffer}
 use Rattle.att_pdu.specs.Response.{Response, sent_if_any}
 use Rattle.att_table.specs.Table.{Contents}
 use Rattle.att_writes.specs.Leaves.{LeavesStored}
@@ -11,11 +11,6 @@ use Rattle.gatt_conn.specs.declared.answered.Served.{Served}
 use Rattle.gatt_conn.specs.Answer.{stored_by, handles_by, conn_after, is_confirmation}
 use Rattle.gatt_conn.specs.Connection.{Bearer}
 use Rattle.octets.specs.Number.{Octets}
-
--- a buffer for the answer: it holds nothing, and keeps within the ATT_MTU
-pub record IsEmptyWithin (mtu : Mtu) (buffer : PduBuf) : Type 0 where
-  pub empty : contents buffer ≡ []
-  pub bound : mtu_of buffer ≡ mtu
 
 -- this is the answer, if one is due, in the same buffer; of the code alone
 pub record ServesPdu (answer : Option Response) (before after : PduBuf) (result : Served) : Type 0 where

@@ -1,12 +1,12 @@
 ghost use Rattle.std.specs.Prelude.{◌≡◌, ◌≤◌, true, false, [], length, is_some, Some, None, if◌then◌else◌};
 ghost use Rattle.std.specs.Option.{option_map};
 ghost use Rattle.att_pdu.specs.Grammar.{request_of, is_due};
-ghost use Rattle.att_pdu.specs.PduBuf.{contents, IsSameBuffer};
+ghost use Rattle.att_pdu.specs.PduBuf.{contents, mtu_of, IsSameBuffer};
 ghost use Rattle.att_pdu.specs.Response.{ErrorResponse, ExchangeMtuResponse, sent, sent_if_any};
 ghost use Rattle.att_table.specs.ConfigRow.{IsRowOf};
 ghost use Rattle.gatt_conn.specs.Answer.{answer_to};
 ghost use Rattle.gatt_conn.specs.Connection.{after_exchange};
-ghost use Rattle.gatt_conn.specs.Served.{IsEmptyWithin, ServesPdu, ServesRequest, IsAnswered};
+ghost use Rattle.gatt_conn.specs.Served.{ServesPdu, ServesRequest, IsAnswered};
 
 use crate::conn::Conn;
 use crate::writing::{cancel, command, execute, prepare, write};
@@ -37,10 +37,11 @@ pub struct Served {
     pub confirmed: bool,
 }
 
-/// Serves one Attribute PDU of one connection: puts the answer into `out`, and makes the change
-/// that it asks for, where the policy permits it. `row` is what the connection's client has
-/// configured, of this table. This is `answer_into` for an answer whose room the caller has made, with
-/// a list of its own for the handles: both are one call of `serve`.
+/// Serves one Attribute PDU of one connection: puts the answer in place of what `out` holds, which is
+/// empty where none is due, and makes the change that it asks for, where the policy permits it. `out`
+/// keeps within the connection's ATT_MTU, and `row` is what its client has configured, of this table.
+/// This is `answer_into` for an answer whose room the caller has made, with a list of its own for the
+/// handles: both are one call of `serve`.
 #[tactic(auto, using(crate::proofs::Dues::answered_where_due), unfolding(att_pdu::specs::Form::form_of))]
 pub fn answer(
     table: &mut Table,
@@ -49,7 +50,7 @@ pub fn answer(
     pdu: &[u8],
     out: &mut PduBuf<'_>,
 ) -> Answered
-    requires empty { IsEmptyWithin conn.old.mtu out.old }
+    requires bound { mtu_of out.old ≡ conn.old.mtu }
     requires row { IsRowOf table.old.attributes row.old }
 
     ensures answer { contents out.new
@@ -81,7 +82,7 @@ fn serve(
     out: &mut PduBuf<'_>,
     touched: &mut Touched,
 ) -> Served
-    requires empty { IsEmptyWithin conn.old.mtu out.old }
+    requires bound { mtu_of out.old ≡ conn.old.mtu }
     requires row { IsRowOf table.old.attributes row.old }
 
     ensures served { ServesPdu
@@ -121,7 +122,7 @@ fn serve_form(
     out: &mut PduBuf<'_>,
     touched: &mut Touched,
 ) -> Served
-    requires empty { IsEmptyWithin conn.old.mtu out.old }
+    requires bound { mtu_of out.old ≡ conn.old.mtu }
     requires untouched { touched.old.items ≡ [] }
     requires row { IsRowOf table.old.attributes row.old }
 
@@ -136,9 +137,10 @@ fn serve_form(
         Ok(Request::Write { handle, value }) => write(
             table, row, conn, handle, value, out, touched,
         ),
-        Ok(Request::WriteCommand { handle, value }) => command(
-            table, row, conn, handle, value, touched,
-        ),
+        Ok(Request::WriteCommand { handle, value }) => {
+            out.clear();
+            command(table, row, conn, handle, value, touched)
+        }
         Ok(
             Request::PrepareWrite {
                 handle,
@@ -156,7 +158,10 @@ fn serve_form(
                 flags: ExecuteFlags::Write,
             },
         ) => execute(table, row, conn, out, touched),
-        Ok(Request::Confirmation) => without_answer(true),
+        Ok(Request::Confirmation) => {
+            out.clear();
+            without_answer(true)
+        }
         Ok(
             request @ (Request::FindInformation { .. }
             | Request::FindByTypeValue { .. }
@@ -169,7 +174,10 @@ fn serve_form(
             answer_read(table, row, conn.standing(), &request, conn.mtu(), out);
             with_answer()
         }
-        Err(PduFault::Ignored) => without_answer(false),
+        Err(PduFault::Ignored) => {
+            out.clear();
+            without_answer(false)
+        }
         Err(PduFault::Invalid(opcode)) => refuse(opcode, 0, error_code::INVALID_PDU, out),
         Err(PduFault::Unsupported(opcode)) => {
             refuse(opcode, 0, error_code::REQUEST_NOT_SUPPORTED, out)
@@ -200,7 +208,8 @@ pub fn answer_into(
     ensures answered { IsAnswered pdu.now table.old table.new row.old row.new conn.old conn.new
         touched.new.items result.confirmed }
 {
-    let mut out = PduBuf::new(octets, conn.mtu());
+    // Each answer replaces what is there.
+    let mut out = PduBuf::over(octets, conn.mtu());
     serve(table, row, conn, pdu, &mut out, touched)
 }
 
@@ -228,13 +237,12 @@ pub(crate) fn with_answer() -> Served
 
 /// Serves an Exchange MTU Request: Core 5.0, Vol 3 Part F, 3.4.2.
 fn exchange_mtu(conn: &mut Conn, client_rx_mtu: u16, out: &mut PduBuf<'_>) -> Served
-    requires empty { contents out.old ≡ [] }
     ensures served { ServesRequest (Some (ExchangeMtuResponse conn.old.rx_mtu)) out.old out.new
         result }
     ensures conn { conn.new ≡ after_exchange conn.old client_rx_mtu }
 {
     let [low, high] = conn.rx_mtu().to_le_bytes();
-    out.value(&[opcode::EXCHANGE_MTU_RESPONSE, low, high]);
+    out.replace(&[opcode::EXCHANGE_MTU_RESPONSE, low, high], &[]);
     conn.exchange(client_rx_mtu);
     with_answer()
 }

@@ -1,7 +1,7 @@
 //! The requests and the command that write: Core 5.0, Vol 3 Part F, 3.4.5 and 3.4.6.
 
-ghost use Rattle.std.specs.Prelude.{◌≡◌, ◌+◌, ◌≤◌, false, [], ◌∷◌, length, Some, Ok};
-ghost use Rattle.att_pdu.specs.PduBuf.{contents, mtu_of};
+ghost use Rattle.std.specs.Prelude.{◌≡◌, ◌+◌, ◌≤◌, false, [], length, Some, Ok};
+ghost use Rattle.att_pdu.specs.PduBuf.{mtu_of};
 ghost use Rattle.att_pdu.specs.Request.{WriteRequest, ExecuteWriteRequest, WriteCommandPdu};
 ghost use Rattle.att_pdu.specs.Response.{ExecuteWriteResponse};
 ghost use Rattle.att_table.specs.ConfigRow.{IsRowOf};
@@ -27,7 +27,6 @@ pub(crate) fn write(
     out: &mut PduBuf<'_>,
     touched: &mut Touched,
 ) -> Served
-    requires empty { contents out.old ≡ [] }
     requires untouched { touched.old.items ≡ [] }
     requires row { IsRowOf table.old.attributes row.old }
     ensures served { ServesRequest (answer_to table.old row.old conn.now
@@ -40,7 +39,7 @@ pub(crate) fn write(
     match att_writes::write(table, row, conn.standing(), handle, value) {
         Outcome::Denied(opcode, handle, code) => refuse(opcode, handle, code, out),
         Outcome::Written | Outcome::Queued => {
-            out.value(&[opcode::WRITE_RESPONSE]);
+            out.replace(&[opcode::WRITE_RESPONSE], &[]);
             touched.push(handle);
             with_answer()
         }
@@ -83,7 +82,6 @@ pub(crate) fn prepare(
     part: &[u8],
     out: &mut PduBuf<'_>,
 ) -> Served
-    requires empty { contents out.old ≡ [] }
     requires fits { 5 + length part.now ≤ mtu_of out.old }
     ensures served { ServesRequest (Some (prepare_response (entry_at handle offset part.now)
         (prepare_fault table.now.attributes conn.old.standing conn.old.queue
@@ -97,8 +95,18 @@ pub(crate) fn prepare(
     match conn.prepare(table, handle, offset, part) {
         Outcome::Denied(opcode, handle, code) => refuse(opcode, handle, code, out),
         Outcome::Written | Outcome::Queued => {
-            out.value(&[opcode::PREPARE_WRITE_RESPONSE]);
-            out.part(handle, offset, part);
+            let [handle_low, handle_high] = handle.to_le_bytes();
+            let [offset_low, offset_high] = offset.to_le_bytes();
+            out.replace(
+                &[
+                    opcode::PREPARE_WRITE_RESPONSE,
+                    handle_low,
+                    handle_high,
+                    offset_low,
+                    offset_high,
+                ],
+                part,
+            );
             with_answer()
         }
     }
@@ -107,12 +115,11 @@ pub(crate) fn prepare(
 /// Serves an Execute Write Request that drops what is prepared: Core 5.0, Vol 3 Part F, 3.4.6.3.
 #[inline(always)]
 pub(crate) fn cancel(conn: &mut Conn, out: &mut PduBuf<'_>) -> Served
-    requires empty { contents out.old ≡ [] }
     ensures served { ServesRequest (Some ExecuteWriteResponse) out.old out.new result }
     ensures conn { conn.new ≡ record conn.old { queue = [] } }
 {
     conn.cancel();
-    out.value(&[opcode::EXECUTE_WRITE_RESPONSE]);
+    out.replace(&[opcode::EXECUTE_WRITE_RESPONSE], &[]);
     with_answer()
 }
 
@@ -125,7 +132,6 @@ pub(crate) fn execute(
     out: &mut PduBuf<'_>,
     touched: &mut Touched,
 ) -> Served
-    requires empty { contents out.old ≡ [] }
     requires row { IsRowOf table.old.attributes row.old }
     ensures served { ServesRequest (answer_to table.old row.old conn.old
         (Ok (ExecuteWriteRequest ExecuteFlags.Write))) out.old out.new result }
@@ -138,7 +144,7 @@ pub(crate) fn execute(
     match conn.execute(table, row, touched) {
         Outcome::Denied(opcode, handle, code) => refuse(opcode, handle, code, out),
         Outcome::Written | Outcome::Queued => {
-            out.value(&[opcode::EXECUTE_WRITE_RESPONSE]);
+            out.replace(&[opcode::EXECUTE_WRITE_RESPONSE], &[]);
             with_answer()
         }
     }
