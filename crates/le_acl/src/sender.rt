@@ -92,13 +92,22 @@ impl Sender {
         ensures full { IsOk result ↔ (length self.old.outgoing.queue < MAX_PDUS) }
         ensures empty { IfOk result (λ room. room.now.items ≡ []) }
     {
+        let room = self.room_to_overwrite()?;
+        room.clear();
+        Ok(room)
+    }
+
+    /// Lends the buffer for the payload of the next PDU as it is, for what replaces its content.
+    #[inline(always)]
+    pub fn room_to_overwrite(&mut self) -> Result<&mut PduOctets, Full>
+        ensures* writes_back { sem 𝓛 (LendsRoom self.entry result) }
+        ensures full { IsOk result ↔ (length self.old.outgoing.queue < MAX_PDUS) }
+    {
         if self.backlog() == MAX_PDUS {
             return Err(Full);
         }
         self.lent = true;
-        let room = self.pdus.room();
-        room.clear();
-        Ok(room)
+        Ok(self.pdus.room())
     }
 
     /// Queues what was put into the room, as a PDU on a channel.
