@@ -196,7 +196,7 @@ fn answer(
     ensures answered { IsAnswered pdu.now table.old table.new row.old row.new conn.old conn.new
         written.new.items result.confirmed }
 {
-    let Ok(room) = sender.room() else {
+    let Ok(room) = sender.room_to_overwrite() else {
         return answer_nothing(table, row, conn, pdu, written);
     };
     let served = answer_into(table, row, conn, pdu, room, written);
