@@ -9,7 +9,7 @@ use Rattle.gatt_files.specs.declared.session.Session.{Session}
 use Rattle.std.specs.List.{onto_first}
 use Rattle.octets.specs.Stream.{WritesFront}
 use Rattle.gatt_files.specs.Att.{Server, lines_of_input, pdu_of, printed_answer, answer_from, server_after, door_server, printed_for, bad_line_of}
-use Rattle.gatt_files.proofs.Appending.{appends-append, appends-nothing}
+use Rattle.gatt_files.proofs.Appending.{appends-append, appends-nothing, appends-kept}
 use Rattle.gatt_files.proofs.Inputs.{consumes-append, consumes-kept, consumes-nothing}
 use Rattle.gatt_files.proofs.Reports.{printed-report, bad_line-report}
 use Rattle.gatt_files.specs.Session.{Report, report, line_report, report_after, ends_at, empty_report, onto, server_of, report_from, Passes, StopsAt, Ends, AnswersLine, IsFront, BreaksOffPrinting, EndsBroken, BreaksLine, IsStart}
@@ -35,6 +35,15 @@ passes_more first second third xs ys held mid holds a b = record {
   left = λ rest.
       ap (report_from first) (append_assoc xs ys rest) ∙ a.left (ys ++ rest) ∙ ap (report_after a.printed) (b.left rest)
       ∙ after-after a.printed b.printed (report_from third rest);
+}
+
+-- what was printed is the front of what is printed for more, where it cannot be flushed
+pub break_kept : (first second : Session) (xs : List ℕ) (held mid holds : Option (List ℕ))
+    → Passes first second xs held mid → Keeps mid holds → BreaksOffPrinting first xs held holds
+break_kept first second xs held mid holds a kept = record {
+  printed = a.printed;
+  appended = appends-kept held mid holds a.printed a.appended kept;
+  front = λ rest. ((report_from second rest).printed, ap (λ (r : Report). r.printed) (a.left rest));
 }
 
 pub stops_after : (first second : Session) (xs ys zs : List ℕ) (number : ℕ) (held mid holds : Option (List ℕ))

@@ -1,8 +1,8 @@
-ghost use Rattle.std.specs.Prelude.{◌≡◌, ℕ, OnOk, IfErr, IfSome, None};
+ghost use Rattle.std.specs.Prelude.{◌≡◌, ℕ, ◌+◌, ◌^◌, ◌<◌, ◌≤◌, length, OnOk, IfErr, IfSome, None};
 ghost use Rattle.std.specs.Io.KnownBytes.{Appends, Keeps};
 ghost use Rattle.octets.specs.Stream.{WritesFront};
 ghost use Rattle.gatt_files.specs.Att.{door_read, printed_for, bad_line_of, IsAttFault};
-ghost use Rattle.gatt_files.specs.Session.{IsAnsweringFault, IsStart};
+ghost use Rattle.gatt_files.specs.Session.{IsAnsweringFault, IsLineFault, IsStart, Passes, StopsAt, BreaksOffPrinting};
 ghost use Rattle.gatt_files.specs.TableFile.{TableIsRefusedAs};
 
 use crate::fault::ShellFault;
@@ -13,7 +13,9 @@ use std::io::{ErrorKind, Read, Write};
 
 /// Reads ATT PDUs as lines of hexadecimal from one connection of an unknown, unencrypted peer to
 /// the table of the example door lock, and prints each answer as a line, `-` for none. Blank lines
-/// are skipped. It takes memory before the first read, and none after it.
+/// are skipped. What a read has brought is flushed before the next one, so that a writer may buffer
+/// it, and who asks line by line has his answers. It takes memory before the first read, and none
+/// after it.
 pub fn att_lines<R: Read, W: Write>(
     alloc: Global,
     reader: &mut R,
@@ -71,10 +73,34 @@ fn answer_input<R: Read, W: Write>(
     for _read in 0..READS {
         match reader.read(&mut chunk) {
             Ok(0) => return session.finish(writer),
-            Ok(count) => session.take(&chunk[..count], writer)?,
+            Ok(count) => take_and_write_out(session, &chunk[..count], writer)?,
             Err(error) if error.kind() == ErrorKind::Interrupted => {}
             Err(_) => return Err(ShellFault::Unreadable),
         }
     }
     Err(ShellFault::Unreadable)
+}
+
+/// Takes in octets of the input, and flushes what was printed for them.
+fn take_and_write_out<W: Write>(
+    session: &mut Session,
+    octets: &[u8],
+    writer: &mut W,
+) -> Result<(), ShellFault>
+    requires { session.old.number + length octets.now < 2 ^ 64 }
+    ensures passes { OnOk result (Passes session.old session.new octets.now
+        (W.contents writer.old) (W.contents writer.new)) }
+    ensures stops { (number : ℕ) → result ≡ Err (ShellFault.NotHex number)
+        → StopsAt session.old octets.now number (W.contents writer.old) (W.contents writer.new) }
+    ensures breaks_off { result ≡ Err ShellFault.Unwritten
+        → BreaksOffPrinting session.old octets.now (W.contents writer.old)
+        (W.contents writer.new) }
+    ensures faults { IfErr result IsLineFault }
+    ensures counts { OnOk result (session.new.number ≤ session.old.number + length octets.now) }
+{
+    session.take(octets, writer)?;
+    if writer.flush().is_err() {
+        return Err(ShellFault::Unwritten);
+    }
+    Ok(())
 }

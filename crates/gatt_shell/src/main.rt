@@ -16,7 +16,7 @@ use gatt_commands::{
 };
 use gatt_words::{Choice, HostChoice, Refusal};
 use show_command::ShowPaths;
-use std::io::{BufWriter, LineWriter, Write};
+use std::io::{BufWriter, Write};
 use std::process::ExitCode;
 use std::{io, str};
 
@@ -83,10 +83,10 @@ fn outcome_of(ran: Result<(), ShellFault>, is_flushed: bool) -> Result<(), Shell
     }
 }
 
-/// Answers the PDUs of standard input on standard output, which is written out at each line feed
-/// and at the end.
+/// Answers the PDUs of standard input on standard output, which is written out before each read, as
+/// often as a buffer is full and at the end.
 fn run_att(rt: &HostRuntime) -> Result<(), ShellFault> {
-    let Ok(mut writer) = LineWriter::new(rt.alloc(), io::writer(rt)) else {
+    let Ok(mut writer) = BufWriter::new(rt.alloc(), io::writer(rt)) else {
         return Err(ShellFault::Memory);
     };
     let ran = gatt_commands::att_lines(rt.alloc(), &mut rt.reader(), &mut writer);

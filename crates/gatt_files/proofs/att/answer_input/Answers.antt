@@ -3,7 +3,7 @@ use Rattle.std.proofs.lemmas.Result.{on_ok_weaker}
 use Rattle.gatt_files.specs.declared.fault.ShellFault.TheVariants.{NotHex, Unwritten}
 use Rattle.gatt_files.proofs.Sessions.{same_fault, has_read_none, has_read_more, has_read_nothing, has_read_kept, answers_input, refuses_input, prints_front, breaks_input, breaks_end}
 use Rattle.gatt_files.proofs.att.answer_input.Goals as goal
-use Rattle.gatt_files.proofs.att.answer_input.Goals.{in-Ok+in_ok-take-in-Ok, in-Err}
+use Rattle.gatt_files.proofs.att.answer_input.Goals.{in-Ok+in_ok-take_and_write_out-in-Ok, in-Err}
 
 pub returns-in-Ok-eq0-clause-ok : goal.returns-in-Ok-eq0-clause-ok
 returns-in-Ok-eq0-clause-ok g c =
@@ -21,11 +21,11 @@ returns-in-Ok-eq0-clause-not_hex g c number h =
     let room : 0 < length c.read.new.buf = omega arith in
     answers_input _ _ _ _ _ _ _ _ c.requires so_far (read.1 c.in-Ok-eq0.field-0-test room) (c.finish.ensures.stops number h) refl
 
-pub returns-in_err-take-in-Ok-clause-not_hex : goal.returns-in_err-take-in-Ok-clause-not_hex
-returns-in_err-take-in-Ok-clause-not_hex g c number h =
-    let said = same_fault c.take.result c.from_residual.result _ (NotHex number) c.in_err-take-in-Ok.was c.from_residual.ensures.1 h in
+pub returns-in_err-take_and_write_out-in-Ok-clause-not_hex : goal.returns-in_err-take_and_write_out-in-Ok-clause-not_hex
+returns-in_err-take_and_write_out-in-Ok-clause-not_hex g c number h =
+    let said = same_fault c.take_and_write_out.result c.from_residual.result _ (NotHex number) c.in_err-take_and_write_out-in-Ok.was c.from_residual.ensures.1 h in
     let read = rw c.in-Ok.is at c.read.ensures.bytes in
-    refuses_input _ _ _ _ _ _ _ _ _ _ c.requires c.loop-read.invariant.so_far read.0 (c.take.ensures.stops number said)
+    refuses_input _ _ _ _ _ _ _ _ _ _ c.requires c.loop-read.invariant.so_far read.0 (c.take_and_write_out.ensures.stops number said)
 
 pub loop-read-init : goal.loop-read-init
 loop-read-init g c = record {
@@ -36,17 +36,17 @@ loop-read-init g c = record {
 pub loop-read-preserved : goal.loop-read-preserved
 loop-read-preserved g c = record {
   so_far = elim c.match-read.branch [
-    | in-Ok+in_ok-take-in-Ok w ↦
+    | in-Ok+in_ok-take_and_write_out-in-Ok w ↦
         let read = rw w.in-Ok.is at c.read.ensures.bytes in
-        rw (w.session-is, w.writer-is) (has_read_more _ _ _ _ _ _ _ _ _ _ c.loop-read.invariant.so_far read.0 w.in_ok-take-in-Ok.ensures.passes)
+        rw (w.session-is, w.writer-is) (has_read_more _ _ _ _ _ _ _ _ _ _ c.loop-read.invariant.so_far read.0 w.in_ok-take_and_write_out-in-Ok.ensures.passes)
     | in-Err w ↦
         let kept = rw w.in-Err.is at c.read.ensures.bytes in
         rw (w.session-is, w.writer-is) (has_read_kept _ _ _ _ _ _ _ c.loop-read.invariant.so_far kept)
   ];
   counts = elim c.match-read.branch [
-    | in-Ok+in_ok-take-in-Ok w ↦
+    | in-Ok+in_ok-take_and_write_out-in-Ok w ↦
         let read = rw w.in-Ok.is at c.read.ensures.bound in
-        let counts = w.in_ok-take-in-Ok.ensures.counts in
+        let counts = w.in_ok-take_and_write_out-in-Ok.ensures.counts in
         rw w.session-is (omega arith)
     | in-Err w ↦ rw w.session-is (omega arith)
   ];
@@ -67,8 +67,8 @@ returns-in-Ok-eq0-clause-unwritten g c h =
     let room : 0 < length c.read.new.buf = omega arith in
     breaks_end _ _ _ _ _ _ _ c.requires so_far (read.1 c.in-Ok-eq0.field-0-test room) (c.finish.ensures.breaks_off h)
 
-pub returns-in_err-take-in-Ok-clause-unwritten : goal.returns-in_err-take-in-Ok-clause-unwritten
-returns-in_err-take-in-Ok-clause-unwritten g c h =
-    let said = same_fault c.take.result c.from_residual.result _ Unwritten c.in_err-take-in-Ok.was c.from_residual.ensures.1 h in
+pub returns-in_err-take_and_write_out-in-Ok-clause-unwritten : goal.returns-in_err-take_and_write_out-in-Ok-clause-unwritten
+returns-in_err-take_and_write_out-in-Ok-clause-unwritten g c h =
+    let said = same_fault c.take_and_write_out.result c.from_residual.result _ Unwritten c.in_err-take_and_write_out-in-Ok.was c.from_residual.ensures.1 h in
     let read = rw c.in-Ok.is at c.read.ensures.bytes in
-    breaks_input _ _ _ _ _ _ _ _ _ c.requires c.loop-read.invariant.so_far read.0 (c.take.ensures.breaks_off said)
+    breaks_input _ _ _ _ _ _ _ _ _ c.requires c.loop-read.invariant.so_far read.0 (c.take_and_write_out.ensures.breaks_off said)
