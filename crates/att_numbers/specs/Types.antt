@@ -1,6 +1,5 @@
 -- What the numbers and lists of the Attribute Protocol are of: Core 5.0, Vol 3 Part F, 3.2.
 use Rattle.std.specs.Prelude.{ℕ, List}
-use Rattle.octets.specs.Number.{Octets}
 
 -- an attribute's handle, below 2 ^ 16, and its type, below 2 ^ 128
 abbrev pub Handle : Type 0
@@ -9,9 +8,9 @@ Handle = ℕ
 abbrev pub AttributeType : Type 0
 AttributeType = ℕ
 
--- the values of a table's attributes, in the order of their handles
+-- the values of a table's attributes, octets each, in the order of their handles
 abbrev pub Values : Type 0
-Values = List Octets
+Values = List (List ℕ)
 
 -- the most octets of a PDU on a connection
 abbrev pub Mtu : Type 0

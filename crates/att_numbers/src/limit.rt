@@ -1,7 +1,5 @@
 //! How much a table may have: this profile's own, but for the length of a value.
 
-use octets::MAX_PDU;
-
 /// The most octets of a value: Core 5.0, Vol 3 Part F, 3.2.9.
 pub const MAX_VALUE: usize = 512;
 
@@ -21,6 +19,3 @@ pub const MAX_VALUES_OCTETS: usize = 65_536;
 
 /// The most octets of a table's values and declarations together.
 pub const MAX_TABLE_OCTETS: usize = MAX_VALUES_OCTETS + MAX_DECLARATION * MAX_ATTRIBUTES;
-
-// The largest value stands in one PDU behind an opcode, a handle and an offset.
-const _: () = prove!(1 + 2 + 2 + MAX_VALUE == MAX_PDU);

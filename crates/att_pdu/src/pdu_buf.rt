@@ -3,6 +3,7 @@ ghost use Rattle.std.specs.Bool.{OnTrue, OnFalse};
 ghost use Rattle.arrayvec.specs.ArrayVec.{array_vec_len};
 ghost use Rattle.att_pdu.specs.declared.pdu_buf.TheConstants.{MAX_MTU, MIN_MTU};
 
+use att_numbers::limit::MAX_VALUE;
 use att_numbers::opcode;
 use octets::{MAX_PDU, PduOctets, overwrite};
 
@@ -10,6 +11,9 @@ use octets::{MAX_PDU, PduOctets, overwrite};
 pub const MIN_MTU: u16 = 23;
 /// The largest ATT_MTU that this profile serves, in octets: the largest value in one PDU.
 pub const MAX_MTU: u16 = MAX_PDU as u16;
+
+// The largest value stands in one PDU behind an opcode, a handle and an offset.
+const _: () = prove!(1 + 2 + 2 + MAX_VALUE == MAX_PDU);
 
 /// A PDU that is being put together in a buffer of its caller's, and never outgrows an ATT_MTU of
 /// `MIN_MTU` to `MAX_MTU` octets.
